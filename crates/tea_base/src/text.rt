@@ -1,0 +1,83 @@
+//! Text that is owned.
+ghost use Rattle.std.specs.Prelude.{◌≡◌, ◌↔◌, IfOk, OnOk, IsTrue, encode_utf8_all, Err};
+ghost use Rattle.std.specs.Str.{IsUtf8};
+
+use crate::list::List;
+use crate::want::WantOfMemory;
+use std::alloc::Global;
+use std::marker::Model;
+
+/// Why bytes were not read as text.
+#[derive(Clone, Copy, Debug, PartialEq, Eq)]
+pub enum TextFault {
+    /// They are not UTF-8.
+    NotUtf8,
+    WantOfMemory,
+}
+
+/// Text, held as UTF-8 (RFC 3629). Contracts see its characters.
+#[derive(Debug, Drop)]
+pub struct Text {
+    held: String,
+}
+
+/// Texts in order.
+pub type Words = List<Text>;
+
+impl Model for Text {
+    ghost use Rattle.std.specs.Prelude.{List, ℕ, string_bytes};
+    ghost use Rattle.std.specs.Str.{chars};
+
+    ghost Value = { List ℕ };
+
+    ghost view = { λ text. chars (string_bytes text.held) };
+}
+
+impl Text {
+    /// The text of these bytes.
+    pub fn read(alloc: Global, bytes: &[u8]) -> Result<Text, TextFault>
+        ensures ok { IfOk result (λ text. encode_utf8_all text ≡ bytes.now) }
+        ensures utf8 { OnOk result (IsUtf8 bytes.now) }
+        ensures not_utf8 { result ≡ Err TextFault.NotUtf8 → ¬ (IsUtf8 bytes.now) }
+    {
+        let text = match str::from_utf8(bytes) {
+            Ok(text) => text,
+            Err(_) => return Err(TextFault::NotUtf8),
+        };
+        match String::from_str(alloc, text) {
+            Ok(held) => Ok(Text { held }),
+            Err(_) => Err(TextFault::WantOfMemory),
+        }
+    }
+
+    /// The same text in memory of its own.
+    pub fn copy(alloc: Global, text: &str) -> Result<Text, WantOfMemory>
+        ensures { IfOk result (λ copy. encode_utf8_all copy ≡ text.now) }
+    {
+        Ok(Text {
+            held: String::from_str(alloc, text)?,
+        })
+    }
+
+    /// The text, borrowed.
+    pub fn as_str(&self) -> &str
+        ensures { result.now ≡ encode_utf8_all self.now }
+    {
+        self.held.as_str()
+    }
+
+    /// Its UTF-8.
+    pub fn bytes(&self) -> &[u8]
+        ensures bytes { result.now ≡ encode_utf8_all self.now }
+        ensures utf8 { IsUtf8 result.now }
+    {
+        self.held.as_str().as_bytes()
+    }
+
+    /// Whether two texts have the same characters.
+    pub fn is_text(&self, other: &Text) -> bool
+        ensures { IsTrue result ↔ (self.now ≡ other.now) }
+    {
+        self.held.as_str() == other.held.as_str()
+    }
+}
