@@ -1,0 +1,10 @@
+//! Lines of text: their words and the numbers that words spell, read and written.
+#![tactic(auto)]
+
+mod reading;
+#[cfg(test)]
+mod tests;
+mod writing;
+
+pub use reading::{number, split_lines, split_words};
+pub use writing::number_line;
