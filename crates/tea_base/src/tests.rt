@@ -30,6 +30,7 @@ fn text_is_utf8(rt: HostRuntime) -> Result<(), Fail> {
     let text = Text::read(alloc, "één".as_bytes())?;
     assert_eq!(rt; text.as_str(), "één");
     assert!(rt; text.is_text(&Text::copy(alloc, "één")?));
+    assert!(rt; text.is_text(&text.clone()?));
     assert_eq!(rt; Text::read(alloc, b"\xc3").err(), Some(TextFault::NotUtf8));
     Ok(())
 }

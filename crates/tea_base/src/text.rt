@@ -4,7 +4,7 @@ ghost use Rattle.std.specs.Str.{IsUtf8};
 
 use crate::list::List;
 use crate::want::WantOfMemory;
-use std::alloc::Global;
+use std::alloc::{AllocError, Global};
 use std::marker::Model;
 
 /// Why bytes were not read as text.
@@ -79,5 +79,15 @@ impl Text {
         ensures { IsTrue result ↔ (self.now ≡ other.now) }
     {
         self.held.as_str() == other.held.as_str()
+    }
+}
+
+impl Clone for Text {
+    ghost is_clone = { λ text copy. copy ≡ text };
+
+    fn clone(&self) -> Result<Text, AllocError> {
+        Ok(Text {
+            held: self.held.clone()?,
+        })
     }
 }

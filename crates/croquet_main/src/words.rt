@@ -1,0 +1,154 @@
+//! The words of the command line, read by their rules.
+ghost use Rattle.std.specs.Prelude.{◌≡◌, ◌<◌, ℕ, [], ◌∷◌, true, None, IfOk, MatchBool, IsTrue, ◌↔◌, nat_lt};
+ghost use Rattle.std.specs.List.{list_all};
+ghost use Rattle.std.specs.Str.{bytes_eq};
+ghost use Rattle.croquet_main.specs.CommandWords.{command_of, stamp_of, parts_of, is_empty, is_option};
+
+use std::alloc::Global;
+use tea_base::{List, Text, WantOfMemory, Words};
+
+/// A command with its words.
+#[derive(Drop)]
+pub enum Command {
+    /// `stamp SCRIPT`
+    Stamp { script: Text },
+}
+
+/// An option and its value.
+#[derive(Drop)]
+pub struct Setting {
+    pub option: Text,
+    pub value: Text,
+}
+
+/// The words after a command.
+#[derive(Drop)]
+pub struct Parts {
+    pub positionals: Words,
+    pub settings: List<Setting>,
+}
+
+/// What was read so far, and an option that waits for its value.
+#[derive(Drop)]
+struct Reader {
+    parts: Parts,
+    awaiting: Option<Text>,
+}
+
+impl Reader {
+    ghost use Rattle.croquet_main.specs.CommandWords.{Word, read_on};
+
+    /// Reads one word more, or says that it breaks the rules.
+    fn take(&mut self, word: &Text) -> Result<bool, WantOfMemory>
+        ensures { IfOk result (λ follows. MatchBool follows
+            ((rest : List Word) → read_on self.new rest ≡ read_on self.old (word.now ∷ rest))
+            ((rest : List Word) → read_on self.old (word.now ∷ rest) ≡ None)) }
+    {
+        if is_empty(word) {
+            return Ok(false);
+        }
+        let is_option = is_option(word);
+        let word = word.clone()?;
+        match self.awaiting.take() {
+            Some(_) if is_option => return Ok(false),
+            Some(option) => {
+                let setting = Setting {
+                    option,
+                    value: word,
+                };
+                self.parts.settings.push(setting)?;
+            }
+            None if is_option => self.awaiting = Some(word),
+            None => self.parts.positionals.push(word)?,
+        }
+        Ok(true)
+    }
+}
+
+/// Whether a word has no character.
+fn is_empty(word: &Text) -> bool
+    ensures { result ≡ is_empty word.now }
+{
+    word.bytes().is_empty()
+}
+
+/// Whether a word begins with `-`.
+fn is_option(word: &Text) -> bool
+    ensures { result ≡ is_option word.now }
+{
+    begins_with_dash(word.bytes())
+}
+
+fn begins_with_dash(bytes: &[u8]) -> bool
+    ensures { result ≡ is_option bytes.now }
+{
+    match bytes {
+        [] => false,
+        [first, ..] => *first == b'-',
+    }
+}
+
+/// Whether a word is this one of ASCII.
+fn is_word(word: &Text, name: &str) -> bool
+    requires { list_all (λ byte. nat_lt byte 128) name.now ≡ true }
+    ensures { result ≡ bytes_eq word.now name.now }
+{
+    word.as_str() == name
+}
+
+/// The parts of the words after a command, where they follow the rules.
+fn read_parts(alloc: Global, words: &[Text]) -> Result<Option<Parts>, WantOfMemory>
+    ensures { IfOk result (λ read. read ≡ parts_of words.now) }
+{
+    let mut reader = Reader {
+        parts: Parts {
+            positionals: Words::new(alloc),
+            settings: List::new(alloc),
+        },
+        awaiting: None,
+    };
+    for word in words {
+        let follows = reader.take(word)?;
+        if !follows {
+            return Ok(None);
+        }
+    }
+    let Reader { parts, awaiting } = reader;
+    match awaiting {
+        Some(_) => Ok(None),
+        None => Ok(Some(parts)),
+    }
+}
+
+/// `stamp SCRIPT`
+fn stamp(parts: Parts) -> Option<Command>
+    ensures { result ≡ stamp_of parts }
+{
+    let Parts {
+        positionals,
+        settings,
+    } = parts;
+    let mut positionals = positionals.into_vec();
+    let script = positionals.pop()?;
+    if positionals.is_empty() && settings.is_empty() {
+        Some(Command::Stamp { script })
+    } else {
+        None
+    }
+}
+
+/// The command that the words ask for, where they follow the rules.
+pub fn read_command(alloc: Global, words: &Words) -> Result<Option<Command>, WantOfMemory>
+    ensures { IfOk result (λ read. read ≡ command_of words.now) }
+{
+    let [name, words @ ..] = words.as_slice() else {
+        return Ok(None);
+    };
+    if !is_word(name, "stamp") {
+        return Ok(None);
+    }
+    match read_parts(alloc, words)? {
+        Some(parts) => Ok(stamp(parts)),
+        None => Ok(None),
+    }
+}
