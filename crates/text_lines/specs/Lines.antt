@@ -41,11 +41,11 @@ pub record IsPlain (word : Word) : Type 0 where
   pub no_plus : slice_index word 0 ≢ 43
   pub no_zero : slice_index word 0 ≡ 48 → length word ≡ 1
 
--- numbers in decimal, a space before each, and a line feed behind
+-- numbers in decimal, a space before each
 abbrev pub spaced : List ℕ → List ℕ
-spaced [] = 10 ∷ []
+spaced [] = []
 spaced (number ∷ numbers) = 32 ∷ (decimal number ++ spaced numbers)
 
--- the line of a word and numbers
-abbrev pub number_line : List ℕ → List ℕ → List ℕ
-number_line word numbers = word ++ spaced numbers
+-- a word, and numbers
+abbrev pub numbered : Word → List ℕ → List ℕ
+numbered word numbers = word ++ spaced numbers

@@ -7,4 +7,4 @@ mod tests;
 mod writing;
 
 pub use reading::{number, split_lines, split_words};
-pub use writing::number_line;
+pub use writing::numbered;

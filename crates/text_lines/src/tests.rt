@@ -48,8 +48,8 @@ fn numbers_are_plain_decimals(rt: HostRuntime) {
 
 #[test]
 fn numbers_are_written_behind_spaces(rt: HostRuntime) -> Result<(), Fail> {
-    let line = number_line(rt.alloc(), "batch", &[0, u64::MAX])?;
-    assert_eq!(rt; line.as_str(), "batch 0 18446744073709551615\n");
-    assert_eq!(rt; number_line(rt.alloc(), "kept", &[])?.as_str(), "kept\n");
+    let text = numbered(rt.alloc(), "batch", &[0, u64::MAX])?;
+    assert_eq!(rt; text.as_str(), "batch 0 18446744073709551615");
+    assert_eq!(rt; numbered(rt.alloc(), "kept", &[])?.as_str(), "kept");
     Ok(())
 }
