@@ -1,0 +1,7 @@
+use Rattle.std.proofs.Common.{◌≡◌, drop}
+use Rattle.tea_io.specs.MemFiles.{bytes_of}
+use Rattle.tea_io.proofs.mem_files.find.Given as goal
+
+-- the files passed have other names
+abbrev pub invariant-loop-file : goal.invariant-loop-file
+invariant-loop-file l = bytes_of l.files l.name ≡ bytes_of (drop l.file-index l.files) l.name

@@ -1,0 +1,15 @@
+-- What is known of the outside, and the counts of its faults.
+use Rattle.std.specs.Prelude.{ℕ, ◌+◌, ◌-◌, ◌^◌, ◌≤◌, min, List, ◌++◌, Option, Some, None}
+
+-- a list that is told, with more behind it; one that is not told stays so
+abbrev pub grown : {A : Type 0} → Option (List A) → List A → Option (List A)
+grown None more = None
+grown (Some told) more = Some (told ++ more)
+
+-- a count that goes up by one, and stays at the last value of a `u64`
+abbrev pub count_up : ℕ → ℕ
+count_up count = min (count + 1) (2 ^ 64 - 1)
+
+-- a count of faults has risen, or stands at its last value
+abbrev pub Rose : ℕ → ℕ → Type 0
+Rose before now = count_up before ≤ now
