@@ -1,0 +1,4 @@
+pub mod SessionLaws
+pub mod RepeatLaws
+pub mod PlayLaws
+pub mod SoundLaws

@@ -1,0 +1,5 @@
+pub mod PlainSession
+pub mod Answer
+pub mod Play
+pub mod SessionState
+pub mod Kept

@@ -1,0 +1,59 @@
+-- A session over many requests.
+use Rattle.std.specs.Prelude.{ℕ, ◌≡◌, List, [], ◌∷◌, ◌++◌, None}
+use Rattle.tea_base.specs.declared.entry.Entry.{Entry}
+use Rattle.tea_base.specs.declared.entry.What.TheVariants as what
+use Rattle.tea_base.specs.Readings.{events}
+use Rattle.tea_base.specs.Legal.{IsLegal, TimesRise}
+use Rattle.reflector_core.specs.PlainSession.{PlainSession}
+use Rattle.reflector_core.specs.Answer.{answer}
+use Rattle.reflector_core.specs.declared.request.Request.{Request}
+use Rattle.reflector_core.specs.declared.request.Request.TheVariants.{Join, Send, Tick, Leave, Offer, Pull}
+use Rattle.reflector_core.specs.declared.request.Reply.{Reply}
+use Rattle.reflector_core.specs.declared.request.Reply.TheVariants.{Joined, Stamped, Again, Ticked, Left, Kept, Batch, Refused}
+
+-- the session before any request
+abbrev pub first : PlainSession
+first = record { log = []; horizon = 0; kept = None }
+
+-- the session after requests
+abbrev pub after_all : PlainSession → List Request → PlainSession
+after_all s [] = s
+after_all s (request ∷ rest) = after_all (answer s request).session rest
+
+-- the replies to requests, one after the other
+abbrev pub replies_from : PlainSession → List Request → List Reply
+replies_from s [] = []
+replies_from s (request ∷ rest) = (answer s request).reply ∷ replies_from (answer s request).session rest
+
+-- the entry that the reply Stamped tells of an event, and none of another reply
+abbrev pub stamped_as : ℕ → ℕ → List ℕ → Reply → List Entry
+stamped_as view number payload (Joined seq time last from base) = []
+stamped_as view number payload (Stamped seq time) =
+    record { seq = seq; time = time; view = view; what = what.Event number payload } ∷ []
+stamped_as view number payload (Again seq time) = []
+stamped_as view number payload (Ticked time) = []
+stamped_as view number payload (Left seq time) = []
+stamped_as view number payload Kept = []
+stamped_as view number payload (Batch entries tick) = []
+stamped_as view number payload (Refused refusal) = []
+
+-- the same of a request: only a Send sends an event
+abbrev pub stamped_by : Request → Reply → List Entry
+stamped_by (Join view now want) reply = []
+stamped_by (Send view joined number payload now) reply = stamped_as view number payload reply
+stamped_by (Tick now) reply = []
+stamped_by (Leave view joined now) reply = []
+stamped_by (Offer view joined time snapshot) reply = []
+stamped_by (Pull after limit) reply = []
+
+-- the events that were answered Stamped, in order
+abbrev pub stamped : List Request → List Reply → List Entry
+stamped [] replies = []
+stamped (request ∷ requests) [] = []
+stamped (request ∷ requests) (reply ∷ replies) = stamped_by request reply ++ stamped requests replies
+
+-- the log is legal, its times rise, and its events are those that were answered Stamped, once and in order
+pub record TellsItsEvents (requests : List Request) (replies : List Reply) (log : List Entry) : Type 0 where
+  pub legal : IsLegal log
+  pub times : TimesRise log
+  pub events : events log ≡ stamped requests replies

@@ -1,0 +1,131 @@
+//! A session.
+ghost use Rattle.std.specs.Prelude.{◌≡◌, ◌≤◌, option_map, IfOk, IsOk, OnOk, OnErr};
+ghost use Rattle.tea_base.specs.Legal.{IsLegal, most_open_entries, most_bytes};
+ghost use Rattle.reflector_core.specs.PlainSession.{IsSound};
+ghost use Rattle.reflector_core.specs.SessionState.{IsPreparedFor, UsesAtMost, entries_used, bytes_used};
+ghost use Rattle.reflector_core.specs.Answer.{with_reply, MayWantMemory, answer};
+ghost use Rattle.reflector_core.specs.Play.{first};
+
+mod entries;
+mod events;
+mod presence;
+mod snapshots;
+mod times;
+
+use crate::request::{Reply, Request};
+use crate::start::Base;
+use session_log::Log;
+use std::alloc::Global;
+use std::marker::Model;
+use tea_base::WantOfMemory;
+
+/// A session: the log of what was stamped, the horizon of its times, and at most one kept snapshot.
+/// Contracts see these three as `plain`, and for how many more entries and payload bytes it has
+/// memory.
+#[derive(Drop)]
+pub struct Session {
+    alloc: Global,
+    log: Log,
+    horizon: u64,
+    kept: Option<Base>,
+}
+
+impl Model for Session {
+    ghost use Rattle.reflector_core.specs.SessionState.{SessionState};
+
+    ghost Value = { SessionState };
+
+    ghost use Rattle.reflector_core.specs.Kept.{state_of, IsSoundInside};
+
+    ghost view = { state_of };
+
+    ghost invariant = { IsSoundInside };
+}
+
+impl Session {
+    /// The first session: an empty log, horizon 0, and nothing kept. Takes no memory.
+    pub fn new(alloc: Global) -> Session
+        ensures { result.plain ≡ first }
+    {
+        Session {
+            alloc,
+            log: Log::new(alloc),
+            horizon: 0,
+            kept: None,
+        }
+    }
+
+    /// The entries that were stamped.
+    pub fn log(&self) -> &Log
+        ensures log { result.now.entries ≡ self.now.plain.log }
+        ensures legal { IsLegal result.now.entries }
+    {
+        &self.log
+    }
+
+    /// The TeaTime up to which nothing more is stamped, in microseconds. No entry is later than it.
+    pub fn horizon(&self) -> u64
+        ensures value { result ≡ self.now.plain.horizon }
+        ensures sound { IsSound self.now.plain }
+    {
+        self.horizon
+    }
+
+    /// The TeaTime of the kept snapshot, in microseconds, if one is kept.
+    pub fn kept_time(&self) -> Option<u64>
+        ensures { result ≡ option_map (λ base. base.time) self.now.plain.kept }
+    {
+        self.kept.as_ref().map(|base| base.time)
+    }
+
+    /// Takes memory for so many calls of Send and Leave, with so many payload bytes together: those
+    /// that follow want none, also with Ticks, Offers and Pulls between them. A Join between takes
+    /// the place of one of them.
+    pub fn prepare(&mut self, calls: u32, bytes: u64) -> Result<(), WantOfMemory>
+        requires calls_bound { calls ≤ most_open_entries }
+        requires bytes_bound { bytes ≤ most_bytes }
+        ensures same { self.new.plain ≡ self.old.plain }
+        ensures entries { OnOk result (calls ≤ self.new.ready_entries) }
+        ensures bytes { OnOk result (bytes ≤ self.new.ready_bytes) }
+        ensures entries_kept { self.old.ready_entries ≤ self.new.ready_entries }
+        ensures bytes_kept { self.old.ready_bytes ≤ self.new.ready_bytes }
+    {
+        self.log.reserve(calls, bytes)
+    }
+
+    /// Answers a request. After a refusal, and without memory, the session is as it was. Memory may
+    /// be wanted for a Join, a Send, a Leave, an Offer or a Pull that nothing refuses, and for no
+    /// refusal, no Tick and no repeat.
+    pub fn call(&mut self, request: &Request) -> Result<Reply, WantOfMemory>
+        ensures ok { IfOk result (λ reply. with_reply self.new.plain reply ≡
+            answer self.old.plain request.now) }
+        ensures err { OnErr result (self.new.plain ≡ self.old.plain) }
+        ensures sound { IsSound self.new.plain }
+        ensures prepared { IsPreparedFor self.old request.now → IsOk result }
+        ensures used { UsesAtMost self.old self.new (entries_used request.now) (bytes_used request.now) }
+        ensures memory { OnErr result (MayWantMemory (answer self.old.plain request.now).reply) }
+    {
+        let reply = match request {
+            Request::Join { view, now, want } => self.join(*view, *now, *want),
+            Request::Send {
+                view,
+                joined,
+                number,
+                payload,
+                now,
+            } => self.send(*view, *joined, *number, payload.bytes(), *now),
+            Request::Tick { now } => Ok(self.tick(*now)),
+            Request::Leave { view, joined, now } => self.leave(*view, *joined, *now),
+            Request::Offer {
+                view,
+                joined,
+                time,
+                bytes,
+            } => self.offer(*view, *joined, *time, bytes),
+            Request::Pull { after, limit } => self.pull(*after, *limit),
+        };
+        // opens the session, whose invariant is the clause `sound`
+        let _ = &self.horizon;
+        reply
+    }
+}

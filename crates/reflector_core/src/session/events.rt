@@ -1,0 +1,131 @@
+//! The events that views send.
+ghost use Rattle.std.specs.Prelude.{◌≡◌, ◌+◌, ◌<◌, ◌≤◌, ◌||◌, nat_lt, true, length, IfOk, IsOk, OnErr};
+ghost use Rattle.tea_base.specs.Readings.{payload_bytes, event, is_here, last_number};
+ghost use Rattle.tea_base.specs.Legal.{most_payload, most_bytes, most_open_entries};
+ghost use Rattle.reflector_core.specs.SessionState.{UsesAtMost};
+ghost use Rattle.reflector_core.specs.declared.request.Reply.{Reply};
+ghost use Rattle.reflector_core.specs.Answer.{with_reply, MayWantMemory, capped, is_closed, repeats, stamps, send, end_of_time};
+
+use crate::request::{Refusal, Reply};
+use crate::session::Session;
+use crate::session::times::{END_OF_TIME, stamp};
+use tea_base::WantOfMemory;
+
+/// The most payload bytes of an event.
+const MOST_PAYLOAD: usize = 4_096;
+
+/// The most payload bytes of a log.
+const MOST_BYTES: u64 = 67_108_864;
+
+/// A length as a reply gives it.
+pub(super) fn capped(len: usize) -> u32
+    ensures { result ≡ capped len }
+{
+    len.min(u32::MAX as usize) as u32
+}
+
+impl Session {
+    /// Answers a Send.
+    pub(super) fn send(
+        &mut self,
+        view: u32,
+        joined: u32,
+        number: u32,
+        payload: &[u8],
+        now: u64,
+    ) -> Result<Reply, WantOfMemory>
+        ensures ok { IfOk result (λ reply. with_reply self.new.plain reply ≡
+            send self.old.plain view joined number payload.now now) }
+        ensures prepared { 0 < self.old.ready_entries → length payload.now ≤ self.old.ready_bytes → IsOk result }
+        ensures used { UsesAtMost self.old self.new 1 (length payload.now) }
+        ensures memory { OnErr result
+            (MayWantMemory (send self.old.plain view joined number payload.now now).reply) }
+        ensures err { OnErr result (self.new.plain ≡ self.old.plain) }
+    {
+        if self.is_stale(view, joined) {
+            return Ok(Reply::Refused(self.stale(view)));
+        }
+        if payload.len() > MOST_PAYLOAD {
+            return Ok(Reply::Refused(Refusal::TooLong {
+                len: capped(payload.len()),
+            }));
+        }
+        let next = self.log.last_number(view) + 1;
+        if number == 0 {
+            return Ok(Reply::Refused(Refusal::Gap { expected: next }));
+        }
+        if number < next {
+            return Ok(self.repeat(view, number, payload));
+        }
+        if next < number {
+            return Ok(Reply::Refused(Refusal::Gap { expected: next }));
+        }
+        if self.is_full(payload.len()) {
+            return Ok(Reply::Refused(self.log_full()));
+        }
+        if self.horizon >= END_OF_TIME {
+            return Ok(Reply::Refused(Refusal::TimeEnd {
+                horizon: self.horizon,
+            }));
+        }
+        self.append_event(view, number, payload, now)
+    }
+
+    /// Whether nothing is added to the log but Exits, or it has no room for so many payload bytes.
+    fn is_full(&self, len: usize) -> bool
+        requires { len ≤ most_payload }
+        ensures { result ≡ (is_closed self.now.plain.log
+            || nat_lt most_bytes (payload_bytes self.now.plain.log + len)) }
+    {
+        self.is_closed() || self.log.payload_bytes() > MOST_BYTES - len as u64
+    }
+
+    /// Answers an event that was sent before.
+    fn repeat(&self, view: u32, number: u32, payload: &[u8]) -> Reply
+        requires counted { 0 < number }
+        requires sent { number ≤ last_number self.now.plain.log view }
+        ensures { (otherwise : Reply) → result ≡
+            repeats self.now.plain payload.now (event self.now.plain.log view number) otherwise }
+    {
+        match self.log.seq_of(view, number) {
+            None => unreachable!(),
+            Some(seq) => {
+                if self.log.payload_is(seq, payload) {
+                    Reply::Again {
+                        seq,
+                        time: self.log.time_of(seq),
+                    }
+                } else {
+                    Reply::Refused(Refusal::Differs { seq })
+                }
+            }
+        }
+    }
+
+    /// Appends an event that nothing refuses.
+    fn append_event(
+        &mut self,
+        view: u32,
+        number: u32,
+        payload: &[u8],
+        now: u64,
+    ) -> Result<Reply, WantOfMemory>
+        requires here { is_here self.old.plain.log view ≡ true }
+        requires next { number ≡ last_number self.old.plain.log view + 1 }
+        requires short { length payload.now ≤ most_payload }
+        requires fits { payload_bytes self.old.plain.log + length payload.now ≤ most_bytes }
+        requires unfilled { length self.old.plain.log < most_open_entries }
+        requires before_end { self.old.plain.horizon < end_of_time }
+        ensures ok { IfOk result (λ reply. with_reply self.new.plain reply ≡
+            stamps self.old.plain view number payload.now now) }
+        ensures prepared { 0 < self.old.ready_entries → length payload.now ≤ self.old.ready_bytes → IsOk result }
+        ensures used { UsesAtMost self.old self.new 1 (length payload.now) }
+        ensures err { OnErr result (self.new.plain ≡ self.old.plain) }
+    {
+        self.log.reserve(1, payload.len() as u64)?;
+        let time = stamp(self.horizon, now);
+        let seq = self.log.push_event(time, view, number, payload);
+        self.horizon = time;
+        Ok(Reply::Stamped { seq, time })
+    }
+}

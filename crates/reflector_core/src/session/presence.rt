@@ -1,0 +1,132 @@
+//! The coming and going of views.
+ghost use Rattle.std.specs.Prelude.{◌≡◌, ◌≢◌, ◌<◌, ◌≤◌, ◌^◌, false, length, IfOk, IsOk, OnErr};
+ghost use Rattle.tea_base.specs.Readings.{current, here_count, is_here};
+ghost use Rattle.tea_base.specs.Legal.{most_here, most_open_entries};
+ghost use Rattle.reflector_core.specs.SessionState.{UsesAtMost};
+ghost use Rattle.reflector_core.specs.Answer.{with_reply, MayWantMemory, is_stale, is_closed, log_full, joins, join, leave, end_of_time};
+
+use crate::request::{Refusal, Reply};
+use crate::session::Session;
+use crate::session::times::{END_OF_TIME, stamp};
+use crate::start::Want;
+use tea_base::{WantOfMemory, What};
+
+/// How many entries a log may have before nothing is added but Exits.
+const MOST_OPEN_ENTRIES: u32 = 1_048_576;
+
+/// The most views that are here.
+const MOST_HERE: u32 = 1_024;
+
+impl Session {
+    /// Whether the view is not here, or has another Join or Exit after the caller's Join.
+    pub(super) fn is_stale(&self, view: u32, joined: u32) -> bool
+        ensures { result ≡ is_stale self.now.plain.log view joined }
+    {
+        self.log.current(view) != joined || !self.log.is_here(view)
+    }
+
+    /// The refusal of a caller that is stale.
+    pub(super) fn stale(&self, view: u32) -> Refusal
+        ensures { result ≡ Refusal.Stale (current self.now.plain.log view) }
+    {
+        Refusal::Stale {
+            current: self.log.current(view),
+        }
+    }
+
+    /// Whether nothing is added to the log but Exits.
+    pub(super) fn is_closed(&self) -> bool
+        ensures { result ≡ is_closed self.now.plain.log }
+    {
+        self.log.len() >= MOST_OPEN_ENTRIES
+    }
+
+    /// The refusal of a full log.
+    pub(super) fn log_full(&self) -> Refusal
+        ensures { result ≡ log_full self.now.plain.log }
+    {
+        Refusal::LogFull {
+            entries: self.log.len(),
+            bytes: self.log.payload_bytes(),
+        }
+    }
+
+    /// Answers a Join.
+    pub(super) fn join(&mut self, view: u32, now: u64, want: Want) -> Result<Reply, WantOfMemory>
+        ensures ok { IfOk result (λ reply. with_reply self.new.plain reply ≡
+            join self.old.plain view now want) }
+        ensures used { UsesAtMost self.old self.new 1 0 }
+        ensures memory { OnErr result (MayWantMemory (join self.old.plain view now want).reply) }
+        ensures err { OnErr result (self.new.plain ≡ self.old.plain) }
+    {
+        if view == 0 {
+            return Ok(Reply::Refused(Refusal::BadView));
+        }
+        if self.is_ahead(want) {
+            return Ok(Reply::Refused(Refusal::Ahead {
+                horizon: self.horizon,
+            }));
+        }
+        if !self.log.is_here(view) && self.log.here_count() >= MOST_HERE {
+            return Ok(Reply::Refused(Refusal::ViewsFull {
+                here: self.log.here_count(),
+            }));
+        }
+        if self.is_closed() {
+            return Ok(Reply::Refused(self.log_full()));
+        }
+        if self.horizon >= END_OF_TIME {
+            return Ok(Reply::Refused(Refusal::TimeEnd {
+                horizon: self.horizon,
+            }));
+        }
+        self.append_join(view, now, want)
+    }
+
+    /// Appends a Join that nothing refuses.
+    fn append_join(&mut self, view: u32, now: u64, want: Want) -> Result<Reply, WantOfMemory>
+        requires named { view ≢ 0 }
+        requires room { is_here self.old.plain.log view ≡ false → here_count self.old.plain.log < most_here }
+        requires unfilled { length self.old.plain.log < most_open_entries }
+        requires before_end { self.old.plain.horizon < end_of_time }
+        ensures ok { IfOk result (λ reply. with_reply self.new.plain reply ≡
+            joins self.old.plain view now want) }
+        ensures used { UsesAtMost self.old self.new 1 0 }
+        ensures err { OnErr result (self.new.plain ≡ self.old.plain) }
+    {
+        let base = self.base_for(want)?;
+        self.log.reserve(1, 0)?;
+        let from = self.from_for(want);
+        let last = self.log.last_number(view);
+        let time = stamp(self.horizon, now);
+        let seq = self.log.push(time, view, &What::Join);
+        self.horizon = time;
+        Ok(Reply::Joined {
+            seq,
+            time,
+            last,
+            from,
+            base,
+        })
+    }
+
+    /// Answers a Leave. A view that is here can always leave: its Exit has room in the log, and
+    /// time.
+    pub(super) fn leave(&mut self, view: u32, joined: u32, now: u64) -> Result<Reply, WantOfMemory>
+        ensures ok { IfOk result (λ reply. with_reply self.new.plain reply ≡
+            leave self.old.plain view joined now) }
+        ensures prepared { 0 < self.old.ready_entries → IsOk result }
+        ensures used { UsesAtMost self.old self.new 1 0 }
+        ensures memory { OnErr result (MayWantMemory (leave self.old.plain view joined now).reply) }
+        ensures err { OnErr result (self.new.plain ≡ self.old.plain) }
+    {
+        if self.is_stale(view, joined) {
+            return Ok(Reply::Refused(self.stale(view)));
+        }
+        self.log.reserve(1, 0)?;
+        let time = stamp(self.horizon, now);
+        let seq = self.log.push(time, view, &What::Exit);
+        self.horizon = time;
+        Ok(Reply::Left { seq, time })
+    }
+}

@@ -1,0 +1,88 @@
+//! The kept snapshot, and what a joining view gets of it.
+ghost use Rattle.std.specs.Prelude.{◌≡◌, IfOk, OnErr};
+ghost use Rattle.reflector_core.specs.SessionState.{UsesAtMost};
+ghost use Rattle.reflector_core.specs.Answer.{with_reply, MayWantMemory, is_ahead, from_for, base_for, offer};
+
+use crate::request::{Refusal, Reply};
+use crate::session::Session;
+use crate::session::events::capped;
+use crate::start::{Base, Want};
+use tea_base::{Blob, WantOfMemory};
+
+/// The most bytes of a snapshot.
+const MOST_SNAPSHOT: usize = 4_194_304;
+
+impl Session {
+    /// Answers an Offer.
+    pub(super) fn offer(
+        &mut self,
+        view: u32,
+        joined: u32,
+        time: u64,
+        bytes: &Blob,
+    ) -> Result<Reply, WantOfMemory>
+        ensures ok { IfOk result (λ reply. with_reply self.new.plain reply ≡
+            offer self.old.plain view joined time bytes.now) }
+        ensures used { UsesAtMost self.old self.new 0 0 }
+        ensures memory { OnErr result (MayWantMemory (offer self.old.plain view joined time bytes.now).reply) }
+        ensures err { OnErr result (self.new.plain ≡ self.old.plain) }
+    {
+        if self.is_stale(view, joined) {
+            return Ok(Reply::Refused(self.stale(view)));
+        }
+        if bytes.len() > MOST_SNAPSHOT {
+            return Ok(Reply::Refused(Refusal::TooLong {
+                len: capped(bytes.len()),
+            }));
+        }
+        if self.horizon < time {
+            return Ok(Reply::Refused(Refusal::Ahead {
+                horizon: self.horizon,
+            }));
+        }
+        if let Some(base) = &self.kept {
+            if time <= base.time {
+                return Ok(Reply::Refused(Refusal::Older { kept: base.time }));
+            }
+        }
+        self.kept = Some(Base {
+            time,
+            bytes: bytes.clone()?,
+        });
+        Ok(Reply::Kept)
+    }
+
+    /// Whether a want asks for what comes after a time that has not come.
+    pub(super) fn is_ahead(&self, want: Want) -> bool
+        ensures { result ≡ is_ahead self.now.plain.horizon want }
+    {
+        match want {
+            Want::Fresh | Want::Whole => false,
+            Want::After(time) => self.horizon < time,
+        }
+    }
+
+    /// The seq after which the entries of a joining view begin.
+    pub(super) fn from_for(&self, want: Want) -> u32
+        ensures { result ≡ from_for self.now.plain.log want self.now.plain.kept }
+    {
+        match want {
+            Want::Fresh => match &self.kept {
+                None => 0,
+                Some(base) => self.log.after_time(base.time),
+            },
+            Want::Whole => 0,
+            Want::After(time) => self.log.after_time(time),
+        }
+    }
+
+    /// The snapshot from which a joining view starts.
+    pub(super) fn base_for(&self, want: Want) -> Result<Option<Base>, WantOfMemory>
+        ensures { IfOk result (λ base. base ≡ base_for want self.now.plain.kept) }
+    {
+        match want {
+            Want::Fresh => Ok(self.kept.clone()?),
+            Want::Whole | Want::After(_) => Ok(None),
+        }
+    }
+}

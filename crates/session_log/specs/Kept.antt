@@ -1,0 +1,29 @@
+-- What the fields of a log stand for, and what is true of them.
+use Rattle.std.specs.Prelude.{ℕ, ◌+◌, ◌≤◌, ◌≡◌, List, length, map, vec_len, vec_capacity}
+use Rattle.tea_base.specs.declared.entry.Entry.{Entry}
+use Rattle.tea_base.specs.Readings.{payload_bytes}
+use Rattle.tea_base.specs.Legal.{IsLegal, most_entries}
+use Rattle.session_log.specs.LogState.{LogState}
+use Rattle.session_log.specs.Heads.{entry_of, AreWithin}
+use Rattle.session_log.specs.declared.heads.Head.{Head}
+use Rattle.session_log.specs.declared.log.Log.TheInside.{Inside}
+
+abbrev pub entries_of : Inside → List Entry
+entries_of log = map (entry_of log.payloads.items) log.heads.items
+
+abbrev pub state_of : Inside → LogState
+state_of log =
+    record { entries = entries_of log; spare_entries = log.spare_entries; spare_bytes = log.spare_bytes }
+
+-- the bytes of all payloads and the heads are those of a legal log
+pub record AreSound (payloads : List ℕ) (heads : List Head) : Type 0 where
+  pub legal : IsLegal (map (entry_of payloads) heads)
+  pub counted : payload_bytes (map (entry_of payloads) heads) ≡ length payloads
+  pub within : AreWithin (length payloads) heads
+
+-- the vectors have memory for the room that is told
+pub record IsSound (log : Inside) : Type 0 where
+  pub kept : AreSound log.payloads.items log.heads.items
+  pub short : vec_len log.heads ≤ most_entries
+  pub room_for_entries : vec_len log.heads + log.spare_entries ≤ vec_capacity log.heads
+  pub room_for_bytes : vec_len log.payloads + log.spare_bytes ≤ vec_capacity log.payloads

@@ -1,0 +1,3 @@
+pub mod LogState
+pub mod Heads
+pub mod Kept

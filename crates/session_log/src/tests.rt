@@ -1,0 +1,65 @@
+//! Each call that wants memory, once, and the readings of a small log.
+use super::*;
+use std::test::Fail;
+use tea_base::{Blob, Entry, What};
+
+#[test]
+fn an_event_is_read_as_it_was_pushed(rt: HostRuntime) -> Result<(), Fail> {
+    let mut log = Log::new(rt.alloc());
+    log.reserve(2, 2)?;
+    assert_eq!(rt; log.spare(), (2, 2));
+    assert_eq!(rt; log.push(5, 7, &What::Join), 1);
+    assert_eq!(rt; log.push_event(9, 7, 1, b"hi"), 2);
+    assert_eq!(rt; log.spare(), (0, 0));
+    let event = Entry {
+        seq: 2,
+        time: 9,
+        view: 7,
+        what: What::Event {
+            number: 1,
+            payload: Blob::copy(rt.alloc(), b"hi")?,
+        },
+    };
+    assert!(rt; log.get(2)? == event);
+    assert_eq!(rt; log.get(0).err(), Some(GetRefusal::NoSuchSeq));
+    assert_eq!(rt; log.get(3).err(), Some(GetRefusal::NoSuchSeq));
+    Ok(())
+}
+
+#[test]
+fn a_payload_is_compared(rt: HostRuntime) -> Result<(), Fail> {
+    let mut log = Log::new(rt.alloc());
+    log.reserve(2, 2)?;
+    log.push(5, 7, &What::Join);
+    log.push_event(9, 7, 1, b"hi");
+    assert!(rt; log.payload_is(2, b"hi"));
+    assert!(rt; !log.payload_is(2, b"ha"));
+    assert!(rt; !log.payload_is(2, b"h"));
+    assert!(rt; !log.payload_is(1, b""));
+    assert!(rt; !log.payload_is(0, b""));
+    assert!(rt; !log.payload_is(3, b"hi"));
+    Ok(())
+}
+
+#[test]
+fn a_view_is_read_by_its_entries(rt: HostRuntime) -> Result<(), Fail> {
+    let mut log = Log::new(rt.alloc());
+    log.reserve(3, 2)?;
+    log.push(5, 7, &What::Join);
+    log.push_event(9, 7, 1, b"hi");
+    assert_eq!(rt; log.len(), 2);
+    assert_eq!(rt; log.payload_bytes(), 2);
+    assert_eq!(rt; log.time_of(2), 9);
+    assert_eq!(rt; log.after_time(8), 1);
+    assert_eq!(rt; log.current(7), 1);
+    assert!(rt; log.is_here(7));
+    assert_eq!(rt; log.here_count(), 1);
+    assert_eq!(rt; log.last_number(7), 1);
+    assert_eq!(rt; log.seq_of(7, 1), Some(2));
+    assert_eq!(rt; log.seq_of(7, 2), None);
+    log.push(10, 7, &What::Exit);
+    assert_eq!(rt; log.current(7), 3);
+    assert!(rt; !log.is_here(7));
+    assert_eq!(rt; log.here_count(), 0);
+    Ok(())
+}
