@@ -1,1 +1,3 @@
 pub mod WordLaws
+pub mod ScriptLaws
+pub mod VerdictLaws

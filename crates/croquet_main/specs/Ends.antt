@@ -1,0 +1,92 @@
+-- How the parts of a run end.
+use Rattle.std.specs.Prelude.{◌≡◌, ◌⊎◌, ℕ, ⊤, ◌≤◌, ◌<◌, List, length, Option, Some, None, Result, Ok, Err}
+use Rattle.tea_io.specs.Files.{Content, Untold, Absent, Known, MayBe}
+use Rattle.tea_io.specs.Told.{grown}
+use Rattle.tea_io.specs.Sink.{GrowsWithin}
+use Rattle.tea_io.specs.declared.files.FileCall.{FileCall}
+use Rattle.reflector_core.specs.Play.{first, replies_from}
+use Rattle.reflector_core.specs.declared.request.Request.{Request}
+use Rattle.reflector_core.specs.declared.request.Reply.{Reply}
+use Rattle.croquet_main.specs.declared.status.Fault.{Fault}
+use Rattle.croquet_main.specs.declared.status.Fault.TheVariants.{Usage, Input, Read, Sink, Memory}
+use Rattle.croquet_main.specs.declared.status.Input.{Input as InputName}
+use Rattle.croquet_main.specs.declared.status.Status.{Status}
+use Rattle.croquet_main.specs.declared.status.Status.TheVariants.{WriteFault, WantOfMemory}
+use Rattle.croquet_main.specs.declared.status.Status.TheVariants as status
+use Rattle.croquet_main.specs.Verdict.{Verdict, MayBeDone, MayBeBad, HasBadWords, HasGoodWords, OfText, usage_line, input_line, read_line, memory_line}
+
+-- what stands there is longer
+abbrev pub IsLonger : Content → ℕ → Type 0
+IsLonger Untold limit = ⊤
+IsLonger Absent limit = ⊥
+IsLonger (Known bytes) limit = limit < length bytes
+
+-- an input is read, or it is above its limit, or the read fails
+abbrev pub ReadEnd : Content → ℕ → InputName → Result (List ℕ) Fault → Type 0
+ReadEnd content limit name (Ok bytes) = MayBe content bytes × (length bytes ≤ limit)
+ReadEnd content limit name (Err Usage) = ⊥
+ReadEnd content limit name (Err (Input input)) = (input ≡ name) × IsLonger content limit
+ReadEnd content limit name (Err Read) = ⊤
+ReadEnd content limit name (Err Sink) = ⊥
+ReadEnd content limit name (Err Memory) = ⊤
+
+-- each end of a run, with the verdicts at which it may come
+abbrev pub MayEnd : Result (Unit {0}) Fault → Verdict → Type 0
+MayEnd (Ok done) verdict = MayBeDone verdict
+MayEnd (Err Usage) verdict = HasBadWords verdict
+MayEnd (Err (Input input)) verdict = MayBeBad input verdict
+MayEnd (Err Read) verdict = HasGoodWords verdict
+MayEnd (Err Sink) verdict = MayBeDone verdict
+MayEnd (Err Memory) verdict = ⊤
+
+-- what was written before a fault: nothing, but where the text was not written whole
+abbrev pub WritesBefore : Fault → Verdict → Option (List ℕ) → Option (List ℕ) → Type 0
+WritesBefore Usage verdict old new = new ≡ old
+WritesBefore (Input input) verdict old new = new ≡ old
+WritesBefore Read verdict old new = new ≡ old
+WritesBefore Sink verdict old new = OfText verdict (GrowsWithin old new)
+WritesBefore Memory verdict old new = OfText verdict (GrowsWithin old new)
+
+-- the calls that were made before an end
+abbrev pub AskedTo : {T : Type 0} → Result T Fault → List FileCall → Option (List FileCall) → Option (List FileCall) → Type 0
+AskedTo (Ok done) reads old new = new ≡ grown old reads
+AskedTo (Err Usage) reads old new = new ≡ old
+AskedTo (Err (Input input)) reads old new = new ≡ grown old reads
+AskedTo (Err Read) reads old new = new ≡ grown old reads
+AskedTo (Err Sink) reads old new = new ≡ grown old reads
+AskedTo (Err Memory) reads old new = (new ≡ old) ⊎ (new ≡ grown old reads)
+
+-- a script that has no requests is at fault, and else only memory is wanted
+abbrev pub IsScriptFault : {T : Type 0} → Fault → Option T → Type 0
+IsScriptFault Usage reading = ⊥
+IsScriptFault (Input input) reading = reading ≡ None
+IsScriptFault Read reading = ⊥
+IsScriptFault Sink reading = ⊥
+IsScriptFault Memory reading = ⊤
+
+-- the sink failed, or memory was wanted
+abbrev pub IsSinkFault : Fault → Type 0
+IsSinkFault Usage = ⊥
+IsSinkFault (Input input) = ⊥
+IsSinkFault Read = ⊥
+IsSinkFault Sink = ⊤
+IsSinkFault Memory = ⊤
+
+-- the replies of a first session to the requests, if there are any
+abbrev pub Answers : Option (List Request) → List Reply → Type 0
+Answers None replies = ⊥
+Answers (Some requests) replies = replies ≡ replies_from first requests
+
+-- a last line is told with its status, or a sink that fails at it decides, or memory that it wants
+abbrev pub Tells : List ℕ → Status → Status → Option (List ℕ) → Option (List ℕ) → Type 0 → Type 0
+Tells line given result old new rose =
+    GrowsWithin old new line
+    × (((result ≡ given) × (new ≡ grown old line)) ⊎ (((result ≡ WriteFault) × rose) ⊎ (result ≡ WantOfMemory)))
+
+-- how a fault is told
+abbrev pub IsTold : Fault → Status → Option (List ℕ) → Option (List ℕ) → Type 0 → Type 0
+IsTold Usage result old new rose = Tells usage_line status.Usage result old new rose
+IsTold (Input input) result old new rose = Tells (input_line input) status.Input result old new rose
+IsTold Read result old new rose = Tells read_line status.ReadFault result old new rose
+IsTold Sink result old new rose = (result ≡ WriteFault) × (new ≡ old)
+IsTold Memory result old new rose = Tells memory_line WantOfMemory result old new rose

@@ -1,0 +1,66 @@
+//! How a run ends.
+ghost use Rattle.std.specs.Prelude.{◌≡◌};
+ghost use Rattle.croquet_main.specs.declared.status.Fault.TheVariants.{Memory};
+
+use std::alloc::AllocError;
+use tea_base::WantOfMemory;
+
+/// The exit status of the program, numbered from 0 in this order.
+#[derive(Clone, Copy, Debug, PartialEq, Eq)]
+pub enum Status {
+    Ok,
+    /// The words break their rules.
+    Usage,
+    /// The program is refused.
+    Program,
+    /// An input is not in its grammar, or above its limit.
+    Input,
+    /// A file was not read.
+    ReadFault,
+    /// A file or the text was not written.
+    WriteFault,
+    /// The net failed.
+    NetFault,
+    /// The reflector refused.
+    Refused,
+    WantOfMemory,
+    /// The reflector ended the connection.
+    Ended,
+    /// The reflector broke the rules.
+    Peer,
+}
+
+/// An input of a command.
+#[derive(Clone, Copy, Debug, PartialEq, Eq)]
+pub enum Input {
+    Script,
+}
+
+/// Why a command stopped.
+#[derive(Clone, Copy, Debug, PartialEq, Eq)]
+pub enum Fault {
+    Usage,
+    /// This input is not in its grammar, or above its limit.
+    Input(Input),
+    /// A file was not read.
+    Read,
+    /// The text was not written.
+    Sink,
+    Memory,
+}
+
+impl From<AllocError> for Fault {
+    ghost from_gives = { λ _ fault. fault ≡ Memory };
+
+    fn from(_error: AllocError) -> Self {
+        Fault::Memory
+    }
+}
+
+impl From<WantOfMemory> for Fault {
+    ghost from_gives = { λ _ fault. fault ≡ Memory };
+
+    fn from(_error: WantOfMemory) -> Self {
+        Fault::Memory
+    }
+}

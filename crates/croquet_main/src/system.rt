@@ -1,0 +1,115 @@
+//! The files and the standard output of the system. They tell no content, only how often they failed.
+ghost use Rattle.std.specs.Prelude.{◌≡◌, ℕ, None, IfOk};
+ghost use Rattle.tea_io.specs.Files.{Untold};
+ghost use Rattle.croquet_main.specs.System.{IsCounted, IsWithin};
+
+use std::fs::{File, OpenFile};
+use std::io::{self, ErrorKind, Read, Write};
+use std::rt;
+use tea_base::{Blob, Text};
+use tea_io::{FileFault, Files, Sink, SinkFault};
+
+/// The files of the system.
+#[derive(Drop)]
+pub struct SystemFiles<'a, R> {
+    rt: &'a R,
+    faults: u64,
+}
+
+impl<'a, R: rt::Files + AllocGlobal> SystemFiles<'a, R> {
+    /// No call has failed yet.
+    pub fn new(rt: &'a R) -> SystemFiles<'a, R> {
+        SystemFiles { rt, faults: 0 }
+    }
+}
+
+/// Counts a call that failed; one that wanted memory is no failure.
+fn count_fault(faults: &mut u64, error: io::Error) -> FileFault
+    ensures { IsCounted faults.old faults.new result }
+{
+    if error.kind() == ErrorKind::OutOfMemory {
+        return FileFault::WantOfMemory;
+    }
+    *faults = faults.saturating_add(1);
+    FileFault::Failed
+}
+
+/// What a file holds.
+enum Found {
+    Bytes(Vec<u8>),
+    /// It is longer than the limit.
+    TooLong(u64),
+}
+
+/// The bytes of a file, of which no more are read than one beyond the limit: what is no plain file may report
+/// no length and never end.
+fn read_within<R: rt::Files + AllocGlobal>(rt: &R, path: &str, limit: u64) -> io::Result<Found>
+    ensures { IfOk result (IsWithin limit) }
+{
+    let file = File::open(rt, path)?;
+    let len = file.metadata()?.len();
+    if len > limit {
+        return Ok(Found::TooLong(len));
+    }
+    let mut bytes = Vec::new(rt.alloc());
+    file.take(limit.saturating_add(1)).read_to_end(&mut bytes)?;
+    let len = bytes.len() as u64;
+    if len > limit {
+        return Ok(Found::TooLong(len));
+    }
+    Ok(Found::Bytes(bytes))
+}
+
+impl<R: rt::Files + AllocGlobal> Files for SystemFiles<'_, R> {
+    ghost held = { λ files name. Untold };
+
+    ghost asked = { λ files. None };
+
+    ghost faults = { λ files. files.faults };
+
+    fn read(&mut self, name: &Text, limit: u64) -> Result<Blob, FileFault> {
+        match read_within(self.rt, name.as_str(), limit) {
+            Ok(Found::Bytes(bytes)) => Ok(Blob::from_vec(bytes)),
+            Ok(Found::TooLong(len)) => Err(FileFault::TooLarge { len }),
+            Err(error) => Err(count_fault(&mut self.faults, error)),
+        }
+    }
+
+    fn write(&mut self, name: &Text, bytes: &[u8]) -> Result<(), FileFault> {
+        match std::fs::write(self.rt, name.as_str(), bytes) {
+            Ok(()) => Ok(()),
+            Err(error) => Err(count_fault(&mut self.faults, error)),
+        }
+    }
+}
+
+/// The standard output of the system.
+#[derive(Drop)]
+pub struct Output<'a, R> {
+    rt: &'a R,
+    faults: u64,
+}
+
+impl<'a, R: Print> Output<'a, R> {
+    /// No write has failed yet.
+    pub fn new(rt: &'a R) -> Output<'a, R> {
+        Output { rt, faults: 0 }
+    }
+}
+
+impl<R: Print> Sink for Output<'_, R> {
+    ghost written = { λ out. None };
+
+    ghost faults = { λ out. out.faults };
+
+    fn write(&mut self, bytes: &[u8]) -> Result<(), SinkFault> {
+        match io::writer(self.rt).write_all(bytes) {
+            Ok(()) => Ok(()),
+            Err(error) if error.kind() == ErrorKind::OutOfMemory => Err(SinkFault::WantOfMemory),
+            Err(_) => {
+                self.faults = self.faults.saturating_add(1);
+                Err(SinkFault::Failed)
+            }
+        }
+    }
+}

@@ -1,0 +1,209 @@
+//! The top call over files and a sink in memory.
+use crate::status::Status;
+use crate::top::croquet;
+use std::alloc::Global;
+use std::test::Fail;
+use tea_base::{Blob, Numbers, Text, Words};
+use tea_io::{MemFiles, MemSink, NamedBlob, NamedBlobs};
+
+/// What a run answers and writes, over a file `s`, where one call of the files and one of the sink may fail.
+fn ran(
+    alloc: Global,
+    words: &[&str],
+    script: Blob,
+    fail: (u32, u32),
+) -> Result<(Status, String), Fail> {
+    let mut given = Words::new(alloc);
+    for word in words {
+        given.push(Text::copy(alloc, word)?)?;
+    }
+    let mut held = NamedBlobs::new(alloc);
+    held.push(NamedBlob {
+        name: Text::copy(alloc, "s")?,
+        bytes: script,
+    })?;
+    let mut files = MemFiles::new(alloc, held, Numbers::from_vec([fail.0].to_vec(alloc)?));
+    let mut out = MemSink::new(alloc, Numbers::from_vec([fail.1].to_vec(alloc)?));
+    let status = croquet(alloc, &given, &mut files, &mut out);
+    let text = String::from_utf8(out.into_bytes().into_vec()).map_err(|_| "not text")?;
+    Ok((status, text))
+}
+
+/// What `stamp s` answers and writes for a script.
+fn stamped(alloc: Global, script: &[u8]) -> Result<(Status, String), Fail> {
+    ran(alloc, &["stamp", "s"], Blob::copy(alloc, script)?, (0, 0))
+}
+
+#[test]
+fn replies_are_printed(rt: HostRuntime) -> Result<(), Fail> {
+    for (script, text) in [
+        ("", ""),
+        (
+            "join 7 0\nsend 7 1 1 0 6869",
+            "joined 1 1 0 0\nstamped 2 2\n",
+        ),
+        (
+            "join 7 0\ntick 9007199254740991\nsend 7 1 1 0 00",
+            "joined 1 1 0 0\nticked 9007199254736896\nrefused time-end 9007199254736896\n",
+        ),
+        (
+            "join 7 5 fresh\njoin 8 5 whole\njoin 9 0 after 6\njoin 9 0 after 7\njoin 9 0 after 9007199254740991",
+            "joined 1 5 0 0\njoined 2 6 0 0\njoined 3 7 0 2\njoined 4 8 0 3\nrefused ahead 8\n",
+        ),
+        (
+            "join 0 0\njoin 4294967295 18446744073709551615\nsend 4294967295 1 1 0 00\ntick 18446744073709551615",
+            "refused bad-view\njoined 1 9007199254736896 0 0\nrefused time-end 9007199254736896\nticked 9007199254736896\n",
+        ),
+        (
+            "send 7 4294967295 4294967295 18446744073709551615 -",
+            "refused stale 0\n",
+        ),
+        (
+            "join 7 0\r\n\n\r\n# ü\nsend  7   1 1 0 aB\nsend 7 1 1 0 Ab",
+            "joined 1 1 0 0\nstamped 2 2\nagain 2 2\n",
+        ),
+    ] {
+        let (status, written) = stamped(rt.alloc(), script.as_bytes())?;
+        assert_eq!(rt; written.as_str(), text, "of {script:?}");
+        assert_eq!(rt; status, Status::Ok);
+    }
+    Ok(())
+}
+
+#[test]
+fn payloads_have_4096_bytes_at_most(rt: HostRuntime) -> Result<(), Fail> {
+    let alloc = rt.alloc();
+    for (bytes, text) in [
+        (4096, "joined 1 1 0 0\nstamped 2 2\n"),
+        (4097, "joined 1 1 0 0\nrefused too-long 4097\n"),
+    ] {
+        let mut script = String::from_str(alloc, "join 7 0\nsend 7 1 1 0 ")?;
+        for _ in 0..bytes {
+            script.push_str("5f")?;
+        }
+        let (status, written) = stamped(alloc, script.as_bytes())?;
+        assert_eq!(rt; written.as_str(), text);
+        assert_eq!(rt; status, Status::Ok);
+    }
+    Ok(())
+}
+
+#[test]
+fn scripts_outside_the_grammar_are_refused(rt: HostRuntime) -> Result<(), Fail> {
+    for script in [
+        "send 7",
+        "join 7",
+        "join 7 0 fresh whole",
+        "join 7 0 after",
+        "join 7 0 after 9007199254740992",
+        "join 7 0 Fresh",
+        "join 4294967296 0",
+        "join 7 18446744073709551616",
+        "join +7 0",
+        "join 07 0",
+        "join -7 0",
+        "join 7 0 ",
+        " join 7 0",
+        "join\t7 0",
+        "join 7 0\rtick 1",
+        "join 7 0\r",
+        " ",
+        "join 7 0\n # no comment",
+        "Tick 1",
+        "tick",
+        "tick 1 1",
+        "send 7 1 1 0",
+        "send 7 1 1 0 0",
+        "send 7 1 1 0 0g",
+        "send 7 1 1 0 00 00",
+        "send 7 1 1 0 --",
+        "send 7 1 4294967296 0 00",
+        "leave 7 1 0",
+    ] {
+        let (status, written) = stamped(rt.alloc(), script.as_bytes())?;
+        assert_eq!(rt; written.as_str(), "input script\n", "of {script:?}");
+        assert_eq!(rt; status, Status::Input);
+    }
+    for script in [b"# \xff\n".as_slice(), b"\xef\xbb\xbftick 1".as_slice()] {
+        assert_eq!(rt; stamped(rt.alloc(), script)?.0, Status::Input);
+    }
+    Ok(())
+}
+
+#[test]
+fn scripts_have_a_limit(rt: HostRuntime) -> Result<(), Fail> {
+    let alloc = rt.alloc();
+    for (bytes, want) in [(16777216, Status::Ok), (16777217, Status::Input)] {
+        let script = Blob::from_vec(vec![in alloc; b'#'; bytes]?);
+        assert_eq!(rt; ran(alloc, &["stamp", "s"], script, (0, 0))?.0, want);
+    }
+    Ok(())
+}
+
+#[test]
+fn words_follow_their_rules(rt: HostRuntime) -> Result<(), Fail> {
+    let alloc = rt.alloc();
+    for words in [
+        [].as_slice(),
+        &[""],
+        &["stamp"],
+        &["stamp", ""],
+        &["stamp", "s", "s"],
+        &["stamp", "s", "--log=f"],
+        &["stamp", "s", "--log", "f"],
+        &["stamp", "--", "s"],
+        &["stamp", "-s"],
+        &["stamp", "s", "-h"],
+        &["--log", "f", "stamp", "s"],
+        &["Stamp", "s"],
+        &["help"],
+        &["replay", "p", "n", "l", "9007199254740992"],
+    ] {
+        let (status, text) = ran(alloc, words, Blob::new(alloc), (0, 0))?;
+        assert_eq!(rt; text.as_str(), "usage\n", "of {words:?}");
+        assert_eq!(rt; status, Status::Usage);
+    }
+    Ok(())
+}
+
+#[test]
+fn faults_of_the_outside_are_told(rt: HostRuntime) -> Result<(), Fail> {
+    let alloc = rt.alloc();
+    for (words, script, fail, status, text) in [
+        (
+            ["stamp", "s"],
+            "tick 1",
+            (1, 0),
+            Status::ReadFault,
+            "read-fault\n",
+        ),
+        (
+            ["stamp", "t"],
+            "tick 1",
+            (0, 0),
+            Status::ReadFault,
+            "read-fault\n",
+        ),
+        (["stamp", "s"], "tick 1", (0, 1), Status::WriteFault, ""),
+        (["stamp", "s"], "tick", (0, 1), Status::WriteFault, ""),
+        (["stamp", "s"], "tick 1", (1, 1), Status::WriteFault, ""),
+        (["help", "s"], "tick 1", (0, 1), Status::WriteFault, ""),
+        (["stamp", "s"], "tick 1", (2, 2), Status::Ok, "ticked 1\n"),
+    ] {
+        let (answer, written) = ran(alloc, &words, Blob::copy(alloc, script.as_bytes())?, fail)?;
+        assert_eq!(rt; written.as_str(), text);
+        assert_eq!(rt; answer, status);
+    }
+    Ok(())
+}
+
+#[test]
+fn want_of_memory_is_told(rt: HostRuntime) -> Result<(), Fail> {
+    let script = b"join 7 0\nsend 7 1 1 0 6869\ntick 9\n";
+    let (status, text) = stamped(rt.alloc(), script)?;
+    match status {
+        Status::WantOfMemory => assert_eq!(rt; text.as_str(), "memory\n"),
+        _ => assert_eq!(rt; text.as_str(), "joined 1 1 0 0\nstamped 2 2\nticked 9\n"),
+    }
+    Ok(())
+}

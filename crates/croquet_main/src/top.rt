@@ -1,0 +1,102 @@
+//! The top call: all that the program does.
+ghost use Rattle.std.specs.Prelude.{◌≡◌, ◌≢◌, ℕ, ◌≤◌, List, IfErr, OnOk, OnErr, IsErrOf, Option, Err, OnErr};
+ghost use Rattle.tea_io.specs.declared.files.FileCall.{FileCall};
+ghost use Rattle.tea_io.specs.Sink.{GrowsWithin};
+ghost use Rattle.tea_io.specs.Told.{grown, Rose};
+ghost use Rattle.croquet_main.specs.CommandWords.{command_of};
+ghost use Rattle.croquet_main.specs.Verdict.{Verdict, verdict_of, reads_of, requests_of_run, Asked, HasItsEvents, MayAnswer, OfText, Writes, input_line};
+ghost use Rattle.croquet_main.specs.Ends.{AskedTo, IsTold, MayEnd, Tells, WritesBefore};
+
+use crate::stamp::stamp;
+use crate::status::{Fault, Input, Status};
+use crate::words::{Command, read_command};
+use std::alloc::Global;
+use tea_base::Words;
+use tea_io::{Files, Sink, SinkFault};
+
+/// Runs what the words ask for.
+fn run<F: Files, W: Sink>(
+    alloc: Global,
+    words: &Words,
+    files: &mut F,
+    out: &mut W,
+) -> Result<(), Fault>
+    ensures end { MayEnd result (verdict_of (command_of words.now) (F.held files.old)) }
+    ensures text { OnOk result (OfText (verdict_of (command_of words.now) (F.held files.old))
+        (λ text. W.written out.new ≡ grown (W.written out.old) text)) }
+    ensures part { IfErr result (λ fault. WritesBefore fault (verdict_of (command_of words.now) (F.held files.old))
+        (W.written out.old) (W.written out.new)) }
+    ensures events { OnOk result (HasItsEvents (requests_of_run (command_of words.now) (F.held files.old))) }
+    ensures asked { AskedTo result (reads_of (command_of words.now)) (F.asked files.old) (F.asked files.new) }
+    ensures same { (name : List ℕ) → F.held files.new name ≡ F.held files.old name }
+
+    ensures files_later { F.faults files.old ≤ F.faults files.new }
+    ensures sink_later { W.faults out.old ≤ W.faults out.new }
+    ensures read_cause { IsErrOf result Fault.Read → Rose (F.faults files.old) (F.faults files.new) }
+    ensures sink_cause { IsErrOf result Fault.Sink → Rose (W.faults out.old) (W.faults out.new) }
+{
+    match read_command(alloc, words)? {
+        Some(Command::Stamp { script }) => stamp(alloc, &script, files, out),
+        None => Err(Fault::Usage),
+    }
+}
+
+/// The line of an input at fault.
+fn input_line(input: Input) -> &'static str
+    ensures { result.now ≡ input_line input }
+{
+    match input {
+        Input::Script => "input script\n",
+    }
+}
+
+/// Writes a last line. A sink that fails at it decides the status.
+fn tell<W: Sink>(out: &mut W, line: &str, status: Status) -> Status
+    ensures told { Tells line.now status result (W.written out.old) (W.written out.new)
+        (Rose (W.faults out.old) (W.faults out.new)) }
+    ensures later { W.faults out.old ≤ W.faults out.new }
+{
+    match out.write(line.as_bytes()) {
+        Ok(()) => status,
+        Err(SinkFault::Failed) => Status::WriteFault,
+        Err(SinkFault::WantOfMemory) => Status::WantOfMemory,
+    }
+}
+
+/// Tells a fault by its line, and gives its status.
+pub fn end<W: Sink>(fault: Fault, out: &mut W) -> Status
+    ensures told { IsTold fault result (W.written out.old) (W.written out.new) (Rose (W.faults out.old) (W.faults out.new)) }
+    ensures later { W.faults out.old ≤ W.faults out.new }
+{
+    match fault {
+        Fault::Usage => tell(out, "usage\n", Status::Usage),
+        Fault::Input(input) => tell(out, input_line(input), Status::Input),
+        Fault::Read => tell(out, "read-fault\n", Status::ReadFault),
+        Fault::Sink => Status::WriteFault,
+        Fault::Memory => tell(out, "memory\n", Status::WantOfMemory),
+    }
+}
+
+/// Does all that the program does: runs what the words ask for over these files, and writes its text to `out`.
+pub fn croquet<F: Files, W: Sink>(
+    alloc: Global,
+    words: &Words,
+    files: &mut F,
+    out: &mut W,
+) -> Status
+    // Each status comes only where the words and the told files let it.
+    ensures answer { MayAnswer result (verdict_of (command_of words.now) (F.held files.old)) }
+    ensures written { Writes result (verdict_of (command_of words.now) (F.held files.old)) (W.written out.old) (W.written out.new) }
+    ensures asked { Asked result (reads_of (command_of words.now)) (F.asked files.old) (F.asked files.new) }
+    ensures events { result ≡ Status.Ok → HasItsEvents (requests_of_run (command_of words.now) (F.held files.old)) }
+
+    // A fault of the outside comes only where its count rose.
+    ensures read_fault { result ≡ Status.ReadFault → Rose (F.faults files.old) (F.faults files.new) }
+    ensures write_fault { result ≡ Status.WriteFault → Rose (W.faults out.old) (W.faults out.new) }
+    ensures files_kept { (name : List ℕ) → F.held files.new name ≡ F.held files.old name }
+{
+    match run(alloc, words, files, out) {
+        Ok(()) => Status::Ok,
+        Err(fault) => end(fault, out),
+    }
+}
