@@ -47,14 +47,14 @@ WritesBefore Read verdict old new = new ≡ old
 WritesBefore Sink verdict old new = OfText verdict (GrowsWithin old new)
 WritesBefore Memory verdict old new = OfText verdict (GrowsWithin old new)
 
--- the calls that were made before an end
-abbrev pub AskedTo : {T : Type 0} → Result T Fault → List FileCall → Option (List FileCall) → Option (List FileCall) → Type 0
-AskedTo (Ok done) reads old new = new ≡ grown old reads
-AskedTo (Err Usage) reads old new = new ≡ old
-AskedTo (Err (Input input)) reads old new = new ≡ grown old reads
-AskedTo (Err Read) reads old new = new ≡ grown old reads
-AskedTo (Err Sink) reads old new = new ≡ grown old reads
-AskedTo (Err Memory) reads old new = (new ≡ old) ⊎ (new ≡ grown old reads)
+-- the calls that were made before an end; where memory was wanted before any, `quiet` holds
+abbrev pub AskedTo : {T : Type 0} → Result T Fault → List FileCall → Option (List FileCall) → Option (List FileCall) → Type 0 → Type 0
+AskedTo (Ok done) reads old new quiet = new ≡ grown old reads
+AskedTo (Err Usage) reads old new quiet = new ≡ grown old reads
+AskedTo (Err (Input input)) reads old new quiet = new ≡ grown old reads
+AskedTo (Err Read) reads old new quiet = new ≡ grown old reads
+AskedTo (Err Sink) reads old new quiet = new ≡ grown old reads
+AskedTo (Err Memory) reads old new quiet = (new ≡ grown old reads) ⊎ ((new ≡ old) × quiet)
 
 -- a script that has no requests is at fault, and else only memory is wanted
 abbrev pub IsScriptFault : {T : Type 0} → Fault → Option T → Type 0

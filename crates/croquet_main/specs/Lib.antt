@@ -4,3 +4,4 @@ pub mod PrintedText
 pub mod Verdict
 pub mod Ends
 pub mod System
+pub mod Status

@@ -2,6 +2,7 @@
 use Rattle.std.specs.Prelude.{◌≡◌, ◌⊎◌, ℕ, ⊤, nat_le, if◌then◌else◌, List, [], ◌∷◌, ◌++◌, length, Option, Some, None, codes, Contains}
 use Rattle.tea_io.specs.Files.{Content, Untold, Absent, Known}
 use Rattle.tea_io.specs.Told.{grown}
+use Rattle.tea_io.specs.Sink.{GrowsWithin}
 use Rattle.tea_io.specs.declared.files.FileCall.{FileCall}
 use Rattle.tea_io.specs.declared.files.FileCall.TheVariants.{Read}
 use Rattle.reflector_core.specs.declared.request.Request.{Request}
@@ -114,12 +115,13 @@ MayAnswer status.Peer verdict = ⊥
 
 -- ---- which calls were made
 
--- the calls that were made before a status came: all of them, but where the words were bad or memory was wanted
-abbrev pub Asked : Status → List FileCall → Option (List FileCall) → Option (List FileCall) → Type 0
-Asked status.Usage reads old new = new ≡ old
-Asked status.WriteFault reads old new = (new ≡ old) ⊎ (new ≡ grown old reads)
-Asked status.WantOfMemory reads old new = (new ≡ old) ⊎ (new ≡ grown old reads)
-Asked other reads old new = new ≡ grown old reads
+-- The calls that were made before a status came: all that the words ask for, which are none where the words are bad.
+-- Where memory was wanted before the files were asked, there is none, and `alone` holds: no more than the line of that
+-- fault was written.
+abbrev pub Asked : Status → List FileCall → Option (List FileCall) → Option (List FileCall) → Type 0 → Type 0
+Asked status.WriteFault reads old new alone = (new ≡ grown old reads) ⊎ ((new ≡ old) × alone)
+Asked status.WantOfMemory reads old new alone = (new ≡ grown old reads) ⊎ ((new ≡ old) × alone)
+Asked other reads old new alone = new ≡ grown old reads
 
 -- ---- what is written
 
@@ -138,27 +140,25 @@ read_line = codes "read-fault\n"
 abbrev pub memory_line : List ℕ
 memory_line = codes "memory\n"
 
--- the lines of the faults that may come at a verdict
-abbrev pub fault_lines : Verdict → List (List ℕ)
-fault_lines BadWords = usage_line ∷ memory_line ∷ []
-fault_lines Unreadable = read_line ∷ memory_line ∷ []
-fault_lines (BadInput input) = input_line input ∷ read_line ∷ memory_line ∷ []
-fault_lines (Unknown inputs) = []
-fault_lines (Done text) = read_line ∷ memory_line ∷ []
+-- the line of a fault other than want of memory, where it may come; a read fault only where the files' faults rose
+abbrev pub MayTell : Verdict → Type 0 → List ℕ → Type 0
+MayTell verdict rose line =
+    (HasBadWords verdict × (line ≡ usage_line))
+    ⊎ (((input : Input) × MayBeBad input verdict × (line ≡ input_line input))
+    ⊎ (HasGoodWords verdict × rose × (line ≡ read_line)))
 
--- these are the first of those
-abbrev pub IsFrontOf : List ℕ → List ℕ → Type 0
-IsFrontOf front whole = (rest : List ℕ) × (front ++ rest ≡ whole)
-
--- a first part of the text was written, and then a first part of one of these lines
-pub record IsCutShort (text : List ℕ) (lines : List (List ℕ)) (old new : Option (List ℕ)) : Type 0 where
-  pub front : List ℕ
-  pub back : List ℕ
+-- a first part of one of these lines was written
+pub record TellsPart (verdict : Verdict) (rose : Type 0) (old new : Option (List ℕ)) : Type 0 where
   pub line : List ℕ
-  pub of_text : IsFrontOf front text
-  pub of_line : IsFrontOf back line
-  pub told : Contains lines line
-  pub written : new ≡ grown old (front ++ back)
+  pub may : MayTell verdict rose line
+  pub part : GrowsWithin old new line
+
+-- a first part of the text was written, and then a first part of the line of want of memory
+pub record IsCutByMemory (old new : Option (List ℕ)) (text : List ℕ) : Type 0 where
+  pub front : List ℕ
+  pub rest : List ℕ
+  pub of_text : front ++ rest ≡ text
+  pub line : GrowsWithin (grown old front) new memory_line
 
 -- a fact of the text of a run, which is empty where the run does not come to write; where the files do not tell, nothing is said
 abbrev pub OfText : Verdict → (List ℕ → Type 0) → Type 0
@@ -169,11 +169,13 @@ OfText (Unknown inputs) fact = ⊤
 OfText (Done text) fact = fact text
 
 -- what is written, by the status
-abbrev pub Writes : Status → Verdict → Option (List ℕ) → Option (List ℕ) → Type 0
-Writes status.Ok verdict old new = OfText verdict (λ text. new ≡ grown old text)
-Writes status.Usage verdict old new = new ≡ grown old usage_line
-Writes status.Input verdict old new = (input : Input) × MayBeBad input verdict × (new ≡ grown old (input_line input))
-Writes status.ReadFault verdict old new = new ≡ grown old read_line
-Writes status.WriteFault verdict old new = OfText verdict (λ text. IsCutShort text (fault_lines verdict) old new)
-Writes status.WantOfMemory verdict old new = OfText verdict (λ text. IsCutShort text (fault_lines verdict) old new)
-Writes other verdict old new = ⊥
+abbrev pub Writes : Status → Verdict → Type 0 → Option (List ℕ) → Option (List ℕ) → Type 0
+Writes status.Ok verdict rose old new = OfText verdict (λ text. new ≡ grown old text)
+Writes status.Usage verdict rose old new = new ≡ grown old usage_line
+Writes status.Input verdict rose old new = (input : Input) × MayBeBad input verdict × (new ≡ grown old (input_line input))
+Writes status.ReadFault verdict rose old new = new ≡ grown old read_line
+Writes status.WriteFault verdict rose old new =
+    OfText verdict (GrowsWithin old new) ⊎ (TellsPart verdict rose old new ⊎ OfText verdict (IsCutByMemory old new))
+Writes status.WantOfMemory verdict rose old new =
+    TellsPart verdict rose old new ⊎ OfText verdict (IsCutByMemory old new)
+Writes other verdict rose old new = ⊥

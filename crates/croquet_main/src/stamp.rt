@@ -1,5 +1,5 @@
 //! The command `stamp`: a script's requests to a first session, and its replies.
-ghost use Rattle.std.specs.Prelude.{◌≡◌, ℕ, ◌≤◌, List, [], ◌∷◌, IfOk, IfErr, OnOk, OnErr, IsErrOf, Some};
+ghost use Rattle.std.specs.Prelude.{◌≡◌, ℕ, ◌≤◌, List, [], ◌∷◌, IfOk, IfErr, OnOk, OnErr, IsErrOf, Some, ⊤};
 ghost use Rattle.tea_io.specs.declared.files.FileCall.TheVariants.{Read};
 ghost use Rattle.tea_io.specs.Sink.{GrowsWithin};
 ghost use Rattle.tea_io.specs.Told.{grown, Rose};
@@ -24,7 +24,7 @@ const SCRIPT_LIMIT: u64 = 16777216;
 fn read_input<F: Files>(files: &mut F, name: &Text, limit: u64, input: Input) -> Result<Blob, Fault>
     ensures end { ReadEnd (F.held files.old name.now) limit input result }
     ensures same { (other : List ℕ) → F.held files.new other ≡ F.held files.old other }
-    ensures asked { AskedTo result (Read name.now ∷ []) (F.asked files.old) (F.asked files.new) }
+    ensures asked { AskedTo result (Read name.now ∷ []) (F.asked files.old) (F.asked files.new) ⊤ }
     ensures later { F.faults files.old ≤ F.faults files.new }
     ensures cause { IsErrOf result Fault.Read → Rose (F.faults files.old) (F.faults files.new) }
 {
@@ -80,7 +80,8 @@ pub fn stamp<F: Files, W: Sink>(
     ensures part { IfErr result (λ fault.
         WritesBefore fault (stamp_verdict (F.held files.old script.now)) (W.written out.old) (W.written out.new)) }
     ensures events { OnOk result (HasItsEvents (told_requests (F.held files.old script.now))) }
-    ensures asked { AskedTo result (Read script.now ∷ []) (F.asked files.old) (F.asked files.new) }
+    ensures asked { AskedTo result (Read script.now ∷ []) (F.asked files.old) (F.asked files.new)
+        (W.written out.new ≡ W.written out.old) }
     ensures same { (other : List ℕ) → F.held files.new other ≡ F.held files.old other }
 
     ensures files_later { F.faults files.old ≤ F.faults files.new }

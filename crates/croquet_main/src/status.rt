@@ -5,7 +5,7 @@ ghost use Rattle.croquet_main.specs.declared.status.Fault.TheVariants.{Memory};
 use std::alloc::AllocError;
 use tea_base::WantOfMemory;
 
-/// The exit status of the program, numbered from 0 in this order.
+/// The exit status of the program.
 #[derive(Clone, Copy, Debug, PartialEq, Eq)]
 pub enum Status {
     Ok,
@@ -28,6 +28,29 @@ pub enum Status {
     Ended,
     /// The reflector broke the rules.
     Peer,
+}
+
+impl Status {
+    ghost use Rattle.croquet_main.specs.Status.{number_of};
+
+    /// The number with which the process exits.
+    pub fn number(self) -> u8
+        ensures { result ≡ number_of self }
+    {
+        match self {
+            Status::Ok => 0,
+            Status::Usage => 1,
+            Status::Program => 2,
+            Status::Input => 3,
+            Status::ReadFault => 4,
+            Status::WriteFault => 5,
+            Status::NetFault => 6,
+            Status::Refused => 7,
+            Status::WantOfMemory => 8,
+            Status::Ended => 9,
+            Status::Peer => 10,
+        }
+    }
 }
 
 /// An input of a command.

@@ -1,13 +1,52 @@
-//! The files and the standard output of the system. They tell no content, only how often they failed.
+//! The words, the files and the standard output of the system. They tell no content, only how often they failed.
 ghost use Rattle.std.specs.Prelude.{◌≡◌, ℕ, None, IfOk};
 ghost use Rattle.tea_io.specs.Files.{Untold};
 ghost use Rattle.croquet_main.specs.System.{IsCounted, IsWithin};
 
+use std::env::{Env, FillError};
 use std::fs::{File, OpenFile};
 use std::io::{self, ErrorKind, Read, Write};
 use std::rt;
-use tea_base::{Blob, Text};
+use tea_base::{Blob, Text, TextFault, WantOfMemory, Words};
 use tea_io::{FileFault, Files, Sink, SinkFault};
+
+/// How many bytes a word may have before more room is made for it.
+const WORD_ROOM: usize = 4096;
+
+/// The word of the command line at an index, if there is one. One that is not UTF-8 is given as an empty word, which no
+/// command takes.
+fn given_word<R: Env + AllocGlobal>(rt: &R, index: usize) -> Result<Option<Text>, WantOfMemory> {
+    let mut room = vec![in rt.alloc(); 0u8; WORD_ROOM]?;
+    for _ in 0..usize::BITS {
+        match rt.arg(index, &mut room) {
+            Ok(len) => {
+                return match Text::read(rt.alloc(), &room[..len]) {
+                    Ok(word) => Ok(Some(word)),
+                    Err(TextFault::NotUtf8) => Ok(Some(Text::copy(rt.alloc(), "")?)),
+                    Err(TextFault::WantOfMemory) => Err(WantOfMemory),
+                };
+            }
+            Err(FillError::NotPresent) => return Ok(None),
+            Err(FillError::TooLong) => {
+                let more = room.len().saturating_mul(2);
+                room = vec![in rt.alloc(); 0u8; more]?;
+            }
+        }
+    }
+    Err(WantOfMemory)
+}
+
+/// The words after the program's name.
+pub fn given_words<R: Env + AllocGlobal>(rt: &R) -> Result<Words, WantOfMemory> {
+    let mut words = Words::new(rt.alloc());
+    for index in 1..usize::MAX {
+        match given_word(rt, index)? {
+            Some(word) => words.push(word)?,
+            None => break,
+        }
+    }
+    Ok(words)
+}
 
 /// The files of the system.
 #[derive(Drop)]
@@ -18,7 +57,9 @@ pub struct SystemFiles<'a, R> {
 
 impl<'a, R: rt::Files + AllocGlobal> SystemFiles<'a, R> {
     /// No call has failed yet.
-    pub fn new(rt: &'a R) -> SystemFiles<'a, R> {
+    pub fn new(rt: &'a R) -> SystemFiles<'a, R>
+        ensures { result.faults ≡ 0 }
+    {
         SystemFiles { rt, faults: 0 }
     }
 }
@@ -92,7 +133,9 @@ pub struct Output<'a, R> {
 
 impl<'a, R: Print> Output<'a, R> {
     /// No write has failed yet.
-    pub fn new(rt: &'a R) -> Output<'a, R> {
+    pub fn new(rt: &'a R) -> Output<'a, R>
+        ensures { result.faults ≡ 0 }
+    {
         Output { rt, faults: 0 }
     }
 }

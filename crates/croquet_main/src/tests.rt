@@ -59,7 +59,7 @@ fn replies_are_printed(rt: HostRuntime) -> Result<(), Fail> {
             "refused stale 0\n",
         ),
         (
-            "join 7 0\r\n\n\r\n# ü\nsend  7   1 1 0 aB\nsend 7 1 1 0 Ab",
+            "join 7 0\r\n\n\r\n# ü \n#\nsend  7   1 1 0 aB\nsend 7 1 1 0 Ab",
             "joined 1 1 0 0\nstamped 2 2\nagain 2 2\n",
         ),
     ] {

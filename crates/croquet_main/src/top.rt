@@ -4,7 +4,7 @@ ghost use Rattle.tea_io.specs.declared.files.FileCall.{FileCall};
 ghost use Rattle.tea_io.specs.Sink.{GrowsWithin};
 ghost use Rattle.tea_io.specs.Told.{grown, Rose};
 ghost use Rattle.croquet_main.specs.CommandWords.{command_of};
-ghost use Rattle.croquet_main.specs.Verdict.{Verdict, verdict_of, reads_of, requests_of_run, Asked, HasItsEvents, MayAnswer, OfText, Writes, input_line};
+ghost use Rattle.croquet_main.specs.Verdict.{Verdict, verdict_of, reads_of, requests_of_run, Asked, HasItsEvents, MayAnswer, OfText, Writes, input_line, memory_line};
 ghost use Rattle.croquet_main.specs.Ends.{AskedTo, IsTold, MayEnd, Tells, WritesBefore};
 
 use crate::stamp::stamp;
@@ -27,7 +27,8 @@ fn run<F: Files, W: Sink>(
     ensures part { IfErr result (λ fault. WritesBefore fault (verdict_of (command_of words.now) (F.held files.old))
         (W.written out.old) (W.written out.new)) }
     ensures events { OnOk result (HasItsEvents (requests_of_run (command_of words.now) (F.held files.old))) }
-    ensures asked { AskedTo result (reads_of (command_of words.now)) (F.asked files.old) (F.asked files.new) }
+    ensures asked { AskedTo result (reads_of (command_of words.now)) (F.asked files.old) (F.asked files.new)
+        (W.written out.new ≡ W.written out.old) }
     ensures same { (name : List ℕ) → F.held files.new name ≡ F.held files.old name }
 
     ensures files_later { F.faults files.old ≤ F.faults files.new }
@@ -77,7 +78,8 @@ pub fn end<W: Sink>(fault: Fault, out: &mut W) -> Status
     }
 }
 
-/// Does all that the program does: runs what the words ask for over these files, and writes its text to `out`.
+/// Runs what the words ask for over these files, and writes its text, or the line of its one fault, to `out`. This is all
+/// that the program does once it has its words.
 pub fn croquet<F: Files, W: Sink>(
     alloc: Global,
     words: &Words,
@@ -86,8 +88,10 @@ pub fn croquet<F: Files, W: Sink>(
 ) -> Status
     // Each status comes only where the words and the told files let it.
     ensures answer { MayAnswer result (verdict_of (command_of words.now) (F.held files.old)) }
-    ensures written { Writes result (verdict_of (command_of words.now) (F.held files.old)) (W.written out.old) (W.written out.new) }
-    ensures asked { Asked result (reads_of (command_of words.now)) (F.asked files.old) (F.asked files.new) }
+    ensures written { Writes result (verdict_of (command_of words.now) (F.held files.old))
+        (Rose (F.faults files.old) (F.faults files.new)) (W.written out.old) (W.written out.new) }
+    ensures asked { Asked result (reads_of (command_of words.now)) (F.asked files.old) (F.asked files.new)
+        (GrowsWithin (W.written out.old) (W.written out.new) memory_line) }
     ensures events { result ≡ Status.Ok → HasItsEvents (requests_of_run (command_of words.now) (F.held files.old)) }
 
     // A fault of the outside comes only where its count rose.

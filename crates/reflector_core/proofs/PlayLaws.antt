@@ -1,11 +1,11 @@
 -- What a session's log keeps of the events that were answered Stamped.
-use Rattle.std.proofs.Common.{ℕ, ◌+◌, ◌≡◌, false, List, [], ◌∷◌, ◌++◌, Option, Some, None, append_assoc, sym, refl, arith}
+use Rattle.std.proofs.Common.{ℕ, ◌+◌, ◌≡◌, false, List, [], ◌∷◌, ◌++◌, Option, Some, None, append_assoc, ◌∙◌, ap, sym, refl, filter, ◌==◌, arith}
 use Rattle.std.proofs.lemmas.List.{append-nil}
 use Rattle.tea_base.specs.declared.entry.Entry.{Entry}
 use Rattle.tea_base.specs.declared.entry.What.{What}
 use Rattle.tea_base.specs.declared.entry.What.TheVariants as what
 use Rattle.tea_base.specs.Readings.{events, event, is_event, last_number}
-use Rattle.tea_base.proofs.LogLaws.{events-push, TimesRise-legal}
+use Rattle.tea_base.proofs.LogLaws.{events-push, TimesRise-legal, sent-events, EachCountsItsEvents-legal}
 use Rattle.session_log.specs.LogState.{next_entry}
 use Rattle.reflector_core.specs.PlainSession.{PlainSession, IsSound}
 use Rattle.reflector_core.specs.Answer.{answer, send, join, leave, offer, pull, appended, repeats, stamp}
@@ -73,8 +73,12 @@ events-after_all s (request ∷ rest) =
     rw (events-after_all (answer s request).session rest, events-answer s request) (append_assoc (events s.log) (stamped_by request (answer s request).reply) (stamped rest (replies_from (answer s request).session rest)))
 
 pub TellsItsEvents-all : (s : PlainSession) (requests : List Request) (replies : List Reply) → IsSound s → replies ≡ replies_from first requests → s ≡ after_all first requests → TellsItsEvents requests replies s.log
-TellsItsEvents-all s requests replies sound replied played = record {
-  legal = sound.legal;
-  times = TimesRise-legal s.log sound.legal;
-  events = rw (replied, played) (events-after_all first requests);
-}
+TellsItsEvents-all s requests replies sound replied played =
+    let told : events s.log ≡ stamped requests replies = rw (replied, played) (events-after_all first requests) in
+    record {
+      legal = sound.legal;
+      times = TimesRise-legal s.log sound.legal;
+      events = told;
+      senders = λ view. sent-events s.log view ∙ ap (filter (λ (entry : Entry). entry.view == view)) told;
+      numbers = EachCountsItsEvents-legal s.log sound.legal;
+    }

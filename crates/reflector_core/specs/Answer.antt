@@ -115,7 +115,8 @@ joins s view now want =
     record {
       session = appended s time view what.Join;
       reply =
-          Joined (length s.log + 1) time (last_number s.log view) (from_for s.log want s.kept) (base_for want s.kept);
+          Joined (length s.log + 1) time (last_number s.log view)
+          (from_for s.log want s.kept) (base_for want s.kept);
     }
 
 abbrev pub join : PlainSession → ℕ → ℕ → Want → Outcome

@@ -1,9 +1,9 @@
 -- A session over many requests.
-use Rattle.std.specs.Prelude.{ℕ, ◌≡◌, List, [], ◌∷◌, ◌++◌, None}
+use Rattle.std.specs.Prelude.{ℕ, ◌≡◌, ◌==◌, List, [], ◌∷◌, ◌++◌, filter, None}
 use Rattle.tea_base.specs.declared.entry.Entry.{Entry}
 use Rattle.tea_base.specs.declared.entry.What.TheVariants as what
-use Rattle.tea_base.specs.Readings.{events}
-use Rattle.tea_base.specs.Legal.{IsLegal, TimesRise}
+use Rattle.tea_base.specs.Readings.{events, sent}
+use Rattle.tea_base.specs.Legal.{IsLegal, TimesRise, EachCountsItsEvents}
 use Rattle.reflector_core.specs.PlainSession.{PlainSession}
 use Rattle.reflector_core.specs.Answer.{answer}
 use Rattle.reflector_core.specs.declared.request.Request.{Request}
@@ -23,7 +23,8 @@ after_all s (request ∷ rest) = after_all (answer s request).session rest
 -- the replies to requests, one after the other
 abbrev pub replies_from : PlainSession → List Request → List Reply
 replies_from s [] = []
-replies_from s (request ∷ rest) = (answer s request).reply ∷ replies_from (answer s request).session rest
+replies_from s (request ∷ rest) =
+    (answer s request).reply ∷ replies_from (answer s request).session rest
 
 -- the entry that the reply Stamped tells of an event, and none of another reply
 abbrev pub stamped_as : ℕ → ℕ → List ℕ → Reply → List Entry
@@ -52,8 +53,11 @@ stamped [] replies = []
 stamped (request ∷ requests) [] = []
 stamped (request ∷ requests) (reply ∷ replies) = stamped_by request reply ++ stamped requests replies
 
--- the log is legal, its times rise, and its events are those that were answered Stamped, once and in order
+-- What a log has of the requests that were answered. It is legal, and its times rise. Its Events are those that were
+-- answered Stamped, each once and in order; so are those of each view, which it numbered 1, 2, 3 and so on.
 pub record TellsItsEvents (requests : List Request) (replies : List Reply) (log : List Entry) : Type 0 where
   pub legal : IsLegal log
   pub times : TimesRise log
   pub events : events log ≡ stamped requests replies
+  pub senders : (view : ℕ) → sent log view ≡ filter (λ entry. entry.view == view) (stamped requests replies)
+  pub numbers : EachCountsItsEvents log

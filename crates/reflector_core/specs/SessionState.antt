@@ -11,7 +11,8 @@ pub record SessionState : Type 0 where
 
 -- the room is enough for the request to need no memory
 abbrev pub IsPreparedFor : SessionState → Request → Type 0
-IsPreparedFor s (Send view joined number payload now) = (0 < s.ready_entries) × (length payload ≤ s.ready_bytes)
+IsPreparedFor s (Send view joined number payload now) =
+    (0 < s.ready_entries) × (length payload ≤ s.ready_bytes)
 IsPreparedFor s (Leave view joined now) = 0 < s.ready_entries
 IsPreparedFor s (Tick now) = Unit {0}
 IsPreparedFor s (Join view now want) = ⊥

@@ -9,7 +9,7 @@ use tea_base::WantOfMemory;
 
 /// The replies of a first session to these requests, one after the other, and the session after
 /// them. The log is legal and its times rise. Each event that was answered Stamped stands in it
-/// once, in order, with the payload that was sent, and no other event does.
+/// once, in its sender's order, with the payload that was sent, and no other event does.
 pub fn play(alloc: Global, requests: &[Request]) -> Result<(Session, Replies), WantOfMemory>
     ensures replies { IfOk result (λ played. played.1 ≡ replies_from first requests.now) }
     ensures session { IfOk result (λ played. played.0.plain ≡ after_all first requests.now) }

@@ -102,7 +102,8 @@ impl Session {
         ensures err { OnErr result (self.new.plain ≡ self.old.plain) }
         ensures sound { IsSound self.new.plain }
         ensures prepared { IsPreparedFor self.old request.now → IsOk result }
-        ensures used { UsesAtMost self.old self.new (entries_used request.now) (bytes_used request.now) }
+        ensures used { UsesAtMost self.old self.new
+            (entries_used request.now) (bytes_used request.now) }
         ensures memory { OnErr result (MayWantMemory (answer self.old.plain request.now).reply) }
     {
         let reply = match request {

@@ -7,7 +7,7 @@ use Rattle.std.proofs.lemmas.Option.{slice_get_past, slice_get-get_or}
 use Rattle.tea_base.specs.declared.entry.Entry.{Entry}
 use Rattle.tea_base.specs.Readings.{last_entry, presence, is_presence_of, is_event_of, sent, last_number, event, is_join, here_count, payload_of, payload_len}
 use Rattle.tea_base.specs.Legal.{MayFollow, most_entries}
-use Rattle.tea_base.proofs.LogLaws.{last_presence-push, sent-push, slice_get-filter, IsLegal-push, payload_bytes-push, MayFollow-short}
+use Rattle.tea_base.proofs.LogLaws.{event-counted, last_presence-push, sent-push, slice_get-filter, IsLegal-push, payload_bytes-push, MayFollow-short}
 use Rattle.tea_base.specs.declared.entry.What.{What}
 use Rattle.tea_base.specs.declared.entry.What.TheVariants as what
 use Rattle.session_log.specs.declared.heads.Head.{Head}
@@ -42,10 +42,10 @@ event_found payloads heads i view number below is count =
     let within : i < length entries = omega (arith, length-map heads (entry_of payloads)) in
     let found = slice_get-filter (is_event_of view) entries i (entry_of payloads no_head) within (rw at is) in
     let place : number - 1 ≡ length (filter (is_event_of view) (take i entries)) = rw (take-map (entry_of payloads) i heads) (omega arith) in
-    rw place (found ∙ ap Some at)
+    event-counted entries view number (omega arith) ∙ rw place (found ∙ ap Some at)
 
 pub event_none : (log : List Entry) (view number : ℕ) → last_number log view < number → event log view number ≡ None
-event_none log view number past = slice_get_past (sent log view) (number - 1) (omega arith)
+event_none log view number past = event-counted log view number (omega arith) ∙ slice_get_past (sent log view) (number - 1) (omega arith)
 
 slice_range-append : (xs ys : List ℕ) (start len : ℕ) → start + len ≤ length xs → slice_range (xs ++ ys) start (start + len) ≡ slice_range xs start (start + len)
 slice_range-append xs ys start len within =

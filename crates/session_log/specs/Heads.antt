@@ -13,7 +13,8 @@ what_of payloads Exit = what.Exit
 what_of payloads (Event number start len) = what.Event number (slice_range payloads start (start + len))
 
 abbrev pub entry_of : List ℕ → Head → Entry
-entry_of payloads head = record { seq = head.seq; time = head.time; view = head.view; what = what_of payloads head.kind }
+entry_of payloads head =
+    record { seq = head.seq; time = head.time; view = head.view; what = what_of payloads head.kind }
 
 -- the payload lies within the first bytes
 abbrev pub IsKindWithin : ℕ → Kind → Type 0

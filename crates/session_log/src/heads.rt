@@ -133,7 +133,8 @@ pub fn is_here_in(heads: &[Head], view: u32) -> bool
 /// How many Events a view sent.
 pub fn last_number_in(heads: &[Head], view: u32) -> u32
     requires { length heads.now ≤ most_entries }
-    ensures number { (payloads : List ℕ) → result ≡ last_number (map (entry_of payloads) heads.now) view }
+    ensures number { (payloads : List ℕ) →
+        result ≡ last_number (map (entry_of payloads) heads.now) view }
     ensures bound { result ≤ length heads.now }
 {
     let mut count = 0;

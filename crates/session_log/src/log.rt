@@ -70,7 +70,7 @@ impl Log {
     }
 
     /// How many payload bytes its entries have: at most 67,108,864.
-    pub fn payload_bytes(&self) -> u64
+    pub fn bytes(&self) -> u64
         ensures bytes { result ≡ payload_bytes self.now.entries }
         ensures bound { result ≤ most_bytes }
     {
@@ -95,7 +95,8 @@ impl Log {
         ensures bytes { OnOk result (bytes ≤ self.new.spare_bytes) }
         ensures entries_kept { self.old.spare_entries ≤ self.new.spare_entries }
         ensures bytes_kept { self.old.spare_bytes ≤ self.new.spare_bytes }
-        ensures succeeds { entries ≤ self.old.spare_entries → bytes ≤ self.old.spare_bytes → IsOk result }
+        ensures succeeds { entries ≤ self.old.spare_entries → bytes ≤ self.old.spare_bytes →
+            IsOk result }
         ensures err { OnErr result (self.new ≡ self.old) }
     {
         self.heads.reserve(entries as usize)?;
@@ -156,7 +157,8 @@ impl Log {
     /// The same of a Join or an Exit.
     fn push_presence(&mut self, time: u64, view: u32, kind: Kind) -> u32
         requires presence { IsPresence kind }
-        requires legal { MayFollow self.old.entries (next_entry self.old.entries time view (what_of [] kind)) }
+        requires legal { MayFollow self.old.entries
+            (next_entry self.old.entries time view (what_of [] kind)) }
         requires room_for_entry { 0 < self.old.spare_entries }
         ensures seq { result ≡ length self.old.entries + 1 }
         ensures entries { self.new.entries ≡ with_next self.old.entries time view (what_of [] kind) }
@@ -187,7 +189,8 @@ impl Log {
     /// The entry with a seq, its payload in memory of its own.
     pub fn get(&self, seq: u32) -> Result<Entry, GetRefusal>
         ensures ok { IfOk result (λ entry. slice_get self.now.entries (seq - 1) ≡ Some entry) }
-        ensures no_such { (result ≡ Err GetRefusal.NoSuchSeq) ↔ ((seq ≡ 0) ⊎ (length self.now.entries < seq)) }
+        ensures no_such { (result ≡ Err GetRefusal.NoSuchSeq) ↔
+            ((seq ≡ 0) ⊎ (length self.now.entries < seq)) }
     {
         if seq == 0 || seq as usize > self.heads.len() {
             return Err(GetRefusal::NoSuchSeq);
@@ -208,7 +211,8 @@ impl Log {
     pub fn time_of(&self, seq: u32) -> u64
         requires named { 0 < seq }
         requires there { seq ≤ length self.now.entries }
-        ensures { option_map (λ entry. entry.time) (slice_get self.now.entries (seq - 1)) ≡ Some result }
+        ensures { option_map (λ entry. entry.time) (slice_get self.now.entries (seq - 1)) ≡
+            Some result }
     {
         self.heads[seq as usize - 1].time
     }
@@ -226,9 +230,11 @@ impl Log {
 
     /// The seq of the Event of a view with a number, counted from 1, if there is one.
     pub fn seq_of(&self, view: u32, number: u32) -> Option<u32>
-        requires { 0 < number }
         ensures { result ≡ option_map (λ entry. entry.seq) (event self.now.entries view number) }
     {
+        if number == 0 {
+            return None;
+        }
         seq_of_event(&self.heads, view, number)
     }
 

@@ -48,7 +48,7 @@ fn a_view_is_read_by_its_entries(rt: HostRuntime) -> Result<(), Fail> {
     log.push(5, 7, &What::Join);
     log.push_event(9, 7, 1, b"hi");
     assert_eq!(rt; log.len(), 2);
-    assert_eq!(rt; log.payload_bytes(), 2);
+    assert_eq!(rt; log.bytes(), 2);
     assert_eq!(rt; log.time_of(2), 9);
     assert_eq!(rt; log.after_time(8), 1);
     assert_eq!(rt; log.current(7), 1);

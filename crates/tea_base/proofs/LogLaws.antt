@@ -1,5 +1,5 @@
 -- What a log says after one more entry.
-use Rattle.std.proofs.Common.{ℕ, ◌+◌, ◌-◌, ◌≡◌, ◌≤◌, ◌<◌, Bool, true, false, cond, eqb, ◌&&◌, ◌||◌, not, List, [], ◌∷◌, ◌++◌, Option, Some, None, length, length-append, zero, suc, get_or, take, slice_get, filter, ap, if◌then◌else◌, unwrap_or, is_some, ◌∙◌, refl, arith, subst}
+use Rattle.std.proofs.Common.{ℕ, ◌+◌, ◌-◌, ◌≡◌, ◌≤◌, ◌<◌, Bool, true, false, cond, eqb, ◌&&◌, ◌||◌, ◌==◌, not, List, [], ◌∷◌, ◌++◌, Option, Some, None, length, length-append, zero, suc, get_or, take, slice_get, filter, ap, if◌then◌else◌, unwrap_or, is_some, ◌∙◌, refl, sym, arith, subst}
 use Rattle.std.specs.List.{list_any}
 use Rattle.std.proofs.lemmas.List.{append-nil, append_assoc}
 use Rattle.std.proofs.lemmas.List.Elements.{filter-append}
@@ -9,8 +9,8 @@ use Rattle.std.proofs.lemmas.Bool.Decides.{nat_tests}
 use Rattle.tea_base.specs.declared.entry.Entry.{Entry}
 use Rattle.tea_base.specs.declared.entry.What.{What}
 use Rattle.tea_base.specs.declared.entry.What.TheVariants.{Join, Exit, Event}
-use Rattle.tea_base.specs.Readings.{last_entry, time_or_zero, is_some_join, is_join, is_exit, is_event, is_presence_of, is_event_of, presence, sent, is_here, payload_bytes, payload_len, last_time, here_count, event, events}
-use Rattle.tea_base.specs.Legal.{IsLegal, IsLegalAfter, MayFollow, Allows, TimesRise, TimesRiseAfter, most_entries, most_bytes}
+use Rattle.tea_base.specs.Readings.{last_entry, time_or_zero, is_some_join, is_join, is_exit, is_event, is_presence_of, is_event_of, presence, sent, is_here, payload_bytes, payload_len, last_time, last_number, here_count, event, events}
+use Rattle.tea_base.specs.Legal.{IsLegal, IsLegalAfter, MayFollow, Allows, TimesRise, TimesRiseAfter, HasNumber, AreNumberedFrom, EachCountsItsEvents, most_entries, most_bytes}
 
 pub last_entry-push : (log : List Entry) (entry : Entry) → last_entry (log ++ entry ∷ []) ≡ Some entry
 last_entry-push [] entry = refl
@@ -174,9 +174,18 @@ filtered_stands p before [] k entry legal found = absurd cc
 filtered_stands p before (first ∷ rest) k entry legal found =
     filtered_stands_if (p first) p before first rest k entry refl legal.0.seq (λ j h. rw length-append at (filtered_stands p (before ++ first ∷ []) rest j entry legal.1 h)) found
 
+some_of_cond : (b : Bool) (found : Option Entry) (entry : Entry) → cond b None found ≡ Some entry → found ≡ Some entry
+some_of_cond true found entry is = absurd cc
+some_of_cond false found entry is = is
+
 -- the Event that is found stands in the log at its seq
 pub event_stands : (log : List Entry) (view number : ℕ) (entry : Entry) → IsLegal log → event log view number ≡ Some entry → StandsAfter 0 log entry × is_event_of view entry ≡ true
-event_stands log view number entry legal found = filtered_stands (is_event_of view) [] log (number - 1) entry legal found
+event_stands log view number entry legal found =
+    filtered_stands (is_event_of view) [] log (number - 1) entry legal (some_of_cond (number == 0) (slice_get (sent log view) (number - 1)) entry found)
+
+-- where a number is counted, its Event is the one at its place
+pub event-counted : (log : List Entry) (view number : ℕ) → 0 < number → event log view number ≡ slice_get (sent log view) (number - 1)
+event-counted log view number counted = grind (arith, nat_tests)
 
 Allows-bytes : (log : List Entry) (view : ℕ) (what : What) → Allows log view what → payload_bytes log ≤ most_bytes → payload_bytes log + payload_len what ≤ most_bytes
 Allows-bytes log view Join allowed bound = omega arith
@@ -205,3 +214,47 @@ TimesRiseAfter-legal_after before (first ∷ rest) legal =
 -- the times of a legal log rise
 pub TimesRise-legal : (log : List Entry) → IsLegal log → TimesRise log
 TimesRise-legal log legal = TimesRiseAfter-legal_after [] log legal
+
+-- the Events of a view are those of all that are its own
+sent-events_if : (of_view is_event_too : Bool) (first : Entry) (rest : List Entry) (sent_rest : List Entry)
+    → sent_rest ≡ rest → cond (of_view && is_event_too) (first ∷ sent_rest) sent_rest ≡ cond is_event_too (cond of_view (first ∷ rest) rest) rest
+sent-events_if true true first rest sent_rest same = ap (λ es. first ∷ es) same
+sent-events_if true false first rest sent_rest same = same
+sent-events_if false true first rest sent_rest same = same
+sent-events_if false false first rest sent_rest same = same
+
+filter-cond : (p : Entry → Bool) (b : Bool) (first : Entry) (rest : List Entry) → filter p (cond b (first ∷ rest) rest) ≡ cond b (cond (p first) (first ∷ filter p rest) (filter p rest)) (filter p rest)
+filter-cond p true first rest = refl
+filter-cond p false first rest = refl
+
+pub sent-events : (log : List Entry) (view : ℕ) → sent log view ≡ filter (λ entry. entry.view == view) (events log)
+sent-events [] view = refl
+sent-events (first ∷ rest) view =
+    sent-events_if (first.view == view) (is_event first.what) first (filter (λ entry. entry.view == view) (events rest)) (sent rest view) (sent-events rest view)
+    ∙ sym (filter-cond (λ entry. entry.view == view) (is_event first.what) first (events rest))
+
+-- an Event that may follow has the next number of its view
+HasNumber-allowed : (log : List Entry) (view : ℕ) (what : What) → Allows log view what → is_event what ≡ true → HasNumber (last_number log view + 1) what
+HasNumber-allowed log view Join allowed is = absurd cc
+HasNumber-allowed log view Exit allowed is = absurd cc
+HasNumber-allowed log view (Event number payload) allowed is = allowed.1
+
+AreNumberedFrom-first : (b : Bool) (before : List Entry) (first : Entry) (later : List Entry) (view : ℕ)
+    → is_event_of view first ≡ b → Allows before first.view first.what → AreNumberedFrom (last_number (before ++ first ∷ []) view + 1) later → AreNumberedFrom (last_number before view + 1) (cond b (first ∷ later) later)
+AreNumberedFrom-first true before first later view is allowed more =
+    let own : view ≡ first.view = grind (arith, nat_tests) in
+    let event_too : is_event first.what ≡ true = grind arith in
+    let count : last_number (before ++ first ∷ []) view ≡ last_number before view + 1 = rw (sent-push before first view, is) (omega (arith, length-append (sent before view) (first ∷ []))) in
+    (rw own (HasNumber-allowed before first.view first.what allowed event_too), rw count at more)
+AreNumberedFrom-first false before first later view is allowed more =
+    let count : last_number (before ++ first ∷ []) view ≡ last_number before view = rw (sent-push before first view, is) (ap length (append-nil (sent before view))) in
+    rw count at more
+
+AreNumberedFrom-legal_after : (before log : List Entry) (view : ℕ) → IsLegalAfter before log → AreNumberedFrom (last_number before view + 1) (sent log view)
+AreNumberedFrom-legal_after before [] view legal = tt
+AreNumberedFrom-legal_after before (first ∷ rest) view legal =
+    AreNumberedFrom-first (is_event_of view first) before first (sent rest view) view refl legal.0.allowed (AreNumberedFrom-legal_after (before ++ first ∷ []) rest view legal.1)
+
+-- in a legal log the Events of each view are numbered 1, 2, 3 and so on
+pub EachCountsItsEvents-legal : (log : List Entry) → IsLegal log → EachCountsItsEvents log
+EachCountsItsEvents-legal log legal view = AreNumberedFrom-legal_after [] log view legal

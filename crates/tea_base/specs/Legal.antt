@@ -3,7 +3,7 @@ use Rattle.std.specs.Prelude.{ℕ, ◌+◌, ◌^◌, ◌<◌, ◌≤◌, ◌≡�
 use Rattle.tea_base.specs.declared.entry.Entry.{Entry}
 use Rattle.tea_base.specs.declared.entry.What.{What}
 use Rattle.tea_base.specs.declared.entry.What.TheVariants.{Join, Exit, Event}
-use Rattle.tea_base.specs.Readings.{is_here, last_number, payload_bytes, here_count, last_time}
+use Rattle.tea_base.specs.Readings.{is_here, last_number, payload_bytes, here_count, last_time, sent}
 
 -- the most entries of a log
 abbrev pub most_entries : ℕ
@@ -58,3 +58,18 @@ TimesRiseAfter time (entry ∷ rest) = (time < entry.time) × TimesRiseAfter ent
 -- the times are 1 or more, and rise
 abbrev pub TimesRise : List Entry → Type 0
 TimesRise log = TimesRiseAfter 0 log
+
+-- it is an Event with this number
+abbrev pub HasNumber : ℕ → What → Type 0
+HasNumber number Join = ⊥
+HasNumber number Exit = ⊥
+HasNumber number (Event found payload) = found ≡ number
+
+-- the entries are Events with this number and those after it, in order
+abbrev pub AreNumberedFrom : ℕ → List Entry → Type 0
+AreNumberedFrom number [] = Unit {0}
+AreNumberedFrom number (entry ∷ rest) = HasNumber number entry.what × AreNumberedFrom (number + 1) rest
+
+-- the Events of each view are numbered 1, 2, 3 and so on
+abbrev pub EachCountsItsEvents : List Entry → Type 0
+EachCountsItsEvents log = (view : ℕ) → AreNumberedFrom 1 (sent log view)

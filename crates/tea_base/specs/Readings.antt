@@ -90,7 +90,7 @@ last_number log view = length (sent log view)
 
 -- the Event of a view with a number, counted from 1
 abbrev pub event : List Entry → ℕ → ℕ → Option Entry
-event log view number = slice_get (sent log view) (number - 1)
+event log view number = if number == 0 then None else slice_get (sent log view) (number - 1)
 
 -- the payload bytes of all Events
 abbrev pub payload_bytes : List Entry → ℕ

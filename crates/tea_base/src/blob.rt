@@ -5,7 +5,7 @@ use crate::want::WantOfMemory;
 use std::alloc::{AllocError, Global};
 use std::marker::Model;
 
-/// Bytes. Contracts see them as a list of numbers below 256.
+/// Bytes. Contracts see them as a list of numbers.
 #[derive(Debug, Drop)]
 pub struct Blob {
     held: Vec<u8>,

@@ -2,7 +2,7 @@
 use crate::blob::Blob;
 use crate::list::List;
 
-/// The name of a session: a digest of SHA-256 (FIPS 180-4).
+/// The name of a session: 32 bytes, used for a digest of SHA-256 (FIPS 180-4).
 #[derive(Clone, Copy, Debug, PartialEq, Eq)]
 pub struct SessionId(pub [u8; 32]);
 
@@ -17,7 +17,7 @@ pub enum What {
     Event { number: u32, payload: Blob },
 }
 
-/// An entry of a log.
+/// An entry of a log. What is said here of its numbers holds in a legal log.
 #[derive(Clone, Debug, PartialEq, Eq, Drop)]
 pub struct Entry {
     /// Its place in the log, from 1.

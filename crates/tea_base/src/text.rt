@@ -1,6 +1,6 @@
 //! Text that is owned.
 ghost use Rattle.std.specs.Prelude.{◌≡◌, ◌↔◌, IfOk, OnOk, IsTrue, encode_utf8_all, Err};
-ghost use Rattle.std.specs.Str.{IsUtf8};
+ghost use Rattle.std.specs.Str.{IsUtf8, chars};
 
 use crate::list::List;
 use crate::want::WantOfMemory;
@@ -37,6 +37,7 @@ impl Text {
     /// The text of these bytes.
     pub fn read(alloc: Global, bytes: &[u8]) -> Result<Text, TextFault>
         ensures ok { IfOk result (λ text. encode_utf8_all text ≡ bytes.now) }
+        ensures characters { IfOk result (λ text. text ≡ chars bytes.now) }
         ensures utf8 { OnOk result (IsUtf8 bytes.now) }
         ensures not_utf8 { result ≡ Err TextFault.NotUtf8 → ¬ (IsUtf8 bytes.now) }
     {
@@ -52,7 +53,8 @@ impl Text {
 
     /// The same text in memory of its own.
     pub fn copy(alloc: Global, text: &str) -> Result<Text, WantOfMemory>
-        ensures { IfOk result (λ copy. encode_utf8_all copy ≡ text.now) }
+        ensures ok { IfOk result (λ copy. encode_utf8_all copy ≡ text.now) }
+        ensures characters { IfOk result (λ copy. copy ≡ chars text.now) }
     {
         Ok(Text {
             held: String::from_str(alloc, text)?,

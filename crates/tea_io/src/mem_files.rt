@@ -135,7 +135,7 @@ impl Files for MemFiles {
         ensures answer { IsAnswer (read_answer self.old name.now limit) result }
         ensures leaves { self.new ≡ after result self.old (Read name.now) self.old.held }
     {
-        let call = FileCall::Read(copy_text(self.alloc, name)?);
+        let call = FileCall::Read(name.clone()?);
         match self.answer(name, limit) {
             Ok(blob) => {
                 self.note(call)?;
@@ -169,13 +169,13 @@ impl Files for MemFiles {
         ensures leaves { self.new
             ≡ after result self.old (Write name.now) (put name.now bytes.now self.old.held) }
     {
-        let call = FileCall::Write(copy_text(self.alloc, name)?);
+        let call = FileCall::Write(name.clone()?);
         if is_failing(self.failing.as_slice(), self.next_call) {
             self.note_failed(call)?;
             return Err(FileFault::Failed);
         }
         let file = NamedBlob {
-            name: copy_text(self.alloc, name)?,
+            name: name.clone()?,
             bytes: Blob::copy(self.alloc, bytes)?,
         };
         // Room for the note comes first: once the file is in, nothing is refused.
@@ -185,14 +185,6 @@ impl Files for MemFiles {
         self.next_call = self.next_call.saturating_add(1);
         Ok(())
     }
-}
-
-/// The same text in memory of its own.
-fn copy_text(alloc: Global, text: &Text) -> Result<Text, WantOfMemory>
-    ensures { IfOk result (λ copy. copy ≡ text.now) }
-{
-    let copy = Text::copy(alloc, text.as_str())?;
-    Ok(copy)
 }
 
 /// The bytes of the first file of this name.

@@ -12,7 +12,8 @@ use tea_base::{Entries, WantOfMemory};
 impl Session {
     /// Answers a Pull.
     pub(super) fn pull(&self, after: u32, limit: u32) -> Result<Reply, WantOfMemory>
-        ensures ok { IfOk result (λ reply. with_reply self.now.plain reply ≡ pull self.now.plain after limit) }
+        ensures ok { IfOk result (λ reply. with_reply self.now.plain reply ≡
+            pull self.now.plain after limit) }
         ensures memory { OnErr result (MayWantMemory (pull self.now.plain after limit).reply) }
     {
         let len = self.log.len();

@@ -36,7 +36,8 @@ impl Session {
     ) -> Result<Reply, WantOfMemory>
         ensures ok { IfOk result (λ reply. with_reply self.new.plain reply ≡
             send self.old.plain view joined number payload.now now) }
-        ensures prepared { 0 < self.old.ready_entries → length payload.now ≤ self.old.ready_bytes → IsOk result }
+        ensures prepared { 0 < self.old.ready_entries → length payload.now ≤ self.old.ready_bytes →
+            IsOk result }
         ensures used { UsesAtMost self.old self.new 1 (length payload.now) }
         ensures memory { OnErr result
             (MayWantMemory (send self.old.plain view joined number payload.now now).reply) }
@@ -77,7 +78,7 @@ impl Session {
         ensures { result ≡ (is_closed self.now.plain.log
             || nat_lt most_bytes (payload_bytes self.now.plain.log + len)) }
     {
-        self.is_closed() || self.log.payload_bytes() > MOST_BYTES - len as u64
+        self.is_closed() || self.log.bytes() > MOST_BYTES - len as u64
     }
 
     /// Answers an event that was sent before.
@@ -118,7 +119,8 @@ impl Session {
         requires before_end { self.old.plain.horizon < end_of_time }
         ensures ok { IfOk result (λ reply. with_reply self.new.plain reply ≡
             stamps self.old.plain view number payload.now now) }
-        ensures prepared { 0 < self.old.ready_entries → length payload.now ≤ self.old.ready_bytes → IsOk result }
+        ensures prepared { 0 < self.old.ready_entries → length payload.now ≤ self.old.ready_bytes →
+            IsOk result }
         ensures used { UsesAtMost self.old self.new 1 (length payload.now) }
         ensures err { OnErr result (self.new.plain ≡ self.old.plain) }
     {

@@ -47,7 +47,7 @@ impl Session {
     {
         Refusal::LogFull {
             entries: self.log.len(),
-            bytes: self.log.payload_bytes(),
+            bytes: self.log.bytes(),
         }
     }
 
@@ -86,7 +86,8 @@ impl Session {
     /// Appends a Join that nothing refuses.
     fn append_join(&mut self, view: u32, now: u64, want: Want) -> Result<Reply, WantOfMemory>
         requires named { view ≢ 0 }
-        requires room { is_here self.old.plain.log view ≡ false → here_count self.old.plain.log < most_here }
+        requires room { is_here self.old.plain.log view ≡ false →
+            here_count self.old.plain.log < most_here }
         requires unfilled { length self.old.plain.log < most_open_entries }
         requires before_end { self.old.plain.horizon < end_of_time }
         ensures ok { IfOk result (λ reply. with_reply self.new.plain reply ≡

@@ -24,7 +24,8 @@ impl Session {
         ensures ok { IfOk result (λ reply. with_reply self.new.plain reply ≡
             offer self.old.plain view joined time bytes.now) }
         ensures used { UsesAtMost self.old self.new 0 0 }
-        ensures memory { OnErr result (MayWantMemory (offer self.old.plain view joined time bytes.now).reply) }
+        ensures memory { OnErr result
+            (MayWantMemory (offer self.old.plain view joined time bytes.now).reply) }
         ensures err { OnErr result (self.new.plain ≡ self.old.plain) }
     {
         if self.is_stale(view, joined) {
