@@ -1,15 +1,14 @@
 -- What is written where a run is cut short.
-use Rattle.std.proofs.Common.{◌≡◌, ◌≢◌, ◌⊎◌, inl, inr, ℕ, ◌++◌, List, [], ◌∷◌, Option, Result, Ok, Err, IfErr, refl, sym, subst, ◌∙◌, lit<, Contains}
+use Rattle.std.proofs.Common.{◌≡◌, inl, inr, ℕ, List, [], Option, Result, Ok, Err, IfErr, refl, sym, subst, ◌∙◌}
 use Rattle.tea_io.specs.Told.{grown}
-use Rattle.tea_io.specs.Sink.{HasWritten, GrowsWithin}
+use Rattle.tea_io.specs.Sink.{GrowsWithin}
 use Rattle.tea_io.specs.declared.files.FileCall.{FileCall}
-use Rattle.tea_io.proofs.Writing.{HasWritten-start, grown-grown}
+use Rattle.tea_io.proofs.Writing.{HasWritten-start}
 use Rattle.croquet_main.specs.declared.status.Fault.{Fault}
 use Rattle.croquet_main.specs.declared.status.Fault.TheVariants.{Usage, Input, Read, Sink, Memory}
-use Rattle.croquet_main.specs.declared.status.Input.{Input as InputName}
 use Rattle.croquet_main.specs.declared.status.Status.{Status}
 use Rattle.croquet_main.specs.declared.status.Status.TheVariants as status
-use Rattle.croquet_main.specs.Verdict.{Verdict, BadWords, Unreadable, BadInput, Unknown, Done, Asked, HasBadWords, HasGoodWords, MayAnswer, MayBeBad, OfText, Writes, MayTell, TellsPart, IsCutByMemory, usage_line, input_line, read_line, memory_line}
+use Rattle.croquet_main.specs.Verdict.{Verdict, BadWords, Unreadable, BadInput, Unknown, Done, Asked, OfText, Writes, MayTell, TellsPart, IsCutByMemory, usage_line, input_line, read_line, memory_line}
 use Rattle.croquet_main.specs.Ends.{AskedTo, IsTold, MayEnd, Tells, WritesBefore}
 
 -- a fact of every text is one of the text of a run

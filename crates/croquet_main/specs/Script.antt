@@ -1,5 +1,5 @@
 -- The grammar of a session script, over plain lists: lines, words and numbers. Texts are seen as their UTF-8.
-use Rattle.std.specs.Prelude.{ℕ, Bool, true, ◌==◌, ◌-◌, ◌^◌, if◌then◌else◌, List, [], ◌∷◌, ◌++◌, Option, Some, None, codes}
+use Rattle.std.specs.Prelude.{ℕ, Bool, true, ◌==◌, if◌then◌else◌, List, [], ◌∷◌, ◌++◌, Option, Some, None, codes}
 use Rattle.std.specs.Option.{option_map}
 use Rattle.std.specs.Result.{result_ok}
 use Rattle.std.specs.Str.{bytes_eq, is_utf8}

@@ -1,5 +1,3 @@
-use Rattle.std.proofs.Common.{◌≡◌, IfOk}
-use Rattle.croquet_main.specs.Script.{script_of}
 use Rattle.croquet_main.proofs.ScriptLaws.{script_of-text, script_of-not_text}
 use Rattle.croquet_main.proofs.script.read_script.Goals as goal
 
