@@ -82,15 +82,15 @@ enum Found {
     TooLong(u64),
 }
 
-/// The bytes of a file, of which no more are read than one beyond the limit: what is no plain file may report
-/// no length and never end.
+/// The bytes of a file, of which no more are read than one beyond the limit: what is no plain file tells no length,
+/// and may never end.
 fn read_within<R: rt::Files + AllocGlobal>(rt: &R, path: &str, limit: u64) -> io::Result<Found>
     ensures { IfOk result (IsWithin limit) }
 {
     let file = File::open(rt, path)?;
-    let len = file.metadata()?.len();
-    if len > limit {
-        return Ok(Found::TooLong(len));
+    let told = file.metadata()?;
+    if told.is_file() && told.len() > limit {
+        return Ok(Found::TooLong(told.len()));
     }
     let mut bytes = Vec::new(rt.alloc());
     file.take(limit.saturating_add(1)).read_to_end(&mut bytes)?;

@@ -1,10 +1,11 @@
-//! The top call over files and a sink in memory.
+//! The top call over files and a sink in memory, and what the system gives.
 use crate::status::Status;
+use crate::system::{SystemFiles, given_words};
 use crate::top::croquet;
 use std::alloc::Global;
 use std::test::Fail;
 use tea_base::{Blob, Numbers, Text, Words};
-use tea_io::{MemFiles, MemSink, NamedBlob, NamedBlobs};
+use tea_io::{FileFault, Files, MemFiles, MemSink, NamedBlob, NamedBlobs};
 
 /// What a run answers and writes, over a file `s`, where one call of the files and one of the sink may fail.
 fn ran(
@@ -204,6 +205,32 @@ fn want_of_memory_is_told(rt: HostRuntime) -> Result<(), Fail> {
     match status {
         Status::WantOfMemory => assert_eq!(rt; text.as_str(), "memory\n"),
         _ => assert_eq!(rt; text.as_str(), "joined 1 1 0 0\nstamped 2 2\nticked 9\n"),
+    }
+    Ok(())
+}
+
+#[test]
+fn the_system_answers(rt: HostRuntime) -> Result<(), Fail> {
+    let alloc = rt.alloc();
+    let mut files = SystemFiles::new(&rt);
+    for (name, limit, want) in [
+        ("/dev/null", 0, Ok(0)),
+        ("/dev/zero", 9, Err(FileFault::TooLarge { len: 10 })),
+        ("/dev/null/none", 9, Err(FileFault::Failed)),
+        ("/", 9, Err(FileFault::Failed)),
+    ] {
+        let read = files.read(&Text::copy(alloc, name)?, limit);
+        assert_eq!(rt; read.map(|bytes| bytes.len()), want, "of {name}");
+    }
+    for (name, want) in [("/dev/null", Ok(())), ("/dev/full", Err(FileFault::Failed))] {
+        assert_eq!(rt;
+            files.write(&Text::copy(alloc, name)?, b"text"),
+            want,
+            "of {name}"
+        );
+    }
+    for word in given_words(&rt)?.as_slice() {
+        assert_ne!(rt; word.as_str(), "");
     }
     Ok(())
 }
