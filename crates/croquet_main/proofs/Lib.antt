@@ -1,3 +1,4 @@
 pub mod WordLaws
 pub mod ScriptLaws
 pub mod VerdictLaws
+pub mod StampLaws

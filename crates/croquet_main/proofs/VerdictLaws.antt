@@ -1,14 +1,14 @@
 -- What is written where a run is cut short.
-use Rattle.std.proofs.Common.{◌≡◌, inl, inr, ℕ, List, [], Option, Result, Ok, Err, IfErr, refl, sym, subst, ◌∙◌}
+use Rattle.std.proofs.Common.{◌≡◌, ◌⊎◌, inl, inr, ℕ, List, [], Option, Result, Ok, Err, IfErr, refl, sym, subst, ◌∙◌}
 use Rattle.tea_io.specs.Told.{grown}
 use Rattle.tea_io.specs.Sink.{GrowsWithin}
 use Rattle.tea_io.specs.declared.files.FileCall.{FileCall}
 use Rattle.tea_io.proofs.Writing.{HasWritten-start}
 use Rattle.croquet_main.specs.declared.status.Fault.{Fault}
-use Rattle.croquet_main.specs.declared.status.Fault.TheVariants.{Usage, Input, Read, Sink, Memory}
+use Rattle.croquet_main.specs.declared.status.Fault.TheVariants.{Usage, Input, Read, Write, Sink, Memory}
 use Rattle.croquet_main.specs.declared.status.Status.{Status}
 use Rattle.croquet_main.specs.declared.status.Status.TheVariants as status
-use Rattle.croquet_main.specs.Verdict.{Verdict, BadWords, Unreadable, BadInput, Unknown, Done, Asked, OfText, Writes, MayTell, TellsPart, IsCutByMemory, usage_line, input_line, read_line, memory_line}
+use Rattle.croquet_main.specs.Verdict.{Verdict, BadWords, Unreadable, BadInput, Unknown, Done, Asked, OfText, Writes, MayTell, TellsPart, IsCutByMemory, usage_line, input_line, read_line, write_line, memory_line}
 use Rattle.croquet_main.specs.Ends.{AskedTo, IsTold, MayEnd, Tells, WritesBefore}
 
 -- a fact of every text is one of the text of a run
@@ -17,7 +17,7 @@ OfText-all BadWords fact all = all []
 OfText-all Unreadable fact all = all []
 OfText-all (BadInput input) fact all = all []
 OfText-all (Unknown inputs) fact all = tt
-OfText-all (Done text) fact all = all text
+OfText-all (Done text files) fact all = all text
 
 -- so is one that follows from another
 pub OfText-map : (verdict : Verdict) (P Q : List ℕ → Type 0) → ((text : List ℕ) → P text → Q text) → OfText verdict P → OfText verdict Q
@@ -25,7 +25,7 @@ OfText-map BadWords P Q f p = f [] p
 OfText-map Unreadable P Q f p = f [] p
 OfText-map (BadInput input) P Q f p = f [] p
 OfText-map (Unknown inputs) P Q f p = tt
-OfText-map (Done text) P Q f p = f text p
+OfText-map (Done text files) P Q f p = f text p
 
 pub GrowsWithin-nothing : (told : Option (List ℕ)) (text : List ℕ) → GrowsWithin told told text
 GrowsWithin-nothing told text = (text, HasWritten-start told text)
@@ -35,6 +35,7 @@ pub WritesBefore-nothing : (fault : Fault) (verdict : Verdict) (told : Option (L
 WritesBefore-nothing Usage verdict told = refl
 WritesBefore-nothing (Input input) verdict told = refl
 WritesBefore-nothing Read verdict told = refl
+WritesBefore-nothing Write verdict told = refl
 WritesBefore-nothing Sink verdict told = OfText-all verdict (GrowsWithin told told) (GrowsWithin-nothing told)
 WritesBefore-nothing Memory verdict told = OfText-all verdict (GrowsWithin told told) (GrowsWithin-nothing told)
 
@@ -45,9 +46,9 @@ IfErr-all (Err error) fact all = all error
 
 -- ---- how a fault that was told ends a run
 
-by_told : (P : Status → Type 0) (line : List ℕ) (given result : Status) (old new : Option (List ℕ)) (rose : Type 0) → Tells line given result old new rose → (new ≡ grown old line → P given) → P status.WriteFault → P status.WantOfMemory → P result
+by_told : (P : Status → Type 0) (line : List ℕ) (given result : Status) (old new : Option (List ℕ)) (rose : Type 0) → Tells line given result old new rose → (new ≡ grown old line → P given) → (rose → P status.WriteFault) → P status.WantOfMemory → P result
 by_told P line given result old new rose (within, inl (same, whole)) told failed memory = subst P (sym same) (told whole)
-by_told P line given result old new rose (within, inr (inl (same, cause))) told failed memory = subst P (sym same) failed
+by_told P line given result old new rose (within, inr (inl (same, cause))) told failed memory = subst P (sym same) (failed cause)
 by_told P line given result old new rose (within, inr (inr same)) told failed memory = subst P (sym same) memory
 
 grown_from : (line : List ℕ) (before mid new : Option (List ℕ)) → mid ≡ before → new ≡ grown mid line → new ≡ grown before line
@@ -57,7 +58,7 @@ grown_from line before mid new same whole = whole ∙ rw same refl
 told_first : (verdict : Verdict) (read_failed rose : Type 0) (line : List ℕ) (given result : Status) (before mid new : Option (List ℕ)) → Tells line given result mid new rose → mid ≡ before → MayTell verdict read_failed line → (new ≡ grown before line → Writes given verdict read_failed before new) → Writes result verdict read_failed before new
 told_first verdict read_failed rose line given result before mid new told same may whole =
     let part : TellsPart verdict read_failed before new = record { line = line; may = may; part = rw same at told.0 } in
-    by_told (λ s. Writes s verdict read_failed before new) line given result mid new rose told (λ w. whole (grown_from line before mid new same w)) (inr (inl part)) (inl part)
+    by_told (λ s. Writes s verdict read_failed before new) line given result mid new rose told (λ w. whole (grown_from line before mid new same w)) (λ cause. inr (inl part)) (inl part)
 
 -- a text that is cut by want of memory
 cut_by_memory : (text : List ℕ) (before mid new : Option (List ℕ)) → GrowsWithin mid new memory_line → GrowsWithin before mid text → IsCutByMemory before new text
@@ -69,31 +70,45 @@ cut_by_memory text before mid new line (left, part) = record {
 }
 
 -- what is written where a run ended by a fault that was told
-pub Writes-told : (fault : Fault) (result : Status) (verdict : Verdict) (read_failed rose : Type 0) (before mid new : Option (List ℕ)) → IsTold fault result mid new rose → MayEnd (Err fault) verdict → (fault ≡ Read → read_failed) → WritesBefore fault verdict before mid → Writes result verdict read_failed before new
-Writes-told Usage result verdict read_failed rose before mid new told may cause same =
+pub Writes-told : (fault : Fault) (result : Status) (verdict : Verdict) (read_failed rose : Type 0) (before mid new : Option (List ℕ)) → IsTold fault result mid new rose → MayEnd (Err fault) verdict → (fault ≡ Read → read_failed) → (fault ≡ Write → read_failed) → WritesBefore fault verdict before mid → Writes result verdict read_failed before new
+Writes-told Usage result verdict read_failed rose before mid new told may cause write_cause same =
     told_first verdict read_failed rose usage_line status.Usage result before mid new told same (inl (may, refl)) (λ whole. whole)
-Writes-told (Input input) result verdict read_failed rose before mid new told may cause same =
+Writes-told (Input input) result verdict read_failed rose before mid new told may cause write_cause same =
     told_first verdict read_failed rose (input_line input) status.Input result before mid new told same (inr (inl (input, may, refl))) (λ whole. (input, may, whole))
-Writes-told Read result verdict read_failed rose before mid new told may cause same =
-    told_first verdict read_failed rose read_line status.ReadFault result before mid new told same (inr (inr (may, cause refl, refl))) (λ whole. whole)
-Writes-told Sink result verdict read_failed rose before mid new told may cause part = rw (told.0, told.1) (inl part)
-Writes-told Memory result verdict read_failed rose before mid new told may cause part =
+Writes-told Read result verdict read_failed rose before mid new told may cause write_cause same =
+    told_first verdict read_failed rose read_line status.ReadFault result before mid new told same (inr (inr (inl (may, cause refl, refl)))) (λ whole. whole)
+Writes-told Write result verdict read_failed rose before mid new told may cause write_cause same =
+    told_first verdict read_failed rose write_line status.WriteFault result before mid new told same (inr (inr (inr (may, write_cause refl, refl)))) (λ whole. inr (inl (record { line = write_line; may = inr (inr (inr (may, write_cause refl, refl))); part = rw same at told.0 })))
+Writes-told Sink result verdict read_failed rose before mid new told may cause write_cause part = rw (told.0, told.1) (inl part)
+Writes-told Memory result verdict read_failed rose before mid new told may cause write_cause part =
     let cut = OfText-map verdict (GrowsWithin before mid) (IsCutByMemory before new) (λ text. cut_by_memory text before mid new told.0) part in
-    by_told (λ s. Writes s verdict read_failed before new) memory_line status.WantOfMemory result mid new rose told (λ whole. inr cut) (inr (inr cut)) (inr cut)
+    by_told (λ s. Writes s verdict read_failed before new) memory_line status.WantOfMemory result mid new rose told (λ whole. inr cut) (λ cause. inr (inr cut)) (inr cut)
 
 -- ---- the calls of files
 
 -- which calls were made where a run ended by a fault that was told
-pub Asked-told : (fault : Fault) (result : Status) (rose : Type 0) (reads : List FileCall) (old new : Option (List FileCall)) (before mid after : Option (List ℕ)) → IsTold fault result mid after rose → AskedTo {T = Unit {0}} (Err fault) reads old new (mid ≡ before) → Asked result reads old new (GrowsWithin before after memory_line)
-Asked-told Usage result rose reads old new before mid after told asked =
-    by_told (λ s. Asked s reads old new (GrowsWithin before after memory_line)) usage_line status.Usage result mid after rose told (λ whole. asked) (inl asked) (inl asked)
-Asked-told (Input input) result rose reads old new before mid after told asked =
-    by_told (λ s. Asked s reads old new (GrowsWithin before after memory_line)) (input_line input) status.Input result mid after rose told (λ whole. asked) (inl asked) (inl asked)
-Asked-told Read result rose reads old new before mid after told asked =
-    by_told (λ s. Asked s reads old new (GrowsWithin before after memory_line)) read_line status.ReadFault result mid after rose told (λ whole. asked) (inl asked) (inl asked)
-Asked-told Sink result rose reads old new before mid after told asked = rw told.0 (inl asked)
-Asked-told Memory result rose reads old new before mid after told (inl asked) =
-    by_told (λ s. Asked s reads old new (GrowsWithin before after memory_line)) memory_line status.WantOfMemory result mid after rose told (λ whole. inl asked) (inl asked) (inl asked)
-Asked-told Memory result rose reads old new before mid after told (inr (none, quiet)) =
-    let alone = rw quiet at told.0 in
-    by_told (λ s. Asked s reads old new (GrowsWithin before after memory_line)) memory_line status.WantOfMemory result mid after rose told (λ whole. inr (none, alone)) (inr (none, alone)) (inr (none, alone))
+asked_early : (reads writes : List FileCall) (old new : Option (List FileCall)) (early alone rose : Type 0) (line : List ℕ) (given result : Status) (mid after : Option (List ℕ)) → Tells line given result mid after rose → new ≡ grown old reads → early → Asked given reads writes old new early alone → Asked result reads writes old new early alone
+asked_early reads writes old new early alone rose line given result mid after told asked is_early first =
+    by_told (λ s. Asked s reads writes old new early alone) line given result mid after rose told (λ whole. first) (λ cause. inr (inl (asked, is_early))) (inr (inl (asked, is_early)))
+
+part_of : (verdict : Verdict) (rose : Type 0) (line : List ℕ) (before mid after : Option (List ℕ)) → mid ≡ before → GrowsWithin mid after line → MayTell verdict rose line → TellsPart verdict rose before after
+part_of verdict rose line before mid after same part may = record { line = line; may = may; part = rw same at part }
+
+pub Asked-told : (fault : Fault) (result : Status) (verdict : Verdict) (read_failed rose : Type 0) (reads writes : List FileCall) (old new : Option (List FileCall)) (before mid after : Option (List ℕ)) → IsTold fault result mid after rose → MayEnd (Err fault) verdict → (fault ≡ Read → read_failed) → WritesBefore fault verdict before mid → AskedTo {T = Unit {0}} (Err fault) reads writes old new (mid ≡ before) → Asked result reads writes old new (TellsPart verdict read_failed before after ⊎ GrowsWithin before after memory_line) (GrowsWithin before after memory_line)
+Asked-told Usage result verdict read_failed rose reads writes old new before mid after told may cause same asked =
+    asked_early reads writes old new _ _ rose usage_line status.Usage result mid after told asked (inl (part_of verdict read_failed usage_line before mid after same told.0 (inl (may, refl)))) asked
+Asked-told (Input input) result verdict read_failed rose reads writes old new before mid after told may cause same asked =
+    asked_early reads writes old new _ _ rose (input_line input) status.Input result mid after told asked (inl (part_of verdict read_failed (input_line input) before mid after same told.0 (inr (inl (input, may, refl))))) asked
+Asked-told Read result verdict read_failed rose reads writes old new before mid after told may cause same asked =
+    asked_early reads writes old new _ _ rose read_line status.ReadFault result mid after told asked (inl (part_of verdict read_failed read_line before mid after same told.0 (inr (inr (inl (may, cause refl, refl)))))) asked
+Asked-told Write result verdict read_failed rose reads writes old new before mid after told may cause same asked =
+    by_told (λ s. Asked s reads writes old new (TellsPart verdict read_failed before after ⊎ GrowsWithin before after memory_line) (GrowsWithin before after memory_line)) write_line status.WriteFault result mid after rose told (λ whole. inl asked.0) (λ failed. inl asked.0) (inl asked.0)
+Asked-told Sink result verdict read_failed rose reads writes old new before mid after told may cause same asked = rw told.0 (inl asked)
+Asked-told Memory result verdict read_failed rose reads writes old new before mid after told may cause same (inl asked) =
+    by_told (λ s. Asked s reads writes old new (TellsPart verdict read_failed before after ⊎ GrowsWithin before after memory_line) (GrowsWithin before after memory_line)) memory_line status.WantOfMemory result mid after rose told (λ whole. inl asked) (λ failed. inl asked) (inl asked)
+Asked-told Memory result verdict read_failed rose reads writes old new before mid after told may cause same (inr (inl (asked, quiet))) =
+    let alone : GrowsWithin before after memory_line = rw quiet at told.0 in
+    by_told (λ s. Asked s reads writes old new (TellsPart verdict read_failed before after ⊎ GrowsWithin before after memory_line) (GrowsWithin before after memory_line)) memory_line status.WantOfMemory result mid after rose told (λ whole. inr (inl (asked, inr alone))) (λ failed. inr (inl (asked, inr alone))) (inr (inl (asked, inr alone)))
+Asked-told Memory result verdict read_failed rose reads writes old new before mid after told may cause same (inr (inr (none, quiet))) =
+    let alone : GrowsWithin before after memory_line = rw quiet at told.0 in
+    by_told (λ s. Asked s reads writes old new (TellsPart verdict read_failed before after ⊎ GrowsWithin before after memory_line) (GrowsWithin before after memory_line)) memory_line status.WantOfMemory result mid after rose told (λ whole. inr (inr (none, alone))) (λ failed. inr (inr (none, alone))) (inr (inr (none, alone)))

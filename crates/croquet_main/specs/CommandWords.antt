@@ -1,5 +1,5 @@
 -- What the words of the command line ask for. A word is seen as its characters.
-use Rattle.std.specs.Prelude.{ℕ, Bool, true, false, ◌==◌, ◌||◌, if◌then◌else◌, List, [], ◌∷◌, ◌++◌, Option, Some, None, option_and_then, codes}
+use Rattle.std.specs.Prelude.{ℕ, Bool, true, false, ◌≡◌, ◌==◌, ◌<◌, ◌||◌, if◌then◌else◌, length, slice_index_or, remove, List, [], ◌∷◌, ◌++◌, Option, Some, None, option_and_then, codes}
 use Rattle.std.specs.Str.{bytes_eq}
 use Rattle.croquet_main.specs.declared.words.Parts.{Parts}
 use Rattle.croquet_main.specs.declared.words.Reader.{Reader}
@@ -46,14 +46,28 @@ parts_from (Some option) (word ∷ words) =
 abbrev pub parts_of : List Word → Option Parts
 parts_of words = parts_from None words
 
--- `stamp` has one positional and no option
-abbrev pub stamp_with : List Word → List Setting → Option Command
-stamp_with (script ∷ []) [] = Some (Stamp script)
-stamp_with positionals settings = None
+-- a setting of this option
+abbrev pub is_of : Word → Setting → Bool
+is_of option found = bytes_eq found.option option
 
--- `stamp SCRIPT`
+-- the value of the first setting of an option
+abbrev pub value_of : Word → List Setting → Option Word
+value_of option [] = None
+value_of option (found ∷ settings) = if is_of option found then Some found.value else value_of option settings
+
+-- the settings without the first one of an option
+abbrev pub without : Word → List Setting → List Setting
+without option [] = []
+without option (found ∷ settings) = if is_of option found then settings else found ∷ without option settings
+
+-- `stamp` has one positional, and no setting is left once `--log` is taken out
+abbrev pub stamp_with : List Word → Option Word → List Setting → Option Command
+stamp_with (script ∷ []) log [] = Some (Stamp script log)
+stamp_with positionals log settings = None
+
+-- `stamp SCRIPT [--log FILE]`
 abbrev pub stamp_of : Parts → Option Command
-stamp_of parts = stamp_with parts.positionals parts.settings
+stamp_of parts = stamp_with parts.positionals (value_of (codes "--log") parts.settings) (without (codes "--log") parts.settings)
 
 -- the command that the words ask for, where they follow the rules
 abbrev pub command_of : List Word → Option Command
@@ -63,3 +77,14 @@ command_of (name ∷ words) = if bytes_eq name (codes "stamp") then option_and_t
 -- what a reader makes of these words, after those that it has read
 abbrev pub read_on : Reader → List Word → Option Parts
 read_on reader words = behind reader.parts (parts_from reader.awaiting words)
+
+-- the first setting of an option stands at this place
+pub record IsFirstOf (option : Word) (settings : List Setting) (place : ℕ) : Type 0 where
+  pub within : place < length settings
+  pub value : (default : Setting) → value_of option settings ≡ Some (slice_index_or settings place default).value
+  pub others : without option settings ≡ remove settings place
+
+-- there is no setting of an option
+pub record HasNone (option : Word) (settings : List Setting) : Type 0 where
+  pub value : value_of option settings ≡ None
+  pub others : without option settings ≡ settings

@@ -1,19 +1,20 @@
 -- How the parts of a run end.
-use Rattle.std.specs.Prelude.{◌≡◌, ◌⊎◌, ℕ, ⊤, ◌≤◌, ◌<◌, List, length, Option, Some, None, Result, Ok, Err}
+use Rattle.std.specs.Prelude.{◌≡◌, ◌⊎◌, ℕ, ⊤, ◌≤◌, ◌<◌, ◌++◌, List, length, Option, Some, None, Result, Ok, Err}
 use Rattle.tea_io.specs.Files.{Content, Untold, Absent, Known, MayBe}
 use Rattle.tea_io.specs.Told.{grown}
 use Rattle.tea_io.specs.Sink.{GrowsWithin}
 use Rattle.tea_io.specs.declared.files.FileCall.{FileCall}
-use Rattle.reflector_core.specs.Play.{first, replies_from}
+use Rattle.reflector_core.specs.Play.{first, after_all, replies_from}
+use Rattle.tea_base.specs.declared.entry.Entry.{Entry}
 use Rattle.reflector_core.specs.declared.request.Request.{Request}
 use Rattle.reflector_core.specs.declared.request.Reply.{Reply}
 use Rattle.croquet_main.specs.declared.status.Fault.{Fault}
-use Rattle.croquet_main.specs.declared.status.Fault.TheVariants.{Usage, Input, Read, Sink, Memory}
+use Rattle.croquet_main.specs.declared.status.Fault.TheVariants.{Usage, Input, Read, Write, Sink, Memory}
 use Rattle.croquet_main.specs.declared.status.Input.{Input as InputName}
 use Rattle.croquet_main.specs.declared.status.Status.{Status}
 use Rattle.croquet_main.specs.declared.status.Status.TheVariants.{WriteFault, WantOfMemory}
 use Rattle.croquet_main.specs.declared.status.Status.TheVariants as status
-use Rattle.croquet_main.specs.Verdict.{Verdict, MayBeDone, MayBeBad, HasBadWords, HasGoodWords, OfText, usage_line, input_line, read_line, memory_line}
+use Rattle.croquet_main.specs.Verdict.{Verdict, MayBeDone, MayBeBad, HasBadWords, HasGoodWords, IsNonEmpty, OfText, usage_line, input_line, read_line, write_line, memory_line}
 
 -- what stands there is longer
 abbrev pub IsLonger : Content → ℕ → Type 0
@@ -27,6 +28,7 @@ ReadEnd content limit name (Ok bytes) = MayBe content bytes × (length bytes ≤
 ReadEnd content limit name (Err Usage) = ⊥
 ReadEnd content limit name (Err (Input input)) = (input ≡ name) × IsLonger content limit
 ReadEnd content limit name (Err Read) = ⊤
+ReadEnd content limit name (Err Write) = ⊥
 ReadEnd content limit name (Err Sink) = ⊥
 ReadEnd content limit name (Err Memory) = ⊤
 
@@ -36,6 +38,7 @@ MayEnd (Ok done) verdict = MayBeDone verdict
 MayEnd (Err Usage) verdict = HasBadWords verdict
 MayEnd (Err (Input input)) verdict = MayBeBad input verdict
 MayEnd (Err Read) verdict = HasGoodWords verdict
+MayEnd (Err Write) verdict = MayBeDone verdict
 MayEnd (Err Sink) verdict = MayBeDone verdict
 MayEnd (Err Memory) verdict = ⊤
 
@@ -44,23 +47,45 @@ abbrev pub WritesBefore : Fault → Verdict → Option (List ℕ) → Option (Li
 WritesBefore Usage verdict old new = new ≡ old
 WritesBefore (Input input) verdict old new = new ≡ old
 WritesBefore Read verdict old new = new ≡ old
+WritesBefore Write verdict old new = new ≡ old
 WritesBefore Sink verdict old new = OfText verdict (GrowsWithin old new)
 WritesBefore Memory verdict old new = OfText verdict (GrowsWithin old new)
 
--- the calls that were made before an end; where memory was wanted before any, `quiet` holds
-abbrev pub AskedTo : {T : Type 0} → Result T Fault → List FileCall → Option (List FileCall) → Option (List FileCall) → Type 0 → Type 0
-AskedTo (Ok done) reads old new quiet = new ≡ grown old reads
-AskedTo (Err Usage) reads old new quiet = new ≡ grown old reads
-AskedTo (Err (Input input)) reads old new quiet = new ≡ grown old reads
-AskedTo (Err Read) reads old new quiet = new ≡ grown old reads
-AskedTo (Err Sink) reads old new quiet = new ≡ grown old reads
-AskedTo (Err Memory) reads old new quiet = (new ≡ grown old reads) ⊎ ((new ≡ old) × quiet)
+-- the calls that were made before an end; where memory was wanted before the last of them, `quiet` holds
+abbrev pub AskedTo : {T : Type 0} → Result T Fault → List FileCall → List FileCall → Option (List FileCall) → Option (List FileCall) → Type 0 → Type 0
+AskedTo (Ok done) reads writes old new quiet = new ≡ grown old (reads ++ writes)
+AskedTo (Err Usage) reads writes old new quiet = new ≡ grown old reads
+AskedTo (Err (Input input)) reads writes old new quiet = new ≡ grown old reads
+AskedTo (Err Read) reads writes old new quiet = new ≡ grown old reads
+AskedTo (Err Write) reads writes old new quiet = (new ≡ grown old (reads ++ writes)) × IsNonEmpty writes
+AskedTo (Err Sink) reads writes old new quiet = new ≡ grown old (reads ++ writes)
+AskedTo (Err Memory) reads writes old new quiet =
+    (new ≡ grown old (reads ++ writes)) ⊎ (((new ≡ grown old reads) × quiet) ⊎ ((new ≡ old) × quiet))
+
+-- what the files hold before a fault: what they held, but where the work was done
+abbrev pub LeavesBefore : Fault → (List ℕ → Content) → (List ℕ → Content) → Type 0
+LeavesBefore Usage old new = (name : List ℕ) → new name ≡ old name
+LeavesBefore (Input input) old new = (name : List ℕ) → new name ≡ old name
+LeavesBefore Read old new = (name : List ℕ) → new name ≡ old name
+LeavesBefore Write old new = ⊤
+LeavesBefore Sink old new = ⊤
+LeavesBefore Memory old new = ⊤
+
+-- a file that failed to be written, or memory that was wanted
+abbrev pub IsWriteFault : Fault → Type 0
+IsWriteFault Usage = ⊥
+IsWriteFault (Input input) = ⊥
+IsWriteFault Read = ⊥
+IsWriteFault Write = ⊤
+IsWriteFault Sink = ⊥
+IsWriteFault Memory = ⊤
 
 -- a script that has no requests is at fault, and else only memory is wanted
 abbrev pub IsScriptFault : {T : Type 0} → Fault → Option T → Type 0
 IsScriptFault Usage reading = ⊥
 IsScriptFault (Input input) reading = reading ≡ None
 IsScriptFault Read reading = ⊥
+IsScriptFault Write reading = ⊥
 IsScriptFault Sink reading = ⊥
 IsScriptFault Memory reading = ⊤
 
@@ -69,13 +94,14 @@ abbrev pub IsSinkFault : Fault → Type 0
 IsSinkFault Usage = ⊥
 IsSinkFault (Input input) = ⊥
 IsSinkFault Read = ⊥
+IsSinkFault Write = ⊥
 IsSinkFault Sink = ⊤
 IsSinkFault Memory = ⊤
 
--- the replies of a first session to the requests, if there are any
-abbrev pub Answers : Option (List Request) → List Reply → Type 0
-Answers None replies = ⊥
-Answers (Some requests) replies = replies ≡ replies_from first requests
+-- the log and the replies of a first session after the requests, if there are any
+abbrev pub Answers : Option (List Request) → List Entry → List Reply → Type 0
+Answers None log replies = ⊥
+Answers (Some requests) log replies = (log ≡ (after_all first requests).log) × (replies ≡ replies_from first requests)
 
 -- a last line is told with its status, or a sink that fails at it decides, or memory that it wants
 abbrev pub Tells : List ℕ → Status → Status → Option (List ℕ) → Option (List ℕ) → Type 0 → Type 0
@@ -88,5 +114,6 @@ abbrev pub IsTold : Fault → Status → Option (List ℕ) → Option (List ℕ)
 IsTold Usage result old new rose = Tells usage_line status.Usage result old new rose
 IsTold (Input input) result old new rose = Tells (input_line input) status.Input result old new rose
 IsTold Read result old new rose = Tells read_line status.ReadFault result old new rose
+IsTold Write result old new rose = Tells write_line WriteFault result old new rose
 IsTold Sink result old new rose = (result ≡ WriteFault) × (new ≡ old)
 IsTold Memory result old new rose = Tells memory_line WantOfMemory result old new rose

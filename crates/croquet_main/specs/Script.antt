@@ -9,7 +9,7 @@ use Rattle.text_lines.specs.Lines.{Word, is_empty, words_of, number_of}
 use Rattle.reflector_core.specs.declared.start.Want.{Want}
 use Rattle.reflector_core.specs.declared.start.Want.TheVariants.{Fresh, Whole, After}
 use Rattle.reflector_core.specs.declared.request.Request.{Request}
-use Rattle.reflector_core.specs.declared.request.Request.TheVariants.{Join, Send, Tick}
+use Rattle.reflector_core.specs.declared.request.Request.TheVariants.{Join, Send, Tick, Leave, Offer, Pull}
 
 -- a number of 32 bits, one of 64 bits, and a TeaTime
 abbrev pub small_of : Word → Option ℕ
@@ -67,6 +67,33 @@ abbrev pub tick_of : List Word → Option Request
 tick_of (now ∷ []) = option_map Tick (large_of now)
 tick_of words = None
 
+abbrev pub leave_with : Option ℕ → Option ℕ → Option ℕ → Option Request
+leave_with (Some view) (Some joined) (Some now) = Some (Leave view joined now)
+leave_with view joined now = None
+
+-- `VIEW JOINED NOW`
+abbrev pub leave_of : List Word → Option Request
+leave_of (view ∷ joined ∷ now ∷ []) = leave_with (small_of view) (small_of joined) (large_of now)
+leave_of words = None
+
+abbrev pub offer_with : Option ℕ → Option ℕ → Option ℕ → Option (List ℕ) → Option Request
+offer_with (Some view) (Some joined) (Some time) (Some snapshot) = Some (Offer view joined time snapshot)
+offer_with view joined time snapshot = None
+
+-- `VIEW JOINED TIME HEX`
+abbrev pub offer_of : List Word → Option Request
+offer_of (view ∷ joined ∷ time ∷ snapshot ∷ []) = offer_with (small_of view) (small_of joined) (time_of time) (hex_of snapshot)
+offer_of words = None
+
+abbrev pub pull_with : Option ℕ → Option ℕ → Option Request
+pull_with (Some after) (Some limit) = Some (Pull after limit)
+pull_with after limit = None
+
+-- `AFTER LIMIT`
+abbrev pub pull_of : List Word → Option Request
+pull_of (after ∷ limit ∷ []) = pull_with (small_of after) (small_of limit)
+pull_of words = None
+
 -- the request of a line's words: one row for each kind of line
 abbrev pub request_of : List Word → Option Request
 request_of [] = None
@@ -74,6 +101,9 @@ request_of (name ∷ fields) =
     if bytes_eq name (codes "join") then join_of fields
     else if bytes_eq name (codes "send") then send_of fields
     else if bytes_eq name (codes "tick") then tick_of fields
+    else if bytes_eq name (codes "leave") then leave_of fields
+    else if bytes_eq name (codes "offer") then offer_of fields
+    else if bytes_eq name (codes "pull") then pull_of fields
     else None
 
 -- an empty line or one that begins with `#`

@@ -1,10 +1,12 @@
 -- What the words and the told files make of a run, and what may then come of it.
-use Rattle.std.specs.Prelude.{◌≡◌, ◌⊎◌, ℕ, ⊤, nat_le, if◌then◌else◌, List, [], ◌∷◌, ◌++◌, length, Option, Some, None, codes, Contains}
-use Rattle.tea_io.specs.Files.{Content, Untold, Absent, Known}
+use Rattle.std.specs.Prelude.{◌≡◌, ◌≢◌, ◌⊎◌, ℕ, ⊤, nat_le, if◌then◌else◌, List, [], ◌∷◌, ◌++◌, length, Option, Some, None, codes, Contains}
+use Rattle.tea_io.specs.Files.{Content, Untold, Absent, Known, Holds}
+use Rattle.session_log.specs.Spelling.{log_spelling}
 use Rattle.tea_io.specs.Told.{grown}
 use Rattle.tea_io.specs.Sink.{GrowsWithin}
 use Rattle.tea_io.specs.declared.files.FileCall.{FileCall}
-use Rattle.tea_io.specs.declared.files.FileCall.TheVariants.{Read}
+use Rattle.tea_io.specs.declared.files.FileCall.TheVariants.{Read, Write}
+use Rattle.tea_base.specs.declared.entry.Entry.{Entry}
 use Rattle.reflector_core.specs.declared.request.Request.{Request}
 use Rattle.reflector_core.specs.Play.{first, after_all, replies_from, TellsItsEvents}
 use Rattle.croquet_main.specs.declared.words.Command.{Command}
@@ -26,8 +28,8 @@ pub data Verdict : Type 0 where
   BadInput : Input → Verdict
   -- the files do not tell; one of these inputs may be bad
   Unknown : List Input → Verdict
-  -- the command writes this text
-  Done : List ℕ → Verdict
+  -- the command writes this text, and these files by their names
+  Done : List ℕ → List (List ℕ × List ℕ) → Verdict
 
 -- the most bytes of a script
 abbrev pub script_limit : ℕ
@@ -41,24 +43,42 @@ requests_in bytes = if nat_le (length bytes) script_limit then script_of bytes e
 abbrev pub stamped_text : List Request → List ℕ
 stamped_text requests = text_of (replies_from first requests)
 
-abbrev pub replied : Option (List Request) → Verdict
-replied None = BadInput Script
-replied (Some requests) = Done (stamped_text requests)
+-- the spelling of a log, under the name that was given, if one was
+abbrev pub optional_put : Option (List ℕ) → List Entry → List (List ℕ × List ℕ)
+optional_put None log = []
+optional_put (Some name) log = (name, log_spelling log) ∷ []
 
-abbrev pub stamp_verdict : Content → Verdict
-stamp_verdict Untold = Unknown (Script ∷ [])
-stamp_verdict Absent = Unreadable
-stamp_verdict (Known bytes) = replied (requests_in bytes)
+-- the log of the session after the requests
+abbrev pub stamped_files : Option (List ℕ) → List Request → List (List ℕ × List ℕ)
+stamped_files name requests = optional_put name (after_all first requests).log
+
+abbrev pub replied : Option (List ℕ) → Option (List Request) → Verdict
+replied log None = BadInput Script
+replied log (Some requests) = Done (stamped_text requests) (stamped_files log requests)
+
+abbrev pub stamp_verdict : Option (List ℕ) → Content → Verdict
+stamp_verdict log Untold = Unknown (Script ∷ [])
+stamp_verdict log Absent = Unreadable
+stamp_verdict log (Known bytes) = replied log (requests_in bytes)
 
 -- one row for each command
 abbrev pub verdict_of : Option Command → (List ℕ → Content) → Verdict
 verdict_of None held = BadWords
-verdict_of (Some (Stamp script)) held = stamp_verdict (held script)
+verdict_of (Some (Stamp script log)) held = stamp_verdict log (held script)
 
 -- the files that a command reads, in order
 abbrev pub reads_of : Option Command → List FileCall
 reads_of None = []
-reads_of (Some (Stamp script)) = Read script ∷ []
+reads_of (Some (Stamp script log)) = Read script ∷ []
+
+abbrev pub optional_write : Option (List ℕ) → List FileCall
+optional_write None = []
+optional_write (Some name) = Write name ∷ []
+
+-- the files that it writes, in order
+abbrev pub writes_of : Option Command → List FileCall
+writes_of None = []
+writes_of (Some (Stamp script log)) = optional_write log
 
 -- the requests of a script that is told
 abbrev pub told_requests : Content → Option (List Request)
@@ -69,7 +89,7 @@ told_requests (Known bytes) = requests_in bytes
 -- the requests that a command runs, where they are told
 abbrev pub requests_of_run : Option Command → (List ℕ → Content) → Option (List Request)
 requests_of_run None held = None
-requests_of_run (Some (Stamp script)) held = told_requests (held script)
+requests_of_run (Some (Stamp script log)) held = told_requests (held script)
 
 -- the log of the session after these requests is legal, its times rise, and it has the events that were answered Stamped
 abbrev pub HasItsEvents : Option (List Request) → Type 0
@@ -79,7 +99,7 @@ HasItsEvents (Some requests) = TellsItsEvents requests (replies_from first reque
 -- ---- which status may come
 
 abbrev pub MayBeDone : Verdict → Type 0
-MayBeDone (Done text) = ⊤
+MayBeDone (Done text files) = ⊤
 MayBeDone (Unknown inputs) = ⊤
 MayBeDone verdict = ⊥
 
@@ -97,7 +117,7 @@ MayBeBad input BadWords = ⊥
 MayBeBad input Unreadable = ⊥
 MayBeBad input (BadInput bad) = input ≡ bad
 MayBeBad input (Unknown inputs) = Contains inputs input
-MayBeBad input (Done text) = ⊥
+MayBeBad input (Done text files) = ⊥
 
 -- each status, with the verdicts at which it may come
 abbrev pub MayAnswer : Status → Verdict → Type 0
@@ -115,13 +135,16 @@ MayAnswer status.Peer verdict = ⊥
 
 -- ---- which calls were made
 
--- The calls that were made before a status came: all that the words ask for, which are none where the words are bad.
--- Where memory was wanted before the files were asked, there is none, and `alone` holds: no more than the line of that
--- fault was written.
-abbrev pub Asked : Status → List FileCall → Option (List FileCall) → Option (List FileCall) → Type 0 → Type 0
-Asked status.WriteFault reads old new alone = (new ≡ grown old reads) ⊎ ((new ≡ old) × alone)
-Asked status.WantOfMemory reads old new alone = (new ≡ grown old reads) ⊎ ((new ≡ old) × alone)
-Asked other reads old new alone = new ≡ grown old reads
+-- The calls that were made before a status came. All of them before the text is written; the reads alone before a fault of
+-- an input. Where the output failed or memory was wanted it is so too: after the reads alone, or before them, no more than
+-- a first part of a line was written (`early`, `alone`).
+abbrev pub Asked : Status → List FileCall → List FileCall → Option (List FileCall) → Option (List FileCall) → Type 0 → Type 0 → Type 0
+Asked status.Ok reads writes old new early alone = new ≡ grown old (reads ++ writes)
+Asked status.WriteFault reads writes old new early alone =
+    (new ≡ grown old (reads ++ writes)) ⊎ (((new ≡ grown old reads) × early) ⊎ ((new ≡ old) × alone))
+Asked status.WantOfMemory reads writes old new early alone =
+    (new ≡ grown old (reads ++ writes)) ⊎ (((new ≡ grown old reads) × early) ⊎ ((new ≡ old) × alone))
+Asked other reads writes old new early alone = new ≡ grown old reads
 
 -- ---- what is written
 
@@ -137,15 +160,19 @@ input_line input = codes "input " ++ name_of input ++ codes "\n"
 abbrev pub read_line : List ℕ
 read_line = codes "read-fault\n"
 
+abbrev pub write_line : List ℕ
+write_line = codes "write-fault\n"
+
 abbrev pub memory_line : List ℕ
 memory_line = codes "memory\n"
 
--- the line of a fault other than want of memory, where it may come; a read fault only where the files' faults rose
+-- the line of a fault other than want of memory, where it may come; a fault of files only where their faults rose
 abbrev pub MayTell : Verdict → Type 0 → List ℕ → Type 0
 MayTell verdict rose line =
     (HasBadWords verdict × (line ≡ usage_line))
     ⊎ (((input : Input) × MayBeBad input verdict × (line ≡ input_line input))
-    ⊎ (HasGoodWords verdict × rose × (line ≡ read_line)))
+    ⊎ ((HasGoodWords verdict × rose × (line ≡ read_line))
+    ⊎ (MayBeDone verdict × rose × (line ≡ write_line))))
 
 -- a first part of one of these lines was written
 pub record TellsPart (verdict : Verdict) (rose : Type 0) (old new : Option (List ℕ)) : Type 0 where
@@ -166,7 +193,7 @@ OfText BadWords fact = fact []
 OfText Unreadable fact = fact []
 OfText (BadInput input) fact = fact []
 OfText (Unknown inputs) fact = ⊤
-OfText (Done text) fact = fact text
+OfText (Done text files) fact = fact text
 
 -- what is written, by the status
 abbrev pub Writes : Status → Verdict → Type 0 → Option (List ℕ) → Option (List ℕ) → Type 0
@@ -179,3 +206,48 @@ Writes status.WriteFault verdict rose old new =
 Writes status.WantOfMemory verdict rose old new =
     TellsPart verdict rose old new ⊎ OfText verdict (IsCutByMemory old new)
 Writes other verdict rose old new = ⊥
+
+abbrev pub IsNonEmpty : List FileCall → Type 0
+IsNonEmpty [] = ⊥
+IsNonEmpty (call ∷ calls) = ⊤
+
+-- The write of a file failed: the count of the files' faults rose, all calls were made and the last of them is a write, and
+-- the line that tells it was written, and nothing else.
+pub record FileFailed (rose : Type 0) (reads writes : List FileCall) (old new : Option (List FileCall)) (before after : Option (List ℕ)) : Type 0 where
+  pub faults : rose
+  pub calls : new ≡ grown old (reads ++ writes)
+  pub write : IsNonEmpty writes
+  pub line : after ≡ grown before write_line
+
+-- ---- what the files hold
+
+-- a file is put, and the others stay
+pub record IsPut (file : List ℕ × List ℕ) (old new : List ℕ → Content) : Type 0 where
+  pub content : Holds (old file.0) (new file.0) file.1
+  pub others : (name : List ℕ) → name ≢ file.0 → new name ≡ old name
+
+-- these files are put, one after the other
+abbrev pub ArePut : List (List ℕ × List ℕ) → (List ℕ → Content) → (List ℕ → Content) → Type 0
+ArePut [] old new = (name : List ℕ) → new name ≡ old name
+ArePut (file ∷ files) old new = (mid : List ℕ → Content) × IsPut file old mid × ArePut files mid new
+
+-- the files of a run are put; where the files do not tell what the run comes to, nothing is said
+abbrev pub PutsFiles : Verdict → (List ℕ → Content) → (List ℕ → Content) → Type 0
+PutsFiles BadWords old new = ⊥
+PutsFiles Unreadable old new = ⊥
+PutsFiles (BadInput input) old new = ⊥
+PutsFiles (Unknown inputs) old new = ⊤
+PutsFiles (Done text files) old new = ArePut files old new
+
+-- no file of this name is written
+abbrev pub IsNotWritten : List FileCall → List ℕ → Type 0
+IsNotWritten [] name = ⊤
+IsNotWritten (Read other ∷ calls) name = IsNotWritten calls name
+IsNotWritten (Write other ∷ calls) name = (name ≢ other) × IsNotWritten calls name
+
+-- what the files hold after a run, by the status
+abbrev pub Leaves : Status → Verdict → (List ℕ → Content) → (List ℕ → Content) → Type 0
+Leaves status.Ok verdict old new = PutsFiles verdict old new
+Leaves status.WriteFault verdict old new = ⊤
+Leaves status.WantOfMemory verdict old new = ⊤
+Leaves other verdict old new = (name : List ℕ) → new name ≡ old name

@@ -1,4 +1,4 @@
-//! Replicated worlds. `croquet stamp SCRIPT` runs a session's requests and prints the replies.
+//! Replicated worlds. `croquet stamp SCRIPT [--log FILE]` runs a session's requests, prints the replies and writes the log.
 #![tactic(auto)]
 
 mod script;

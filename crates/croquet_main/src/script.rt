@@ -2,7 +2,7 @@
 ghost use Rattle.std.specs.Prelude.{◌≡◌, ℕ, List, ◌∷◌, None, map, IfOk, MatchBool};
 ghost use Rattle.std.specs.Str.Lines.{lines};
 ghost use Rattle.text_lines.specs.Lines.{words_of};
-ghost use Rattle.croquet_main.specs.Script.{small_of, large_of, plain_want_of, want_after_of, want_of, join_of, send_of, tick_of, hex_of, request_of, requests_of, then_requests, script_of, is_skipped};
+ghost use Rattle.croquet_main.specs.Script.{small_of, large_of, plain_want_of, want_after_of, want_of, join_of, send_of, tick_of, leave_of, offer_of, pull_of, hex_of, request_of, requests_of, then_requests, script_of, is_skipped};
 
 use hex::FromHexError;
 use reflector_core::{Request, Requests, Want};
@@ -130,6 +130,56 @@ fn tick(fields: &[&str]) -> Option<Request>
     Some(Request::Tick { now: large(now)? })
 }
 
+/// `VIEW JOINED NOW`
+fn leave(fields: &[&str]) -> Option<Request>
+    ensures { result ≡ leave_of (map (λ word. word.now) fields.now) }
+{
+    let [view, joined, now] = fields else {
+        return None;
+    };
+    let view = small(view)?;
+    let joined = small(joined)?;
+    let now = large(now)?;
+    Some(Request::Leave { view, joined, now })
+}
+
+/// `VIEW JOINED TIME HEX`
+fn offer(alloc: Global, fields: &[&str]) -> Result<Option<Request>, WantOfMemory>
+    ensures { IfOk result (λ read. read ≡ offer_of (map (λ word. word.now) fields.now)) }
+{
+    let [view, joined, time, snapshot] = fields else {
+        return Ok(None);
+    };
+    let (Some(view), Some(joined), Some(time)) = (
+        small(view),
+        small(joined),
+        number(time, 0, LAST_TIME),
+    ) else {
+        return Ok(None);
+    };
+    match bytes(alloc, snapshot)? {
+        Some(bytes) => Ok(Some(Request::Offer {
+            view,
+            joined,
+            time,
+            bytes,
+        })),
+        None => Ok(None),
+    }
+}
+
+/// `AFTER LIMIT`
+fn pull(fields: &[&str]) -> Option<Request>
+    ensures { result ≡ pull_of (map (λ word. word.now) fields.now) }
+{
+    let [after, limit] = fields else {
+        return None;
+    };
+    let after = small(after)?;
+    let limit = small(limit)?;
+    Some(Request::Pull { after, limit })
+}
+
 /// The request that a line's words spell.
 fn request(alloc: Global, words: &[&str]) -> Result<Option<Request>, WantOfMemory>
     ensures { IfOk result (λ read. read ≡ request_of (map (λ word. word.now) words.now)) }
@@ -141,6 +191,9 @@ fn request(alloc: Global, words: &[&str]) -> Result<Option<Request>, WantOfMemor
         "join" => Ok(join(fields)),
         "send" => send(alloc, fields),
         "tick" => Ok(tick(fields)),
+        "leave" => Ok(leave(fields)),
+        "offer" => offer(alloc, fields),
+        "pull" => Ok(pull(fields)),
         _ => Ok(None),
     }
 }

@@ -1,18 +1,20 @@
-//! The command `stamp`: a script's requests to a first session, and its replies.
-ghost use Rattle.std.specs.Prelude.{◌≡◌, ℕ, ◌≤◌, List, [], ◌∷◌, IfOk, IfErr, OnOk, OnErr, IsErrOf, Some, ⊤};
-ghost use Rattle.tea_io.specs.declared.files.FileCall.TheVariants.{Read};
+//! The command `stamp`: a script's requests to a first session, its replies, and its log.
+ghost use Rattle.std.specs.Prelude.{◌≡◌, ◌≢◌, ℕ, ◌≤◌, List, [], ◌∷◌, IfOk, IfErr, OnOk, OnErr, IsErrOf, ⊤, string_bytes};
+ghost use Rattle.tea_base.specs.declared.entry.Entry.{Entry};
+ghost use Rattle.tea_io.specs.declared.files.FileCall.TheVariants.{Read, Write};
 ghost use Rattle.tea_io.specs.Sink.{GrowsWithin};
 ghost use Rattle.tea_io.specs.Told.{grown, Rose};
-ghost use Rattle.reflector_core.specs.Play.{first, replies_from};
+ghost use Rattle.session_log.specs.Spelling.{log_spelling};
 ghost use Rattle.croquet_main.specs.Script.{script_of};
 ghost use Rattle.croquet_main.specs.PrintedText.{text_of};
-ghost use Rattle.croquet_main.specs.Verdict.{script_limit, stamp_verdict, told_requests, HasItsEvents, OfText};
-ghost use Rattle.croquet_main.specs.Ends.{AskedTo, ReadEnd, Answers, IsScriptFault, IsSinkFault, MayEnd, WritesBefore};
+ghost use Rattle.croquet_main.specs.Verdict.{script_limit, stamp_verdict, told_requests, optional_write, optional_put, ArePut, HasItsEvents, IsNotWritten, IsPut, OfText, PutsFiles};
+ghost use Rattle.croquet_main.specs.Ends.{AskedTo, ReadEnd, Answers, IsScriptFault, IsSinkFault, IsWriteFault, LeavesBefore, MayEnd, WritesBefore};
 
 use crate::script::read_script;
 use crate::status::{Fault, Input};
 use crate::text::text;
-use reflector_core::{Replies, play};
+use reflector_core::{Replies, Session, play};
+use session_log::encode;
 use std::alloc::Global;
 use tea_base::{Blob, Text};
 use tea_io::{FileFault, Files, Sink, SinkFault};
@@ -24,7 +26,7 @@ const SCRIPT_LIMIT: u64 = 16777216;
 fn read_input<F: Files>(files: &mut F, name: &Text, limit: u64, input: Input) -> Result<Blob, Fault>
     ensures end { ReadEnd (F.held files.old name.now) limit input result }
     ensures same { (other : List ℕ) → F.held files.new other ≡ F.held files.old other }
-    ensures asked { AskedTo result (Read name.now ∷ []) (F.asked files.old) (F.asked files.new) ⊤ }
+    ensures asked { AskedTo result (Read name.now ∷ []) [] (F.asked files.old) (F.asked files.new) ⊤ }
     ensures later { F.faults files.old ≤ F.faults files.new }
     ensures cause { IsErrOf result Fault.Read → Rose (F.faults files.old) (F.faults files.new) }
 {
@@ -36,30 +38,58 @@ fn read_input<F: Files>(files: &mut F, name: &Text, limit: u64, input: Input) ->
     }
 }
 
-/// The replies to the requests of a script.
-fn answer_script(alloc: Global, script: &[u8]) -> Result<Replies, Fault>
-    ensures ok { IfOk result (λ replies. Answers (script_of script.now) replies) }
+/// Writes a file.
+fn write_output<F: Files>(files: &mut F, name: &Text, bytes: &[u8]) -> Result<(), Fault>
+    ensures put { OnOk result (IsPut (name.now, bytes.now) (F.held files.old) (F.held files.new)) }
+    ensures others { (other : List ℕ) → other ≢ name.now → F.held files.new other ≡ F.held files.old other }
+    ensures err { IfErr result IsWriteFault }
+    ensures asked { AskedTo result [] (Write name.now ∷ []) (F.asked files.old) (F.asked files.new) ⊤ }
+    ensures later { F.faults files.old ≤ F.faults files.new }
+    ensures cause { IsErrOf result Fault.Write → Rose (F.faults files.old) (F.faults files.new) }
+{
+    match files.write(name, bytes) {
+        Ok(()) => Ok(()),
+        Err(FileFault::WantOfMemory) => Err(Fault::Memory),
+        Err(_) => Err(Fault::Write),
+    }
+}
+
+/// Writes a session's log, where a file for it is given.
+fn write_log<F: Files>(files: &mut F, name: &Option<Text>, session: &Session) -> Result<(), Fault>
+    ensures put { OnOk result (ArePut (optional_put name.now session.now.plain.log) (F.held files.old) (F.held files.new)) }
+    ensures others { (other : List ℕ) → IsNotWritten (optional_write name.now) other → F.held files.new other ≡ F.held files.old other }
+    ensures err { IfErr result IsWriteFault }
+    ensures asked { AskedTo result [] (optional_write name.now) (F.asked files.old) (F.asked files.new) ⊤ }
+    ensures later { F.faults files.old ≤ F.faults files.new }
+    ensures cause { IsErrOf result Fault.Write → Rose (F.faults files.old) (F.faults files.new) }
+{
+    let Some(name) = name else {
+        return Ok(());
+    };
+    let bytes = encode(session.log())?;
+    write_output(files, name, bytes.bytes())
+}
+
+/// The session and the replies to the requests of a script.
+fn answer_script(alloc: Global, script: &[u8]) -> Result<(Session, Replies), Fault>
+    ensures ok { IfOk result (λ played. Answers (script_of script.now) played.0.plain.log played.1) }
     ensures events { OnOk result (HasItsEvents (script_of script.now)) }
     ensures err { IfErr result (λ fault. IsScriptFault fault (script_of script.now)) }
 {
     match read_script(alloc, script)? {
-        Some(requests) => {
-            let (_session, replies) = play(alloc, requests.as_slice())?;
-            Ok(replies)
-        }
+        Some(requests) => Ok(play(alloc, requests.as_slice())?),
         None => Err(Fault::Input(Input::Script)),
     }
 }
 
-/// Writes the lines of the replies.
-fn print<W: Sink>(alloc: Global, replies: &Replies, out: &mut W) -> Result<(), Fault>
-    ensures ok { OnOk result (W.written out.new ≡ grown (W.written out.old) (text_of replies.now)) }
-    ensures part { OnErr result (GrowsWithin (W.written out.old) (W.written out.new) (text_of replies.now)) }
+/// Writes a text.
+fn print<W: Sink>(out: &mut W, text: &str) -> Result<(), Fault>
+    ensures ok { OnOk result (W.written out.new ≡ grown (W.written out.old) text.now) }
+    ensures part { OnErr result (GrowsWithin (W.written out.old) (W.written out.new) text.now) }
     ensures err { IfErr result IsSinkFault }
     ensures later { W.faults out.old ≤ W.faults out.new }
     ensures cause { IsErrOf result Fault.Sink → Rose (W.faults out.old) (W.faults out.new) }
 {
-    let text = text(alloc, replies.as_slice())?;
     match out.write(text.as_bytes()) {
         Ok(()) => Ok(()),
         Err(SinkFault::Failed) => Err(Fault::Sink),
@@ -67,29 +97,39 @@ fn print<W: Sink>(alloc: Global, replies: &Replies, out: &mut W) -> Result<(), F
     }
 }
 
-/// `stamp SCRIPT`
+/// `stamp SCRIPT [--log FILE]`
 pub fn stamp<F: Files, W: Sink>(
     alloc: Global,
     script: &Text,
+    log: &Option<Text>,
     files: &mut F,
     out: &mut W,
 ) -> Result<(), Fault>
-    ensures end { MayEnd result (stamp_verdict (F.held files.old script.now)) }
-    ensures text { OnOk result (OfText (stamp_verdict (F.held files.old script.now))
+    ensures end { MayEnd result (stamp_verdict log.now (F.held files.old script.now)) }
+    ensures text { OnOk result (OfText (stamp_verdict log.now (F.held files.old script.now))
         (λ text. W.written out.new ≡ grown (W.written out.old) text)) }
-    ensures part { IfErr result (λ fault.
-        WritesBefore fault (stamp_verdict (F.held files.old script.now)) (W.written out.old) (W.written out.new)) }
+    ensures part { IfErr result (λ fault. WritesBefore fault (stamp_verdict log.now (F.held files.old script.now))
+        (W.written out.old) (W.written out.new)) }
     ensures events { OnOk result (HasItsEvents (told_requests (F.held files.old script.now))) }
-    ensures asked { AskedTo result (Read script.now ∷ []) (F.asked files.old) (F.asked files.new)
+    ensures asked { AskedTo result (Read script.now ∷ []) (optional_write log.now) (F.asked files.old) (F.asked files.new)
         (W.written out.new ≡ W.written out.old) }
-    ensures same { (other : List ℕ) → F.held files.new other ≡ F.held files.old other }
+
+    // The files: the log is put at the end, nothing before, and no other file is touched.
+    ensures put { OnOk result (PutsFiles (stamp_verdict log.now (F.held files.old script.now)) (F.held files.old) (F.held files.new)) }
+    ensures kept { IfErr result (λ fault. LeavesBefore fault (F.held files.old) (F.held files.new)) }
+    ensures others { (other : List ℕ) → IsNotWritten (optional_write log.now) other → F.held files.new other ≡ F.held files.old other }
 
     ensures files_later { F.faults files.old ≤ F.faults files.new }
     ensures sink_later { W.faults out.old ≤ W.faults out.new }
     ensures read_cause { IsErrOf result Fault.Read → Rose (F.faults files.old) (F.faults files.new) }
+    ensures write_cause { IsErrOf result Fault.Write → Rose (F.faults files.old) (F.faults files.new) }
     ensures sink_cause { IsErrOf result Fault.Sink → Rose (W.faults out.old) (W.faults out.new) }
 {
     let script = read_input(files, script, SCRIPT_LIMIT, Input::Script)?;
-    let replies = answer_script(alloc, script.bytes())?;
-    print(alloc, &replies, out)
+    let (session, replies) = answer_script(alloc, script.bytes())?;
+    let text = text(alloc, replies.as_slice())?;
+    match write_log(files, log, &session) {
+        Ok(()) => print(out, text.as_str()),
+        Err(fault) => Err(fault),
+    }
 }

@@ -67,6 +67,8 @@ pub enum Fault {
     Input(Input),
     /// A file was not read.
     Read,
+    /// A file was not written.
+    Write,
     /// The text was not written.
     Sink,
     Memory,

@@ -7,13 +7,16 @@ use std::test::Fail;
 use tea_base::{Blob, Numbers, Text, Words};
 use tea_io::{FileFault, Files, MemFiles, MemSink, NamedBlob, NamedBlobs};
 
-/// What a run answers and writes, over a file `s`, where one call of the files and one of the sink may fail.
-fn ran(
-    alloc: Global,
-    words: &[&str],
-    script: Blob,
-    fail: (u32, u32),
-) -> Result<(Status, String), Fail> {
+/// What a run answers, writes to the sink and puts under `f`.
+#[derive(Drop)]
+struct Outcome {
+    status: Status,
+    text: String,
+    file: Option<Blob>,
+}
+
+/// A run over a file `s`, where one call of the files and one of the sink may fail.
+fn ran(alloc: Global, words: &[&str], script: Blob, fail: (u32, u32)) -> Result<Outcome, Fail> {
     let mut given = Words::new(alloc);
     for word in words {
         given.push(Text::copy(alloc, word)?)?;
@@ -27,12 +30,22 @@ fn ran(
     let mut out = MemSink::new(alloc, Numbers::from_vec([fail.1].to_vec(alloc)?));
     let status = croquet(alloc, &given, &mut files, &mut out);
     let text = String::from_utf8(out.into_bytes().into_vec()).map_err(|_| "not text")?;
-    Ok((status, text))
+    let file = match files.get(&Text::copy(alloc, "f")?) {
+        Some(bytes) => Some(bytes.clone()?),
+        None => None,
+    };
+    Ok(Outcome { status, text, file })
 }
 
 /// What `stamp s` answers and writes for a script.
 fn stamped(alloc: Global, script: &[u8]) -> Result<(Status, String), Fail> {
-    ran(alloc, &["stamp", "s"], Blob::copy(alloc, script)?, (0, 0))
+    let Outcome { status, text, .. } = ran(
+        alloc,
+        &["stamp", "s"],
+        Blob::copy(alloc, script)?,
+        (0, 0),
+    )?;
+    Ok((status, text))
 }
 
 #[test]
@@ -58,6 +71,18 @@ fn replies_are_printed(rt: HostRuntime) -> Result<(), Fail> {
         (
             "send 7 4294967295 4294967295 18446744073709551615 -",
             "refused stale 0\n",
+        ),
+        (
+            "join 7 0\nsend 7 1 1 0 6869\ntick 100\nsend 7 1 2 100 00\njoin 7 200\nsend 7 1 3 201 00\nleave 7 1 202\nleave 7 4 0\nsend 7 4 3 0 00",
+            "joined 1 1 0 0\nstamped 2 2\nticked 100\nstamped 3 101\njoined 4 200 2 0\nrefused stale 4\nrefused stale 4\nleft 5 201\nrefused stale 5\n",
+        ),
+        (
+            "join 7 0\ntick 9007199254740991\nsend 7 1 1 0 00\nleave 7 1 0",
+            "joined 1 1 0 0\nticked 9007199254736896\nrefused time-end 9007199254736896\nleft 2 9007199254736897\n",
+        ),
+        (
+            "join 7 0\noffer 7 1 1 aa\noffer 7 1 1 aa\noffer 7 1 2 aa\njoin 8 0\npull 0 1\npull 1 9\npull 3 1\njoin 9 0 after 3\njoin 0 0",
+            "joined 1 1 0 0\nkept\nrefused older 1\nrefused ahead 1\njoined 2 2 0 1 base 1\nbatch 1 more\nbatch 1 tick 2\nrefused no-such-seq 2\nrefused ahead 2\nrefused bad-view\n",
         ),
         (
             "join 7 0\r\n\n\r\n# ü \n#\nsend  7   1 1 0 aB\nsend 7 1 1 0 Ab",
@@ -119,7 +144,13 @@ fn scripts_outside_the_grammar_are_refused(rt: HostRuntime) -> Result<(), Fail> 
         "send 7 1 1 0 00 00",
         "send 7 1 1 0 --",
         "send 7 1 4294967296 0 00",
-        "leave 7 1 0",
+        "leave 7 1",
+        "leave 7 1 0 0",
+        "offer 7 1 9007199254740992 aa",
+        "offer 7 1 1",
+        "pull 1",
+        "pull 1 4294967296",
+        "push 1 1",
     ] {
         let (status, written) = stamped(rt.alloc(), script.as_bytes())?;
         assert_eq!(rt; written.as_str(), "input script\n", "of {script:?}");
@@ -136,7 +167,7 @@ fn scripts_have_a_limit(rt: HostRuntime) -> Result<(), Fail> {
     let alloc = rt.alloc();
     for (bytes, want) in [(16777216, Status::Ok), (16777217, Status::Input)] {
         let script = Blob::from_vec(vec![in alloc; b'#'; bytes]?);
-        assert_eq!(rt; ran(alloc, &["stamp", "s"], script, (0, 0))?.0, want);
+        assert_eq!(rt; ran(alloc, &["stamp", "s"], script, (0, 0))?.status, want);
     }
     Ok(())
 }
@@ -151,7 +182,11 @@ fn words_follow_their_rules(rt: HostRuntime) -> Result<(), Fail> {
         &["stamp", ""],
         &["stamp", "s", "s"],
         &["stamp", "s", "--log=f"],
-        &["stamp", "s", "--log", "f"],
+        &["stamp", "s", "--log"],
+        &["stamp", "--log", "s"],
+        &["stamp", "s", "--log", "--log"],
+        &["stamp", "s", "--log", "f", "--log", "g"],
+        &["stamp", "s", "--snapshot", "f"],
         &["stamp", "--", "s"],
         &["stamp", "-s"],
         &["stamp", "s", "-h"],
@@ -160,7 +195,7 @@ fn words_follow_their_rules(rt: HostRuntime) -> Result<(), Fail> {
         &["help"],
         &["replay", "p", "n", "l", "9007199254740992"],
     ] {
-        let (status, text) = ran(alloc, words, Blob::new(alloc), (0, 0))?;
+        let Outcome { status, text, .. } = ran(alloc, words, Blob::new(alloc), (0, 0))?;
         assert_eq!(rt; text.as_str(), "usage\n", "of {words:?}");
         assert_eq!(rt; status, Status::Usage);
     }
@@ -170,31 +205,94 @@ fn words_follow_their_rules(rt: HostRuntime) -> Result<(), Fail> {
 #[test]
 fn faults_of_the_outside_are_told(rt: HostRuntime) -> Result<(), Fail> {
     let alloc = rt.alloc();
-    for (words, script, fail, status, text) in [
+    let usual = ["stamp", "s", "--log", "f"];
+    for (words, script, fail, status, text, put) in [
         (
-            ["stamp", "s"],
+            usual,
             "tick 1",
             (1, 0),
             Status::ReadFault,
             "read-fault\n",
+            false,
         ),
         (
-            ["stamp", "t"],
+            usual,
+            "tick 1",
+            (2, 0),
+            Status::WriteFault,
+            "write-fault\n",
+            false,
+        ),
+        (usual, "tick 1", (0, 1), Status::WriteFault, "", true),
+        (usual, "tick 1", (1, 1), Status::WriteFault, "", false),
+        (usual, "tick 1", (2, 1), Status::WriteFault, "", false),
+        (
+            usual,
+            "tick",
+            (0, 0),
+            Status::Input,
+            "input script\n",
+            false,
+        ),
+        (usual, "tick", (0, 1), Status::WriteFault, "", false),
+        (usual, "tick 1", (3, 2), Status::Ok, "ticked 1\n", true),
+        (
+            ["stamp", "t", "--log", "f"],
             "tick 1",
             (0, 0),
             Status::ReadFault,
             "read-fault\n",
+            false,
         ),
-        (["stamp", "s"], "tick 1", (0, 1), Status::WriteFault, ""),
-        (["stamp", "s"], "tick", (0, 1), Status::WriteFault, ""),
-        (["stamp", "s"], "tick 1", (1, 1), Status::WriteFault, ""),
-        (["help", "s"], "tick 1", (0, 1), Status::WriteFault, ""),
-        (["stamp", "s"], "tick 1", (2, 2), Status::Ok, "ticked 1\n"),
+        (
+            ["help", "s", "--log", "f"],
+            "tick 1",
+            (0, 1),
+            Status::WriteFault,
+            "",
+            false,
+        ),
     ] {
-        let (answer, written) = ran(alloc, &words, Blob::copy(alloc, script.as_bytes())?, fail)?;
-        assert_eq!(rt; written.as_str(), text);
-        assert_eq!(rt; answer, status);
+        let answer = ran(alloc, &words, Blob::copy(alloc, script.as_bytes())?, fail)?;
+        assert_eq!(rt; answer.text.as_str(), text, "of {script} {fail:?}");
+        assert_eq!(rt; answer.status, status);
+        assert_eq!(rt; answer.file.is_some(), put);
     }
+    Ok(())
+}
+
+#[test]
+fn logs_are_written(rt: HostRuntime) -> Result<(), Fail> {
+    let alloc = rt.alloc();
+    let spelled = b"TEALOG01\x00\x00\x00\x02\
+        \x00\x00\x00\x00\x00\x00\x00\x01\x00\x00\x00\x07\x01\
+        \x00\x00\x00\x00\x00\x00\x00\x02\x00\x00\x00\x07\x03\x00\x00\x00\x01\x00\x00\x00\x02hi";
+    for words in [["stamp", "s", "--log", "f"], ["stamp", "--log", "f", "s"]] {
+        let script = Blob::copy(alloc, b"join 7 0\nsend 7 1 1 0 6869\n")?;
+        let Outcome { status, text, file } = ran(alloc, &words, script, (0, 0))?;
+        assert_eq!(rt; status, Status::Ok);
+        assert_eq!(rt; text.as_str(), "joined 1 1 0 0\nstamped 2 2\n");
+        let file = file.ok_or("no file")?;
+        assert_eq!(rt; file.bytes(), spelled.as_slice());
+    }
+    Ok(())
+}
+
+#[test]
+fn views_have_a_limit(rt: HostRuntime) -> Result<(), Fail> {
+    let alloc = rt.alloc();
+    let mut script = String::new(alloc);
+    for view in 1..1026 {
+        script.push_str(format!(in alloc; "join {view} 0\n")?.as_str())?;
+    }
+    script.push_str("join 1024 0\n")?;
+    let (status, text) = stamped(alloc, script.as_bytes())?;
+    assert_eq!(rt; status, Status::Ok);
+    assert!(rt;
+        text.as_str().ends_with(
+            "\njoined 1024 1024 0 0\nrefused views-full 1024\njoined 1025 1025 0 0\n"
+        )
+    );
     Ok(())
 }
 

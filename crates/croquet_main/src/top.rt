@@ -1,11 +1,11 @@
 //! The top call: all that the program does.
-ghost use Rattle.std.specs.Prelude.{◌≡◌, ◌≢◌, ℕ, ◌≤◌, List, IfErr, OnOk, OnErr, IsErrOf, Option, Err, OnErr};
+ghost use Rattle.std.specs.Prelude.{◌≡◌, ◌⊎◌, ℕ, ◌≤◌, List, IfErr, OnOk, OnErr, IsErrOf, Option, Err, OnErr};
 ghost use Rattle.tea_io.specs.declared.files.FileCall.{FileCall};
 ghost use Rattle.tea_io.specs.Sink.{GrowsWithin};
 ghost use Rattle.tea_io.specs.Told.{grown, Rose};
 ghost use Rattle.croquet_main.specs.CommandWords.{command_of};
-ghost use Rattle.croquet_main.specs.Verdict.{Verdict, verdict_of, reads_of, requests_of_run, Asked, HasItsEvents, MayAnswer, OfText, Writes, input_line, memory_line};
-ghost use Rattle.croquet_main.specs.Ends.{AskedTo, IsTold, MayEnd, Tells, WritesBefore};
+ghost use Rattle.croquet_main.specs.Verdict.{Verdict, verdict_of, reads_of, writes_of, requests_of_run, Asked, FileFailed, HasItsEvents, IsNotWritten, Leaves, MayAnswer, OfText, PutsFiles, TellsPart, Writes, input_line, memory_line};
+ghost use Rattle.croquet_main.specs.Ends.{AskedTo, IsTold, LeavesBefore, MayEnd, Tells, WritesBefore};
 
 use crate::stamp::stamp;
 use crate::status::{Fault, Input, Status};
@@ -27,17 +27,21 @@ fn run<F: Files, W: Sink>(
     ensures part { IfErr result (λ fault. WritesBefore fault (verdict_of (command_of words.now) (F.held files.old))
         (W.written out.old) (W.written out.new)) }
     ensures events { OnOk result (HasItsEvents (requests_of_run (command_of words.now) (F.held files.old))) }
-    ensures asked { AskedTo result (reads_of (command_of words.now)) (F.asked files.old) (F.asked files.new)
-        (W.written out.new ≡ W.written out.old) }
-    ensures same { (name : List ℕ) → F.held files.new name ≡ F.held files.old name }
+    ensures asked { AskedTo result (reads_of (command_of words.now)) (writes_of (command_of words.now))
+        (F.asked files.old) (F.asked files.new) (W.written out.new ≡ W.written out.old) }
+
+    ensures put { OnOk result (PutsFiles (verdict_of (command_of words.now) (F.held files.old)) (F.held files.old) (F.held files.new)) }
+    ensures kept { IfErr result (λ fault. LeavesBefore fault (F.held files.old) (F.held files.new)) }
+    ensures others { (name : List ℕ) → IsNotWritten (writes_of (command_of words.now)) name → F.held files.new name ≡ F.held files.old name }
 
     ensures files_later { F.faults files.old ≤ F.faults files.new }
     ensures sink_later { W.faults out.old ≤ W.faults out.new }
     ensures read_cause { IsErrOf result Fault.Read → Rose (F.faults files.old) (F.faults files.new) }
+    ensures write_cause { IsErrOf result Fault.Write → Rose (F.faults files.old) (F.faults files.new) }
     ensures sink_cause { IsErrOf result Fault.Sink → Rose (W.faults out.old) (W.faults out.new) }
 {
     match read_command(alloc, words)? {
-        Some(Command::Stamp { script }) => stamp(alloc, &script, files, out),
+        Some(Command::Stamp { script, log }) => stamp(alloc, &script, &log, files, out),
         None => Err(Fault::Usage),
     }
 }
@@ -73,6 +77,7 @@ pub fn end<W: Sink>(fault: Fault, out: &mut W) -> Status
         Fault::Usage => tell(out, "usage\n", Status::Usage),
         Fault::Input(input) => tell(out, input_line(input), Status::Input),
         Fault::Read => tell(out, "read-fault\n", Status::ReadFault),
+        Fault::Write => tell(out, "write-fault\n", Status::WriteFault),
         Fault::Sink => Status::WriteFault,
         Fault::Memory => tell(out, "memory\n", Status::WantOfMemory),
     }
@@ -90,14 +95,22 @@ pub fn croquet<F: Files, W: Sink>(
     ensures answer { MayAnswer result (verdict_of (command_of words.now) (F.held files.old)) }
     ensures written { Writes result (verdict_of (command_of words.now) (F.held files.old))
         (Rose (F.faults files.old) (F.faults files.new)) (W.written out.old) (W.written out.new) }
-    ensures asked { Asked result (reads_of (command_of words.now)) (F.asked files.old) (F.asked files.new)
+    ensures asked { Asked result (reads_of (command_of words.now)) (writes_of (command_of words.now)) (F.asked files.old) (F.asked files.new)
+        (TellsPart (verdict_of (command_of words.now) (F.held files.old)) (Rose (F.faults files.old) (F.faults files.new))
+        (W.written out.old) (W.written out.new)
+        ⊎ GrowsWithin (W.written out.old) (W.written out.new) memory_line)
         (GrowsWithin (W.written out.old) (W.written out.new) memory_line) }
+    ensures files { Leaves result (verdict_of (command_of words.now) (F.held files.old)) (F.held files.old) (F.held files.new) }
+    ensures other_files { (name : List ℕ) → IsNotWritten (writes_of (command_of words.now)) name → F.held files.new name ≡ F.held files.old name }
     ensures events { result ≡ Status.Ok → HasItsEvents (requests_of_run (command_of words.now) (F.held files.old)) }
 
     // A fault of the outside comes only where its count rose.
     ensures read_fault { result ≡ Status.ReadFault → Rose (F.faults files.old) (F.faults files.new) }
-    ensures write_fault { result ≡ Status.WriteFault → Rose (W.faults out.old) (W.faults out.new) }
-    ensures files_kept { (name : List ℕ) → F.held files.new name ≡ F.held files.old name }
+    ensures write_fault { result ≡ Status.WriteFault →
+        FileFailed (Rose (F.faults files.old) (F.faults files.new)) (reads_of (command_of words.now))
+        (writes_of (command_of words.now)) (F.asked files.old) (F.asked files.new)
+        (W.written out.old) (W.written out.new)
+        ⊎ Rose (W.faults out.old) (W.faults out.new) }
 {
     match run(alloc, words, files, out) {
         Ok(()) => Status::Ok,

@@ -1,8 +1,8 @@
 //! The words of the command line, read by their rules.
-ghost use Rattle.std.specs.Prelude.{◌≡◌, ◌<◌, ℕ, [], ◌∷◌, true, None, IfOk, MatchBool, IsTrue, ◌↔◌, nat_lt};
+ghost use Rattle.std.specs.Prelude.{◌≡◌, ◌<◌, ℕ, [], ◌∷◌, true, None, IfOk, IfSome, IfNone, MatchBool, IsTrue, ◌↔◌, nat_lt};
 ghost use Rattle.std.specs.List.{list_all};
 ghost use Rattle.std.specs.Str.{bytes_eq};
-ghost use Rattle.croquet_main.specs.CommandWords.{command_of, stamp_of, parts_of, is_empty, is_option};
+ghost use Rattle.croquet_main.specs.CommandWords.{command_of, stamp_of, parts_of, is_empty, is_option, value_of, without, IsFirstOf, HasNone};
 
 use std::alloc::Global;
 use tea_base::{List, Text, WantOfMemory, Words};
@@ -10,8 +10,8 @@ use tea_base::{List, Text, WantOfMemory, Words};
 /// A command with its words.
 #[derive(Drop)]
 pub enum Command {
-    /// `stamp SCRIPT`
-    Stamp { script: Text },
+    /// `stamp SCRIPT [--log FILE]`
+    Stamp { script: Text, log: Option<Text> },
 }
 
 /// An option and its value.
@@ -120,7 +120,32 @@ fn read_parts(alloc: Global, words: &[Text]) -> Result<Option<Parts>, WantOfMemo
     }
 }
 
-/// `stamp SCRIPT`
+/// Where the first setting of an option stands.
+fn place_of(settings: &[Setting], option: &str) -> Option<usize>
+    requires { list_all (λ byte. nat_lt byte 128) option.now ≡ true }
+    ensures found { IfSome result (IsFirstOf option.now settings.now) }
+    ensures none { IfNone result (HasNone option.now settings.now) }
+{
+    for (place, setting) in settings.iter().enumerate() {
+        if is_word(&setting.option, option) {
+            return Some(place);
+        }
+    }
+    None
+}
+
+/// Takes out the first setting of an option.
+fn take_setting(settings: &mut Vec<Setting>, option: &str) -> Option<Text>
+    requires { list_all (λ byte. nat_lt byte 128) option.now ≡ true }
+    ensures value { result ≡ value_of option.now settings.old.items }
+    ensures rest { settings.new.items ≡ without option.now settings.old.items }
+{
+    let place = place_of(settings, option)?;
+    let Setting { option: _, value } = settings.remove(place);
+    Some(value)
+}
+
+/// `stamp SCRIPT [--log FILE]`
 fn stamp(parts: Parts) -> Option<Command>
     ensures { result ≡ stamp_of parts }
 {
@@ -129,9 +154,11 @@ fn stamp(parts: Parts) -> Option<Command>
         settings,
     } = parts;
     let mut positionals = positionals.into_vec();
+    let mut settings = settings.into_vec();
+    let log = take_setting(&mut settings, "--log");
     let script = positionals.pop()?;
     if positionals.is_empty() && settings.is_empty() {
-        Some(Command::Stamp { script })
+        Some(Command::Stamp { script, log })
     } else {
         None
     }

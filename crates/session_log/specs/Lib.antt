@@ -1,3 +1,4 @@
 pub mod LogState
 pub mod Heads
 pub mod Kept
+pub mod Spelling

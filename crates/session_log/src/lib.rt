@@ -4,7 +4,8 @@
 mod heads;
 mod log;
 mod payloads;
+mod spelling;
 #[cfg(test)]
 mod tests;
 
-pub use log::{GetRefusal, Log};
+pub use log::{GetRefusal, Log, encode};

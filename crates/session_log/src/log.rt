@@ -4,15 +4,17 @@ ghost use Rattle.tea_base.specs.Readings.{payload_bytes, count, current, here_co
 ghost use Rattle.tea_base.specs.Legal.{IsLegal, MayFollow, most_entries, most_bytes};
 ghost use Rattle.session_log.specs.LogState.{next_entry, with_next, HasPayloadAt};
 ghost use Rattle.session_log.specs.Heads.{what_of, IsPresence};
+ghost use Rattle.session_log.specs.Spelling.{log_spelling};
 
 use crate::heads::{
     Head, Kind, count_until, current_of, here_count_in, is_here_in, last_number_in, push_head,
     seq_of_event,
 };
 use crate::payloads::{is_stored, load, store_event};
+use crate::spelling::write_entries;
 use std::alloc::Global;
 use std::marker::Model;
-use tea_base::{Entry, WantOfMemory, What};
+use tea_base::{Blob, Entry, WantOfMemory, What, Writer};
 
 /// Why an entry was not given.
 #[derive(Clone, Copy, Debug, PartialEq, Eq)]
@@ -266,4 +268,16 @@ impl Log {
     {
         last_number_in(&self.heads, view)
     }
+}
+
+/// The bytes of a log, in memory of their own: `TEALOG01`, how many entries it has, and each entry
+/// but for its seq. The caller keeps the log. Fails for want of memory alone.
+pub fn encode(log: &Log) -> Result<Blob, WantOfMemory>
+    ensures { IfOk result (λ bytes. bytes ≡ log_spelling log.now.entries) }
+{
+    let mut out = Writer::new(*log.heads.allocator());
+    out.put_bytes(b"TEALOG01")?;
+    out.put_u32(log.heads.len() as u32)?;
+    write_entries(&mut out, &log.payloads, &log.heads)?;
+    Ok(out.done())
 }

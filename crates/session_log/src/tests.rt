@@ -1,4 +1,4 @@
-//! Each call that wants memory, once, and the readings of a small log.
+//! Each call that wants memory, once, and the readings and bytes of a small log.
 use super::*;
 use std::test::Fail;
 use tea_base::{Blob, Entry, What};
@@ -61,5 +61,22 @@ fn a_view_is_read_by_its_entries(rt: HostRuntime) -> Result<(), Fail> {
     assert_eq!(rt; log.current(7), 3);
     assert!(rt; !log.is_here(7));
     assert_eq!(rt; log.here_count(), 0);
+    Ok(())
+}
+
+#[test]
+fn a_log_is_spelled(rt: HostRuntime) -> Result<(), Fail> {
+    let mut log = Log::new(rt.alloc());
+    assert_eq!(rt;
+        encode(&log)?.bytes(),
+        b"TEALOG01\x00\x00\x00\x00".as_slice()
+    );
+    log.reserve(2, 2)?;
+    log.push(1, 7, &What::Join);
+    log.push_event(2, 7, 1, b"hi");
+    let spelled = b"TEALOG01\x00\x00\x00\x02\
+        \x00\x00\x00\x00\x00\x00\x00\x01\x00\x00\x00\x07\x01\
+        \x00\x00\x00\x00\x00\x00\x00\x02\x00\x00\x00\x07\x03\x00\x00\x00\x01\x00\x00\x00\x02hi";
+    assert_eq!(rt; encode(&log)?.bytes(), spelled.as_slice());
     Ok(())
 }
