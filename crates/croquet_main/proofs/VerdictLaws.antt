@@ -1,6 +1,6 @@
 -- What is written where a run is cut short.
-use Rattle.std.proofs.Common.{◌≡◌, ◌⊎◌, inl, inr, ℕ, List, [], Option, Result, Ok, Err, IfErr, refl, sym, subst, ◌∙◌}
-use Rattle.tea_io.specs.Told.{grown}
+use Rattle.std.proofs.Common.{◌≡◌, ◌⊎◌, inl, inr, ℕ, List, [], Option, Result, Ok, Err, IfErr, refl, sym, subst, ◌∙◌, arith}
+use Rattle.tea_io.specs.Told.{grown, Rose}
 use Rattle.tea_io.specs.Sink.{GrowsWithin}
 use Rattle.tea_io.specs.declared.files.FileCall.{FileCall}
 use Rattle.tea_io.proofs.Writing.{HasWritten-start}
@@ -8,7 +8,7 @@ use Rattle.croquet_main.specs.declared.status.Fault.{Fault}
 use Rattle.croquet_main.specs.declared.status.Fault.TheVariants.{Usage, Input, Read, Write, Sink, Memory}
 use Rattle.croquet_main.specs.declared.status.Status.{Status}
 use Rattle.croquet_main.specs.declared.status.Status.TheVariants as status
-use Rattle.croquet_main.specs.Verdict.{Verdict, BadWords, Unreadable, BadInput, Unknown, Done, Asked, OfText, Writes, MayTell, TellsPart, IsCutByMemory, usage_line, input_line, read_line, write_line, memory_line}
+use Rattle.croquet_main.specs.Verdict.{Verdict, BadWords, Unreadable, BadInput, Unknown, Done, Asked, OfText, RoseAfter, Writes, MayTell, TellsPart, IsCutByMemory, usage_line, input_line, read_line, write_line, memory_line}
 use Rattle.croquet_main.specs.Ends.{AskedTo, IsTold, MayEnd, Tells, WritesBefore}
 
 -- a fact of every text is one of the text of a run
@@ -112,3 +112,7 @@ Asked-told Memory result verdict read_failed rose reads writes old new before mi
 Asked-told Memory result verdict read_failed rose reads writes old new before mid after told may cause same (inr (inr (none, quiet))) =
     let alone : GrowsWithin before after memory_line = rw quiet at told.0 in
     by_told (λ s. Asked s reads writes old new (TellsPart verdict read_failed before after ⊎ GrowsWithin before after memory_line) (GrowsWithin before after memory_line)) memory_line status.WantOfMemory result mid after rose told (λ whole. inr (inr (none, alone))) (λ failed. inr (inr (none, alone))) (inr (inr (none, alone)))
+
+-- a count that rose after the reads rose
+pub Rose-after : {S : Type 0} (asked : S → Option (List FileCall)) (faults : S → ℕ) (reads : List FileCall) (old new : S) → RoseAfter asked faults reads old new → Rose (faults old) (faults new)
+Rose-after asked faults reads old new after = omega (arith, after.later, after.rose)

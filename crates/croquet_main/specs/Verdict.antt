@@ -1,8 +1,8 @@
 -- What the words and the told files make of a run, and what may then come of it.
-use Rattle.std.specs.Prelude.{◌≡◌, ◌≢◌, ◌⊎◌, ℕ, ⊤, nat_le, if◌then◌else◌, List, [], ◌∷◌, ◌++◌, length, Option, Some, None, codes, Contains}
+use Rattle.std.specs.Prelude.{◌≡◌, ◌≢◌, ◌⊎◌, ℕ, ⊤, ◌≤◌, nat_le, if◌then◌else◌, List, [], ◌∷◌, ◌++◌, length, Option, Some, None, codes, Contains}
 use Rattle.tea_io.specs.Files.{Content, Untold, Absent, Known, Holds}
 use Rattle.session_log.specs.Spelling.{log_spelling}
-use Rattle.tea_io.specs.Told.{grown}
+use Rattle.tea_io.specs.Told.{grown, Rose}
 use Rattle.tea_io.specs.Sink.{GrowsWithin}
 use Rattle.tea_io.specs.declared.files.FileCall.{FileCall}
 use Rattle.tea_io.specs.declared.files.FileCall.TheVariants.{Read, Write}
@@ -211,11 +211,18 @@ abbrev pub IsNonEmpty : List FileCall → Type 0
 IsNonEmpty [] = ⊥
 IsNonEmpty (call ∷ calls) = ⊤
 
--- The write of a file failed: the count of the files' faults rose, all calls were made and the last of them is a write, and
--- the line that tells it was written, and nothing else.
-pub record FileFailed (rose : Type 0) (reads writes : List FileCall) (old new : Option (List FileCall)) (before after : Option (List ℕ)) : Type 0 where
-  pub faults : rose
-  pub calls : new ≡ grown old (reads ++ writes)
+-- The count of the files' faults rose after the reads: there was a state between, in which just these were made.
+pub record RoseAfter {S : Type 0} (asked : S → Option (List FileCall)) (faults : S → ℕ) (reads : List FileCall) (old new : S) : Type 0 where
+  pub mid : S
+  pub made : asked mid ≡ grown (asked old) reads
+  pub later : faults old ≤ faults mid
+  pub rose : Rose (faults mid) (faults new)
+
+-- The write of a file failed: the count rose after the reads, all calls were made and the last of them is a write, and the
+-- line that tells it was written, and nothing else.
+pub record FileFailed {S : Type 0} (asked : S → Option (List FileCall)) (faults : S → ℕ) (reads writes : List FileCall) (old new : S) (before after : Option (List ℕ)) : Type 0 where
+  pub cause : RoseAfter asked faults reads old new
+  pub calls : asked new ≡ grown (asked old) (reads ++ writes)
   pub write : IsNonEmpty writes
   pub line : after ≡ grown before write_line
 

@@ -4,7 +4,7 @@ ghost use Rattle.tea_io.specs.declared.files.FileCall.{FileCall};
 ghost use Rattle.tea_io.specs.Sink.{GrowsWithin};
 ghost use Rattle.tea_io.specs.Told.{grown, Rose};
 ghost use Rattle.croquet_main.specs.CommandWords.{command_of};
-ghost use Rattle.croquet_main.specs.Verdict.{Verdict, verdict_of, reads_of, writes_of, requests_of_run, Asked, FileFailed, HasItsEvents, IsNotWritten, Leaves, MayAnswer, OfText, PutsFiles, TellsPart, Writes, input_line, memory_line};
+ghost use Rattle.croquet_main.specs.Verdict.{Verdict, verdict_of, reads_of, writes_of, requests_of_run, Asked, FileFailed, HasItsEvents, IsNotWritten, Leaves, MayAnswer, OfText, PutsFiles, RoseAfter, TellsPart, Writes, input_line, memory_line};
 ghost use Rattle.croquet_main.specs.Ends.{AskedTo, IsTold, LeavesBefore, MayEnd, Tells, WritesBefore};
 
 use crate::stamp::stamp;
@@ -37,7 +37,7 @@ fn run<F: Files, W: Sink>(
     ensures files_later { F.faults files.old ≤ F.faults files.new }
     ensures sink_later { W.faults out.old ≤ W.faults out.new }
     ensures read_cause { IsErrOf result Fault.Read → Rose (F.faults files.old) (F.faults files.new) }
-    ensures write_cause { IsErrOf result Fault.Write → Rose (F.faults files.old) (F.faults files.new) }
+    ensures write_cause { IsErrOf result Fault.Write → RoseAfter F.asked F.faults (reads_of (command_of words.now)) files.old files.new }
     ensures sink_cause { IsErrOf result Fault.Sink → Rose (W.faults out.old) (W.faults out.new) }
 {
     match read_command(alloc, words)? {
@@ -107,9 +107,8 @@ pub fn croquet<F: Files, W: Sink>(
     // A fault of the outside comes only where its count rose.
     ensures read_fault { result ≡ Status.ReadFault → Rose (F.faults files.old) (F.faults files.new) }
     ensures write_fault { result ≡ Status.WriteFault →
-        FileFailed (Rose (F.faults files.old) (F.faults files.new)) (reads_of (command_of words.now))
-        (writes_of (command_of words.now)) (F.asked files.old) (F.asked files.new)
-        (W.written out.old) (W.written out.new)
+        FileFailed F.asked F.faults (reads_of (command_of words.now)) (writes_of (command_of words.now))
+        files.old files.new (W.written out.old) (W.written out.new)
         ⊎ Rose (W.faults out.old) (W.faults out.new) }
 {
     match run(alloc, words, files, out) {
