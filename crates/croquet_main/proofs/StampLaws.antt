@@ -11,8 +11,8 @@ use Rattle.reflector_core.specs.declared.request.Reply.{Reply}
 use Rattle.croquet_main.specs.declared.status.Fault.{Fault}
 use Rattle.croquet_main.specs.declared.status.Fault.TheVariants.{Usage, Input, Read, Write, Sink, Memory}
 use Rattle.croquet_main.specs.Script.{script_of}
-use Rattle.croquet_main.specs.Verdict.{ArePut, IsPut, PutsFiles, optional_put, replied, requests_in, script_limit, stamp_verdict}
-use Rattle.croquet_main.specs.Ends.{Answers, AskedTo, IsSinkFault}
+use Rattle.croquet_main.specs.Verdict.{Verdict, BadWords, Unreadable, BadInput, Unknown, Done, AreKept, ArePut, IsNotDone, IsPut, MayBeDone, PutsFiles, optional_put, replied, requests_in, script_limit, stamp_verdict}
+use Rattle.croquet_main.specs.Ends.{Answers, AskedTo, IsSinkFault, LeavesBefore}
 
 -- ---- the calls of files
 
@@ -72,3 +72,15 @@ PutsFiles-stamp name (Known told) bytes log replies old new held within answered
 pub OnOk-given : {T E : Type 0} (result : Result T E) (fact : Type 0) → fact → OnOk result fact
 OnOk-given (Ok done) fact is = is
 OnOk-given (Err error) fact is = tt
+
+-- ---- what the files hold before a fault
+
+-- the log was written, and the text was not written whole
+pub LeavesBefore-print : {T : Type 0} (result : Result T Fault) (verdict : Verdict) (old new : List ℕ → Content) (quiet : Type 0) → IfErr result IsSinkFault → PutsFiles verdict old new → IfErr result (λ fault. LeavesBefore fault verdict old new quiet)
+LeavesBefore-print (Ok done) verdict old new quiet err put = tt
+LeavesBefore-print (Err Usage) verdict old new quiet err put = absurd err
+LeavesBefore-print (Err (Input input)) verdict old new quiet err put = absurd err
+LeavesBefore-print (Err Read) verdict old new quiet err put = absurd err
+LeavesBefore-print (Err Write) verdict old new quiet err put = absurd err
+LeavesBefore-print (Err Sink) verdict old new quiet err put = inl put
+LeavesBefore-print (Err Memory) verdict old new quiet err put = inl put

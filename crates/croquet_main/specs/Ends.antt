@@ -14,7 +14,7 @@ use Rattle.croquet_main.specs.declared.status.Input.{Input as InputName}
 use Rattle.croquet_main.specs.declared.status.Status.{Status}
 use Rattle.croquet_main.specs.declared.status.Status.TheVariants.{WriteFault, WantOfMemory}
 use Rattle.croquet_main.specs.declared.status.Status.TheVariants as status
-use Rattle.croquet_main.specs.Verdict.{Verdict, MayBeDone, MayBeBad, HasBadWords, HasGoodWords, IsNonEmpty, OfText, usage_line, input_line, read_line, write_line, memory_line}
+use Rattle.croquet_main.specs.Verdict.{Verdict, MayBeDone, MayBeBad, HasBadWords, HasGoodWords, AreKept, IsNonEmpty, IsNotDone, OfText, PutsFiles, usage_line, input_line, read_line, write_line, memory_line}
 
 -- what stands there is longer
 abbrev pub IsLonger : Content → ℕ → Type 0
@@ -62,14 +62,15 @@ AskedTo (Err Sink) reads writes old new quiet = new ≡ grown old (reads ++ writ
 AskedTo (Err Memory) reads writes old new quiet =
     (new ≡ grown old (reads ++ writes)) ⊎ (((new ≡ grown old reads) × quiet) ⊎ ((new ≡ old) × quiet))
 
--- what the files hold before a fault: what they held, but where the work was done
-abbrev pub LeavesBefore : Fault → (List ℕ → Content) → (List ℕ → Content) → Type 0
-LeavesBefore Usage old new = (name : List ℕ) → new name ≡ old name
-LeavesBefore (Input input) old new = (name : List ℕ) → new name ≡ old name
-LeavesBefore Read old new = (name : List ℕ) → new name ≡ old name
-LeavesBefore Write old new = ⊤
-LeavesBefore Sink old new = ⊤
-LeavesBefore Memory old new = ⊤
+-- What the files hold before a fault: what they held. Where the text was not written whole, or memory was wanted, they are put,
+-- or else nothing was written (`quiet`), and they are as they were where the work was not done.
+abbrev pub LeavesBefore : Fault → Verdict → (List ℕ → Content) → (List ℕ → Content) → Type 0 → Type 0
+LeavesBefore Usage verdict old new quiet = AreKept old new
+LeavesBefore (Input input) verdict old new quiet = AreKept old new
+LeavesBefore Read verdict old new quiet = AreKept old new
+LeavesBefore Write verdict old new quiet = ⊤
+LeavesBefore Sink verdict old new quiet = PutsFiles verdict old new ⊎ ((IsNotDone verdict → AreKept old new) × quiet)
+LeavesBefore Memory verdict old new quiet = PutsFiles verdict old new ⊎ ((IsNotDone verdict → AreKept old new) × quiet)
 
 -- a file that failed to be written, or memory that was wanted
 abbrev pub IsWriteFault : Fault → Type 0

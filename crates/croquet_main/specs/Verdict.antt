@@ -166,18 +166,19 @@ write_line = codes "write-fault\n"
 abbrev pub memory_line : List ℕ
 memory_line = codes "memory\n"
 
--- the line of a fault other than want of memory, where it may come; a fault of files only where their faults rose
-abbrev pub MayTell : Verdict → Type 0 → List ℕ → Type 0
-MayTell verdict rose line =
+-- The line of a fault other than want of memory, where it may come: a read fault only where the files' faults `rose`, a write
+-- fault only where a write `failed`.
+abbrev pub MayTell : Verdict → Type 0 → Type 0 → List ℕ → Type 0
+MayTell verdict rose failed line =
     (HasBadWords verdict × (line ≡ usage_line))
     ⊎ (((input : Input) × MayBeBad input verdict × (line ≡ input_line input))
     ⊎ ((HasGoodWords verdict × rose × (line ≡ read_line))
-    ⊎ (MayBeDone verdict × rose × (line ≡ write_line))))
+    ⊎ (MayBeDone verdict × failed × (line ≡ write_line))))
 
 -- a first part of one of these lines was written
-pub record TellsPart (verdict : Verdict) (rose : Type 0) (old new : Option (List ℕ)) : Type 0 where
+pub record TellsPart (verdict : Verdict) (rose failed : Type 0) (old new : Option (List ℕ)) : Type 0 where
   pub line : List ℕ
-  pub may : MayTell verdict rose line
+  pub may : MayTell verdict rose failed line
   pub part : GrowsWithin old new line
 
 -- a first part of the text was written, and then a first part of the line of want of memory
@@ -196,16 +197,16 @@ OfText (Unknown inputs) fact = ⊤
 OfText (Done text files) fact = fact text
 
 -- what is written, by the status
-abbrev pub Writes : Status → Verdict → Type 0 → Option (List ℕ) → Option (List ℕ) → Type 0
-Writes status.Ok verdict rose old new = OfText verdict (λ text. new ≡ grown old text)
-Writes status.Usage verdict rose old new = new ≡ grown old usage_line
-Writes status.Input verdict rose old new = (input : Input) × MayBeBad input verdict × (new ≡ grown old (input_line input))
-Writes status.ReadFault verdict rose old new = new ≡ grown old read_line
-Writes status.WriteFault verdict rose old new =
-    OfText verdict (GrowsWithin old new) ⊎ (TellsPart verdict rose old new ⊎ OfText verdict (IsCutByMemory old new))
-Writes status.WantOfMemory verdict rose old new =
-    TellsPart verdict rose old new ⊎ OfText verdict (IsCutByMemory old new)
-Writes other verdict rose old new = ⊥
+abbrev pub Writes : Status → Verdict → Type 0 → Type 0 → Option (List ℕ) → Option (List ℕ) → Type 0
+Writes status.Ok verdict rose failed old new = OfText verdict (λ text. new ≡ grown old text)
+Writes status.Usage verdict rose failed old new = new ≡ grown old usage_line
+Writes status.Input verdict rose failed old new = (input : Input) × MayBeBad input verdict × (new ≡ grown old (input_line input))
+Writes status.ReadFault verdict rose failed old new = new ≡ grown old read_line
+Writes status.WriteFault verdict rose failed old new =
+    OfText verdict (GrowsWithin old new) ⊎ (TellsPart verdict rose failed old new ⊎ OfText verdict (IsCutByMemory old new))
+Writes status.WantOfMemory verdict rose failed old new =
+    TellsPart verdict rose failed old new ⊎ OfText verdict (IsCutByMemory old new)
+Writes other verdict rose failed old new = ⊥
 
 abbrev pub IsNonEmpty : List FileCall → Type 0
 IsNonEmpty [] = ⊥
@@ -252,9 +253,21 @@ IsNotWritten [] name = ⊤
 IsNotWritten (Read other ∷ calls) name = IsNotWritten calls name
 IsNotWritten (Write other ∷ calls) name = (name ≢ other) × IsNotWritten calls name
 
--- what the files hold after a run, by the status
-abbrev pub Leaves : Status → Verdict → (List ℕ → Content) → (List ℕ → Content) → Type 0
-Leaves status.Ok verdict old new = PutsFiles verdict old new
-Leaves status.WriteFault verdict old new = ⊤
-Leaves status.WantOfMemory verdict old new = ⊤
-Leaves other verdict old new = (name : List ℕ) → new name ≡ old name
+abbrev pub AreKept : (List ℕ → Content) → (List ℕ → Content) → Type 0
+AreKept old new = (name : List ℕ) → new name ≡ old name
+
+-- the work is not done, so nothing is to be written
+abbrev pub IsNotDone : Verdict → Type 0
+IsNotDone BadWords = ⊤
+IsNotDone Unreadable = ⊤
+IsNotDone (BadInput input) = ⊤
+IsNotDone (Unknown inputs) = ⊥
+IsNotDone (Done text files) = ⊥
+
+-- What the files hold after a run, by the status. Where the output failed or memory was wanted, the files are put, or else no
+-- more than a first part of one line was written (`line`), and they are as they were where the work was not done.
+abbrev pub Leaves : Status → Verdict → (List ℕ → Content) → (List ℕ → Content) → Type 0 → Type 0
+Leaves status.Ok verdict old new line = PutsFiles verdict old new
+Leaves status.WriteFault verdict old new line = PutsFiles verdict old new ⊎ ((IsNotDone verdict → AreKept old new) × line)
+Leaves status.WantOfMemory verdict old new line = PutsFiles verdict old new ⊎ ((IsNotDone verdict → AreKept old new) × line)
+Leaves other verdict old new line = AreKept old new

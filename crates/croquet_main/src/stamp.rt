@@ -7,7 +7,7 @@ ghost use Rattle.tea_io.specs.Told.{grown, Rose};
 ghost use Rattle.session_log.specs.Spelling.{log_spelling};
 ghost use Rattle.croquet_main.specs.Script.{script_of};
 ghost use Rattle.croquet_main.specs.PrintedText.{text_of};
-ghost use Rattle.croquet_main.specs.Verdict.{script_limit, stamp_verdict, told_requests, optional_write, optional_put, ArePut, HasItsEvents, IsNotWritten, IsPut, OfText, PutsFiles, RoseAfter};
+ghost use Rattle.croquet_main.specs.Verdict.{script_limit, stamp_verdict, told_requests, optional_write, optional_put, ArePut, HasItsEvents, IsNonEmpty, IsNotWritten, IsPut, OfText, PutsFiles, RoseAfter};
 ghost use Rattle.croquet_main.specs.Ends.{AskedTo, ReadEnd, Answers, IsScriptFault, IsSinkFault, IsWriteFault, LeavesBefore, MayEnd, WritesBefore};
 
 use crate::script::read_script;
@@ -116,13 +116,15 @@ pub fn stamp<F: Files, W: Sink>(
 
     // The files: the log is put at the end, nothing before, and no other file is touched.
     ensures put { OnOk result (PutsFiles (stamp_verdict log.now (F.held files.old script.now)) (F.held files.old) (F.held files.new)) }
-    ensures kept { IfErr result (λ fault. LeavesBefore fault (F.held files.old) (F.held files.new)) }
+    ensures kept { IfErr result (λ fault. LeavesBefore fault (stamp_verdict log.now (F.held files.old script.now))
+        (F.held files.old) (F.held files.new) (W.written out.new ≡ W.written out.old)) }
     ensures others { (other : List ℕ) → IsNotWritten (optional_write log.now) other → F.held files.new other ≡ F.held files.old other }
 
     ensures files_later { F.faults files.old ≤ F.faults files.new }
     ensures sink_later { W.faults out.old ≤ W.faults out.new }
     ensures read_cause { IsErrOf result Fault.Read → Rose (F.faults files.old) (F.faults files.new) }
-    ensures write_cause { IsErrOf result Fault.Write → RoseAfter F.asked F.faults (Read script.now ∷ []) files.old files.new }
+    ensures write_cause { IsErrOf result Fault.Write →
+        RoseAfter F.asked F.faults (Read script.now ∷ []) files.old files.new × IsNonEmpty (optional_write log.now) }
     ensures sink_cause { IsErrOf result Fault.Sink → Rose (W.faults out.old) (W.faults out.new) }
 {
     let script = read_input(files, script, SCRIPT_LIMIT, Input::Script)?;

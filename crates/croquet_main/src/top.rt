@@ -4,7 +4,7 @@ ghost use Rattle.tea_io.specs.declared.files.FileCall.{FileCall};
 ghost use Rattle.tea_io.specs.Sink.{GrowsWithin};
 ghost use Rattle.tea_io.specs.Told.{grown, Rose};
 ghost use Rattle.croquet_main.specs.CommandWords.{command_of};
-ghost use Rattle.croquet_main.specs.Verdict.{Verdict, verdict_of, reads_of, writes_of, requests_of_run, Asked, FileFailed, HasItsEvents, IsNotWritten, Leaves, MayAnswer, OfText, PutsFiles, RoseAfter, TellsPart, Writes, input_line, memory_line};
+ghost use Rattle.croquet_main.specs.Verdict.{Verdict, verdict_of, reads_of, writes_of, requests_of_run, Asked, FileFailed, HasItsEvents, IsNonEmpty, IsNotWritten, Leaves, MayAnswer, OfText, PutsFiles, RoseAfter, TellsPart, Writes, input_line, memory_line};
 ghost use Rattle.croquet_main.specs.Ends.{AskedTo, IsTold, LeavesBefore, MayEnd, Tells, WritesBefore};
 
 use crate::stamp::stamp;
@@ -31,13 +31,15 @@ fn run<F: Files, W: Sink>(
         (F.asked files.old) (F.asked files.new) (W.written out.new ≡ W.written out.old) }
 
     ensures put { OnOk result (PutsFiles (verdict_of (command_of words.now) (F.held files.old)) (F.held files.old) (F.held files.new)) }
-    ensures kept { IfErr result (λ fault. LeavesBefore fault (F.held files.old) (F.held files.new)) }
+    ensures kept { IfErr result (λ fault. LeavesBefore fault (verdict_of (command_of words.now) (F.held files.old))
+        (F.held files.old) (F.held files.new) (W.written out.new ≡ W.written out.old)) }
     ensures others { (name : List ℕ) → IsNotWritten (writes_of (command_of words.now)) name → F.held files.new name ≡ F.held files.old name }
 
     ensures files_later { F.faults files.old ≤ F.faults files.new }
     ensures sink_later { W.faults out.old ≤ W.faults out.new }
     ensures read_cause { IsErrOf result Fault.Read → Rose (F.faults files.old) (F.faults files.new) }
-    ensures write_cause { IsErrOf result Fault.Write → RoseAfter F.asked F.faults (reads_of (command_of words.now)) files.old files.new }
+    ensures write_cause { IsErrOf result Fault.Write →
+        RoseAfter F.asked F.faults (reads_of (command_of words.now)) files.old files.new × IsNonEmpty (writes_of (command_of words.now)) }
     ensures sink_cause { IsErrOf result Fault.Sink → Rose (W.faults out.old) (W.faults out.new) }
 {
     match read_command(alloc, words)? {
@@ -94,13 +96,20 @@ pub fn croquet<F: Files, W: Sink>(
     // Each status comes only where the words and the told files let it.
     ensures answer { MayAnswer result (verdict_of (command_of words.now) (F.held files.old)) }
     ensures written { Writes result (verdict_of (command_of words.now) (F.held files.old))
-        (Rose (F.faults files.old) (F.faults files.new)) (W.written out.old) (W.written out.new) }
+        (Rose (F.faults files.old) (F.faults files.new))
+        (RoseAfter F.asked F.faults (reads_of (command_of words.now)) files.old files.new × IsNonEmpty (writes_of (command_of words.now)))
+        (W.written out.old) (W.written out.new) }
     ensures asked { Asked result (reads_of (command_of words.now)) (writes_of (command_of words.now)) (F.asked files.old) (F.asked files.new)
         (TellsPart (verdict_of (command_of words.now) (F.held files.old)) (Rose (F.faults files.old) (F.faults files.new))
+        (RoseAfter F.asked F.faults (reads_of (command_of words.now)) files.old files.new × IsNonEmpty (writes_of (command_of words.now)))
         (W.written out.old) (W.written out.new)
         ⊎ GrowsWithin (W.written out.old) (W.written out.new) memory_line)
         (GrowsWithin (W.written out.old) (W.written out.new) memory_line) }
-    ensures files { Leaves result (verdict_of (command_of words.now) (F.held files.old)) (F.held files.old) (F.held files.new) }
+    ensures files { Leaves result (verdict_of (command_of words.now) (F.held files.old)) (F.held files.old) (F.held files.new)
+        (TellsPart (verdict_of (command_of words.now) (F.held files.old)) (Rose (F.faults files.old) (F.faults files.new))
+        (RoseAfter F.asked F.faults (reads_of (command_of words.now)) files.old files.new × IsNonEmpty (writes_of (command_of words.now)))
+        (W.written out.old) (W.written out.new)
+        ⊎ GrowsWithin (W.written out.old) (W.written out.new) memory_line) }
     ensures other_files { (name : List ℕ) → IsNotWritten (writes_of (command_of words.now)) name → F.held files.new name ≡ F.held files.old name }
     ensures events { result ≡ Status.Ok → HasItsEvents (requests_of_run (command_of words.now) (F.held files.old)) }
 

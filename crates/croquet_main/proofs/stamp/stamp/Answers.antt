@@ -1,6 +1,6 @@
 use Rattle.croquet_main.specs.declared.status.Fault.{Fault}
 use Rattle.croquet_main.proofs.VerdictLaws.{IfErr-all, WritesBefore-nothing}
-use Rattle.croquet_main.proofs.StampLaws.{AskedTo-print, ArePut-same, PutsFiles-stamp, OnOk-given}
+use Rattle.croquet_main.proofs.StampLaws.{AskedTo-print, ArePut-same, PutsFiles-stamp, OnOk-given, LeavesBefore-print}
 use Rattle.croquet_main.proofs.stamp.stamp.Goals as goal
 
 pub returns-in_err-script-clause-part : goal.returns-in_err-script-clause-part
@@ -24,3 +24,10 @@ returns-in-Ok-clause-put g c =
 
 pub returns-clause-part : goal.returns-clause-part
 returns-clause-part g c = WritesBefore-nothing c.in-Err.fault _ _
+
+pub returns-in-Ok-clause-kept : goal.returns-in-Ok-clause-kept
+returns-in-Ok-clause-kept g c =
+    let put = ArePut-same _ (g.F.Files.held c.args.files.now) (g.F.Files.held c.read_input.new.files) _ c.in_ok-script.ensures.same c.in-Ok.ensures.put in
+    LeavesBefore-print c.print.result _ _ _ _ c.print.ensures.err
+    (PutsFiles-stamp c.args.log.now (g.F.Files.held c.args.files.now c.args.script.now) c.in_ok-script.script c.in_ok-session.session.plain.log c.in_ok-session.replies _ _
+    c.in_ok-script.ensures.end.0 c.in_ok-script.ensures.end.1 (rw c.bytes.ensures at c.in_ok-session.ensures.ok) put)
