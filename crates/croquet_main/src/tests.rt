@@ -205,7 +205,7 @@ fn words_follow_their_rules(rt: HostRuntime) -> Result<(), Fail> {
 #[test]
 fn faults_of_the_outside_are_told(rt: HostRuntime) -> Result<(), Fail> {
     let alloc = rt.alloc();
-    let usual = ["stamp", "s", "--log", "f"];
+    let usual = ["stamp", "s", "--log", "f"].as_slice();
     for (words, script, fail, status, text, put) in [
         (
             usual,
@@ -237,7 +237,7 @@ fn faults_of_the_outside_are_told(rt: HostRuntime) -> Result<(), Fail> {
         (usual, "tick", (0, 1), Status::WriteFault, "", false),
         (usual, "tick 1", (3, 2), Status::Ok, "ticked 1\n", true),
         (
-            ["stamp", "t", "--log", "f"],
+            ["stamp", "t", "--log", "f"].as_slice(),
             "tick 1",
             (0, 0),
             Status::ReadFault,
@@ -245,7 +245,7 @@ fn faults_of_the_outside_are_told(rt: HostRuntime) -> Result<(), Fail> {
             false,
         ),
         (
-            ["help", "s", "--log", "f"],
+            ["help", "s", "--log", "f"].as_slice(),
             "tick 1",
             (0, 1),
             Status::WriteFault,
@@ -253,7 +253,7 @@ fn faults_of_the_outside_are_told(rt: HostRuntime) -> Result<(), Fail> {
             false,
         ),
     ] {
-        let answer = ran(alloc, &words, Blob::copy(alloc, script.as_bytes())?, fail)?;
+        let answer = ran(alloc, words, Blob::copy(alloc, script.as_bytes())?, fail)?;
         assert_eq!(rt; answer.text.as_str(), text, "of {script} {fail:?}");
         assert_eq!(rt; answer.status, status);
         assert_eq!(rt; answer.file.is_some(), put);
