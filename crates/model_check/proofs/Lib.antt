@@ -1,0 +1,6 @@
+pub mod First
+pub mod Places
+pub mod Trees
+pub mod Faultless
+pub mod Standing
+pub mod Programs

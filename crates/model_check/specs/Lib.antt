@@ -1,0 +1,7 @@
+pub mod Faults
+pub mod SolvedTree
+pub mod SolvedView
+pub mod Stands
+pub mod Answer
+pub mod Solving
+pub mod Methods

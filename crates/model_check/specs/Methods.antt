@@ -1,0 +1,41 @@
+-- The classes and the methods of a program.
+use Rattle.std.specs.Prelude.{◌≡◌, ℕ, List, length, find, bytes_eq, Option, Some, None, option_map, option_and_then, slice_get}
+use Rattle.std.specs.Borrow.{Bor}
+use Rattle.model_lang.specs.Grammar.{root_name}
+use Rattle.model_lang.specs.Tree.{Name, MethodTree, ClassTree, ProgramTree}
+use Rattle.model_check.specs.Faults.{first_fault}
+use Rattle.model_check.specs.SolvedTree.{SolvedMethod}
+use Rattle.model_check.specs.SolvedView.{solved_method}
+use Rattle.model_check.specs.Stands.{StandsForMethod, StandForProgram}
+use Rattle.model_check.specs.declared.solved.Solved.{Solved}
+
+-- how many fields a class has. Classes are numbered from 0, in the order of the text
+abbrev pub field_count : ProgramTree → ℕ → Option ℕ
+field_count tree n = option_map (λ c. length c.fields) (slice_get tree n)
+
+abbrev pub method_named : Name → List MethodTree → Option MethodTree
+method_named x ms = find (λ m. bytes_eq x m.name) ms
+
+-- the method of that name in that class
+abbrev pub method_of : ProgramTree → ℕ → Name → Option MethodTree
+method_of tree n x = option_and_then (λ c. method_named x c.methods) (slice_get tree n)
+
+-- the class of that number has that name
+abbrev pub IsClass : ProgramTree → ℕ → Name → Type 0
+IsClass tree n x = (c : ClassTree) × (slice_get tree n ≡ Some c) × (c.name ≡ x)
+
+-- a program without faults: the number of the class Root, and what stands for the methods of each class
+pub record IsChecked (tree : ProgramTree) (root : ℕ) (solved : List (List SolvedMethod)) : Type 0 where
+  pub faultless : first_fault tree ≡ None
+  pub root_is : IsClass tree root root_name
+  pub stands : StandForProgram tree solved
+
+-- what stands for the method of that name in a class
+abbrev pub FindsMethodIn : Option (Bor Solved) → ClassTree → Name → Type 0
+FindsMethodIn None c x = method_named x c.methods ≡ None
+FindsMethodIn (Some s) c x = (m : MethodTree) × (method_named x c.methods ≡ Some m) × StandsForMethod c.fields m (solved_method s.now)
+
+-- there is none where there is no such class, and where it has no such method
+abbrev pub FindsMethod : Option (Bor Solved) → ProgramTree → ℕ → Name → Type 0
+FindsMethod None tree n x = method_of tree n x ≡ None
+FindsMethod (Some s) tree n x = (c : ClassTree) × (m : MethodTree) × (slice_get tree n ≡ Some c) × (method_of tree n x ≡ Some m) × StandsForMethod c.fields m (solved_method s.now)

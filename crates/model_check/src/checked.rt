@@ -1,0 +1,112 @@
+//! Checked programs.
+ghost use Rattle.std.specs.Prelude.{◌≡◌, length, map, None};
+ghost use Rattle.model_lang.specs.TreeView.{class_tree, program_tree};
+ghost use Rattle.model_lang.specs.Grammar.{root_name};
+ghost use Rattle.model_check.specs.Answer.{Checks};
+ghost use Rattle.model_check.specs.Faults.{first_fault};
+ghost use Rattle.model_check.specs.Methods.{field_count, IsClass, FindsMethodIn, FindsMethod};
+ghost use Rattle.model_check.specs.SolvedView.{solved_method};
+ghost use Rattle.model_check.specs.Stands.{StandForMethods};
+
+use crate::class::solve;
+use crate::fault::CheckFault;
+use crate::names::is_name;
+use crate::solved::Solved;
+use model_lang::{Class, Program};
+use std::alloc::Global;
+use std::marker::Model;
+use tea_base::Text;
+
+/// A program without faults, with its methods resolved. Contracts see it as its classes, which are numbered from 0 in the
+/// order of the text. What it is asked takes no memory.
+#[derive(Debug, Drop)]
+pub struct Checked {
+    program: Program,
+    root: u16,
+    classes: Vec<Vec<Solved>>,
+}
+
+impl Model for Checked {
+    ghost use Rattle.std.specs.Prelude.{List, map};
+    ghost use Rattle.std.specs.Coded.{codes};
+    ghost use Rattle.model_lang.specs.declared.tree.Class.{Class as Held};
+    ghost use Rattle.model_lang.specs.contracts.tree.Stmt as stmt;
+    ghost use Rattle.model_lang.specs.TreeView.{program_tree};
+    ghost use Rattle.model_check.specs.SolvedView.{solved_method};
+    ghost use Rattle.model_check.specs.Methods.{IsChecked};
+
+    ghost Value = { List Held };
+
+    ghost coded = { Prim.hlevel (codes, stmt.the_row.coded) };
+
+    ghost view = { λ checked. checked.program };
+
+    ghost invariant = { λ checked. IsChecked (program_tree checked.program) checked.root (map (λ methods. map solved_method methods.items) checked.classes.items) };
+}
+
+/// Checks a program: answers it with its methods resolved, or its first fault in the order of the text. A program that
+/// is refused is dropped. The resolved methods take memory, so it may want memory whether or not there is a fault.
+pub fn check(alloc: Global, program: Program) -> Result<Checked, CheckFault>
+    ensures { Checks result program }
+{
+    let classes = solve(alloc, program.classes())?;
+    Ok(Checked {
+        program,
+        root: 0,
+        classes,
+    })
+}
+
+impl Checked {
+    /// The program itself.
+    pub fn program(&self) -> &Program
+        ensures program { result.now ≡ self.now }
+        ensures faultless { first_fault (program_tree self.now) ≡ None }
+    {
+        &self.program
+    }
+
+    /// How many classes it has.
+    pub fn classes(&self) -> u32
+        ensures { result ≡ length self.now }
+    {
+        self.program.classes().len() as u32
+    }
+
+    /// How many fields a class has, if there is such a class.
+    pub fn fields(&self, class: u16) -> Option<u32>
+        ensures { result ≡ field_count (program_tree self.now) class }
+    {
+        let class = self.program.classes().get(usize::from(class))?;
+        Some(class.fields.len() as u32)
+    }
+
+    /// The number of the class named Root.
+    pub fn root(&self) -> u16
+        ensures { IsClass (program_tree self.now) result root_name }
+    {
+        self.root
+    }
+
+    /// The method of that name in that class, resolved, if there is one.
+    pub fn method(&self, class: u16, name: &Text) -> Option<&Solved>
+        ensures { FindsMethod result (program_tree self.now) class name.now }
+    {
+        let declared = self.program.classes().get(usize::from(class))?;
+        let solved = self.classes.get(usize::from(class))?;
+        method_named(declared, solved, name)
+    }
+}
+
+// What stands for the method of that name in a class.
+fn method_named<'a>(class: &Class, solved: &'a [Solved], name: &Text) -> Option<&'a Solved>
+    requires { StandForMethods (class_tree class.now).fields (class_tree class.now).methods (map solved_method solved.now) }
+    ensures { FindsMethodIn result (class_tree class.now) name.now }
+{
+    for i in 0..class.methods.len() {
+        if is_name(name, &class.methods[i].name) {
+            return solved.get(i);
+        }
+    }
+    None
+}

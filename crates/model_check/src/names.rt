@@ -1,0 +1,79 @@
+//! Names: which are equal, and where each stands.
+ghost use Rattle.std.specs.Prelude.{◌≡◌, [], length, ◌≤◌, bytes_eq};
+ghost use Rattle.std.specs.List.{position_from};
+ghost use Rattle.model_lang.specs.Bounds.{most_members};
+ghost use Rattle.model_check.specs.Answer.{Solves};
+ghost use Rattle.model_check.specs.Faults.{is_among as among, twice_where, faults_of_names, faults_of_field};
+ghost use Rattle.model_check.specs.Solving.{slot_of};
+
+use crate::fault::CheckFault;
+use tea_base::Text;
+
+/// Whether two names are the same.
+pub fn is_name(name: &Text, other: &Text) -> bool
+    ensures { result ≡ bytes_eq name.now other.now }
+{
+    name.is_text(other)
+}
+
+/// Whether a name is among some.
+pub fn is_among(name: &Text, names: &[Text]) -> bool
+    ensures { result ≡ among name.now names.now }
+{
+    for other in names {
+        if is_name(name, other) {
+            return true;
+        }
+    }
+    false
+}
+
+/// The fault of a name that is seen already.
+pub fn once(is_seen: bool, name: &Text) -> Result<(), CheckFault>
+    ensures { Solves result (twice_where is_seen name.now) (λ _. Unit {0}) }
+{
+    if is_seen {
+        return Err(CheckFault::Twice {
+            name: name.clone()?,
+        });
+    }
+    Ok(())
+}
+
+/// The first fault of names that stand side by side.
+#[tactic(auto, using(crate::proofs::First::by_first))]
+pub fn all_once(names: &[Text]) -> Result<(), CheckFault>
+    ensures { Solves result (faults_of_names [] names.now) (λ _. Unit {0}) }
+{
+    for i in 0..names.len() {
+        once(is_among(&names[i], &names[..i]), &names[i])?;
+    }
+    Ok(())
+}
+
+/// The place of a field among those of its class.
+pub fn slot(fields: &[Text], name: &Text) -> Result<u32, CheckFault>
+    requires { length fields.now ≤ most_members }
+    ensures { Solves result (faults_of_field fields.now name.now) (λ slot. slot ≡ slot_of fields.now name.now) }
+{
+    match place(fields, name) {
+        Some(slot) => Ok(slot),
+        None => Err(CheckFault::NoField {
+            name: name.clone()?,
+        }),
+    }
+}
+
+fn place(names: &[Text], name: &Text) -> Option<u32>
+    requires { length names.now ≤ most_members }
+    ensures { result ≡ position_from (bytes_eq name.now) 0 names.now }
+{
+    let mut place = 0;
+    for other in names {
+        if is_name(name, other) {
+            return Some(place);
+        }
+        place += 1;
+    }
+    None
+}

@@ -1,0 +1,76 @@
+//! How a message ends before its time.
+
+use std::alloc::{AllocError, AllocFailed};
+use tea_base::WantOfMemory;
+
+/// A fault of a model's program. It ends the whole message, and what was done until then stays.
+#[derive(Clone, Copy, Debug, PartialEq, Eq)]
+pub enum Fault {
+    /// A number is not in 64 bits, from -2^63 to 2^63 - 1.
+    Overflow,
+    /// A number is divided by zero.
+    ZeroDivisor,
+    /// A value is of another kind than the form wants.
+    BadKind,
+    /// A place in a list or a text is not there.
+    BadIndex,
+    /// The object is not there.
+    NoObject,
+    /// The object's class has no such method.
+    NoMethod,
+    /// A method is called with another number of arguments than it has parameters.
+    Arity,
+    /// The message has taken all its 100,000 steps.
+    Fuel,
+    /// 512 statements and expressions are open already.
+    Depth,
+    /// A value weighs more than 4,096, or nests lists deeper than 32.
+    Size,
+    /// A message is sent to its own instant, at which 1,024 messages ran.
+    Instant,
+    /// A message is sent to a time before the world's, or to 2^53 microseconds of TeaTime or later.
+    Time,
+    /// The world holds no more: 16,384 messages are pending, their numbers are spent, or it would weigh more than
+    /// 131,072. Of a view that comes: 1,024 are here.
+    Full,
+}
+
+/// Why a method stopped before its end.
+#[derive(Clone, Copy, Debug, PartialEq, Eq)]
+pub enum Stop {
+    Fault(Fault),
+    WantOfMemory,
+}
+
+impl From<AllocError> for Stop {
+    ghost use Rattle.std.specs.Prelude.{◌≡◌};
+    ghost use Rattle.model_eval.specs.declared.fault.Stop.TheVariants.{WantOfMemory};
+
+    ghost from_gives = { λ _ r. r ≡ WantOfMemory };
+
+    fn from(_error: AllocError) -> Stop {
+        Stop::WantOfMemory
+    }
+}
+
+impl<T: Drop> From<AllocFailed<T>> for Stop {
+    ghost use Rattle.std.specs.Prelude.{◌≡◌};
+    ghost use Rattle.model_eval.specs.declared.fault.Stop.TheVariants.{WantOfMemory};
+
+    ghost from_gives = { λ _ r. r ≡ WantOfMemory };
+
+    fn from(_error: AllocFailed<T>) -> Stop {
+        Stop::WantOfMemory
+    }
+}
+
+impl From<WantOfMemory> for Stop {
+    ghost use Rattle.std.specs.Prelude.{◌≡◌};
+    ghost use Rattle.model_eval.specs.declared.fault.Stop.TheVariants.{WantOfMemory as NoMemory};
+
+    ghost from_gives = { λ _ r. r ≡ NoMemory };
+
+    fn from(_error: WantOfMemory) -> Stop {
+        Stop::WantOfMemory
+    }
+}

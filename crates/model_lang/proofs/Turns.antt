@@ -1,0 +1,78 @@
+-- One turn of the reader's loops, and one level of room.
+use Rattle.std.proofs.Common.{◌≡◌, ℕ, zero, suc, ◌+◌, ◌-◌, ◌<◌, ◌≤◌, List, [], ◌∷◌, ◌++◌, length, Some, None, refl, arith}
+use Rattle.std.proofs.lemmas.List.{map-append}
+use Rattle.model_tokens.specs.declared.token.Token.{Token}
+use Rattle.model_tokens.specs.declared.token.Symbol.TheVariants as s
+use Rattle.model_tokens.specs.declared.token.Word.TheVariants as w
+use Rattle.model_lang.specs.Tree.{Name, Expression, binary, Statement, MethodTree}
+use Rattle.model_lang.specs.Reader.{Read, Reader, Front, reading, behind, either_way, on_front, more_of, read_items, read_whole, after_symbol, after_word, name_at, read_actions, read_action, read_block, read_fields, read_methods, read_method, read_further}
+
+pub more_of-turn : (front : Front) (inner : Reader) (turns i : ℕ) (left : Expression) (ts : List Token) → i < turns → more_of front inner (turns - i) left ts ≡ on_front (front ts) (λ o rest. reading (inner rest) (λ e. more_of front inner (turns - (i + 1)) (binary o left e))) (Some (left, ts))
+more_of-turn front inner turns i left ts h =
+    let e : turns - i ≡ suc (turns - (i + 1)) = omega arith in
+    rw e refl
+
+pub more_of-over : (front : Front) (inner : Reader) (turns i : ℕ) (left : Expression) (ts : List Token) → turns ≤ i → more_of front inner (turns - i) left ts ≡ Some (left, ts)
+more_of-over front inner turns i left ts h =
+    let e : turns - i ≡ 0 = omega arith in
+    rw e refl
+
+pub read_items-turn : (turns i : ℕ) (found : List Expression) (ts : List Token) → i < turns → read_items (turns - i) found ts ≡ reading (read_whole ts) (λ e rest. either_way (after_symbol s.Comma rest) (read_items (turns - (i + 1)) (found ++ e ∷ [])) (Some (found ++ e ∷ [], rest)))
+read_items-turn turns i found ts h =
+    let e : turns - i ≡ suc (turns - (i + 1)) = omega arith in
+    rw e refl
+
+pub read_items-over : (turns i : ℕ) (found : List Expression) (ts : List Token) → turns ≤ i → read_items (turns - i) found ts ≡ None
+read_items-over turns i found ts h =
+    let e : turns - i ≡ 0 = omega arith in
+    rw e refl
+
+pub read_actions-turn : (block : List Token → Read (List Statement)) (turns i : ℕ) (found : List Statement) (ts : List Token) → i < turns → read_actions block (turns - i) found ts ≡ either_way (after_symbol s.CloseBrace ts) (λ rest. Some (found, rest)) (reading (read_action block ts) (λ a. read_actions block (turns - (i + 1)) (found ++ a ∷ [])))
+read_actions-turn block turns i found ts h =
+    let e : turns - i ≡ suc (turns - (i + 1)) = omega arith in
+    rw e refl
+
+pub read_actions-over : (block : List Token → Read (List Statement)) (turns i : ℕ) (found : List Statement) (ts : List Token) → turns ≤ i → read_actions block (turns - i) found ts ≡ None
+read_actions-over block turns i found ts h =
+    let e : turns - i ≡ 0 = omega arith in
+    rw e refl
+
+pub read_fields-turn : (turns i : ℕ) (found : List Name) (ts : List Token) → i < turns → read_fields (turns - i) found ts ≡ either_way (after_word w.Field ts) (λ ts. reading (name_at ts) (λ x ts. behind (after_symbol s.Semicolon ts) (read_fields (turns - (i + 1)) (found ++ x ∷ [])))) (Some (found, ts))
+read_fields-turn turns i found ts h =
+    let e : turns - i ≡ suc (turns - (i + 1)) = omega arith in
+    rw e refl
+
+pub read_fields-over : (turns i : ℕ) (found : List Name) (ts : List Token) → turns ≤ i → read_fields (turns - i) found ts ≡ Some (found, ts)
+read_fields-over turns i found ts h =
+    let e : turns - i ≡ 0 = omega arith in
+    rw e refl
+
+pub read_methods-turn : (turns i : ℕ) (found : List MethodTree) (ts : List Token) → i < turns → read_methods (turns - i) found ts ≡ either_way (after_symbol s.CloseBrace ts) (λ rest. Some (found, rest)) (reading (read_method ts) (λ m. read_methods (turns - (i + 1)) (found ++ m ∷ [])))
+read_methods-turn turns i found ts h =
+    let e : turns - i ≡ suc (turns - (i + 1)) = omega arith in
+    rw e refl
+
+pub read_methods-over : (turns i : ℕ) (found : List MethodTree) (ts : List Token) → turns ≤ i → read_methods (turns - i) found ts ≡ None
+read_methods-over turns i found ts h =
+    let e : turns - i ≡ 0 = omega arith in
+    rw e refl
+
+pub read_further-turn : (turns i : ℕ) (found : List Name) (ts : List Token) → i < turns → read_further (turns - i) found ts ≡ either_way (after_symbol s.Comma ts) (λ ts. reading (name_at ts) (λ x. read_further (turns - (i + 1)) (found ++ x ∷ []))) (behind (after_symbol s.CloseRound ts) (λ rest. Some (found, rest)))
+read_further-turn turns i found ts h =
+    let e : turns - i ≡ suc (turns - (i + 1)) = omega arith in
+    rw e refl
+
+pub read_further-over : (turns i : ℕ) (found : List Name) (ts : List Token) → turns ≤ i → read_further (turns - i) found ts ≡ None
+read_further-over turns i found ts h =
+    let e : turns - i ≡ 0 = omega arith in
+    rw e refl
+
+pub ruleset by_turn = (more_of-turn, more_of-over, read_items-turn, read_items-over, read_actions-turn, read_actions-over, read_fields-turn, read_fields-over, read_methods-turn, read_methods-over, read_further-turn, read_further-over, map-append)
+
+pub read_block-inside : (room : ℕ) (ts : List Token) → 0 < room → read_block room ts ≡ read_actions (read_block (room - 1)) (length ts) [] ts
+read_block-inside zero ts h = absurd (omega arith)
+read_block-inside (suc room) ts h =
+    let e : suc room - 1 ≡ room = omega arith in
+    rw e refl
+
+pub ruleset by_room = (read_block-inside)

@@ -1,0 +1,9 @@
+pub mod Tree
+pub mod TreeView
+pub mod Bounds
+pub mod Grammar
+pub mod FirstForms
+pub mod Names
+pub mod Program
+pub mod Reader
+pub mod Answer

@@ -1,0 +1,61 @@
+//! The token at the front, and the tokens behind it.
+ghost use Rattle.model_lang.specs.Answer.{IsBehind, Expects, Reads};
+ghost use Rattle.model_lang.specs.Reader.{after_word, after_symbol, name_at, class_name_at};
+
+use crate::fault::{LangFault, SYNTAX};
+use model_tokens::{Symbol, Token, Word};
+use tea_base::Text;
+
+/// The tokens behind a reserved word, if it is at the front.
+pub fn word(tokens: &[Token], wanted: Word) -> Option<&[Token]>
+    ensures { IsBehind result (after_word wanted tokens.now) }
+{
+    match tokens.split_first() {
+        Some((Token::Word(found), rest)) if *found == wanted => Some(rest),
+        _ => None,
+    }
+}
+
+/// The tokens behind a symbol, if it is at the front.
+pub fn symbol(tokens: &[Token], wanted: Symbol) -> Option<&[Token]>
+    ensures { IsBehind result (after_symbol wanted tokens.now) }
+{
+    match tokens.split_first() {
+        Some((Token::Symbol(found), rest)) if *found == wanted => Some(rest),
+        _ => None,
+    }
+}
+
+/// The tokens behind a reserved word, which must be at the front.
+pub fn expect_word(tokens: &[Token], wanted: Word) -> Result<&[Token], LangFault>
+    ensures { Expects result (after_word wanted tokens.now) }
+{
+    word(tokens, wanted).ok_or(SYNTAX)
+}
+
+/// The tokens behind a symbol, which must be at the front.
+pub fn expect_symbol(tokens: &[Token], wanted: Symbol) -> Result<&[Token], LangFault>
+    ensures { Expects result (after_symbol wanted tokens.now) }
+{
+    symbol(tokens, wanted).ok_or(SYNTAX)
+}
+
+/// The name at the front.
+pub fn name(tokens: &[Token]) -> Result<(Text, &[Token]), LangFault>
+    ensures { Reads (λ name. name) result (name_at tokens.now) }
+{
+    match tokens.split_first() {
+        Some((Token::Name(found), rest)) => Ok((found.clone()?, rest)),
+        _ => Err(SYNTAX),
+    }
+}
+
+/// The name of a class at the front.
+pub fn class_name(tokens: &[Token]) -> Result<(Text, &[Token]), LangFault>
+    ensures { Reads (λ name. name) result (class_name_at tokens.now) }
+{
+    match tokens.split_first() {
+        Some((Token::ClassName(found), rest)) => Ok((found.clone()?, rest)),
+        _ => Err(SYNTAX),
+    }
+}

@@ -1,0 +1,19 @@
+//! The language in which worlds are written: the trees of programs, and how a text is read as one.
+#![tactic(auto)]
+
+mod bounds;
+mod class;
+mod expression;
+mod fault;
+mod front;
+mod parsing;
+mod program;
+mod statement;
+#[cfg(test)]
+mod tests;
+mod tree;
+
+pub use fault::LangFault;
+pub use parsing::{one_tree, parse};
+pub use program::Program;
+pub use tree::{BinaryOp, Class, Expr, Method, Stmt, UnaryOp};

@@ -1,0 +1,59 @@
+-- What the code answers, beside what the reader reads.
+use Rattle.std.specs.Prelude.{◌≡◌, ℕ, true, false, List, Option, Some, None, Result, Ok, Err, Vec}
+use Rattle.std.specs.Str.{is_utf8, chars}
+use Rattle.std.specs.Borrow.{Bor}
+use Rattle.std.specs.declared.alloc.Global.{Global}
+use Rattle.model_tokens.specs.Division.{Piece, blank, comment, taken}
+use Rattle.model_tokens.specs.Reader.{Read, as_symbol}
+use Rattle.model_tokens.specs.declared.token.Token.{Token}
+use Rattle.model_tokens.specs.declared.token.Symbol.{Symbol}
+use Rattle.model_tokens.specs.declared.dividing.TokenFault.{TokenFault}
+use Rattle.model_tokens.specs.declared.dividing.TokenFault.TheVariants.{NoToken, WantOfMemory}
+
+-- a token, and the bytes behind it
+abbrev pub ReadsToken : Result (Token × Bor (List ℕ)) TokenFault → Read → Type 0
+ReadsToken (Ok found) read = read ≡ Some (taken found.0, found.1.now)
+ReadsToken (Err NoToken) read = read ≡ None
+ReadsToken (Err WantOfMemory) read = Unit {0}
+
+abbrev pub token_in : Piece → Option Token
+token_in (blank _) = None
+token_in (comment _) = None
+token_in (taken token) = Some token
+
+abbrev pub seen : Read → Option (Option Token × List ℕ)
+seen None = None
+seen (Some found) = Some (token_in found.0, found.1)
+
+-- a token if the piece is one, and the bytes behind the piece
+abbrev pub Reads : Result (Option Token × Bor (List ℕ)) TokenFault → Read → Type 0
+Reads (Ok found) read = seen read ≡ Some (found.0, found.1.now)
+Reads (Err NoToken) read = read ≡ None
+Reads (Err WantOfMemory) read = Unit {0}
+
+-- a symbol, and the bytes behind it
+abbrev pub Finds : Option (Token × Bor (List ℕ)) → Option (Symbol × List ℕ) → Type 0
+Finds None read = read ≡ None
+Finds (Some found) read = as_symbol read ≡ Some (taken found.0, found.1.now)
+
+abbrev pub FindsComment : Option (Bor (List ℕ)) → Option (List ℕ) → Type 0
+FindsComment None read = read ≡ None
+FindsComment (Some rest) read = read ≡ Some rest.now
+
+-- the bytes of a text literal, and those behind it
+abbrev pub ReadsBytes : Result (Vec ℕ Global × Bor (List ℕ)) TokenFault → Option (List ℕ × List ℕ) → Type 0
+ReadsBytes (Ok found) read = read ≡ Some (found.0.items, found.1.now)
+ReadsBytes (Err NoToken) read = read ≡ None
+ReadsBytes (Err WantOfMemory) read = Unit {0}
+
+-- the characters of a text's bytes
+abbrev pub ReadsText : Result (List ℕ) TokenFault → List ℕ → Type 0
+ReadsText (Ok text) bytes = (is_utf8 bytes ≡ true) × (text ≡ chars bytes)
+ReadsText (Err NoToken) bytes = is_utf8 bytes ≡ false
+ReadsText (Err WantOfMemory) bytes = Unit {0}
+
+-- the token of a name
+abbrev pub ReadsNamed : Result Token TokenFault → Token → Type 0
+ReadsNamed (Ok token) named = token ≡ named
+ReadsNamed (Err NoToken) named = ⊥
+ReadsNamed (Err WantOfMemory) named = Unit {0}

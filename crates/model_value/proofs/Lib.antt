@@ -1,0 +1,5 @@
+pub mod Lengths
+pub mod Totals
+pub mod Objects
+pub mod Order
+pub mod Spellings

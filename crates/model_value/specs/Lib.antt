@@ -1,0 +1,9 @@
+pub mod Plain
+pub mod View
+pub mod PlainCode
+pub mod Messages
+pub mod World
+pub mod Valid
+pub mod WorldCode
+pub mod Room
+pub mod Spelling

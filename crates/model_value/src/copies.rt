@@ -1,0 +1,143 @@
+//! Copies of messages, subscriptions and worlds, in memory of their own.
+ghost use Rattle.std.specs.Prelude.{◌≡◌, map, IfOk};
+ghost use Rattle.model_value.specs.Messages.{plain_message};
+ghost use Rattle.model_value.specs.View.{plain_values};
+ghost use Rattle.model_value.specs.World.{object_record, world_record};
+
+use crate::message::{Message, Messages, Subscription, Subscriptions};
+use crate::value::{Values, copy_all};
+use crate::world::{Known, KnownNames, PlainObject, PlainObjects, PlainWorld};
+use std::alloc::Global;
+use tea_base::{List, Numbers, WantOfMemory};
+
+/// The same values.
+pub fn copy_values(alloc: Global, values: &Values) -> Result<Values, WantOfMemory>
+    ensures { IfOk result (λ new. plain_values new ≡ plain_values values.now) }
+{
+    Ok(List::from_vec(copy_all(alloc, values.as_slice())?))
+}
+
+/// The same message.
+pub fn copy_message(alloc: Global, message: &Message) -> Result<Message, WantOfMemory>
+    ensures { IfOk result (λ new. plain_message new ≡ plain_message message.now) }
+{
+    let method = message.method.clone()?;
+    let args = copy_values(alloc, &message.args)?;
+    Ok(Message {
+        time: message.time,
+        number: message.number,
+        object: message.object,
+        method,
+        args,
+    })
+}
+
+/// The same subscription.
+pub fn copy_subscription(subscription: &Subscription) -> Result<Subscription, WantOfMemory>
+    ensures { IfOk result (λ new. new ≡ subscription.now) }
+{
+    let scope = subscription.scope.clone()?;
+    let event = subscription.event.clone()?;
+    let method = subscription.method.clone()?;
+    Ok(Subscription {
+        scope,
+        event,
+        object: subscription.object,
+        method,
+    })
+}
+
+/// The same known name.
+pub fn copy_known(known: &Known) -> Result<Known, WantOfMemory>
+    ensures { IfOk result (λ new. new ≡ known.now) }
+{
+    Ok(Known {
+        name: known.name.clone()?,
+        object: known.object,
+    })
+}
+
+/// The same object.
+pub fn copy_object(alloc: Global, object: &PlainObject) -> Result<PlainObject, WantOfMemory>
+    ensures { IfOk result (λ new. object_record new ≡ object_record object.now) }
+{
+    Ok(PlainObject {
+        id: object.id,
+        class: object.class,
+        fields: copy_values(alloc, &object.fields)?,
+    })
+}
+
+/// The same world.
+pub fn copy_world(alloc: Global, world: &PlainWorld) -> Result<PlainWorld, WantOfMemory>
+    ensures { IfOk result (λ new. world_record new ≡ world_record world.now) }
+{
+    let views = copy_numbers(alloc, world.views.as_slice())?;
+    let objects = copy_objects(alloc, world.objects.as_slice())?;
+    let known = copy_known_names(alloc, world.known.as_slice())?;
+    let subscriptions = copy_subscriptions(alloc, world.subscriptions.as_slice())?;
+    let pending = copy_messages(alloc, world.pending.as_slice())?;
+    Ok(PlainWorld {
+        id: world.id,
+        time: world.time,
+        next_object: world.next_object,
+        next_number: world.next_number,
+        random: world.random,
+        turns: world.turns,
+        faults: world.faults,
+        views,
+        objects,
+        known,
+        subscriptions,
+        pending,
+    })
+}
+
+fn copy_numbers(alloc: Global, numbers: &[u32]) -> Result<Numbers, WantOfMemory>
+    ensures { IfOk result (λ new. new ≡ numbers.now) }
+{
+    Ok(List::from_vec(Vec::from_slice(alloc, numbers)?))
+}
+
+fn copy_objects(alloc: Global, objects: &[PlainObject]) -> Result<PlainObjects, WantOfMemory>
+    ensures { IfOk result (λ new. map object_record new ≡ map object_record objects.now) }
+{
+    let mut copies = Vec::with_capacity(alloc, objects.len())?;
+    for object in objects {
+        copies.push(copy_object(alloc, object)?)?;
+    }
+    Ok(List::from_vec(copies))
+}
+
+fn copy_known_names(alloc: Global, known: &[Known]) -> Result<KnownNames, WantOfMemory>
+    ensures { IfOk result (λ new. new ≡ known.now) }
+{
+    let mut copies = Vec::with_capacity(alloc, known.len())?;
+    for one in known {
+        copies.push(copy_known(one)?)?;
+    }
+    Ok(List::from_vec(copies))
+}
+
+fn copy_subscriptions(
+    alloc: Global,
+    subscriptions: &[Subscription],
+) -> Result<Subscriptions, WantOfMemory>
+    ensures { IfOk result (λ new. new ≡ subscriptions.now) }
+{
+    let mut copies = Vec::with_capacity(alloc, subscriptions.len())?;
+    for subscription in subscriptions {
+        copies.push(copy_subscription(subscription)?)?;
+    }
+    Ok(List::from_vec(copies))
+}
+
+fn copy_messages(alloc: Global, messages: &[Message]) -> Result<Messages, WantOfMemory>
+    ensures { IfOk result (λ new. map plain_message new ≡ map plain_message messages.now) }
+{
+    let mut copies = Vec::with_capacity(alloc, messages.len())?;
+    for message in messages {
+        copies.push(copy_message(alloc, message)?)?;
+    }
+    Ok(List::from_vec(copies))
+}

@@ -1,0 +1,22 @@
+//! The values of the modelling language, what models send, publish and subscribe to, and worlds as plain data.
+#![tactic(auto)]
+
+mod copies;
+mod measure;
+mod message;
+#[cfg(test)]
+mod tests;
+mod value;
+mod weights;
+mod world;
+mod writing;
+
+pub use copies::{
+    copy_known, copy_message, copy_object, copy_subscription, copy_values, copy_world,
+};
+pub use measure::{MOST_DEPTH, MOST_WEIGHT, depth, in_bounds, weight};
+pub use message::{Message, Messages, Outgoing, Published, Subscription, Subscriptions};
+pub use value::{Value, Values, copy, same};
+pub use weights::{MOST_WORLD_WEIGHT, message_fits, room};
+pub use world::{Known, KnownNames, PlainObject, PlainObjects, PlainWorld};
+pub use writing::{encode, put_value};

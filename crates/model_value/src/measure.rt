@@ -1,0 +1,96 @@
+//! The weight and the depth of values, and their bounds.
+ghost use Rattle.std.specs.Prelude.{◌≡◌, ◌↔◌, ◌^◌, ◌<◌, IsTrue};
+ghost use Rattle.model_value.specs.Plain.{weight as weight_of, weight_of_all, depth as depth_of, greatest_depth, InBounds, Leaves};
+ghost use Rattle.model_value.specs.View.{plain, plains};
+
+use crate::value::Value;
+
+/// The greatest weight of a value in bounds.
+pub const MOST_WEIGHT: u32 = 4096;
+
+/// The greatest depth of a value in bounds.
+pub const MOST_DEPTH: u32 = 32;
+
+/// The weight of a value: 1 of Nil, Bool, Int or Ref, 1 and one more for each 16 bytes of UTF-8 begun of a Text, and 1
+/// and the weights of its items of a List. The weight has to be below 2^32.
+#[cycle(weight)]
+pub fn weight(value: &Value) -> u32
+    requires { weight_of (plain value.now) < 2 ^ 32 }
+    ensures { result ≡ weight_of (plain value.now) }
+{
+    match value {
+        Value::Nil | Value::Bool(_) | Value::Int(_) | Value::Ref(_) => 1,
+        Value::Text(text) => 1 + text.bytes().len().div_ceil(16) as u32,
+        Value::List(items) => 1 + weight_all(items),
+    }
+}
+
+#[cycle(weight)]
+fn weight_all(items: &[Value]) -> u32
+    requires { weight_of_all (plains items.now) < 2 ^ 32 }
+    ensures { result ≡ weight_of_all (plains items.now) }
+{
+    let mut sum = 0;
+    for item in items {
+        sum += weight(item);
+    }
+    sum
+}
+
+/// How deep lists nest in a value: 1 more than its deepest item of a List, 1 of the empty List, and 0 of any other
+/// value. The depth has to be below 2^32.
+#[cycle(depth)]
+pub fn depth(value: &Value) -> u32
+    requires { depth_of (plain value.now) < 2 ^ 32 }
+    ensures { result ≡ depth_of (plain value.now) }
+{
+    match value {
+        Value::List(items) => 1 + depth_all(items),
+        _ => 0,
+    }
+}
+
+#[cycle(depth)]
+fn depth_all(items: &[Value]) -> u32
+    requires { greatest_depth (plains items.now) < 2 ^ 32 }
+    ensures { result ≡ greatest_depth (plains items.now) }
+{
+    let mut most: u32 = 0;
+    for item in items {
+        most = most.max(depth(item));
+    }
+    most
+}
+
+/// Whether a value has a weight of at most [`MOST_WEIGHT`] and a depth of at most [`MOST_DEPTH`]. Any value may be
+/// asked about.
+pub fn in_bounds(value: &Value) -> bool
+    ensures { IsTrue result ↔ InBounds (plain value.now) }
+{
+    room_behind(value, MOST_WEIGHT as usize, MOST_DEPTH).is_some()
+}
+
+/// What a value's weight leaves of the room, or None where the weight is greater or lists nest deeper than the levels.
+#[cycle(room_behind)]
+fn room_behind(value: &Value, room: usize, levels: u32) -> Option<usize>
+    ensures { Leaves result room (weight_of (plain value.now)) levels (depth_of (plain value.now)) }
+{
+    match value {
+        Value::Nil | Value::Bool(_) | Value::Int(_) | Value::Ref(_) => room.checked_sub(1),
+        Value::Text(text) => room.checked_sub(1 + text.bytes().len().div_ceil(16)),
+        Value::List(items) => {
+            room_behind_all(items, room.checked_sub(1)?, levels.checked_sub(1)?)
+        }
+    }
+}
+
+#[cycle(room_behind)]
+pub(crate) fn room_behind_all(items: &[Value], room: usize, levels: u32) -> Option<usize>
+    ensures { Leaves result room (weight_of_all (plains items.now)) levels (greatest_depth (plains items.now)) }
+{
+    let mut left = room;
+    for item in items {
+        left = room_behind(item, left, levels)?;
+    }
+    Some(left)
+}

@@ -1,0 +1,115 @@
+//! The weight of a world, and what may still be added to it.
+ghost use Rattle.std.specs.Prelude.{◌≤◌, ◌↔◌, map, IsTrue};
+ghost use Rattle.model_value.specs.Messages.{plain_message};
+ghost use Rattle.model_value.specs.Room.{IsRoomBehind};
+ghost use Rattle.model_value.specs.View.{plain_values};
+ghost use Rattle.model_value.specs.World.{object_record, world_record, text_weight, values_weight, object_weight, message_weight, subscription_weight, known_weight, total, world_weight, most_world_weight};
+
+use crate::measure::room_behind_all;
+use crate::message::{Message, Subscription};
+use crate::value::Values;
+use crate::world::{Known, PlainObject, PlainWorld};
+use tea_base::Text;
+
+/// The greatest weight of a world.
+pub const MOST_WORLD_WEIGHT: u32 = 131_072;
+
+/// How much more weight a world may hold, from 0 to [`MOST_WORLD_WEIGHT`], or None where it is heavier than a world
+/// may be.
+///
+/// An object weighs 2 and its fields. A pending message weighs 3, its method's name and its arguments. A subscription
+/// weighs 2 and its three texts, and a known name 1 and its text. Texts and values weigh as [`weight`](crate::weight)
+/// says. Any world may be asked about.
+pub fn room(world: &PlainWorld) -> Option<u32>
+    ensures { IsRoomBehind result most_world_weight (world_weight (world_record world.now)) }
+{
+    let left = room_behind_objects(world.objects.as_slice(), MOST_WORLD_WEIGHT)?;
+    let left = room_behind_messages(world.pending.as_slice(), left)?;
+    let left = room_behind_subscriptions(world.subscriptions.as_slice(), left)?;
+    room_behind_known(world.known.as_slice(), left)
+}
+
+/// Whether a message fits into so much room: it weighs 3, its method's name and its arguments.
+pub fn message_fits(room: u32, message: &Message) -> bool
+    ensures { IsTrue result ↔ message_weight (plain_message message.now) ≤ room }
+{
+    room_behind_message(message, room).is_some()
+}
+
+/// What a text's weight leaves of the room, or None where it is greater. So below for each kind.
+fn room_behind_text(text: &Text, room: u32) -> Option<u32>
+    ensures { IsRoomBehind result room (text_weight text.now) }
+{
+    let left = (room as usize).checked_sub(1 + text.bytes().len().div_ceil(16))?;
+    Some(left as u32)
+}
+
+#[tactic(auto, using(crate::proofs::Totals::by_weight))]
+fn room_behind_values(values: &Values, room: u32) -> Option<u32>
+    ensures { IsRoomBehind result room (values_weight (plain_values values.now)) }
+{
+    // Lists nest no deeper than their weight.
+    let left = room_behind_all(values.as_slice(), room as usize, room)?;
+    Some(left as u32)
+}
+
+fn room_behind_object(object: &PlainObject, room: u32) -> Option<u32>
+    ensures { IsRoomBehind result room (object_weight (object_record object.now)) }
+{
+    room_behind_values(&object.fields, room.checked_sub(2)?)
+}
+
+fn room_behind_objects(objects: &[PlainObject], room: u32) -> Option<u32>
+    ensures { IsRoomBehind result room (total object_weight (map object_record objects.now)) }
+{
+    let mut left = room;
+    for object in objects {
+        left = room_behind_object(object, left)?;
+    }
+    Some(left)
+}
+
+fn room_behind_message(message: &Message, room: u32) -> Option<u32>
+    ensures { IsRoomBehind result room (message_weight (plain_message message.now)) }
+{
+    let left = room_behind_text(&message.method, room.checked_sub(3)?)?;
+    room_behind_values(&message.args, left)
+}
+
+fn room_behind_messages(messages: &[Message], room: u32) -> Option<u32>
+    ensures { IsRoomBehind result room (total message_weight (map plain_message messages.now)) }
+{
+    let mut left = room;
+    for message in messages {
+        left = room_behind_message(message, left)?;
+    }
+    Some(left)
+}
+
+fn room_behind_subscription(subscription: &Subscription, room: u32) -> Option<u32>
+    ensures { IsRoomBehind result room (subscription_weight subscription.now) }
+{
+    let left = room_behind_text(&subscription.scope, room.checked_sub(2)?)?;
+    let left = room_behind_text(&subscription.event, left)?;
+    room_behind_text(&subscription.method, left)
+}
+
+fn room_behind_subscriptions(subscriptions: &[Subscription], room: u32) -> Option<u32>
+    ensures { IsRoomBehind result room (total subscription_weight subscriptions.now) }
+{
+    let mut left = room;
+    for subscription in subscriptions {
+        left = room_behind_subscription(subscription, left)?;
+    }
+    Some(left)
+}
+
+fn room_behind_known(known: &[Known], room: u32) -> Option<u32>
+    ensures { IsRoomBehind result room (total known_weight known.now) }
+{
+    let mut left = room;
+    for one in known {
+        left = room_behind_text(&one.name, left.checked_sub(1)?)?;
+    }
+    Some(left)
+}

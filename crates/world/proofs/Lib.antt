@@ -1,0 +1,10 @@
+pub mod Running
+pub mod Moving
+pub mod Places
+pub mod Advancing
+pub mod Entries
+pub mod Turn
+pub mod Texts
+pub mod Rooted
+pub mod Initial
+pub mod FirstWorld

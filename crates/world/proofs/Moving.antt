@@ -1,0 +1,145 @@
+-- A world whose time is moved, or whose least message is taken, stays valid.
+use Rattle.std.proofs.Common.{◌≡◌, ℕ, ◌+◌, ◌<◌, ◌≤◌, inl, inr, Bool, true, false, if◌then◌else◌, nat_lt, nat_le, List, [], ◌∷◌, length, Some, None, refl, sym, ap, ◌∙◌, subst, arith}
+use Rattle.std.proofs.lemmas.Bool.{leb-true, leb-false}
+use Rattle.std.proofs.lemmas.Option.{none-some, same_Some}
+use Rattle.model_value.specs.Messages.{PlainMessage}
+use Rattle.model_value.specs.World.{WorldRecord, total, object_weight, message_weight, subscription_weight, known_weight, most_world_weight}
+use Rattle.model_value.specs.Valid.{Valid, time_limit, most_turns, most_pending, PrecedesAll, AreInOrder, MessageFits, MessagesFit, NumbersDiffer}
+use Rattle.world.specs.View.{AreBehind}
+use Rattle.world.specs.Worlds.{moved, first_where, due}
+
+abbrev pub AllFrom : ℕ → List PlainMessage → Type 0
+AllFrom t [] = Unit {0}
+AllFrom t (m ∷ ms) = (t ≤ m.time) × AllFrom t ms
+
+preceded-from : (m : PlainMessage) (ms : List PlainMessage) → PrecedesAll m ms → AllFrom m.time ms
+preceded-from m [] h = tt
+preceded-from m (n ∷ ns) (inl before, h) = (omega (arith, before), preceded-from m ns h)
+preceded-from m (n ∷ ns) (inr same, h) = (omega (arith, same.0), preceded-from m ns h)
+
+from-less : (t u : ℕ) (ms : List PlainMessage) → t ≤ u → AllFrom u ms → AllFrom t ms
+from-less t u [] le h = tt
+from-less t u (m ∷ ms) le h = (omega (arith, le, h.0), from-less t u ms le h.1)
+
+pub ordered-from : (t : ℕ) (m : PlainMessage) (ms : List PlainMessage) → t ≤ m.time → AreInOrder (m ∷ ms) → AllFrom t (m ∷ ms)
+ordered-from t m ms le h = (le, from-less t m.time ms le (preceded-from m ms h.0))
+
+-- where nothing is due, all lies behind
+none_due : (t : ℕ) (b : Bool) (m : PlainMessage) (ms : List PlainMessage) → b ≡ nat_le m.time t → first_where b m ms ≡ None → t < m.time
+none_due t true m ms e h = absurd (none-some (m, ms) (sym h))
+none_due t false m ms e h = leb-false m.time t (sym e)
+
+from-behind : (t u : ℕ) (ms : List PlainMessage) → t < u → AllFrom u ms → AreBehind t ms
+from-behind t u [] lt h = tt
+from-behind t u (m ∷ ms) lt h = (omega (arith, lt, h.0), from-behind t u ms lt h.1)
+
+pub due-none : (t : ℕ) (ms : List PlainMessage) → AreInOrder ms → due t ms ≡ None → AreBehind t ms
+due-none t [] o h = tt
+due-none t (m ∷ ms) o h =
+    let lt : t < m.time = none_due t (nat_le m.time t) m ms refl h in
+    (lt, from-behind t m.time ms lt (preceded-from m ms o.0))
+
+-- a message that is due stands first
+pub record IsFirst (t : ℕ) (ms : List PlainMessage) (m : PlainMessage) (rest : List PlainMessage) : Type 0 where
+  pub first : ms ≡ m ∷ rest
+  pub time : m.time ≤ t
+
+some_due : (t : ℕ) (b : Bool) (n : PlainMessage) (ns : List PlainMessage) (m : PlainMessage) (rest : List PlainMessage) → b ≡ nat_le n.time t → first_where b n ns ≡ Some (m, rest) → IsFirst t (n ∷ ns) m rest
+some_due t true n ns m rest e h =
+    let both : ◌≡◌ {A = PlainMessage × List PlainMessage} (n, ns) (m, rest) = same_Some (n, ns) (m, rest) h in
+    let one : n ≡ m = ap (λ p. p.0) both in
+    let others : ns ≡ rest = ap (λ p. p.1) both in
+    let le : n.time ≤ t = leb-true n.time t (sym e) in
+    record { first = ap (λ k. k ∷ ns) one ∙ ap (λ ks. m ∷ ks) others; time = subst (λ (k : PlainMessage). k.time ≤ t) one le }
+some_due t false n ns m rest e h = absurd (none-some (m, rest) h)
+
+pub due-some : (t : ℕ) (ms : List PlainMessage) (m : PlainMessage) (rest : List PlainMessage) → due t ms ≡ Some (m, rest) → IsFirst t ms m rest
+due-some t [] m rest h = absurd (none-some (m, rest) h)
+due-some t (n ∷ ns) m rest h = some_due t (nat_le n.time t) n ns m rest refl h
+
+-- the messages still fit in a world of another time, where they lie from it on
+fit-at : (t turns : ℕ) (w : WorldRecord) (ms : List PlainMessage) → AllFrom t ms → MessagesFit w ms → MessagesFit (record w { time = t; turns = turns }) ms
+fit-at t turns w [] from h = tt
+fit-at t turns w (m ∷ ms) from h = ((from.0, h.0.1, h.0.2, h.0.3, h.0.4, h.0.5, h.0.6), fit-at t turns w ms from.1 h.1)
+
+-- the world as it is at another time
+at-valid : (counts : List ℕ) (t turns : ℕ) (w : WorldRecord) → t < time_limit → turns ≤ most_turns → AllFrom t w.pending → Valid counts w → Valid counts (record w { time = t; turns = turns })
+at-valid counts t turns w below few from v = record {
+  time = below;
+  next_object = v.next_object;
+  turns = few;
+  views = v.views;
+  views_fit = v.views_fit;
+  ids = v.ids;
+  objects = v.objects;
+  objects_fit = v.objects_fit;
+  known_order = v.known_order;
+  known = v.known;
+  subscriptions_differ = v.subscriptions_differ;
+  subscriptions = v.subscriptions;
+  subscriptions_fit = v.subscriptions_fit;
+  order = v.order;
+  numbers_differ = v.numbers_differ;
+  pending = fit-at t turns w w.pending from v.pending;
+  pending_fit = v.pending_fit;
+  weight = v.weight;
+}
+
+pub moved-if : (counts : List ℕ) (t : ℕ) (later : Bool) (w : WorldRecord) → t < time_limit → AllFrom t w.pending → Valid counts w → Valid counts (if later then record w { time = t; turns = 0 } else w)
+moved-if counts t true w below from v = at-valid counts t 0 w below (omega arith) from v
+moved-if counts t false w below from v = v
+
+pub moved-valid : (counts : List ℕ) (t : ℕ) (w : WorldRecord) → t < time_limit → AllFrom t w.pending → Valid counts w → Valid counts (moved t w)
+moved-valid counts t w below from v = moved-if counts t (nat_lt w.time t) w below from v
+
+-- the same messages in a world without the first of them
+fit-without : (w : WorldRecord) (rest ms : List PlainMessage) → MessagesFit w ms → MessagesFit (record w { pending = rest }) ms
+fit-without w rest [] h = tt
+fit-without w rest (m ∷ ms) h = ((h.0.0, h.0.1, h.0.2, h.0.3, h.0.4, h.0.5, h.0.6), fit-without w rest ms h.1)
+
+pub taken-valid : (counts : List ℕ) (w : WorldRecord) (m : PlainMessage) (rest : List PlainMessage) → w.pending ≡ m ∷ rest → Valid counts w → Valid counts (record w { pending = rest })
+taken-valid counts w m rest e v =
+    let order : AreInOrder (m ∷ rest) = subst AreInOrder e v.order in
+    let differ : NumbersDiffer (m ∷ rest) = subst NumbersDiffer e v.numbers_differ in
+    let fit : MessagesFit w (m ∷ rest) = subst (MessagesFit w) e v.pending in
+    let few : length (m ∷ rest) ≤ most_pending = subst (λ ms. length ms ≤ most_pending) e v.pending_fit in
+    let light : total object_weight w.objects + total message_weight (m ∷ rest) + total subscription_weight w.subscriptions + total known_weight w.known ≤ most_world_weight =
+    subst (λ ms. total object_weight w.objects + total message_weight ms + total subscription_weight w.subscriptions + total known_weight w.known ≤ most_world_weight) e v.weight in
+    record {
+      time = v.time;
+      next_object = v.next_object;
+      turns = v.turns;
+      views = v.views;
+      views_fit = v.views_fit;
+      ids = v.ids;
+      objects = v.objects;
+      objects_fit = v.objects_fit;
+      known_order = v.known_order;
+      known = v.known;
+      subscriptions_differ = v.subscriptions_differ;
+      subscriptions = v.subscriptions;
+      subscriptions_fit = v.subscriptions_fit;
+      order = order.1;
+      numbers_differ = differ.1;
+      pending = fit-without w rest rest fit.1;
+      pending_fit = omega (arith, few);
+      weight = omega (arith, light);
+    }
+
+pub first-fits : (counts : List ℕ) (w : WorldRecord) (m : PlainMessage) (rest : List PlainMessage) → w.pending ≡ m ∷ rest → Valid counts w → MessageFits w m
+first-fits counts w m rest e v =
+    let fit : MessagesFit w (m ∷ rest) = subst (MessagesFit w) e v.pending in
+    fit.0
+
+pub rest-from : (counts : List ℕ) (w : WorldRecord) (m : PlainMessage) (rest : List PlainMessage) → w.pending ≡ m ∷ rest → Valid counts w → AllFrom m.time rest
+rest-from counts w m rest e v =
+    let order : AreInOrder (m ∷ rest) = subst AreInOrder e v.order in
+    preceded-from m rest order.0
+
+behind-from : (t : ℕ) (ms : List PlainMessage) → AreBehind t ms → AllFrom t ms
+behind-from t [] h = tt
+behind-from t (m ∷ ms) h = (omega (arith, h.0), behind-from t ms h.1)
+
+-- where nothing is due, the time may become t
+pub arrived-valid : (counts : List ℕ) (t : ℕ) (w : WorldRecord) → t < time_limit → due t w.pending ≡ None → Valid counts w → Valid counts (moved t w)
+arrived-valid counts t w below none v = moved-valid counts t w below (behind-from t w.pending (due-none t w.pending v.order none)) v

@@ -1,0 +1,77 @@
+-- What contracts see of worlds.
+use Rattle.std.specs.Prelude.{◌≡◌, ◌<◌, ℕ, Bool, true, false, List, [], ◌∷◌, map, Option, Some, None, Result, Ok, Err, ⊤, length, remove, refl}
+use Rattle.std.specs.Coded.{Coded, code_by, coded×, coded_bool, coded_list}
+use Rattle.model_value.specs.Messages.{PlainMessage, PlainOutgoing, plain_message, plain_outgoing, coded_outgoing}
+use Rattle.model_value.specs.World.{WorldRecord, world_record}
+use Rattle.model_value.specs.WorldCode.{coded_world}
+use Rattle.model_value.specs.declared.message.Message.{Message}
+use Rattle.model_value.specs.declared.world.PlainWorld.{PlainWorld}
+use Rattle.model_eval.specs.declared.state.State.{State}
+use Rattle.tea_base.specs.declared.entry.What.{What}
+use Rattle.tea_base.specs.declared.entry.What.TheVariants.{Join, Exit, Event}
+use Rattle.model_value.specs.Valid.{Valid}
+use Rattle.model_lang.specs.declared.tree.Class.{Class}
+use Rattle.model_lang.specs.TreeView.{program_tree}
+use Rattle.model_lang.specs.Program.{IsProgram}
+use Rattle.world.specs.declared.fault.WorldFault.{WorldFault}
+use Rattle.world.specs.declared.fault.WorldFault.TheVariants as fault
+use Rattle.world.specs.Worlds.{Scene, due, without_view, field_counts}
+
+abbrev pub scene : State → Scene
+scene state = record { world = world_record state.world; published = map plain_outgoing state.published }
+
+-- the message that is due, and the world without it
+abbrev pub Takes : Option Message → ℕ → WorldRecord → WorldRecord → Type 0
+Takes None t before after = (due t before.pending ≡ None) × (after ≡ before)
+Takes (Some m) t before after = (rest : List PlainMessage) × (due t before.pending ≡ Some (plain_message m, rest)) × (after ≡ record before { pending = rest })
+
+-- each message is of a later time
+abbrev pub AreBehind : ℕ → List PlainMessage → Type 0
+AreBehind t [] = Unit {0}
+AreBehind t (m ∷ ms) = (t < m.time) × AreBehind t ms
+
+-- where a view is taken away
+abbrev pub IsPlaceOf : Option ℕ → ℕ → List ℕ → Type 0
+IsPlaceOf None view views = without_view view views ≡ views
+IsPlaceOf (Some place) view views = (place < length views) × (without_view view views ≡ remove views place)
+
+-- what contracts see of a World
+pub record WorldView : Type 0 where
+  pub program : List Class
+  pub scene : Scene
+  pub broken : Bool
+
+abbrev pub coded_view : Coded (List Class) → Coded WorldView
+coded_view classes =
+    code_by
+    (List Class × (WorldRecord × (List PlainOutgoing × Bool)))
+    (coded× classes (coded× coded_world (coded× (coded_list coded_outgoing) coded_bool)))
+    (λ w. (w.program, (w.scene.world, (w.scene.published, w.broken))))
+    (λ p. record { program = p.0; scene = record { world = p.1.0; published = p.1.1.0 }; broken = p.1.1.1 })
+    (λ _. refl)
+
+-- what is so of every World: its program is one, its world is valid where it is not broken, and where it is nothing is published
+pub record IsSound (w : WorldView) : Type 0 where
+  pub program : IsProgram (program_tree w.program)
+  pub valid : w.broken ≡ false → Valid (field_counts (program_tree w.program)) w.scene.world
+  pub quiet : w.broken ≡ true → w.scene.published ≡ []
+
+-- a call that moves a world on, where it would go back or not
+abbrev pub Moves : Result ⊤ WorldFault → WorldView → WorldView → Bool → Scene → Type 0
+Moves (Ok done) old new back meant = (old.broken ≡ false) × (back ≡ false) × (new ≡ record old { scene = meant })
+Moves (Err fault.Broken) old new back meant = (old.broken ≡ true) × (new ≡ old)
+Moves (Err (fault.Back time)) old new back meant = (old.broken ≡ false) × (back ≡ true) × (time ≡ old.scene.world.time) × (new ≡ old)
+Moves (Err fault.WantOfMemory) old new back meant = (old.broken ≡ false) × (back ≡ false) × (new.broken ≡ true) × (new.scene.published ≡ []) × (new.program ≡ old.program)
+
+-- a copy of the world as plain data
+abbrev pub Copies : Result PlainWorld WorldFault → WorldView → Type 0
+Copies (Ok plain) w = (w.broken ≡ false) × (world_record plain ≡ w.scene.world)
+Copies (Err fault.Broken) w = w.broken ≡ true
+Copies (Err (fault.Back time)) w = ⊥
+Copies (Err fault.WantOfMemory) w = w.broken ≡ false
+
+-- what an entry may record so far
+abbrev pub IsInput : What → Type 0
+IsInput Join = Unit {0}
+IsInput Exit = Unit {0}
+IsInput (Event number payload) = ⊥

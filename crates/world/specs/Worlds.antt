@@ -1,0 +1,200 @@
+-- Worlds: the first one of a session, what a message does, how a world advances, and what an entry of the log does to it.
+use Rattle.std.specs.Prelude.{ℕ, zero, suc, ◌+◌, ◌-◌, ◌*◌, ◌^◌, min, Bool, true, false, nat_eq, nat_lt, nat_le, if◌then◌else◌, ◌||◌, List, [], ◌∷◌, length, map, replicate, take, Option, Some, None, is_some, slice_index_or, slice_set, bytes_eq, codes}
+use Rattle.std.specs.Int.{from_le_bytes, w64}
+use Rattle.tea_base.specs.declared.entry.Entry.{Entry}
+use Rattle.tea_base.specs.declared.entry.What.{What}
+use Rattle.tea_base.specs.declared.entry.What.TheVariants.{Join, Exit, Event}
+use Rattle.model_value.specs.Plain.{PlainValue, nil}
+use Rattle.model_value.specs.Messages.{PlainMessage, PlainOutgoing}
+use Rattle.model_value.specs.World.{WorldRecord}
+use Rattle.model_value.specs.Valid.{most_turns, most_views, most_pending}
+use Rattle.model_lang.specs.Tree.{Name, ClassTree, ProgramTree}
+use Rattle.model_lang.specs.Grammar.{root_name}
+use Rattle.model_eval.specs.declared.fault.Fault.{Fault}
+use Rattle.model_eval.specs.declared.fault.Fault.TheVariants as fault
+use Rattle.model_eval.specs.Kept.{now_due}
+use Rattle.model_eval.specs.Meaning.{Running, Outcome, Gives, Faults, starts, most_open, most_fuel}
+use Rattle.model_check.specs.Methods.{method_named}
+
+-- a world, and what its models published
+pub record Scene : Type 0 where
+  pub world : WorldRecord
+  pub published : List PlainOutgoing
+
+abbrev pub with_world : Scene → WorldRecord → Scene
+with_world s w = record { world = w; published = s.published }
+
+-- ---- messages
+
+-- the faults that are counted, by number
+abbrev pub fault_number : Fault → ℕ
+fault_number fault.Overflow = 0
+fault_number fault.ZeroDivisor = 1
+fault_number fault.BadKind = 2
+fault_number fault.BadIndex = 3
+fault_number fault.NoObject = 4
+fault_number fault.NoMethod = 5
+fault_number fault.Arity = 6
+fault_number fault.Fuel = 7
+fault_number fault.Depth = 8
+fault_number fault.Size = 9
+fault_number fault.Instant = 10
+fault_number fault.Time = 11
+fault_number fault.Full = 12
+
+-- a count stops at the last number of 64 bits
+abbrev pub counted : Fault → WorldRecord → WorldRecord
+counted f w =
+    let k = fault_number f in
+    record w { faults = slice_set w.faults k (min (slice_index_or w.faults k 0 + 1) (2 ^ 64 - 1)) }
+
+-- a message begins: one more turn
+abbrev pub begun : WorldRecord → WorldRecord
+begun w = record w { turns = min (w.turns + 1) most_turns }
+
+-- with the steps of a message
+abbrev pub running : Scene → Running
+running s = record { fuel = most_fuel; world = s.world; published = s.published }
+
+-- a fault is counted; what was done until then stays
+abbrev pub ended : {A : Type 0} → Outcome A → Scene
+ended (Gives a r) = record { world = r.world; published = r.published }
+ended (Faults f r) = record { world = counted f r.world; published = r.published }
+
+-- a message of its own: the method starts with all steps and nothing open
+abbrev pub ran : ProgramTree → ℕ → Name → List PlainValue → Scene → Scene
+ran program object x args s = ended (starts program most_open object x args (running s))
+
+-- ---- the first world
+
+abbrev pub empty_world : List ℕ → WorldRecord
+empty_world id = record {
+  id = id;
+  time = 0;
+  next_object = 1;
+  next_number = 0;
+  -- the number that the first eight bytes spell, the first one the least
+  random = from_le_bytes w64 (take 8 id);
+  turns = 0;
+  faults = replicate 14 0;
+  views = [];
+  objects = [];
+  known = [];
+  subscriptions = [];
+  pending = [];
+}
+
+abbrev pub model_root : Name
+model_root = codes "modelRoot"
+
+abbrev pub init : Name
+init = codes "init"
+
+-- with one object, of a class of this number, known as `modelRoot`
+abbrev pub rooted : ℕ → ClassTree → WorldRecord → WorldRecord
+rooted number class w = record w {
+  next_object = 2;
+  objects = record { id = 1; class = number; fields = replicate (length class.fields) nil } ∷ [];
+  known = record { name = model_root; object = 1 } ∷ [];
+}
+
+-- how many fields each class has
+abbrev pub field_counts : ProgramTree → List ℕ
+field_counts = map (λ c. length c.fields)
+
+-- the class named Root and its number, where the classes are numbered from this one
+abbrev pub root_from : ℕ → ProgramTree → Option (ℕ × ClassTree)
+root_from n [] = None
+root_from n (c ∷ cs) = if bytes_eq c.name root_name then Some (n, c) else root_from (n + 1) cs
+
+-- a class without `init` starts nothing
+abbrev pub initialised : ProgramTree → ClassTree → Scene → Scene
+initialised program class s = if is_some (method_named init class.methods) then ran program 1 init (nil ∷ []) s else s
+
+abbrev pub first_with : ProgramTree → Option (ℕ × ClassTree) → WorldRecord → Scene
+first_with program None w = record { world = w; published = [] }
+first_with program (Some root) w = initialised program root.1 (record { world = rooted root.0 root.1 w; published = [] })
+
+-- one message makes the object of class Root and starts its `init` with nil
+abbrev pub first : ProgramTree → List ℕ → Scene
+first program id = first_with program (root_from 0 program) (begun (empty_world id))
+
+-- ---- advance
+
+-- the time becomes a later one, at which no message ran yet
+abbrev pub moved : ℕ → WorldRecord → WorldRecord
+moved t w = if nat_lt w.time t then record w { time = t; turns = 0 } else w
+
+abbrev pub first_where : Bool → PlainMessage → List PlainMessage → Option (PlainMessage × List PlainMessage)
+first_where true m ms = Some (m, ms)
+first_where false m ms = None
+
+-- the least pending message if its time is at most this one, and the others
+abbrev pub due : ℕ → List PlainMessage → Option (PlainMessage × List PlainMessage)
+due t [] = None
+due t (m ∷ ms) = first_where (nat_le m.time t) m ms
+
+abbrev pub handled : ProgramTree → PlainMessage → List PlainMessage → Scene → Scene
+handled program m rest s =
+    ran program m.object m.method m.args (with_world s (begun (moved m.time (record (s.world) { pending = rest }))))
+
+-- No more messages than this are due up to t: at one time at most 1,024 of them can add others to it, and the time rises.
+abbrev pub enough : ℕ → WorldRecord → ℕ
+enough t w =
+    let most = most_pending + 1 in
+    (t - w.time) * (most_turns * most + most) + (most_turns - w.turns) * most + now_due w
+
+-- the messages that are due, one after the other, and at most so many; then the time becomes this one
+abbrev pub on_due : ProgramTree → ℕ → (Scene → Scene) → Option (PlainMessage × List PlainMessage) → Scene → Scene
+on_due program t more None s = with_world s (moved t s.world)
+on_due program t more (Some d) s = more (handled program d.0 d.1 s)
+
+abbrev pub advance_within : ProgramTree → ℕ → ℕ → Scene → Scene
+advance_within program zero t s = with_world s (moved t s.world)
+advance_within program (suc n) t s = on_due program t (advance_within program n t) (due t s.world.pending) s
+
+abbrev pub advance : ProgramTree → ℕ → Scene → Scene
+advance program t s = advance_within program (enough t s.world) t s
+
+-- ---- entries
+
+abbrev pub is_among : ℕ → List ℕ → Bool
+is_among view [] = false
+is_among view (v ∷ vs) = nat_eq view v || is_among view vs
+
+abbrev pub with_view : ℕ → List ℕ → List ℕ
+with_view view [] = view ∷ []
+with_view view (v ∷ vs) = if nat_lt view v then view ∷ v ∷ vs else v ∷ with_view view vs
+
+-- a view that is not there leaves all
+abbrev pub without_view : ℕ → List ℕ → List ℕ
+without_view view [] = []
+without_view view (v ∷ vs) = if nat_eq view v then vs else v ∷ without_view view vs
+
+abbrev pub came : ℕ → WorldRecord → WorldRecord
+came view w =
+    if nat_eq view 0 || is_among view w.views then w
+    else (if nat_lt (length w.views) most_views then record w { views = with_view view w.views } else counted fault.Full w)
+
+abbrev pub went : ℕ → WorldRecord → WorldRecord
+went view w = record w { views = without_view view w.views }
+
+-- an Event is no input yet
+abbrev pub entered : What → ℕ → WorldRecord → WorldRecord
+entered Join view w = came view w
+entered Exit view w = went view w
+entered (Event number payload) view w = w
+
+-- an entry of the log is one message, at its time
+abbrev pub external : ProgramTree → Entry → Scene → Scene
+external program e s =
+    let a = advance program e.time s in
+    with_world a (entered e.what e.view (begun a.world))
+
+-- the entries with a time of at most t, and then the world advances to t
+abbrev pub replayed : ProgramTree → ℕ → List Entry → Scene → Scene
+replayed program t [] s = advance program t s
+replayed program t (e ∷ es) s = replayed program t es (if nat_le e.time t then external program e s else s)
+
+abbrev pub replay : ProgramTree → List ℕ → List Entry → ℕ → Scene
+replay program id entries t = replayed program t entries (first program id)

@@ -1,0 +1,166 @@
+//! Worlds.
+ghost use Rattle.std.specs.Prelude.{◌≡◌, ◌≢◌, ◌<◌, [], map, nat_lt, nat_le, IfOk, false};
+ghost use Rattle.std.specs.Arc.{arc_value};
+ghost use Rattle.model_value.specs.Messages.{plain_outgoing};
+ghost use Rattle.model_value.specs.Valid.{Valid, time_limit};
+ghost use Rattle.model_value.specs.World.{world_record};
+ghost use Rattle.model_lang.specs.TreeView.{program_tree};
+ghost use Rattle.world.specs.Worlds.{field_counts, first as first_of, advance as advanced, external as entered_by};
+ghost use Rattle.world.specs.View.{Moves, Copies, IsInput, IsSound};
+
+use crate::fault::WorldFault;
+use crate::{opening, simulation};
+use model_check::Checked;
+use model_eval::State;
+use model_value::Published;
+use std::alloc::Global;
+use std::marker::Model;
+use std::mem;
+use std::sync::Arc;
+use tea_base::{Entry, List, SessionId, WantOfMemory};
+use world_plain::{PlainWorld, copy_world};
+
+/// A world of a session: what its models hold at a TeaTime.
+///
+/// All who hold the same program and handle the same entries of one session have the same world. A world that wanted
+/// memory while it went on is broken from then on: it answers `Broken`, and its published list is empty.
+pub struct World {
+    alloc: Global,
+    program: Arc<Checked, Global>,
+    state: State,
+    broken: bool,
+}
+
+impl Model for World {
+    ghost use Rattle.std.specs.Arc.{arc_value};
+    ghost use Rattle.std.specs.Coded.{codes};
+    ghost use Rattle.model_lang.specs.contracts.tree.Stmt as stmt;
+    ghost use Rattle.world.specs.View.{WorldView, coded_view, scene, IsSound};
+
+    ghost Value = { WorldView };
+
+    ghost coded = { coded_view (Prim.hlevel (codes, stmt.the_row.coded)) };
+
+    ghost view = { λ w. record { program = arc_value w.program; scene = scene w.state; broken = w.broken } };
+
+    ghost invariant = { λ w. IsSound (record { program = arc_value w.program; scene = scene w.state; broken = w.broken }) };
+}
+
+impl World {
+    /// The first world of a session: at time 0, one message makes an object of the class Root, known as `modelRoot`, and
+    /// starts its `init` with nil, if it has one.
+    pub fn first(
+        alloc: Global,
+        program: Arc<Checked, Global>,
+        id: SessionId,
+    ) -> Result<World, WantOfMemory>
+        ensures { IfOk result (λ w. w ≡ record { program = arc_value program; scene = first_of (program_tree (arc_value program)) id.0; broken = false }) }
+    {
+        let state = opening::first(alloc, &program, id)?;
+        Ok(World {
+            alloc,
+            program,
+            state,
+            broken: false,
+        })
+    }
+
+    /// Advances to a time: the messages that are due run, and the time becomes this one. The time is in microseconds of
+    /// TeaTime, below 2^53.
+    ///
+    /// # Errors
+    ///
+    /// `Broken` exactly where the world is broken, then `Back` exactly where the time is below the world's; both change
+    /// nothing. Want of memory breaks the world.
+    pub fn advance(&mut self, time: u64) -> Result<(), WorldFault>
+        requires { time < time_limit }
+        ensures { Moves result self.old self.new (nat_lt time self.old.scene.world.time) (advanced (program_tree self.old.program) time self.old.scene) }
+    {
+        if self.broken {
+            return Err(WorldFault::Broken);
+        }
+        if time < self.state.world.time {
+            return Err(WorldFault::Back {
+                time: self.state.world.time,
+            });
+        }
+        match simulation::advance(self.alloc, &self.program, &mut self.state, time) {
+            Ok(()) => Ok(()),
+            Err(WantOfMemory) => {
+                self.broken = true;
+                self.state.published = List::new(self.alloc);
+                Err(WorldFault::WantOfMemory)
+            }
+        }
+    }
+
+    /// Handles an entry of the log: the world advances to its time, and then one message adds or takes away its view.
+    /// The entry's time is in microseconds of TeaTime, below 2^53. So far an entry is a Join or an Exit: events are no
+    /// inputs yet.
+    ///
+    /// # Errors
+    ///
+    /// `Broken` exactly where the world is broken, then `Back` exactly where the entry's time is not above the world's;
+    /// both change nothing. Want of memory breaks the world.
+    pub fn external(&mut self, entry: &Entry) -> Result<(), WorldFault>
+        requires time { entry.now.time < time_limit }
+        requires what { IsInput entry.now.what }
+        ensures { Moves result self.old self.new (nat_le entry.now.time self.old.scene.world.time) (entered_by (program_tree self.old.program) entry.now self.old.scene) }
+    {
+        if self.broken {
+            return Err(WorldFault::Broken);
+        }
+        if entry.time <= self.state.world.time {
+            return Err(WorldFault::Back {
+                time: self.state.world.time,
+            });
+        }
+        match simulation::external(self.alloc, &self.program, &mut self.state, entry) {
+            Ok(()) => Ok(()),
+            Err(WantOfMemory) => {
+                self.broken = true;
+                self.state.published = List::new(self.alloc);
+                Err(WorldFault::WantOfMemory)
+            }
+        }
+    }
+
+    /// The world as plain data.
+    ///
+    /// # Errors
+    ///
+    /// `Broken` exactly where the world is broken. Want of memory changes nothing.
+    pub fn to_plain(&self) -> Result<PlainWorld, WorldFault>
+        ensures copy { Copies result self.now }
+        ensures valid { IfOk result (λ plain. Valid (field_counts (program_tree self.now.program)) (world_record plain)) }
+    {
+        if self.broken {
+            return Err(WorldFault::Broken);
+        }
+        Ok(copy_world(self.alloc, &self.state.world)?)
+    }
+
+    /// What models published since the list was last taken. Takes no memory.
+    pub fn take_out(&mut self) -> Published
+        ensures published { map plain_outgoing result ≡ self.old.scene.published }
+        ensures rest { self.new ≡ record (self.old) { scene = record (self.old.scene) { published = [] } } }
+    {
+        mem::replace(&mut self.state.published, List::new(self.alloc))
+    }
+
+    /// The world's time, in microseconds of TeaTime. Takes no memory.
+    pub fn time(&self) -> u64
+        ensures time { result ≡ self.now.scene.world.time }
+        ensures sound { IsSound self.now }
+    {
+        self.state.world.time
+    }
+
+    /// Whether the world is broken. Takes no memory.
+    pub fn broken(&self) -> bool
+        ensures broken { result ≡ self.now.broken }
+        ensures sound { IsSound self.now }
+    {
+        self.broken
+    }
+}
