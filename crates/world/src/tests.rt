@@ -20,6 +20,14 @@ fn first(alloc: Global, text: &str) -> Result<World, Fail> {
     Ok(World::first(alloc, Arc::new(alloc, checked)?, SESSION)?)
 }
 
+/// A call that moves a world on: to this time, or by an entry of this time and of this view.
+#[derive(Clone, Copy, Debug)]
+enum Step {
+    Advance(u32),
+    Join(u32, u32),
+    Exit(u32, u32),
+}
+
 fn advance(world: &mut World, time: u32) -> Result<(), WorldFault> {
     world.advance(u64::from(time))
 }
@@ -44,6 +52,14 @@ fn exit(world: &mut World, time: u32, view: u32) -> Result<(), WorldFault> {
         view,
         what,
     })
+}
+
+fn take_step(world: &mut World, step: Step) -> Result<(), WorldFault> {
+    match step {
+        Step::Advance(time) => advance(world, time),
+        Step::Join(time, view) => join(world, time, view),
+        Step::Exit(time, view) => exit(world, time, view),
+    }
 }
 
 /// Numbers and nil, each behind a space.
@@ -82,18 +98,60 @@ fn printed(alloc: Global, world: &World) -> Result<String, Fail> {
         )?
         .as_str())?;
     }
-    let mut kind = 0;
-    for count in plain.faults {
+    for kind in 0..14 {
+        let count = plain.faults[kind];
         if count > 0 {
             text.push_str(format!(in alloc; "; fault {kind}: {count}")?.as_str())?;
         }
-        kind += 1;
     }
     Ok(text)
 }
 
+/// The world of a program after some steps. It begins with the time of each refusal.
+fn played(alloc: Global, text: &str, steps: &[Step]) -> Result<String, Fail> {
+    let mut world = first(alloc, text)?;
+    let mut refusals = String::new(alloc);
+    for next in steps {
+        match take_step(&mut world, *next) {
+            Ok(()) => {}
+            Err(WorldFault::Back { time }) => {
+                refusals.push_str(format!(in alloc; "back of {time}; ")?.as_str())?;
+            }
+            Err(fault) => return Err(fault)?,
+        }
+    }
+    let printed = printed(alloc, &world)?;
+    refusals.push_str(printed.as_str())?;
+    Ok(refusals)
+}
+
 #[test]
 fn a_first_world_has_its_root(rt: HostRuntime) -> Result<(), Fail> {
+    let alloc = rt.alloc();
+    let mut world = first(alloc, "class Root{field a;init(o){}}")?;
+    assert_eq!(rt; world.time(), 0);
+    assert!(rt; !world.broken());
+    assert!(rt; world.take_out().is_empty());
+    let plain = world.to_plain()?;
+    assert_eq!(rt; plain.id, SESSION);
+    assert_eq!(rt;
+        (plain.next_object, plain.random),
+        (2, 578_437_695_752_307_201)
+    );
+    let [object] = plain.objects.as_slice() else {
+        return Err("not one object")?;
+    };
+    assert_eq!(rt; object.class, 0);
+    let [known] = plain.known.as_slice() else {
+        return Err("not one known name")?;
+    };
+    assert_eq!(rt; (known.name.as_str(), known.object), ("modelRoot", 1));
+    assert!(rt; plain.subscriptions.is_empty());
+    Ok(())
+}
+
+#[test]
+fn messages_do_what_they_say_until_a_fault(rt: HostRuntime) -> Result<(), Fail> {
     let alloc = rt.alloc();
     for (text, wanted) in [
         (
@@ -109,40 +167,6 @@ fn a_first_world_has_its_root(rt: HostRuntime) -> Result<(), Fail> {
             "class Root{field a;field b;init(o){this.b=this.a;this.a=7;}}",
             "time 0 turns 1 next 0 views []; object 1: 7 nil",
         ),
-    ] {
-        let mut world = first(alloc, text)?;
-        assert_eq!(rt; printed(alloc, &world)?.as_str(), wanted, "of {text:?}");
-        assert_eq!(rt; world.time(), 0, "of {text:?}");
-        assert!(rt; !world.broken(), "of {text:?}");
-        assert!(rt; world.take_out().is_empty(), "of {text:?}");
-        let plain = world.to_plain()?;
-        assert_eq!(rt; plain.id, SESSION, "of {text:?}");
-        assert_eq!(rt;
-            (plain.next_object, plain.random),
-            (2, 578_437_695_752_307_201),
-            "of {text:?}"
-        );
-        let [object] = plain.objects.as_slice() else {
-            return Err("not one object")?;
-        };
-        assert_eq!(rt; object.class, 0, "of {text:?}");
-        let [known] = plain.known.as_slice() else {
-            return Err("not one known name")?;
-        };
-        assert_eq!(rt;
-            (known.name.as_str(), known.object),
-            ("modelRoot", 1),
-            "of {text:?}"
-        );
-        assert!(rt; plain.subscriptions.is_empty(), "of {text:?}");
-    }
-    Ok(())
-}
-
-#[test]
-fn messages_do_what_they_say_until_a_fault(rt: HostRuntime) -> Result<(), Fail> {
-    let alloc = rt.alloc();
-    for (text, wanted) in [
         (
             "class Root{field a;field b;field c;init(o){this.a = 1; this.b = 9223372036854775807 + 1; this.c = 1;}}",
             "time 0 turns 1 next 0 views []; object 1: 1 nil nil; fault 0: 1",
@@ -220,9 +244,8 @@ fn messages_do_what_they_say_until_a_fault(rt: HostRuntime) -> Result<(), Fail> 
             "time 0 turns 1 next 4 views []; object 1:; message 1 at 1000: 1.b 2 nil; message 3 at 1000: 1.d; message 0 at 2000: 1.a; message 2 at 2000: 1.c",
         ),
     ] {
-        let mut world = first(alloc, text)?;
-        advance(&mut world, 0)?;
-        assert_eq!(rt; printed(alloc, &world)?.as_str(), wanted, "of {text:?}");
+        let world = played(alloc, text, &[Step::Advance(0)])?;
+        assert_eq!(rt; world.as_str(), wanted, "of {text:?}");
     }
     Ok(())
 }
@@ -275,18 +298,13 @@ fn messages_run_when_they_are_due(rt: HostRuntime) -> Result<(), Fail> {
             "time 2000 turns 2 next 5 views []; object 1: 2 3; message 3 at 3000: 1.tick",
         ),
     ] {
-        let mut world = first(alloc, text)?;
-        advance(&mut world, time)?;
-        let at_once = printed(alloc, &world)?;
+        let at_once = played(alloc, text, &[Step::Advance(time)])?;
         assert_eq!(rt; at_once.as_str(), wanted, "at {time} of {text:?}");
-        assert_eq!(rt; world.time(), u64::from(time));
         // So it is in two steps.
         for middle in [0, 1, 999, 1000, 1001, 2000, 5000] {
             if middle <= time {
-                let mut world = first(alloc, text)?;
-                advance(&mut world, middle)?;
-                advance(&mut world, time)?;
-                let in_two = printed(alloc, &world)?;
+                let steps = [Step::Advance(middle), Step::Advance(time)];
+                let in_two = played(alloc, text, &steps)?;
                 assert_eq!(rt;
                     in_two.as_str(),
                     wanted,
@@ -299,128 +317,90 @@ fn messages_run_when_they_are_due(rt: HostRuntime) -> Result<(), Fail> {
 }
 
 #[test]
-fn views_come_and_go(rt: HostRuntime) -> Result<(), Fail> {
+fn views_come_and_go_and_time_does_not_go_back(rt: HostRuntime) -> Result<(), Fail> {
     let alloc = rt.alloc();
-    let mut world = first(alloc, TWO)?;
-    for (time, comes, view, wanted) in [
+    for (steps, wanted) in [
         (
-            1,
-            true,
-            7,
+            [Step::Join(1, 7), Step::Advance(1)],
             "time 1 turns 1 next 2 views [7]; object 1: 0; message 0 at 1000: 1.a; message 1 at 2000: 1.a",
         ),
         (
-            2,
-            true,
-            7,
+            [Step::Join(1, 7), Step::Join(2, 7)],
             "time 2 turns 1 next 2 views [7]; object 1: 0; message 0 at 1000: 1.a; message 1 at 2000: 1.a",
         ),
         (
-            3,
-            false,
-            7,
+            [Step::Join(1, 7), Step::Exit(3, 7)],
             "time 3 turns 1 next 2 views []; object 1: 0; message 0 at 1000: 1.a; message 1 at 2000: 1.a",
         ),
         (
-            4,
-            false,
-            8,
-            "time 4 turns 1 next 2 views []; object 1: 0; message 0 at 1000: 1.a; message 1 at 2000: 1.a",
+            [Step::Join(1, 7), Step::Exit(4, 8)],
+            "time 4 turns 1 next 2 views [7]; object 1: 0; message 0 at 1000: 1.a; message 1 at 2000: 1.a",
         ),
         (
-            1000,
-            true,
-            9,
+            [Step::Exit(4, 8), Step::Join(1000, 9)],
             "time 1000 turns 2 next 2 views [9]; object 1: 1; message 1 at 2000: 1.a",
         ),
         (
-            1001,
-            true,
-            3,
-            "time 1001 turns 1 next 2 views [3, 9]; object 1: 1; message 1 at 2000: 1.a",
+            [Step::Join(1000, 9), Step::Join(2001, 3)],
+            "time 2001 turns 1 next 2 views [3, 9]; object 1: 2",
         ),
         (
-            2001,
-            true,
-            7,
-            "time 2001 turns 1 next 2 views [3, 7, 9]; object 1: 2",
+            [Step::Join(1000, 9), Step::Join(2000, 0)],
+            "time 2000 turns 2 next 2 views [9]; object 1: 2",
         ),
         (
-            2002,
-            true,
-            9,
-            "time 2002 turns 1 next 2 views [3, 7, 9]; object 1: 2",
+            [Step::Join(1600, 7), Step::Advance(1599)],
+            "back of 1600; time 1600 turns 1 next 2 views [7]; object 1: 1; message 1 at 2000: 1.a",
         ),
         (
-            2003,
-            false,
-            8,
-            "time 2003 turns 1 next 2 views [3, 7, 9]; object 1: 2",
+            [Step::Join(1600, 7), Step::Join(1600, 8)],
+            "back of 1600; time 1600 turns 1 next 2 views [7]; object 1: 1; message 1 at 2000: 1.a",
         ),
         (
-            2004,
-            true,
-            0,
-            "time 2004 turns 1 next 2 views [3, 7, 9]; object 1: 2",
+            [Step::Advance(1600), Step::Join(1599, 8)],
+            "back of 1600; time 1600 turns 0 next 2 views []; object 1: 1; message 1 at 2000: 1.a",
         ),
         (
-            2005,
-            false,
-            7,
-            "time 2005 turns 1 next 2 views [3, 9]; object 1: 2",
+            [Step::Join(1600, 7), Step::Exit(1600, 7)],
+            "back of 1600; time 1600 turns 1 next 2 views [7]; object 1: 1; message 1 at 2000: 1.a",
+        ),
+        (
+            [Step::Advance(5000), Step::Advance(4999)],
+            "back of 5000; time 5000 turns 0 next 2 views []; object 1: 2",
         ),
     ] {
-        if comes {
-            join(&mut world, time, view)?;
-        } else {
-            exit(&mut world, time, view)?;
-        }
-        assert_eq!(rt; printed(alloc, &world)?.as_str(), wanted);
+        let world = played(alloc, TWO, &steps)?;
+        assert_eq!(rt; world.as_str(), wanted, "after {steps:?}");
     }
+    let steps = [
+        Step::Join(1, 9),
+        Step::Join(2, 3),
+        Step::Join(3, 7),
+        Step::Join(4, 9),
+        Step::Exit(5, 8),
+        Step::Exit(6, 3),
+    ];
+    let world = played(alloc, "class Root{}", &steps)?;
+    assert_eq!(rt;
+        world.as_str(),
+        "time 6 turns 1 next 0 views [7, 9]; object 1:"
+    );
     Ok(())
 }
 
-#[test]
-fn time_does_not_go_back(rt: HostRuntime) -> Result<(), Fail> {
-    let alloc = rt.alloc();
-    let mut world = first(alloc, TWO)?;
-    advance(&mut world, 1500)?;
-    join(&mut world, 1600, 7)?;
-    let before = printed(alloc, &world)?;
-    let back = Err(WorldFault::Back { time: 1600 });
-    for time in [0, 1500, 1599] {
-        assert_eq!(rt; advance(&mut world, time), back, "at {time}");
+/// How many views are here after each of some joins, and how often there was no place.
+fn crowded(alloc: Global, most: u32) -> Result<(usize, u64), Fail> {
+    let mut world = first(alloc, "class Root{}")?;
+    for view in 0..most {
+        join(&mut world, view + 1, view + 1)?;
     }
-    for time in [0, 1599, 1600] {
-        assert_eq!(rt; join(&mut world, time, 8), back, "at {time}");
-        assert_eq!(rt; exit(&mut world, time, 7), back, "at {time}");
-    }
-    assert_eq!(rt; printed(alloc, &world)?.as_str(), before.as_str());
-    // To advance to the time that is changes nothing.
-    advance(&mut world, 1600)?;
-    assert_eq!(rt; printed(alloc, &world)?.as_str(), before.as_str());
-    Ok(())
+    let plain = world.to_plain()?;
+    Ok((plain.views.len(), plain.faults[12]))
 }
 
 #[test]
 fn so_many_views_are_here(rt: HostRuntime) -> Result<(), Fail> {
-    let alloc = rt.alloc();
-    let mut world = first(alloc, "class Root{}")?;
-    for view in 1..1025 {
-        join(&mut world, view, view)?;
-    }
-    assert_eq!(rt; world.to_plain()?.faults, [0; 14]);
-    join(&mut world, 1025, 1024)?;
-    assert_eq!(rt; world.to_plain()?.faults, [0; 14]);
-    join(&mut world, 1026, 1025)?;
-    let full = world.to_plain()?;
-    assert_eq!(rt; full.views.len(), 1024);
-    assert_eq!(rt; full.faults, [0, 0, 0, 0, 0, 0, 0, 0, 0, 0, 0, 0, 1, 0]);
-    exit(&mut world, 1027, 1)?;
-    join(&mut world, 1028, 1025)?;
-    let again = world.to_plain()?;
-    assert_eq!(rt; again.views.len(), 1024);
-    assert_eq!(rt; again.views.get(1023), Some(&1025));
-    assert_eq!(rt; again.faults, full.faults);
+    assert_eq!(rt; crowded(rt.alloc(), 1024)?, (1024, 0));
+    assert_eq!(rt; crowded(rt.alloc(), 1026)?, (1024, 2));
     Ok(())
 }

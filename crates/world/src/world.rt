@@ -24,6 +24,7 @@ use world_plain::{PlainWorld, copy_world};
 ///
 /// All who hold the same program and handle the same entries of one session have the same world. A world that wanted
 /// memory while it went on is broken from then on: it answers `Broken`, and its published list is empty.
+#[derive(Drop)]
 pub struct World {
     alloc: Global,
     program: Arc<Checked, Global>,
