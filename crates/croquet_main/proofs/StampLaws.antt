@@ -9,14 +9,14 @@ use Rattle.tea_io.specs.declared.files.FileCall.{FileCall}
 use Rattle.reflector_core.specs.declared.request.Request.{Request}
 use Rattle.reflector_core.specs.declared.request.Reply.{Reply}
 use Rattle.croquet_main.specs.declared.status.Fault.{Fault}
-use Rattle.croquet_main.specs.declared.status.Fault.TheVariants.{Usage, Input, Read, Write, Sink, Memory}
+use Rattle.croquet_main.specs.declared.status.Fault.TheVariants.{Usage, Program, Input, Read, Write, Sink, Memory}
 use Rattle.croquet_main.specs.Script.{script_of}
 use Rattle.croquet_main.specs.Verdict.{Verdict, BadWords, Unreadable, BadInput, Unknown, Done, AreKept, ArePut, IsNotDone, IsPut, MayBeDone, PutsFiles, optional_put, replied, requests_in, script_limit, stamp_verdict}
 use Rattle.croquet_main.specs.Ends.{Answers, AskedTo, IsSinkFault, LeavesBefore}
 
 -- ---- the calls of files
 
-grown-append : (told : Option (List FileCall)) (front back : List FileCall) → grown (grown told front) back ≡ grown told (front ++ back)
+pub grown-append : (told : Option (List FileCall)) (front back : List FileCall) → grown (grown told front) back ≡ grown told (front ++ back)
 grown-append None front back = refl
 grown-append (Some calls) front back = ap Some (append_assoc calls front back)
 
@@ -27,6 +27,7 @@ then_calls reads writes old mid new read written = written ∙ rw read (grown-ap
 pub AskedTo-print : {T : Type 0} (result : Result T Fault) (reads writes : List FileCall) (old mid new : Option (List FileCall)) (quiet : Type 0) → mid ≡ grown old reads → new ≡ grown mid writes → IfErr result IsSinkFault → AskedTo result reads writes old new quiet
 AskedTo-print (Ok done) reads writes old mid new quiet read written err = then_calls reads writes old mid new read written
 AskedTo-print (Err Usage) reads writes old mid new quiet read written err = absurd err
+AskedTo-print (Err (Program line)) reads writes old mid new quiet read written err = absurd err
 AskedTo-print (Err (Input input)) reads writes old mid new quiet read written err = absurd err
 AskedTo-print (Err Read) reads writes old mid new quiet read written err = absurd err
 AskedTo-print (Err Write) reads writes old mid new quiet read written err = absurd err
@@ -79,6 +80,7 @@ OnOk-given (Err error) fact is = tt
 pub LeavesBefore-print : {T : Type 0} (result : Result T Fault) (verdict : Verdict) (old new : List ℕ → Content) (quiet : Type 0) → IfErr result IsSinkFault → PutsFiles verdict old new → IfErr result (λ fault. LeavesBefore fault verdict old new quiet)
 LeavesBefore-print (Ok done) verdict old new quiet err put = tt
 LeavesBefore-print (Err Usage) verdict old new quiet err put = absurd err
+LeavesBefore-print (Err (Program line)) verdict old new quiet err put = absurd err
 LeavesBefore-print (Err (Input input)) verdict old new quiet err put = absurd err
 LeavesBefore-print (Err Read) verdict old new quiet err put = absurd err
 LeavesBefore-print (Err Write) verdict old new quiet err put = absurd err

@@ -1,11 +1,12 @@
 -- What the words of the command line ask for. A word is seen as its characters.
-use Rattle.std.specs.Prelude.{ℕ, Bool, true, false, ◌≡◌, ◌==◌, ◌<◌, ◌||◌, if◌then◌else◌, length, slice_index_or, remove, List, [], ◌∷◌, ◌++◌, Option, Some, None, option_and_then, codes}
+use Rattle.std.specs.Prelude.{ℕ, ⊤, ◌≤◌, ◌^◌, Bool, true, false, ◌≡◌, ◌==◌, ◌<◌, ◌||◌, if◌then◌else◌, nat_le, length, slice_index_or, remove, encode_utf8_all, List, [], ◌∷◌, ◌++◌, Option, Some, None, option_map, option_and_then, codes}
 use Rattle.std.specs.Str.{bytes_eq}
+use Rattle.text_lines.specs.Lines.{number_of}
 use Rattle.croquet_main.specs.declared.words.Parts.{Parts}
 use Rattle.croquet_main.specs.declared.words.Reader.{Reader}
 use Rattle.croquet_main.specs.declared.words.Setting.{Setting}
 use Rattle.croquet_main.specs.declared.words.Command.{Command}
-use Rattle.croquet_main.specs.declared.words.Command.TheVariants.{Stamp}
+use Rattle.croquet_main.specs.declared.words.Command.TheVariants.{Stamp, Replay}
 
 abbrev pub Word : Type 0
 Word = List ℕ
@@ -69,10 +70,43 @@ stamp_with positionals log settings = None
 abbrev pub stamp_of : Parts → Option Command
 stamp_of parts = stamp_with parts.positionals (value_of (codes "--log") parts.settings) (without (codes "--log") parts.settings)
 
+-- the most bytes of UTF-8 that the name of a session has
+abbrev pub most_name : ℕ
+most_name = 255
+
+-- a TeaTime in microseconds, in decimal, without a sign or leading zeros
+abbrev pub time_of : Word → Option ℕ
+time_of word = number_of 0 9007199254740991 (encode_utf8_all word)
+
+abbrev pub replay_named : Word → Word → Word → Option ℕ → Option Command
+replay_named program name log time =
+    if nat_le (length (encode_utf8_all name)) most_name then option_map (Replay program name log) time else None
+
+-- `replay` has four positionals, and no setting
+abbrev pub replay_with : List Word → List Setting → Option Command
+replay_with (program ∷ name ∷ log ∷ time ∷ []) [] = replay_named program name log (time_of time)
+replay_with positionals settings = None
+
+-- `replay PROGRAM NAME LOG TIME`
+abbrev pub replay_of : Parts → Option Command
+replay_of parts = replay_with parts.positionals parts.settings
+
+-- what the words after the command's name make: one row for each command
+abbrev pub command_named : Word → Parts → Option Command
+command_named name parts =
+    if bytes_eq name (codes "stamp") then stamp_of parts
+    else if bytes_eq name (codes "replay") then replay_of parts
+    else None
+
 -- the command that the words ask for, where they follow the rules
 abbrev pub command_of : List Word → Option Command
 command_of [] = None
-command_of (name ∷ words) = if bytes_eq name (codes "stamp") then option_and_then stamp_of (parts_of words) else None
+command_of (name ∷ words) = option_and_then (command_named name) (parts_of words)
+
+-- a replay has a name of at most so many bytes, and a time below 2 ^ 53
+abbrev pub IsWithinBounds : Command → Type 0
+IsWithinBounds (Stamp script log) = ⊤
+IsWithinBounds (Replay program name log time) = (length (encode_utf8_all name) ≤ most_name) × (time < 2 ^ 53)
 
 -- what a reader makes of these words, after those that it has read
 abbrev pub read_on : Reader → List Word → Option Parts

@@ -1,5 +1,5 @@
 -- How the parts of a run end.
-use Rattle.std.specs.Prelude.{◌≡◌, ◌⊎◌, ℕ, ⊤, ◌≤◌, ◌<◌, ◌++◌, List, length, Option, Some, None, Result, Ok, Err}
+use Rattle.std.specs.Prelude.{◌≡◌, ◌⊎◌, ℕ, ⊤, ◌≤◌, ◌<◌, ◌++◌, false, List, [], length, Option, Some, None, Result, Ok, Err, String, string_bytes}
 use Rattle.tea_io.specs.Files.{Content, Untold, Absent, Known, MayBe}
 use Rattle.tea_io.specs.Told.{grown}
 use Rattle.tea_io.specs.Sink.{GrowsWithin}
@@ -8,13 +8,24 @@ use Rattle.reflector_core.specs.Play.{first, after_all, replies_from}
 use Rattle.tea_base.specs.declared.entry.Entry.{Entry}
 use Rattle.reflector_core.specs.declared.request.Request.{Request}
 use Rattle.reflector_core.specs.declared.request.Reply.{Reply}
+use Rattle.session_log.specs.LogState.{LogState}
+use Rattle.session_log.specs.Spelling.{log_spelling}
+use Rattle.tea_base.specs.Legal.{IsLegal}
+use Rattle.model_lang.specs.declared.tree.Class.{Class}
+use Rattle.model_lang.specs.Tree.{ProgramTree}
+use Rattle.model_lang.specs.TreeView.{program_tree}
+use Rattle.model_lang.specs.Program.{IsRead}
+use Rattle.model_check.specs.declared.fault.CheckFault.{CheckFault}
+use Rattle.model_check.specs.Faults.{first_fault}
+use Rattle.croquet_main.specs.PrintedText.{syntax_line, check_line}
 use Rattle.croquet_main.specs.declared.status.Fault.{Fault}
-use Rattle.croquet_main.specs.declared.status.Fault.TheVariants.{Usage, Input, Read, Write, Sink, Memory}
+use Rattle.croquet_main.specs.declared.status.Fault.TheVariants.{Usage, Program, Input, Read, Write, Sink, Memory}
 use Rattle.croquet_main.specs.declared.status.Input.{Input as InputName}
 use Rattle.croquet_main.specs.declared.status.Status.{Status}
 use Rattle.croquet_main.specs.declared.status.Status.TheVariants.{WriteFault, WantOfMemory}
 use Rattle.croquet_main.specs.declared.status.Status.TheVariants as status
-use Rattle.croquet_main.specs.Verdict.{Verdict, MayBeDone, MayBeBad, HasBadWords, HasGoodWords, AreKept, IsNonEmpty, IsNotDone, OfText, PutsFiles, usage_line, input_line, read_line, write_line, memory_line}
+use Rattle.croquet_main.specs.declared.status.Input.TheVariants as input_name
+use Rattle.croquet_main.specs.Verdict.{Verdict, BadWords, Unreadable, BadProgram, BadInput, Unknown, Done, Comes, MayBeRefused, MayBeRead, IsInputLog, has_event, reads_in, reads_to, MayBeDone, MayBeBad, HasBadWords, HasGoodWords, AreKept, IsNonEmpty, IsNotDone, OfText, PutsFiles, usage_line, input_line, read_line, write_line, memory_line}
 
 -- what stands there is longer
 abbrev pub IsLonger : Content → ℕ → Type 0
@@ -26,6 +37,7 @@ IsLonger (Known bytes) limit = limit < length bytes
 abbrev pub ReadEnd : Content → ℕ → InputName → Result (List ℕ) Fault → Type 0
 ReadEnd content limit name (Ok bytes) = MayBe content bytes × (length bytes ≤ limit)
 ReadEnd content limit name (Err Usage) = ⊥
+ReadEnd content limit name (Err (Program line)) = ⊥
 ReadEnd content limit name (Err (Input input)) = (input ≡ name) × IsLonger content limit
 ReadEnd content limit name (Err Read) = ⊤
 ReadEnd content limit name (Err Write) = ⊥
@@ -36,6 +48,7 @@ ReadEnd content limit name (Err Memory) = ⊤
 abbrev pub MayEnd : Result (Unit {0}) Fault → Verdict → Type 0
 MayEnd (Ok done) verdict = MayBeDone verdict
 MayEnd (Err Usage) verdict = HasBadWords verdict
+MayEnd (Err (Program line)) verdict = MayBeRefused line verdict
 MayEnd (Err (Input input)) verdict = MayBeBad input verdict
 MayEnd (Err Read) verdict = HasGoodWords verdict
 MayEnd (Err Write) verdict = MayBeDone verdict
@@ -45,6 +58,7 @@ MayEnd (Err Memory) verdict = ⊤
 -- what was written before a fault: nothing, but where the text was not written whole
 abbrev pub WritesBefore : Fault → Verdict → Option (List ℕ) → Option (List ℕ) → Type 0
 WritesBefore Usage verdict old new = new ≡ old
+WritesBefore (Program line) verdict old new = new ≡ old
 WritesBefore (Input input) verdict old new = new ≡ old
 WritesBefore Read verdict old new = new ≡ old
 WritesBefore Write verdict old new = new ≡ old
@@ -55,6 +69,7 @@ WritesBefore Memory verdict old new = OfText verdict (GrowsWithin old new)
 abbrev pub AskedTo : {T : Type 0} → Result T Fault → List FileCall → List FileCall → Option (List FileCall) → Option (List FileCall) → Type 0 → Type 0
 AskedTo (Ok done) reads writes old new quiet = new ≡ grown old (reads ++ writes)
 AskedTo (Err Usage) reads writes old new quiet = new ≡ grown old reads
+AskedTo (Err (Program line)) reads writes old new quiet = new ≡ grown old reads
 AskedTo (Err (Input input)) reads writes old new quiet = new ≡ grown old reads
 AskedTo (Err Read) reads writes old new quiet = new ≡ grown old reads
 AskedTo (Err Write) reads writes old new quiet = (new ≡ grown old (reads ++ writes)) × IsNonEmpty writes
@@ -62,10 +77,28 @@ AskedTo (Err Sink) reads writes old new quiet = new ≡ grown old (reads ++ writ
 AskedTo (Err Memory) reads writes old new quiet =
     (new ≡ grown old (reads ++ writes)) ⊎ (((new ≡ grown old reads) × quiet) ⊎ ((new ≡ old) × quiet))
 
+-- all of these calls were made, and nothing was written
+abbrev pub MadeAll : List FileCall → Option (List FileCall) → Option (List FileCall) → Option (List ℕ) → Option (List ℕ) → Type 0
+MadeAll calls old new before after = (new ≡ grown old calls) × (after ≡ before)
+
+-- the calls that a run made before it ended, of those for its inputs and its writes
+abbrev pub AskedFor : {T : Type 0} → Result T Fault → Verdict → List (InputName × List ℕ) → List FileCall → Option (List FileCall) → Option (List FileCall) → Type 0 → Type 0
+AskedFor (Ok done) verdict inputs writes old new quiet = new ≡ grown old (reads_in inputs ++ writes)
+AskedFor (Err Usage) verdict inputs writes old new quiet = new ≡ grown old (reads_in inputs)
+AskedFor (Err (Program line)) verdict inputs writes old new quiet = new ≡ grown old (reads_to input_name.Program inputs)
+AskedFor (Err (Input input)) verdict inputs writes old new quiet = new ≡ grown old (reads_to input inputs)
+AskedFor (Err Read) verdict inputs writes old new quiet = (input : InputName) × MayBeRead input verdict × (new ≡ grown old (reads_to input inputs))
+AskedFor (Err Write) verdict inputs writes old new quiet = (new ≡ grown old (reads_in inputs ++ writes)) × IsNonEmpty writes
+AskedFor (Err Sink) verdict inputs writes old new quiet = new ≡ grown old (reads_in inputs ++ writes)
+AskedFor (Err Memory) verdict inputs writes old new quiet =
+    (new ≡ grown old (reads_in inputs ++ writes))
+    ⊎ (((input : InputName) × (new ≡ grown old (reads_to input inputs)) × quiet) ⊎ ((new ≡ old) × quiet))
+
 -- What the files hold before a fault: what they held. Where the text was not written whole, or memory was wanted, they are put,
 -- or else nothing was written (`quiet`), and they are as they were where the work was not done.
 abbrev pub LeavesBefore : Fault → Verdict → (List ℕ → Content) → (List ℕ → Content) → Type 0 → Type 0
 LeavesBefore Usage verdict old new quiet = AreKept old new
+LeavesBefore (Program line) verdict old new quiet = AreKept old new
 LeavesBefore (Input input) verdict old new quiet = AreKept old new
 LeavesBefore Read verdict old new quiet = AreKept old new
 LeavesBefore Write verdict old new quiet = ⊤
@@ -75,16 +108,28 @@ LeavesBefore Memory verdict old new quiet = PutsFiles verdict old new ⊎ ((IsNo
 -- a file that failed to be written, or memory that was wanted
 abbrev pub IsWriteFault : Fault → Type 0
 IsWriteFault Usage = ⊥
+IsWriteFault (Program line) = ⊥
 IsWriteFault (Input input) = ⊥
 IsWriteFault Read = ⊥
 IsWriteFault Write = ⊤
 IsWriteFault Sink = ⊥
 IsWriteFault Memory = ⊤
 
+-- what was asked for is not read, or memory was wanted
+abbrev pub IsReadingFault : Fault → Type 0
+IsReadingFault Usage = ⊥
+IsReadingFault (Program line) = ⊤
+IsReadingFault (Input input) = ⊤
+IsReadingFault Read = ⊤
+IsReadingFault Write = ⊥
+IsReadingFault Sink = ⊥
+IsReadingFault Memory = ⊤
+
 -- a script that has no requests is at fault, and else only memory is wanted
 abbrev pub IsScriptFault : {T : Type 0} → Fault → Option T → Type 0
 IsScriptFault Usage reading = ⊥
-IsScriptFault (Input input) reading = reading ≡ None
+IsScriptFault (Program line) reading = ⊥
+IsScriptFault (Input input) reading = (input ≡ input_name.Script) × (reading ≡ None)
 IsScriptFault Read reading = ⊥
 IsScriptFault Write reading = ⊥
 IsScriptFault Sink reading = ⊥
@@ -93,6 +138,7 @@ IsScriptFault Memory reading = ⊤
 -- the sink failed, or memory was wanted
 abbrev pub IsSinkFault : Fault → Type 0
 IsSinkFault Usage = ⊥
+IsSinkFault (Program line) = ⊥
 IsSinkFault (Input input) = ⊥
 IsSinkFault Read = ⊥
 IsSinkFault Write = ⊥
@@ -113,8 +159,69 @@ Tells line given result old new rose =
 -- how a fault is told
 abbrev pub IsTold : Fault → Status → Option (List ℕ) → Option (List ℕ) → Type 0 → Type 0
 IsTold Usage result old new rose = Tells usage_line status.Usage result old new rose
+IsTold (Program line) result old new rose = Tells line status.Program result old new rose
 IsTold (Input input) result old new rose = Tells (input_line input) status.Input result old new rose
 IsTold Read result old new rose = Tells read_line status.ReadFault result old new rose
 IsTold Write result old new rose = Tells write_line WriteFault result old new rose
 IsTold Sink result old new rose = (result ≡ WriteFault) × (new ≡ old)
 IsTold Memory result old new rose = Tells memory_line WantOfMemory result old new rose
+
+-- the bytes of a program are read as this tree, in which a check finds no fault
+pub record IsSoundProgram (bytes : List ℕ) (tree : ProgramTree) : Type 0 where
+  pub read : IsRead bytes tree
+  pub sound : first_fault tree ≡ None
+
+-- these bytes are no program, or one with a fault, and this is the line of it
+abbrev pub IsRefused : List ℕ → List ℕ → Type 0
+IsRefused bytes line =
+    (((tree : ProgramTree) → ¬ IsRead bytes tree) × (line ≡ syntax_line 0))
+    ⊎ ((tree : ProgramTree) × IsRead bytes tree × ((fault : CheckFault) × (first_fault tree ≡ Some fault) × (line ≡ check_line fault)))
+
+-- how the reading of a program ends
+abbrev pub ProgramEnd : Result (List Class) Fault → List ℕ → Type 0
+ProgramEnd (Ok program) bytes = IsSoundProgram bytes (program_tree program)
+ProgramEnd (Err Usage) bytes = ⊥
+ProgramEnd (Err (Program line)) bytes = IsRefused bytes line
+ProgramEnd (Err (Input input)) bytes = ⊥
+ProgramEnd (Err Read) bytes = ⊥
+ProgramEnd (Err Write) bytes = ⊥
+ProgramEnd (Err Sink) bytes = ⊥
+ProgramEnd (Err Memory) bytes = ⊤
+
+-- these bytes are the spelling of this legal log alone, and it has no Event
+pub record IsReadLog (bytes : List ℕ) (log : List Entry) : Type 0 where
+  pub legal : IsLegal log
+  pub spelled : bytes ≡ log_spelling log
+  pub only : (other : List Entry) → IsLegal other → bytes ≡ log_spelling other → log ≡ other
+  pub inputs : has_event log ≡ false
+
+-- how the reading of a log ends
+abbrev pub LogEnd : Result LogState Fault → List ℕ → Type 0
+LogEnd (Ok log) bytes = IsReadLog bytes log.entries
+LogEnd (Err Usage) bytes = ⊥
+LogEnd (Err (Program line)) bytes = ⊥
+LogEnd (Err (Input input)) bytes = (input ≡ input_name.Log) × ((log : List Entry) → ¬ IsInputLog bytes log)
+LogEnd (Err Read) bytes = ⊥
+LogEnd (Err Write) bytes = ⊥
+LogEnd (Err Sink) bytes = ⊥
+LogEnd (Err Memory) bytes = ⊤
+
+-- this text is to be written, and no file, or the files do not tell
+abbrev pub IsDoneWith : List ℕ → Verdict → Type 0
+IsDoneWith text BadWords = ⊥
+IsDoneWith text (Unreadable absent) = ⊥
+IsDoneWith text (BadProgram line) = ⊥
+IsDoneWith text (BadInput bad) = ⊥
+IsDoneWith text (Unknown inputs) = ⊤
+IsDoneWith text (Done meant files) = (text ≡ meant) × (files ≡ [])
+
+-- how the reads and the work of a command end that writes no file
+abbrev pub WorkEnd : {A : Type 0} → Result (String A) Fault → Verdict → Type 0
+WorkEnd (Ok text) verdict = IsDoneWith (string_bytes text) verdict
+WorkEnd (Err Usage) verdict = ⊥
+WorkEnd (Err (Program line)) verdict = MayBeRefused line verdict
+WorkEnd (Err (Input input)) verdict = MayBeBad input verdict
+WorkEnd (Err Read) verdict = HasGoodWords verdict
+WorkEnd (Err Write) verdict = ⊥
+WorkEnd (Err Sink) verdict = ⊥
+WorkEnd (Err Memory) verdict = ⊤

@@ -1,6 +1,12 @@
--- The text of replies.
-use Rattle.std.specs.Prelude.{ℕ, List, [], ◌∷◌, ◌++◌, length, Option, Some, None, codes}
+-- The text of replies, the line of a world, and the lines of a program's faults.
+use Rattle.std.specs.Prelude.{ℕ, List, [], ◌∷◌, ◌++◌, length, sum, encode_utf8_all, Option, Some, None, codes}
 use Rattle.text_lines.specs.Lines.{numbered}
+use Rattle.hex.specs.Hex.{encode_lower}
+use Rattle.sha2.specs.Sha256.{sha256}
+use Rattle.snapshot_codec.specs.Spelling.{world_spelling}
+use Rattle.model_value.specs.World.{WorldRecord}
+use Rattle.model_check.specs.declared.fault.CheckFault.{CheckFault}
+use Rattle.model_check.specs.declared.fault.CheckFault.TheVariants.{Twice, NoField, WantOfMemory}
 use Rattle.reflector_core.specs.declared.start.Base.{Base}
 use Rattle.reflector_core.specs.declared.request.Reply.{Reply}
 use Rattle.reflector_core.specs.declared.request.Reply.TheVariants.{Joined, Stamped, Again, Ticked, Left, Kept, Batch, Refused}
@@ -50,3 +56,44 @@ line_of reply = said_of reply ++ codes "\n"
 abbrev pub text_of : List Reply → List ℕ
 text_of [] = []
 text_of (reply ∷ replies) = line_of reply ++ text_of replies
+
+-- the numbers of a world
+abbrev pub counts_part : WorldRecord → List ℕ
+counts_part w =
+    numbered (codes "time") (w.time ∷ [])
+    ++ numbered (codes " objects") (length w.objects ∷ [])
+    ++ numbered (codes " pending") (length w.pending ∷ [])
+    ++ numbered (codes " subscriptions") (length w.subscriptions ∷ [])
+
+-- how often messages were ended by faults of any kind
+abbrev pub faults_part : WorldRecord → List ℕ
+faults_part w = numbered (codes " faults") (sum w.faults ∷ [])
+
+abbrev pub digest_part : List ℕ → List ℕ
+digest_part digest = codes " digest " ++ encode_lower digest
+
+-- the line of a world with the digest of its snapshot
+abbrev pub digested_line : WorldRecord → List ℕ → List ℕ
+digested_line w digest = counts_part w ++ faults_part w ++ digest_part digest ++ codes "\n"
+
+-- the line of a world: its numbers, and the digest of its snapshot
+abbrev pub world_line : WorldRecord → List ℕ
+world_line w = digested_line w (sha256 (world_spelling w))
+
+-- the text is no program from this place on
+abbrev pub syntax_line : ℕ → List ℕ
+syntax_line at = numbered (codes "syntax") (at ∷ []) ++ codes "\n"
+
+-- a name is named a second time
+abbrev pub twice_line : List ℕ → List ℕ
+twice_line name = codes "twice " ++ encode_utf8_all name ++ codes "\n"
+
+-- there is no field of this name
+abbrev pub no_field_line : List ℕ → List ℕ
+no_field_line name = codes "no-field " ++ encode_utf8_all name ++ codes "\n"
+
+-- the line of a fault that a check finds
+abbrev pub check_line : CheckFault → List ℕ
+check_line (Twice name) = twice_line name
+check_line (NoField name) = no_field_line name
+check_line WantOfMemory = []

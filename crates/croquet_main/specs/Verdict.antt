@@ -1,5 +1,5 @@
 -- What the words and the told files make of a run, and what may then come of it.
-use Rattle.std.specs.Prelude.{◌≡◌, ◌≢◌, ◌⊎◌, ℕ, ⊤, ◌≤◌, nat_le, if◌then◌else◌, List, [], ◌∷◌, ◌++◌, length, Option, Some, None, codes, Contains}
+use Rattle.std.specs.Prelude.{◌≡◌, ◌≢◌, ◌⊎◌, ℕ, ⊤, ◌≤◌, ◌<◌, nat_le, true, false, Bool, if◌then◌else◌, List, [], ◌∷◌, ◌++◌, length, Option, Some, None, codes, Contains}
 use Rattle.tea_io.specs.Files.{Content, Untold, Absent, Known, Holds}
 use Rattle.session_log.specs.Spelling.{log_spelling}
 use Rattle.tea_io.specs.Told.{grown, Rose}
@@ -10,20 +10,32 @@ use Rattle.tea_base.specs.declared.entry.Entry.{Entry}
 use Rattle.reflector_core.specs.declared.request.Request.{Request}
 use Rattle.reflector_core.specs.Play.{first, after_all, replies_from, TellsItsEvents}
 use Rattle.croquet_main.specs.declared.words.Command.{Command}
-use Rattle.croquet_main.specs.declared.words.Command.TheVariants.{Stamp}
+use Rattle.croquet_main.specs.declared.words.Command.TheVariants.{Stamp, Replay}
 use Rattle.croquet_main.specs.declared.status.Input.{Input}
-use Rattle.croquet_main.specs.declared.status.Input.TheVariants.{Script}
+use Rattle.croquet_main.specs.declared.status.Input.TheVariants.{Script, Program, Log}
 use Rattle.croquet_main.specs.declared.status.Status.{Status}
 use Rattle.croquet_main.specs.declared.status.Status.TheVariants as status
 use Rattle.croquet_main.specs.Script.{script_of}
-use Rattle.croquet_main.specs.PrintedText.{text_of}
+use Rattle.croquet_main.specs.PrintedText.{text_of, world_line, syntax_line, check_line}
+use Rattle.tea_base.specs.declared.entry.What.{What}
+use Rattle.tea_base.specs.declared.entry.What.TheVariants.{Join, Exit, Event}
+use Rattle.tea_base.specs.Legal.{IsLegal}
+use Rattle.sha2.specs.Sha256.{sha256}
+use Rattle.model_value.specs.Spelling.{text_field}
+use Rattle.model_lang.specs.Tree.{ProgramTree}
+use Rattle.model_lang.specs.Program.{IsRead}
+use Rattle.model_check.specs.declared.fault.CheckFault.{CheckFault}
+use Rattle.model_check.specs.Faults.{first_fault}
+use Rattle.world.specs.Worlds.{replay}
 
 -- what a run comes to where nothing of the outside fails
 pub data Verdict : Type 0 where
   -- the words break their rules
   BadWords : Verdict
-  -- an input is told not to be there
-  Unreadable : Verdict
+  -- this input is told not to be there
+  Unreadable : Input → Verdict
+  -- the program is refused with this line
+  BadProgram : List ℕ → Verdict
   -- this input is not in its grammar, or above its limit
   BadInput : Input → Verdict
   -- the files do not tell; one of these inputs may be bad
@@ -58,18 +70,97 @@ replied log (Some requests) = Done (stamped_text requests) (stamped_files log re
 
 abbrev pub stamp_verdict : Option (List ℕ) → Content → Verdict
 stamp_verdict log Untold = Unknown (Script ∷ [])
-stamp_verdict log Absent = Unreadable
+stamp_verdict log Absent = Unreadable Script
 stamp_verdict log (Known bytes) = replied log (requests_in bytes)
 
--- one row for each command
-abbrev pub verdict_of : Option Command → (List ℕ → Content) → Verdict
-verdict_of None held = BadWords
-verdict_of (Some (Stamp script log)) held = stamp_verdict log (held script)
+-- the most bytes of a program, and of a log
+abbrev pub program_limit : ℕ
+program_limit = 65536
+
+abbrev pub log_limit : ℕ
+log_limit = 134217728
+
+abbrev pub is_event : What → Bool
+is_event Join = false
+is_event Exit = false
+is_event (Event number payload) = true
+
+abbrev pub has_event : List Entry → Bool
+has_event [] = false
+has_event (entry ∷ entries) = if is_event entry.what then true else has_event entries
+
+-- these bytes are the spelling of this log, which has no Event
+pub record IsInputLog (bytes : List ℕ) (log : List Entry) : Type 0 where
+  pub within : length bytes ≤ log_limit
+  pub legal : IsLegal log
+  pub spelled : bytes ≡ log_spelling log
+  pub inputs : has_event log ≡ false
+
+-- the line of the world at a time, of the session of this name and this program's text, whose log this is
+abbrev pub replay_text : List ℕ → ℕ → List ℕ → ProgramTree → List Entry → List ℕ
+replay_text name time text tree log = world_line (replay tree (sha256 (text_field name ++ text)) log time).world
+
+-- what comes of a log's bytes, where its entries make this text: they spell one without Events, or they do not
+abbrev pub OfLog : List ℕ → (List Entry → List ℕ) → Verdict → Type 0
+OfLog bytes text verdict =
+    ((log : List Entry) × IsInputLog bytes log × (verdict ≡ Done (text log) []))
+    ⊎ (((log : List Entry) → ¬ IsInputLog bytes log) × (verdict ≡ BadInput Log))
+
+abbrev pub LogComes : Content → (List Entry → List ℕ) → Verdict → Type 0
+LogComes Untold text verdict = verdict ≡ Unknown (Log ∷ [])
+LogComes Absent text verdict = verdict ≡ Unreadable Log
+LogComes (Known bytes) text verdict = OfLog bytes text verdict
+
+-- a fault that was found is told; else it is what follows
+abbrev pub OfCheck : Option CheckFault → Type 0 → Verdict → Type 0
+OfCheck None next verdict = next
+OfCheck (Some fault) next verdict = verdict ≡ BadProgram (check_line fault)
+
+-- what comes of a program's bytes: they are above their limit, or no program, or they are read as the one tree
+abbrev pub OfProgram : List ℕ → (ProgramTree → Type 0) → Verdict → Type 0
+OfProgram bytes next verdict =
+    ((program_limit < length bytes) × (verdict ≡ BadInput Program))
+    ⊎ (((length bytes ≤ program_limit) × ((tree : ProgramTree) → ¬ IsRead bytes tree) × (verdict ≡ BadProgram (syntax_line 0)))
+    ⊎ ((tree : ProgramTree) × (length bytes ≤ program_limit) × IsRead bytes tree × OfCheck (first_fault tree) (next tree) verdict))
+
+-- what comes of a replay where a program and a log are read, one after the other
+abbrev pub ReplayComes : List ℕ → ℕ → Content → Content → Verdict → Type 0
+ReplayComes name time Untold log verdict = verdict ≡ Unknown (Program ∷ Log ∷ [])
+ReplayComes name time Absent log verdict = verdict ≡ Unreadable Program
+ReplayComes name time (Known bytes) log verdict =
+    OfProgram bytes (λ tree. LogComes log (replay_text name time bytes tree) verdict) verdict
+
+-- What a run comes to: one row for each command. It is one verdict, but whether bytes are read as a program is no test, so
+-- this is a relation.
+abbrev pub Comes : Option Command → (List ℕ → Content) → Verdict → Type 0
+Comes None held verdict = verdict ≡ BadWords
+Comes (Some (Stamp script log)) held verdict = verdict ≡ stamp_verdict log (held script)
+Comes (Some (Replay program name log time)) held verdict = ReplayComes name time (held program) (held log) verdict
+
+-- the inputs that a command reads and the names of their files, in order
+abbrev pub inputs_of : Option Command → List (Input × List ℕ)
+inputs_of None = []
+inputs_of (Some (Stamp script log)) = (Script, script) ∷ []
+inputs_of (Some (Replay program name log time)) = (Program, program) ∷ (Log, log) ∷ []
+
+abbrev pub reads_in : List (Input × List ℕ) → List FileCall
+reads_in [] = []
+reads_in (input ∷ inputs) = Read input.1 ∷ reads_in inputs
+
+abbrev pub is_same : Input → Input → Bool
+is_same Script Script = true
+is_same Program Program = true
+is_same Log Log = true
+is_same input other = false
+
+-- the reads up to that of an input
+abbrev pub reads_to : Input → List (Input × List ℕ) → List FileCall
+reads_to input [] = []
+reads_to input (first ∷ inputs) = if is_same input first.0 then Read first.1 ∷ [] else Read first.1 ∷ reads_to input inputs
 
 -- the files that a command reads, in order
 abbrev pub reads_of : Option Command → List FileCall
-reads_of None = []
-reads_of (Some (Stamp script log)) = Read script ∷ []
+reads_of command = reads_in (inputs_of command)
 
 abbrev pub optional_write : Option (List ℕ) → List FileCall
 optional_write None = []
@@ -79,6 +170,7 @@ optional_write (Some name) = Write name ∷ []
 abbrev pub writes_of : Option Command → List FileCall
 writes_of None = []
 writes_of (Some (Stamp script log)) = optional_write log
+writes_of (Some (Replay program name log time)) = []
 
 -- the requests of a script that is told
 abbrev pub told_requests : Content → Option (List Request)
@@ -90,6 +182,7 @@ told_requests (Known bytes) = requests_in bytes
 abbrev pub requests_of_run : Option Command → (List ℕ → Content) → Option (List Request)
 requests_of_run None held = None
 requests_of_run (Some (Stamp script log)) held = told_requests (held script)
+requests_of_run (Some (Replay program name log time)) held = None
 
 -- the log of the session after these requests is legal, its times rise, and it has the events that were answered Stamped
 abbrev pub HasItsEvents : Option (List Request) → Type 0
@@ -103,6 +196,10 @@ MayBeDone (Done text files) = ⊤
 MayBeDone (Unknown inputs) = ⊤
 MayBeDone verdict = ⊥
 
+-- the line of some fault of a program
+abbrev pub IsProgramLine : List ℕ → Type 0
+IsProgramLine line = (line ≡ syntax_line 0) ⊎ ((fault : CheckFault) × (line ≡ check_line fault))
+
 abbrev pub HasBadWords : Verdict → Type 0
 HasBadWords BadWords = ⊤
 HasBadWords verdict = ⊥
@@ -114,16 +211,40 @@ HasGoodWords verdict = ⊤
 -- this input may be bad
 abbrev pub MayBeBad : Input → Verdict → Type 0
 MayBeBad input BadWords = ⊥
-MayBeBad input Unreadable = ⊥
+MayBeBad input (Unreadable absent) = ⊥
+MayBeBad input (BadProgram line) = ⊥
 MayBeBad input (BadInput bad) = input ≡ bad
 MayBeBad input (Unknown inputs) = Contains inputs input
 MayBeBad input (Done text files) = ⊥
+
+-- the program may be refused with this line
+abbrev pub MayBeRefused : List ℕ → Verdict → Type 0
+MayBeRefused line BadWords = ⊥
+MayBeRefused line (Unreadable absent) = ⊥
+MayBeRefused line (BadProgram told) = line ≡ told
+MayBeRefused line (BadInput bad) = ⊥
+MayBeRefused line (Unknown inputs) = Contains inputs Program × IsProgramLine line
+MayBeRefused line (Done text files) = ⊥
+
+-- where a run stops at this input, the other was read no later
+abbrev pub IsReadBy : Input → Input → Type 0
+IsReadBy Program other = other ≡ Program
+IsReadBy stop other = ⊤
+
+-- the read of this input may fail
+abbrev pub MayBeRead : Input → Verdict → Type 0
+MayBeRead input BadWords = ⊥
+MayBeRead input (Unreadable absent) = IsReadBy absent input
+MayBeRead input (BadProgram line) = IsReadBy Program input
+MayBeRead input (BadInput bad) = IsReadBy bad input
+MayBeRead input (Unknown inputs) = ⊤
+MayBeRead input (Done text files) = ⊤
 
 -- each status, with the verdicts at which it may come
 abbrev pub MayAnswer : Status → Verdict → Type 0
 MayAnswer status.Ok verdict = MayBeDone verdict
 MayAnswer status.Usage verdict = HasBadWords verdict
-MayAnswer status.Program verdict = ⊥
+MayAnswer status.Program verdict = (line : List ℕ) × MayBeRefused line verdict
 MayAnswer status.Input verdict = (input : Input) × MayBeBad input verdict
 MayAnswer status.ReadFault verdict = HasGoodWords verdict
 MayAnswer status.WriteFault verdict = ⊤
@@ -135,16 +256,21 @@ MayAnswer status.Peer verdict = ⊥
 
 -- ---- which calls were made
 
--- The calls that were made before a status came. All of them before the text is written; the reads alone before a fault of
--- an input. Where the output failed or memory was wanted it is so too: after the reads alone, or before them, no more than
--- a first part of a line was written (`early`, `alone`).
-abbrev pub Asked : Status → List FileCall → List FileCall → Option (List FileCall) → Option (List FileCall) → Type 0 → Type 0 → Type 0
-Asked status.Ok reads writes old new early alone = new ≡ grown old (reads ++ writes)
-Asked status.WriteFault reads writes old new early alone =
-    (new ≡ grown old (reads ++ writes)) ⊎ (((new ≡ grown old reads) × early) ⊎ ((new ≡ old) × alone))
-Asked status.WantOfMemory reads writes old new early alone =
-    (new ≡ grown old (reads ++ writes)) ⊎ (((new ≡ grown old reads) × early) ⊎ ((new ≡ old) × alone))
-Asked other reads writes old new early alone = new ≡ grown old reads
+-- The calls that were made before a status came. All of them before the text is written; before a fault of an input or of a
+-- read, the reads up to that of the input. Where the output failed or memory was wanted it is so too: after some of the reads
+-- alone, or before them, no more than a first part of a line was written (`early`, `alone`).
+abbrev pub Asked : Status → Verdict → List (Input × List ℕ) → List FileCall → Option (List FileCall) → Option (List FileCall) → Type 0 → Type 0 → Type 0
+Asked status.Ok verdict inputs writes old new early alone = new ≡ grown old (reads_in inputs ++ writes)
+Asked status.Program verdict inputs writes old new early alone = new ≡ grown old (reads_to Program inputs)
+Asked status.Input verdict inputs writes old new early alone = (input : Input) × MayBeBad input verdict × (new ≡ grown old (reads_to input inputs))
+Asked status.ReadFault verdict inputs writes old new early alone = (input : Input) × MayBeRead input verdict × (new ≡ grown old (reads_to input inputs))
+Asked status.WriteFault verdict inputs writes old new early alone =
+    (new ≡ grown old (reads_in inputs ++ writes))
+    ⊎ (((input : Input) × (new ≡ grown old (reads_to input inputs)) × early) ⊎ ((new ≡ old) × alone))
+Asked status.WantOfMemory verdict inputs writes old new early alone =
+    (new ≡ grown old (reads_in inputs ++ writes))
+    ⊎ (((input : Input) × (new ≡ grown old (reads_to input inputs)) × early) ⊎ ((new ≡ old) × alone))
+Asked other verdict inputs writes old new early alone = new ≡ grown old (reads_in inputs)
 
 -- ---- what is written
 
@@ -153,6 +279,8 @@ usage_line = codes "usage\n"
 
 abbrev pub name_of : Input → List ℕ
 name_of Script = codes "script"
+name_of Program = codes "program"
+name_of Log = codes "log"
 
 abbrev pub input_line : Input → List ℕ
 input_line input = codes "input " ++ name_of input ++ codes "\n"
@@ -173,7 +301,8 @@ MayTell verdict rose failed line =
     (HasBadWords verdict × (line ≡ usage_line))
     ⊎ (((input : Input) × MayBeBad input verdict × (line ≡ input_line input))
     ⊎ ((HasGoodWords verdict × rose × (line ≡ read_line))
-    ⊎ (MayBeDone verdict × failed × (line ≡ write_line))))
+    ⊎ ((MayBeDone verdict × failed × (line ≡ write_line))
+    ⊎ MayBeRefused line verdict)))
 
 -- a first part of one of these lines was written
 pub record TellsPart (verdict : Verdict) (rose failed : Type 0) (old new : Option (List ℕ)) : Type 0 where
@@ -191,7 +320,8 @@ pub record IsCutByMemory (old new : Option (List ℕ)) (text : List ℕ) : Type 
 -- a fact of the text of a run, which is empty where the run does not come to write; where the files do not tell, nothing is said
 abbrev pub OfText : Verdict → (List ℕ → Type 0) → Type 0
 OfText BadWords fact = fact []
-OfText Unreadable fact = fact []
+OfText (Unreadable absent) fact = fact []
+OfText (BadProgram line) fact = fact []
 OfText (BadInput input) fact = fact []
 OfText (Unknown inputs) fact = ⊤
 OfText (Done text files) fact = fact text
@@ -200,6 +330,7 @@ OfText (Done text files) fact = fact text
 abbrev pub Writes : Status → Verdict → Type 0 → Type 0 → Option (List ℕ) → Option (List ℕ) → Type 0
 Writes status.Ok verdict rose failed old new = OfText verdict (λ text. new ≡ grown old text)
 Writes status.Usage verdict rose failed old new = new ≡ grown old usage_line
+Writes status.Program verdict rose failed old new = (line : List ℕ) × MayBeRefused line verdict × (new ≡ grown old line)
 Writes status.Input verdict rose failed old new = (input : Input) × MayBeBad input verdict × (new ≡ grown old (input_line input))
 Writes status.ReadFault verdict rose failed old new = new ≡ grown old read_line
 Writes status.WriteFault verdict rose failed old new =
@@ -242,7 +373,8 @@ ArePut (file ∷ files) old new = (mid : List ℕ → Content) × IsPut file old
 -- the files of a run are put; where the files do not tell what the run comes to, nothing is said
 abbrev pub PutsFiles : Verdict → (List ℕ → Content) → (List ℕ → Content) → Type 0
 PutsFiles BadWords old new = ⊥
-PutsFiles Unreadable old new = ⊥
+PutsFiles (Unreadable absent) old new = ⊥
+PutsFiles (BadProgram line) old new = ⊥
 PutsFiles (BadInput input) old new = ⊥
 PutsFiles (Unknown inputs) old new = ⊤
 PutsFiles (Done text files) old new = ArePut files old new
@@ -259,7 +391,8 @@ AreKept old new = (name : List ℕ) → new name ≡ old name
 -- the work is not done, so nothing is to be written
 abbrev pub IsNotDone : Verdict → Type 0
 IsNotDone BadWords = ⊤
-IsNotDone Unreadable = ⊤
+IsNotDone (Unreadable absent) = ⊤
+IsNotDone (BadProgram line) = ⊤
 IsNotDone (BadInput input) = ⊤
 IsNotDone (Unknown inputs) = ⊥
 IsNotDone (Done text files) = ⊥

@@ -1,6 +1,8 @@
 //! Replicated worlds. `croquet stamp SCRIPT [--log FILE]` runs a session's requests, prints the replies and writes the log.
 #![tactic(auto)]
 
+mod calls;
+mod replay;
 mod script;
 mod stamp;
 mod status;
@@ -10,6 +12,8 @@ mod tests;
 mod text;
 mod top;
 mod words;
+mod world_run;
+mod world_text;
 
 use crate::status::Fault;
 use crate::system::{Output, SystemFiles, given_words};

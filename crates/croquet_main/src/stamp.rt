@@ -10,49 +10,18 @@ ghost use Rattle.croquet_main.specs.PrintedText.{text_of};
 ghost use Rattle.croquet_main.specs.Verdict.{script_limit, stamp_verdict, told_requests, optional_write, optional_put, ArePut, HasItsEvents, IsNonEmpty, IsNotWritten, IsPut, OfText, PutsFiles, RoseAfter};
 ghost use Rattle.croquet_main.specs.Ends.{AskedTo, ReadEnd, Answers, IsScriptFault, IsSinkFault, IsWriteFault, LeavesBefore, MayEnd, WritesBefore};
 
+use crate::calls::{print, read_input, write_output};
 use crate::script::read_script;
 use crate::status::{Fault, Input};
 use crate::text::text;
 use reflector_core::{Replies, Session, play};
 use session_log::encode;
 use std::alloc::Global;
-use tea_base::{Blob, Text};
-use tea_io::{FileFault, Files, Sink, SinkFault};
+use tea_base::Text;
+use tea_io::{Files, Sink};
 
 /// The most bytes of a script.
 const SCRIPT_LIMIT: u64 = 16777216;
-
-/// Reads an input of at most so many bytes.
-fn read_input<F: Files>(files: &mut F, name: &Text, limit: u64, input: Input) -> Result<Blob, Fault>
-    ensures end { ReadEnd (F.held files.old name.now) limit input result }
-    ensures same { (other : List ℕ) → F.held files.new other ≡ F.held files.old other }
-    ensures asked { AskedTo result (Read name.now ∷ []) [] (F.asked files.old) (F.asked files.new) ⊤ }
-    ensures later { F.faults files.old ≤ F.faults files.new }
-    ensures cause { IsErrOf result Fault.Read → Rose (F.faults files.old) (F.faults files.new) }
-{
-    match files.read(name, limit) {
-        Ok(bytes) => Ok(bytes),
-        Err(FileFault::Failed) => Err(Fault::Read),
-        Err(FileFault::TooLarge { len: _ }) => Err(Fault::Input(input)),
-        Err(FileFault::WantOfMemory) => Err(Fault::Memory),
-    }
-}
-
-/// Writes a file.
-fn write_output<F: Files>(files: &mut F, name: &Text, bytes: &[u8]) -> Result<(), Fault>
-    ensures put { OnOk result (IsPut (name.now, bytes.now) (F.held files.old) (F.held files.new)) }
-    ensures others { (other : List ℕ) → other ≢ name.now → F.held files.new other ≡ F.held files.old other }
-    ensures err { IfErr result IsWriteFault }
-    ensures asked { AskedTo result [] (Write name.now ∷ []) (F.asked files.old) (F.asked files.new) ⊤ }
-    ensures later { F.faults files.old ≤ F.faults files.new }
-    ensures cause { IsErrOf result Fault.Write → Rose (F.faults files.old) (F.faults files.new) }
-{
-    match files.write(name, bytes) {
-        Ok(()) => Ok(()),
-        Err(FileFault::WantOfMemory) => Err(Fault::Memory),
-        Err(_) => Err(Fault::Write),
-    }
-}
 
 /// Writes a session's log, where a file for it is given.
 fn write_log<F: Files>(files: &mut F, name: &Option<Text>, session: &Session) -> Result<(), Fault>
@@ -79,21 +48,6 @@ fn answer_script(alloc: Global, script: &[u8]) -> Result<(Session, Replies), Fau
     match read_script(alloc, script)? {
         Some(requests) => Ok(play(alloc, requests.as_slice())?),
         None => Err(Fault::Input(Input::Script)),
-    }
-}
-
-/// Writes a text.
-fn print<W: Sink>(out: &mut W, text: &str) -> Result<(), Fault>
-    ensures ok { OnOk result (W.written out.new ≡ grown (W.written out.old) text.now) }
-    ensures part { OnErr result (GrowsWithin (W.written out.old) (W.written out.new) text.now) }
-    ensures err { IfErr result IsSinkFault }
-    ensures later { W.faults out.old ≤ W.faults out.new }
-    ensures cause { IsErrOf result Fault.Sink → Rose (W.faults out.old) (W.faults out.new) }
-{
-    match out.write(text.as_bytes()) {
-        Ok(()) => Ok(()),
-        Err(SinkFault::Failed) => Err(Fault::Sink),
-        Err(SinkFault::WantOfMemory) => Err(Fault::Memory),
     }
 }
 

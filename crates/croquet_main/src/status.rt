@@ -3,7 +3,7 @@ ghost use Rattle.std.specs.Prelude.{◌≡◌};
 ghost use Rattle.croquet_main.specs.declared.status.Fault.TheVariants.{Memory};
 
 use std::alloc::AllocError;
-use tea_base::WantOfMemory;
+use tea_base::{Blob, WantOfMemory};
 
 /// The exit status of the program.
 #[derive(Clone, Copy, Debug, PartialEq, Eq)]
@@ -57,12 +57,16 @@ impl Status {
 #[derive(Clone, Copy, Debug, PartialEq, Eq)]
 pub enum Input {
     Script,
+    Program,
+    Log,
 }
 
 /// Why a command stopped.
-#[derive(Clone, Copy, Debug, PartialEq, Eq)]
+#[derive(Debug, Drop)]
 pub enum Fault {
     Usage,
+    /// The program is refused, with the line that tells why.
+    Program { line: Blob },
     /// This input is not in its grammar, or above its limit.
     Input(Input),
     /// A file was not read.

@@ -15,19 +15,18 @@ struct Outcome {
     file: Option<Blob>,
 }
 
-/// A run over a file `s`, where one call of the files and one of the sink may fail.
-fn ran(alloc: Global, words: &[&str], script: Blob, fail: (u32, u32)) -> Result<Outcome, Fail> {
+/// A run over these files, where one call of the sink may fail.
+fn ran_over(
+    alloc: Global,
+    words: &[&str],
+    mut files: MemFiles,
+    fail: u32,
+) -> Result<Outcome, Fail> {
     let mut given = Words::new(alloc);
     for word in words {
         given.push(Text::copy(alloc, word)?)?;
     }
-    let mut held = NamedBlobs::new(alloc);
-    held.push(NamedBlob {
-        name: Text::copy(alloc, "s")?,
-        bytes: script,
-    })?;
-    let mut files = MemFiles::new(alloc, held, Numbers::from_vec([fail.0].to_vec(alloc)?));
-    let mut out = MemSink::new(alloc, Numbers::from_vec([fail.1].to_vec(alloc)?));
+    let mut out = MemSink::new(alloc, Numbers::from_vec([fail].to_vec(alloc)?));
     let status = croquet(alloc, &given, &mut files, &mut out);
     let text = String::from_utf8(out.into_bytes().into_vec()).map_err(|_| "not text")?;
     let file = match files.get(&Text::copy(alloc, "f")?) {
@@ -36,6 +35,52 @@ fn ran(alloc: Global, words: &[&str], script: Blob, fail: (u32, u32)) -> Result<
     };
     Ok(Outcome { status, text, file })
 }
+
+/// One file in memory, where one call may fail.
+fn one_file(alloc: Global, name: &str, bytes: Blob, fail: u32) -> Result<MemFiles, Fail> {
+    let mut held = NamedBlobs::new(alloc);
+    held.push(NamedBlob {
+        name: Text::copy(alloc, name)?,
+        bytes,
+    })?;
+    let fail = Numbers::from_vec([fail].to_vec(alloc)?);
+    Ok(MemFiles::new(alloc, held, fail))
+}
+
+/// A run over a file `s`, where one call of the files and one of the sink may fail.
+fn ran(alloc: Global, words: &[&str], script: Blob, fail: (u32, u32)) -> Result<Outcome, Fail> {
+    let files = one_file(alloc, "s", script, fail.0)?;
+    ran_over(alloc, words, files, fail.1)
+}
+
+/// What `replay p NAME l TIME` answers and writes, where the files `p` and `l` hold these. The program is read by the second
+/// call of the files, and the log by the third.
+fn replayed(
+    alloc: Global,
+    program: &[u8],
+    log: &[u8],
+    (name, time): (&str, &str),
+    fail: (u32, u32),
+) -> Result<(Status, String), Fail> {
+    let mut files = one_file(alloc, "p", Blob::copy(alloc, program)?, fail.0)?;
+    files
+        .write(&Text::copy(alloc, "l")?, log)
+        .map_err(|_| "not written")?;
+    let words = ["replay", "p", name, "l", time];
+    let Outcome { status, text, .. } = ran_over(alloc, &words, files, fail.1)?;
+    Ok((status, text))
+}
+
+/// The log without entries.
+const NO_ENTRIES: &[u8] = b"TEALOG01\x00\x00\x00\x00";
+
+/// A log with a Join of view 7 at time 1, and an Event at time 2.
+const WITH_EVENT: &[u8] = b"TEALOG01\x00\x00\x00\x02\
+    \x00\x00\x00\x00\x00\x00\x00\x01\x00\x00\x00\x07\x01\
+    \x00\x00\x00\x00\x00\x00\x00\x02\x00\x00\x00\x07\x03\x00\x00\x00\x01\x00\x00\x00\x02hi";
+
+/// A program of one object.
+const SMALL: &str = "class Root{init(o){}}";
 
 /// What `stamp s` answers and writes for a script.
 fn stamped(alloc: Global, script: &[u8]) -> Result<(Status, String), Fail> {
@@ -194,6 +239,9 @@ fn words_follow_their_rules(rt: HostRuntime) -> Result<(), Fail> {
         &["Stamp", "s"],
         &["help"],
         &["replay", "p", "n", "l", "9007199254740992"],
+        &["replay", "p", "n", "l", "01"],
+        &["replay", "p", "n", "l"],
+        &["replay", "p", "n", "l", "0", "--log", "f"],
     ] {
         let Outcome { status, text, .. } = ran(alloc, words, Blob::new(alloc), (0, 0))?;
         assert_eq!(rt; text.as_str(), "usage\n", "of {words:?}");
@@ -257,6 +305,138 @@ fn faults_of_the_outside_are_told(rt: HostRuntime) -> Result<(), Fail> {
         assert_eq!(rt; answer.text.as_str(), text, "of {script} {fail:?}");
         assert_eq!(rt; answer.status, status);
         assert_eq!(rt; answer.file.is_some(), put);
+    }
+    Ok(())
+}
+
+#[test]
+fn worlds_are_printed(rt: HostRuntime) -> Result<(), Fail> {
+    for (program, text) in [
+        (
+            SMALL,
+            "time 0 objects 1 pending 0 subscriptions 0 faults 0 digest 6105260a838bed442c565ff245fd69ae15bd6c887505be4a92748d5c75ae7da1\n",
+        ),
+        (
+            "class Root{field a;field b;field c;init(o){this.a = 1; this.b = 9223372036854775807 + 1; this.c = 1;}}",
+            "time 0 objects 1 pending 0 subscriptions 0 faults 1 digest 40c41d8b420b07ecf893a57447b86fc6df3c3e99f4f2134e3f10e1deeb88593c\n",
+        ),
+    ] {
+        let (status, written) = replayed(
+            rt.alloc(),
+            program.as_bytes(),
+            NO_ENTRIES,
+            ("a", "0"),
+            (0, 0),
+        )?;
+        assert_eq!(rt; written.as_str(), text, "of {program}");
+        assert_eq!(rt; status, Status::Ok);
+    }
+    Ok(())
+}
+
+#[test]
+fn a_world_that_never_rests_is_printed(rt: HostRuntime) -> Result<(), Fail> {
+    let program =
+        "class Root{field n;init(o){this.n=0;this.future(0).loop();}loop(){this.n=this.n+1;this.future(0).loop();}}";
+    let (status, written) = replayed(
+        rt.alloc(),
+        program.as_bytes(),
+        NO_ENTRIES,
+        ("a", "0"),
+        (0, 0),
+    )?;
+    assert_eq!(rt; status, Status::Ok);
+    assert!(rt;
+        written.as_str().ends_with(
+            " faults 1 digest 5074d37609942fbf680989eef5d3d9018b83e87f7e4c5de2381baca903f93506\n"
+        )
+    );
+    Ok(())
+}
+
+#[test]
+fn what_a_replay_reads_may_be_at_fault(rt: HostRuntime) -> Result<(), Fail> {
+    let alloc = rt.alloc();
+    let long = vec![in alloc; b' '; 65537]?;
+    for (program, log, fail, status, text) in [
+        (
+            "class Root{init(o){this.x=1;}}".as_bytes(),
+            NO_ENTRIES,
+            (0, 0),
+            Status::Program,
+            "no-field x\n",
+        ),
+        (
+            "class Root{field x;field x;}".as_bytes(),
+            WITH_EVENT,
+            (0, 0),
+            Status::Program,
+            "twice x\n",
+        ),
+        (
+            "class A{}".as_bytes(),
+            WITH_EVENT,
+            (3, 0),
+            Status::Program,
+            "syntax 0\n",
+        ),
+        (
+            long.as_slice(),
+            WITH_EVENT,
+            (3, 0),
+            Status::Input,
+            "input program\n",
+        ),
+        (
+            SMALL.as_bytes(),
+            WITH_EVENT,
+            (0, 0),
+            Status::Input,
+            "input log\n",
+        ),
+        (
+            SMALL.as_bytes(),
+            b"TEALOG01".as_slice(),
+            (0, 0),
+            Status::Input,
+            "input log\n",
+        ),
+        (
+            SMALL.as_bytes(),
+            NO_ENTRIES,
+            (2, 0),
+            Status::ReadFault,
+            "read-fault\n",
+        ),
+        (
+            SMALL.as_bytes(),
+            NO_ENTRIES,
+            (3, 0),
+            Status::ReadFault,
+            "read-fault\n",
+        ),
+        (SMALL.as_bytes(), NO_ENTRIES, (0, 1), Status::WriteFault, ""),
+    ] {
+        let (ended, written) = replayed(alloc, program, log, ("a", "0"), fail)?;
+        assert_eq!(rt; written.as_str(), text, "at {fail:?}");
+        assert_eq!(rt; ended, status);
+    }
+    Ok(())
+}
+
+#[test]
+fn names_have_255_bytes_at_most(rt: HostRuntime) -> Result<(), Fail> {
+    let alloc = rt.alloc();
+    for (bytes, want) in [(255, Status::Ok), (256, Status::Usage)] {
+        let name = String::from_utf8(vec![in alloc; b'n'; bytes]?).map_err(|_| "not text")?;
+        let (status, _) = replayed(
+            alloc,
+            SMALL.as_bytes(),
+            NO_ENTRIES,
+            (name.as_str(), "9007199254740991"),
+            (0, 0),
+        )?;
+        assert_eq!(rt; status, want);
     }
     Ok(())
 }

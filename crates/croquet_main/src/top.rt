@@ -1,12 +1,13 @@
 //! The top call: all that the program does.
-ghost use Rattle.std.specs.Prelude.{◌≡◌, ◌⊎◌, ℕ, ◌≤◌, List, IfErr, OnOk, OnErr, IsErrOf, Option, Err, OnErr};
+ghost use Rattle.std.specs.Prelude.{◌≡◌, ◌⊎◌, ℕ, ◌≤◌, ◌++◌, List, IfErr, OnOk, OnErr, IsErrOf, Option, Err, OnErr};
 ghost use Rattle.tea_io.specs.declared.files.FileCall.{FileCall};
 ghost use Rattle.tea_io.specs.Sink.{GrowsWithin};
 ghost use Rattle.tea_io.specs.Told.{grown, Rose};
 ghost use Rattle.croquet_main.specs.CommandWords.{command_of};
-ghost use Rattle.croquet_main.specs.Verdict.{Verdict, verdict_of, reads_of, writes_of, requests_of_run, Asked, FileFailed, HasItsEvents, IsNonEmpty, IsNotWritten, Leaves, MayAnswer, OfText, PutsFiles, RoseAfter, TellsPart, Writes, input_line, memory_line};
-ghost use Rattle.croquet_main.specs.Ends.{AskedTo, IsTold, LeavesBefore, MayEnd, Tells, WritesBefore};
+ghost use Rattle.croquet_main.specs.Verdict.{Verdict, Comes, inputs_of, reads_of, writes_of, requests_of_run, Asked, FileFailed, HasItsEvents, IsNonEmpty, IsNotWritten, Leaves, MayAnswer, MayBeDone, OfText, PutsFiles, RoseAfter, TellsPart, Writes, input_line, memory_line};
+ghost use Rattle.croquet_main.specs.Ends.{AskedFor, MadeAll, IsTold, LeavesBefore, MayEnd, Tells, WritesBefore};
 
+use crate::replay::replay;
 use crate::stamp::stamp;
 use crate::status::{Fault, Input, Status};
 use crate::words::{Command, read_command};
@@ -21,18 +22,23 @@ fn run<F: Files, W: Sink>(
     files: &mut F,
     out: &mut W,
 ) -> Result<(), Fault>
-    ensures end { MayEnd result (verdict_of (command_of words.now) (F.held files.old)) }
-    ensures text { OnOk result (OfText (verdict_of (command_of words.now) (F.held files.old))
-        (λ text. W.written out.new ≡ grown (W.written out.old) text)) }
-    ensures part { IfErr result (λ fault. WritesBefore fault (verdict_of (command_of words.now) (F.held files.old))
-        (W.written out.old) (W.written out.new)) }
+    ensures end { (verdict : Verdict) → Comes (command_of words.now) (F.held files.old) verdict → MayEnd result verdict }
+    ensures text { OnOk result ((verdict : Verdict) → Comes (command_of words.now) (F.held files.old) verdict →
+        OfText verdict (λ text. W.written out.new ≡ grown (W.written out.old) text)) }
+    ensures comes { OnOk result ((verdict : Verdict) × Comes (command_of words.now) (F.held files.old) verdict × MayBeDone verdict) }
+    ensures part { IfErr result (λ fault. (verdict : Verdict) → Comes (command_of words.now) (F.held files.old) verdict →
+        WritesBefore fault verdict (W.written out.old) (W.written out.new)) }
     ensures events { OnOk result (HasItsEvents (requests_of_run (command_of words.now) (F.held files.old))) }
-    ensures asked { AskedTo result (reads_of (command_of words.now)) (writes_of (command_of words.now))
+    ensures asked { (verdict : Verdict) → Comes (command_of words.now) (F.held files.old) verdict →
+        AskedFor result verdict (inputs_of (command_of words.now)) (writes_of (command_of words.now))
         (F.asked files.old) (F.asked files.new) (W.written out.new ≡ W.written out.old) }
 
-    ensures put { OnOk result (PutsFiles (verdict_of (command_of words.now) (F.held files.old)) (F.held files.old) (F.held files.new)) }
-    ensures kept { IfErr result (λ fault. LeavesBefore fault (verdict_of (command_of words.now) (F.held files.old))
-        (F.held files.old) (F.held files.new) (W.written out.new ≡ W.written out.old)) }
+    ensures write { IsErrOf result Fault.Write → MadeAll (reads_of (command_of words.now) ++ writes_of (command_of words.now))
+        (F.asked files.old) (F.asked files.new) (W.written out.old) (W.written out.new) }
+
+    ensures put { OnOk result ((verdict : Verdict) → Comes (command_of words.now) (F.held files.old) verdict → PutsFiles verdict (F.held files.old) (F.held files.new)) }
+    ensures kept { IfErr result (λ fault. (verdict : Verdict) → Comes (command_of words.now) (F.held files.old) verdict →
+        LeavesBefore fault verdict (F.held files.old) (F.held files.new) (W.written out.new ≡ W.written out.old)) }
     ensures others { (name : List ℕ) → IsNotWritten (writes_of (command_of words.now)) name → F.held files.new name ≡ F.held files.old name }
 
     ensures files_later { F.faults files.old ≤ F.faults files.new }
@@ -44,6 +50,14 @@ fn run<F: Files, W: Sink>(
 {
     match read_command(alloc, words)? {
         Some(Command::Stamp { script, log }) => stamp(alloc, &script, &log, files, out),
+        Some(
+            Command::Replay {
+                program,
+                name,
+                log,
+                time,
+            },
+        ) => replay(alloc, &program, &name, &log, time, files, out),
         None => Err(Fault::Usage),
     }
 }
@@ -54,20 +68,31 @@ fn input_line(input: Input) -> &'static str
 {
     match input {
         Input::Script => "input script\n",
+        Input::Program => "input program\n",
+        Input::Log => "input log\n",
     }
 }
 
 /// Writes a last line. A sink that fails at it decides the status.
+fn tell_line<W: Sink>(out: &mut W, line: &[u8], status: Status) -> Status
+    ensures told { Tells line.now status result (W.written out.old) (W.written out.new)
+        (Rose (W.faults out.old) (W.faults out.new)) }
+    ensures later { W.faults out.old ≤ W.faults out.new }
+{
+    match out.write(line) {
+        Ok(()) => status,
+        Err(SinkFault::Failed) => Status::WriteFault,
+        Err(SinkFault::WantOfMemory) => Status::WantOfMemory,
+    }
+}
+
+/// The same of a line of text.
 fn tell<W: Sink>(out: &mut W, line: &str, status: Status) -> Status
     ensures told { Tells line.now status result (W.written out.old) (W.written out.new)
         (Rose (W.faults out.old) (W.faults out.new)) }
     ensures later { W.faults out.old ≤ W.faults out.new }
 {
-    match out.write(line.as_bytes()) {
-        Ok(()) => status,
-        Err(SinkFault::Failed) => Status::WriteFault,
-        Err(SinkFault::WantOfMemory) => Status::WantOfMemory,
-    }
+    tell_line(out, line.as_bytes(), status)
 }
 
 /// Tells a fault by its line, and gives its status.
@@ -77,6 +102,7 @@ pub fn end<W: Sink>(fault: Fault, out: &mut W) -> Status
 {
     match fault {
         Fault::Usage => tell(out, "usage\n", Status::Usage),
+        Fault::Program { line } => tell_line(out, line.bytes(), Status::Program),
         Fault::Input(input) => tell(out, input_line(input), Status::Input),
         Fault::Read => tell(out, "read-fault\n", Status::ReadFault),
         Fault::Write => tell(out, "write-fault\n", Status::WriteFault),
@@ -94,19 +120,21 @@ pub fn croquet<F: Files, W: Sink>(
     out: &mut W,
 ) -> Status
     // Each status comes only where the words and the told files let it.
-    ensures answer { MayAnswer result (verdict_of (command_of words.now) (F.held files.old)) }
-    ensures written { Writes result (verdict_of (command_of words.now) (F.held files.old))
+    ensures answer { (verdict : Verdict) → Comes (command_of words.now) (F.held files.old) verdict → MayAnswer result verdict }
+    ensures comes { result ≡ Status.Ok → (verdict : Verdict) × Comes (command_of words.now) (F.held files.old) verdict × MayBeDone verdict }
+    ensures written { (verdict : Verdict) → Comes (command_of words.now) (F.held files.old) verdict → Writes result verdict
         (Rose (F.faults files.old) (F.faults files.new))
         (RoseAfter F.asked F.faults (reads_of (command_of words.now)) files.old files.new × IsNonEmpty (writes_of (command_of words.now)))
         (W.written out.old) (W.written out.new) }
-    ensures asked { Asked result (reads_of (command_of words.now)) (writes_of (command_of words.now)) (F.asked files.old) (F.asked files.new)
-        (TellsPart (verdict_of (command_of words.now) (F.held files.old)) (Rose (F.faults files.old) (F.faults files.new))
+    ensures asked { (verdict : Verdict) → Comes (command_of words.now) (F.held files.old) verdict →
+        Asked result verdict (inputs_of (command_of words.now)) (writes_of (command_of words.now)) (F.asked files.old) (F.asked files.new)
+        (TellsPart verdict (Rose (F.faults files.old) (F.faults files.new))
         (RoseAfter F.asked F.faults (reads_of (command_of words.now)) files.old files.new × IsNonEmpty (writes_of (command_of words.now)))
         (W.written out.old) (W.written out.new)
         ⊎ GrowsWithin (W.written out.old) (W.written out.new) memory_line)
         (GrowsWithin (W.written out.old) (W.written out.new) memory_line) }
-    ensures files { Leaves result (verdict_of (command_of words.now) (F.held files.old)) (F.held files.old) (F.held files.new)
-        (TellsPart (verdict_of (command_of words.now) (F.held files.old)) (Rose (F.faults files.old) (F.faults files.new))
+    ensures files { (verdict : Verdict) → Comes (command_of words.now) (F.held files.old) verdict → Leaves result verdict (F.held files.old) (F.held files.new)
+        (TellsPart verdict (Rose (F.faults files.old) (F.faults files.new))
         (RoseAfter F.asked F.faults (reads_of (command_of words.now)) files.old files.new × IsNonEmpty (writes_of (command_of words.now)))
         (W.written out.old) (W.written out.new)
         ⊎ GrowsWithin (W.written out.old) (W.written out.new) memory_line) }

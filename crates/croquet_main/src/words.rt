@@ -2,16 +2,33 @@
 ghost use Rattle.std.specs.Prelude.{◌≡◌, ◌<◌, ℕ, [], ◌∷◌, true, None, IfOk, IfSome, IfNone, MatchBool, IsTrue, ◌↔◌, nat_lt};
 ghost use Rattle.std.specs.List.{list_all};
 ghost use Rattle.std.specs.Str.{bytes_eq};
-ghost use Rattle.croquet_main.specs.CommandWords.{command_of, stamp_of, parts_of, is_empty, is_option, value_of, without, IsFirstOf, HasNone};
+ghost use Rattle.croquet_main.specs.CommandWords.{command_of, command_named, stamp_of, replay_of, parts_of, is_empty, is_option, value_of, without, IsFirstOf, IsWithinBounds, HasNone};
 
 use std::alloc::Global;
 use tea_base::{List, Text, WantOfMemory, Words};
+use text_lines::number;
+
+/// The most bytes of UTF-8 that the name of a session has.
+const MOST_NAME: usize = 255;
+
+/// The latest TeaTime that a world is advanced to, in microseconds.
+const LAST_TIME: u64 = 9007199254740991;
 
 /// A command with its words.
 #[derive(Drop)]
 pub enum Command {
     /// `stamp SCRIPT [--log FILE]`
-    Stamp { script: Text, log: Option<Text> },
+    Stamp {
+        script: Text,
+        log: Option<Text>,
+    },
+    /// `replay PROGRAM NAME LOG TIME`
+    Replay {
+        program: Text,
+        name: Text,
+        log: Text,
+        time: u64,
+    },
 }
 
 /// An option and its value.
@@ -147,7 +164,8 @@ fn take_setting(settings: &mut Vec<Setting>, option: &str) -> Option<Text>
 
 /// `stamp SCRIPT [--log FILE]`
 fn stamp(parts: Parts) -> Option<Command>
-    ensures { result ≡ stamp_of parts }
+    ensures read { result ≡ stamp_of parts }
+    ensures bounds { IfSome result IsWithinBounds }
 {
     let Parts {
         positionals,
@@ -164,18 +182,56 @@ fn stamp(parts: Parts) -> Option<Command>
     }
 }
 
+/// `replay PROGRAM NAME LOG TIME`
+fn replay(parts: Parts) -> Option<Command>
+    ensures read { result ≡ replay_of parts }
+    ensures bounds { IfSome result IsWithinBounds }
+{
+    let Parts {
+        positionals,
+        settings,
+    } = parts;
+    let mut positionals = positionals.into_vec();
+    let time = positionals.pop()?;
+    let log = positionals.pop()?;
+    let name = positionals.pop()?;
+    let program = positionals.pop()?;
+    if !positionals.is_empty() || !settings.is_empty() || name.bytes().len() > MOST_NAME {
+        return None;
+    }
+    let time = number(time.as_str(), 0, LAST_TIME)?;
+    Some(Command::Replay {
+        program,
+        name,
+        log,
+        time,
+    })
+}
+
+/// The command of this name, where the words after it follow its rules.
+fn command_named(name: &Text, parts: Parts) -> Option<Command>
+    ensures read { result ≡ command_named name.now parts }
+    ensures bounds { IfSome result IsWithinBounds }
+{
+    if is_word(name, "stamp") {
+        stamp(parts)
+    } else if is_word(name, "replay") {
+        replay(parts)
+    } else {
+        None
+    }
+}
+
 /// The command that the words ask for, where they follow the rules.
 pub fn read_command(alloc: Global, words: &Words) -> Result<Option<Command>, WantOfMemory>
-    ensures { IfOk result (λ read. read ≡ command_of words.now) }
+    ensures read { IfOk result (λ read. read ≡ command_of words.now) }
+    ensures bounds { IfOk result (λ read. IfSome read IsWithinBounds) }
 {
     let [name, words @ ..] = words.as_slice() else {
         return Ok(None);
     };
-    if !is_word(name, "stamp") {
-        return Ok(None);
-    }
     match read_parts(alloc, words)? {
-        Some(parts) => Ok(stamp(parts)),
+        Some(parts) => Ok(command_named(name, parts)),
         None => Ok(None),
     }
 }

@@ -32,8 +32,12 @@ length-push_if : (b : Bool) (log : List Entry) (entry : Entry) → length (log +
 length-push_if true log entry = omega (arith, length-append log (entry ∷ []))
 length-push_if false log entry = omega (arith, length-append log [])
 
+-- one Event more of its view
+pub last_number-push : (log : List Entry) (entry : Entry) (view : ℕ) → last_number (log ++ entry ∷ []) view ≡ last_number log view + cond (is_event_of view entry) 1 0
+last_number-push log entry view = ap length (sent-push log entry view) ∙ length-push_if (is_event_of view entry) (sent log view) entry
+
 pub last_number_more : (payloads : List ℕ) (heads : List Head) (i : ℕ) (view : ℕ) → i < length heads → last_number (map (entry_of payloads) (take (i + 1) heads)) view ≡ last_number (map (entry_of payloads) (take i heads)) view + cond (is_event_of view (entry_of payloads (get_or heads i no_head))) 1 0
-last_number_more payloads heads i view below = rw (entries_more payloads heads i no_head below, sent-push) (length-push_if (is_event_of view (entry_of payloads (get_or heads i no_head))) _ _)
+last_number_more payloads heads i view below = rw (entries_more payloads heads i no_head below) (last_number-push _ _ view)
 
 pub event_found : (payloads : List ℕ) (heads : List Head) (i : ℕ) (view number : ℕ) → i < length heads → is_event_of view (entry_of payloads (get_or heads i no_head)) ≡ true → last_number (map (entry_of payloads) (take i heads)) view + 1 ≡ number → event (map (entry_of payloads) heads) view number ≡ Some (entry_of payloads (get_or heads i no_head))
 event_found payloads heads i view number below is count =

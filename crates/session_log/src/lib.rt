@@ -2,10 +2,15 @@
 #![tactic(auto)]
 
 mod heads;
+mod legality;
+mod lent;
 mod log;
 mod payloads;
+mod reading;
 mod spelling;
+mod tally;
 #[cfg(test)]
 mod tests;
 
 pub use log::{GetRefusal, Log, encode};
+pub use reading::{LogFault, decode};

@@ -1,7 +1,12 @@
-//! Each call that wants memory, once, and the readings and bytes of a small log.
+//! Each call that wants memory, once, the readings and bytes of a small log, and bytes of no log.
 use super::*;
 use std::test::Fail;
 use tea_base::{Blob, Entry, What};
+
+/// The Join of view 7 at 1, and its Event 1 at 2.
+const SPELLED: &[u8] = b"TEALOG01\x00\x00\x00\x02\
+    \x00\x00\x00\x00\x00\x00\x00\x01\x00\x00\x00\x07\x01\
+    \x00\x00\x00\x00\x00\x00\x00\x02\x00\x00\x00\x07\x03\x00\x00\x00\x01\x00\x00\x00\x02hi";
 
 #[test]
 fn an_event_is_read_as_it_was_pushed(rt: HostRuntime) -> Result<(), Fail> {
@@ -74,9 +79,60 @@ fn a_log_is_spelled(rt: HostRuntime) -> Result<(), Fail> {
     log.reserve(2, 2)?;
     log.push(1, 7, &What::Join);
     log.push_event(2, 7, 1, b"hi");
-    let spelled = b"TEALOG01\x00\x00\x00\x02\
-        \x00\x00\x00\x00\x00\x00\x00\x01\x00\x00\x00\x07\x01\
-        \x00\x00\x00\x00\x00\x00\x00\x02\x00\x00\x00\x07\x03\x00\x00\x00\x01\x00\x00\x00\x02hi";
-    assert_eq!(rt; encode(&log)?.bytes(), spelled.as_slice());
+    assert_eq!(rt; encode(&log)?.bytes(), SPELLED);
+    Ok(())
+}
+
+#[test]
+fn a_log_is_read_from_its_bytes(rt: HostRuntime) -> Result<(), Fail> {
+    let alloc = rt.alloc();
+    let log = decode(alloc, SPELLED)?;
+    assert_eq!(rt; log.len(), 2);
+    assert!(rt; log.payload_is(2, b"hi"));
+    assert_eq!(rt; encode(&log)?.bytes(), SPELLED);
+    let none = decode(alloc, b"TEALOG01\x00\x00\x00\x00")?;
+    assert_eq!(rt; none.len(), 0);
+    Ok(())
+}
+
+#[test]
+fn a_log_is_all_of_the_bytes(rt: HostRuntime) -> Result<(), Fail> {
+    let alloc = rt.alloc();
+    for len in 0..SPELLED.len() {
+        let read = decode(alloc, &SPELLED[..len]);
+        assert_eq!(rt; read.err(), Some(LogFault::BadLog), "of {len} bytes");
+    }
+    let mut longer = Vec::from_slice(alloc, SPELLED)?;
+    longer.push(0)?;
+    assert_eq!(rt; decode(alloc, &longer).err(), Some(LogFault::BadLog));
+    Ok(())
+}
+
+#[test]
+fn no_illegal_log_is_read(rt: HostRuntime) -> Result<(), Fail> {
+    for bytes in [
+        // a count without entries
+        b"TEALOG01\xff\xff\xff\xff".as_slice(),
+        // a Join of view 0
+        b"TEALOG01\x00\x00\x00\x01\
+            \x00\x00\x00\x00\x00\x00\x00\x01\x00\x00\x00\x00\x01",
+        // an Exit of a view that is not here
+        b"TEALOG01\x00\x00\x00\x01\
+            \x00\x00\x00\x00\x00\x00\x00\x01\x00\x00\x00\x07\x02",
+        // a kind of no entry
+        b"TEALOG01\x00\x00\x00\x01\
+            \x00\x00\x00\x00\x00\x00\x00\x01\x00\x00\x00\x07\x04",
+        // two entries of one time
+        b"TEALOG01\x00\x00\x00\x02\
+            \x00\x00\x00\x00\x00\x00\x00\x01\x00\x00\x00\x07\x01\
+            \x00\x00\x00\x00\x00\x00\x00\x01\x00\x00\x00\x07\x02",
+        // a first Event with the number 2
+        b"TEALOG01\x00\x00\x00\x02\
+            \x00\x00\x00\x00\x00\x00\x00\x01\x00\x00\x00\x07\x01\
+            \x00\x00\x00\x00\x00\x00\x00\x02\x00\x00\x00\x07\x03\x00\x00\x00\x02\x00\x00\x00\x00",
+    ] {
+        let read = decode(rt.alloc(), bytes);
+        assert_eq!(rt; read.err(), Some(LogFault::BadLog), "of {bytes:?}");
+    }
     Ok(())
 }

@@ -1,0 +1,63 @@
+//! The readers of single fields.
+ghost use Rattle.std.specs.Prelude.{◌≡◌, length};
+ghost use Rattle.std.specs.Option.{IfSome, option_map};
+ghost use Rattle.std.specs.Int.{w32, w64};
+ghost use Rattle.byte_fields.specs.Fields.{byte_at, bytes_at, number_at, blob_at, mark_at};
+
+/// The first `count` bytes.
+pub fn bytes_at(bytes: &[u8], count: usize) -> Option<(&[u8], &[u8])>
+    ensures read { option_map (λ x. (x.0.now, x.1.now)) result ≡ bytes_at count bytes.now }
+    ensures len { IfSome result (λ x. length x.0.now ≡ count) }
+{
+    if bytes.len() < count {
+        return None;
+    }
+    Some(bytes.split_at(count))
+}
+
+/// The number of the first byte.
+pub fn u8_at(bytes: &[u8]) -> Option<(u8, &[u8])>
+    ensures { option_map (λ x. (x.0, x.1.now)) result ≡ byte_at bytes.now }
+{
+    let (first, rest) = bytes.split_first()?;
+    Some((*first, rest))
+}
+
+/// The number of the first four bytes.
+pub fn u32_at(bytes: &[u8]) -> Option<(u32, &[u8])>
+    ensures { option_map (λ x. (x.0, x.1.now)) result ≡ number_at w32 bytes.now }
+{
+    let (front, rest) = bytes_at(bytes, 4)?;
+    let number = u32::from_be_bytes([front[0], front[1], front[2], front[3]]);
+    Some((number, rest))
+}
+
+/// The number of the first eight bytes.
+pub fn u64_at(bytes: &[u8]) -> Option<(u64, &[u8])>
+    ensures { option_map (λ x. (x.0, x.1.now)) result ≡ number_at w64 bytes.now }
+{
+    let (front, rest) = bytes_at(bytes, 8)?;
+    let number = u64::from_be_bytes([
+        front[0], front[1], front[2], front[3], front[4], front[5], front[6], front[7],
+    ]);
+    Some((number, rest))
+}
+
+/// A length of four bytes, and so many bytes. Gives those bytes.
+pub fn blob_at(bytes: &[u8]) -> Option<(&[u8], &[u8])>
+    ensures { option_map (λ x. (x.0.now, x.1.now)) result ≡ blob_at bytes.now }
+{
+    let (length, rest) = u32_at(bytes)?;
+    bytes_at(rest, length as usize)
+}
+
+/// The bytes after a mark that they begin with.
+pub fn after_mark<'a>(bytes: &'a [u8], mark: &[u8]) -> Option<&'a [u8]>
+    ensures { option_map (λ rest. rest.now) result ≡ mark_at mark.now bytes.now }
+{
+    let (front, rest) = bytes_at(bytes, mark.len())?;
+    if front != mark {
+        return None;
+    }
+    Some(rest)
+}

@@ -1,0 +1,7 @@
+use Rattle.std.proofs.Common.{Err}
+use Rattle.croquet_main.specs.declared.status.Fault.{Fault}
+use Rattle.croquet_main.proofs.VerdictLaws.{IfErr-all, WritesBefore-nothing}
+use Rattle.croquet_main.proofs.replay.replay.Goals as goal
+
+pub returns-in_err-text-clause-part : goal.returns-in_err-text-clause-part
+returns-in_err-text-clause-part g c = IfErr-all c.from_residual.result _ (λ (fault : Fault) verdict comes. WritesBefore-nothing fault verdict _)

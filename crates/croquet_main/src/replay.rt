@@ -1,0 +1,159 @@
+//! The command `replay`: the world of a session at a time, from its program and its log.
+ghost use Rattle.std.specs.Prelude.{◌≡◌, ℕ, ◌≤◌, ◌<◌, List, [], ◌∷◌, ◌++◌, IfOk, IfErr, OnOk, IsErrOf, ⊤, length, codes, encode_utf8_all};
+ghost use Rattle.tea_io.specs.Told.{grown, Rose};
+ghost use Rattle.croquet_main.specs.declared.status.Input.TheVariants as input;
+ghost use Rattle.croquet_main.specs.CommandWords.{most_name};
+ghost use Rattle.croquet_main.specs.PrintedText.{syntax_line};
+ghost use Rattle.croquet_main.specs.Verdict.{Verdict, program_limit, log_limit, AreKept, MayBeDone, OfText, ReplayComes};
+ghost use Rattle.croquet_main.specs.Ends.{AskedFor, IsReadingFault, LeavesBefore, LogEnd, MayEnd, ProgramEnd, WorkEnd, WritesBefore};
+ghost use Rattle.model_value.specs.Valid.{time_limit};
+
+use crate::calls::{print, read_input};
+use crate::status::{Fault, Input};
+use crate::world_run::{has_event, replayed};
+use model_check::{CheckFault, Checked, check};
+use model_lang::{LangFault, one_tree, parse};
+use session_log::{Log, LogFault, decode};
+use snapshot_codec::session_id;
+use std::alloc::Global;
+use tea_base::{Blob, Text, WantOfMemory};
+use tea_io::{Files, Sink};
+use text_lines::numbered;
+
+/// The most bytes of a program.
+const PROGRAM_LIMIT: u64 = 65536;
+
+/// The most bytes of a log.
+const LOG_LIMIT: u64 = 134217728;
+
+/// The line of a text that is no program from a place on.
+fn syntax_line(alloc: Global, at: u32) -> Result<Blob, WantOfMemory>
+    ensures { IfOk result (λ line. line ≡ syntax_line at) }
+{
+    let mut line = numbered(alloc, "syntax", &[u64::from(at)])?;
+    line.push_str("\n")?;
+    Ok(Blob::from_vec(line.into_bytes()))
+}
+
+/// A line of a word and a name.
+fn named_line(alloc: Global, word: &str, name: &Text) -> Result<Blob, WantOfMemory>
+    ensures { IfOk result (λ line. line ≡ word.now ++ encode_utf8_all name.now ++ codes "\n") }
+{
+    let mut line = String::from_str(alloc, word)?;
+    line.push_str(name.as_str())?;
+    line.push_str("\n")?;
+    Ok(Blob::from_vec(line.into_bytes()))
+}
+
+/// The program that a text spells, without faults.
+fn read_program(alloc: Global, text: &[u8]) -> Result<Checked, Fault>
+    ensures { ProgramEnd result text.now }
+{
+    let program = match parse(alloc, text) {
+        Ok(program) => program,
+        Err(LangFault::Syntax { at }) => {
+            return Err(Fault::Program {
+                line: syntax_line(alloc, at)?,
+            });
+        }
+        Err(LangFault::WantOfMemory) => return Err(Fault::Memory),
+    };
+    match check(alloc, program) {
+        Ok(checked) => Ok(checked),
+        Err(CheckFault::Twice { name }) => Err(Fault::Program {
+            line: named_line(alloc, "twice ", &name)?,
+        }),
+        Err(CheckFault::NoField { name }) => Err(Fault::Program {
+            line: named_line(alloc, "no-field ", &name)?,
+        }),
+        Err(CheckFault::WantOfMemory) => Err(Fault::Memory),
+    }
+}
+
+/// The log that these bytes spell, without Events.
+fn read_log(alloc: Global, bytes: &[u8]) -> Result<Log, Fault>
+    ensures { LogEnd result bytes.now }
+{
+    let log = match decode(alloc, bytes) {
+        Ok(log) => log,
+        Err(LogFault::BadLog) => return Err(Fault::Input(Input::Log)),
+        Err(LogFault::WantOfMemory) => return Err(Fault::Memory),
+    };
+    if has_event(&log)? {
+        return Err(Fault::Input(Input::Log));
+    }
+    Ok(log)
+}
+
+/// The line of the world at a time, of the session of this name, whose program and log these files hold.
+fn work<F: Files>(
+    alloc: Global,
+    program: &Text,
+    name: &Text,
+    log: &Text,
+    time: u64,
+    files: &mut F,
+) -> Result<String, Fault>
+    requires named { length (encode_utf8_all name.now) ≤ most_name }
+    requires time { time < time_limit }
+    ensures end { (verdict : Verdict) → ReplayComes name.now time (F.held files.old program.now) (F.held files.old log.now) verdict →
+        WorkEnd result verdict }
+    ensures comes { OnOk result ((verdict : Verdict) × ReplayComes name.now time (F.held files.old program.now) (F.held files.old log.now) verdict ×
+        MayBeDone verdict) }
+    ensures asked { (verdict : Verdict) → ReplayComes name.now time (F.held files.old program.now) (F.held files.old log.now) verdict →
+        AskedFor result verdict ((input.Program, program.now) ∷ (input.Log, log.now) ∷ []) [] (F.asked files.old) (F.asked files.new) ⊤ }
+    ensures err { IfErr result IsReadingFault }
+    ensures same { AreKept (F.held files.old) (F.held files.new) }
+    ensures later { F.faults files.old ≤ F.faults files.new }
+    ensures cause { IsErrOf result Fault.Read → Rose (F.faults files.old) (F.faults files.new) }
+{
+    // A text that is read as this program is read as no other.
+    one_tree();
+    let text = read_input(files, program, PROGRAM_LIMIT, Input::Program)?;
+    let program = read_program(alloc, text.bytes())?;
+    let spelled = read_input(files, log, LOG_LIMIT, Input::Log)?;
+    let log = read_log(alloc, spelled.bytes())?;
+    let id = session_id(name, text.bytes());
+    Ok(replayed(alloc, program, id, &log, time)?)
+}
+
+/// `replay PROGRAM NAME LOG TIME`
+pub fn replay<F: Files, W: Sink>(
+    alloc: Global,
+    program: &Text,
+    name: &Text,
+    log: &Text,
+    time: u64,
+    files: &mut F,
+    out: &mut W,
+) -> Result<(), Fault>
+    requires named { length (encode_utf8_all name.now) ≤ most_name }
+    requires time { time < time_limit }
+    ensures end { (verdict : Verdict) → ReplayComes name.now time (F.held files.old program.now) (F.held files.old log.now) verdict →
+        MayEnd result verdict }
+    ensures text { OnOk result ((verdict : Verdict) → ReplayComes name.now time (F.held files.old program.now) (F.held files.old log.now) verdict →
+        OfText verdict (λ text. W.written out.new ≡ grown (W.written out.old) text)) }
+    ensures comes { OnOk result ((verdict : Verdict) × ReplayComes name.now time (F.held files.old program.now) (F.held files.old log.now) verdict ×
+        MayBeDone verdict) }
+    ensures part { IfErr result (λ fault. (verdict : Verdict) →
+        ReplayComes name.now time (F.held files.old program.now) (F.held files.old log.now) verdict →
+        WritesBefore fault verdict (W.written out.old) (W.written out.new)) }
+    ensures asked { (verdict : Verdict) → ReplayComes name.now time (F.held files.old program.now) (F.held files.old log.now) verdict →
+        AskedFor result verdict ((input.Program, program.now) ∷ (input.Log, log.now) ∷ []) [] (F.asked files.old) (F.asked files.new)
+        (W.written out.new ≡ W.written out.old) }
+
+    // No file is touched.
+    ensures kept { IfErr result (λ fault. (verdict : Verdict) →
+        ReplayComes name.now time (F.held files.old program.now) (F.held files.old log.now) verdict →
+        LeavesBefore fault verdict (F.held files.old) (F.held files.new) (W.written out.new ≡ W.written out.old)) }
+    ensures others { AreKept (F.held files.old) (F.held files.new) }
+
+    ensures files_later { F.faults files.old ≤ F.faults files.new }
+    ensures sink_later { W.faults out.old ≤ W.faults out.new }
+    ensures read_cause { IsErrOf result Fault.Read → Rose (F.faults files.old) (F.faults files.new) }
+    ensures write_cause { IsErrOf result Fault.Write → ⊥ }
+    ensures sink_cause { IsErrOf result Fault.Sink → Rose (W.faults out.old) (W.faults out.new) }
+{
+    let text = work(alloc, program, name, log, time, files)?;
+    print(out, text.as_str())
+}

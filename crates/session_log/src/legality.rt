@@ -1,0 +1,96 @@
+//! Whether a log may go on with an entry.
+ghost use Rattle.std.specs.Prelude.{◌≡◌, ◌≤◌, List};
+ghost use Rattle.tea_base.specs.declared.entry.Entry.{Entry};
+ghost use Rattle.tea_base.specs.Legal.{most_entries, most_bytes};
+ghost use Rattle.session_log.specs.Legality.{allows, goes_on, stood};
+ghost use Rattle.session_log.specs.Lent.{lent_what, lent_entry};
+
+use crate::lent::{LentEntry, LentWhat};
+
+/// The most entries of a log.
+const MOST_ENTRIES: u32 = 1_049_600;
+
+/// How many entries may come before something other than an Exit is refused.
+const MOST_OPEN_ENTRIES: u32 = 1_048_576;
+
+/// The most payload bytes of an Event.
+const MOST_PAYLOAD: usize = 4_096;
+
+/// The most payload bytes of a log.
+const MOST_BYTES: u64 = 67_108_864;
+
+/// The most views that are here.
+const MOST_HERE: u32 = 1_024;
+
+/// Times are below this, in microseconds.
+const TIME_BOUND: u64 = 9_007_199_254_740_992;
+
+/// What the test needs of a log.
+#[derive(Clone, Copy, Debug)]
+pub struct Standing {
+    pub entries: u32,
+    pub payload_bytes: u64,
+    pub views_here: u32,
+    pub time: u64,
+}
+
+/// Whether a view is here, and how many Events it sent.
+#[derive(Clone, Copy, Debug)]
+pub struct Stand {
+    pub here: bool,
+    pub number: u32,
+}
+
+/// Whether there is room for what an entry records, and its view's stand allows it.
+fn allows(log: Standing, view: Stand, what: &LentWhat<'_>) -> bool
+    requires bytes { log.payload_bytes ≤ most_bytes }
+    requires number { view.number ≤ most_entries }
+    ensures { result ≡ allows log view (lent_what what.now) }
+{
+    match what {
+        LentWhat::Join => {
+            (view.here || log.views_here < MOST_HERE) && log.entries < MOST_OPEN_ENTRIES
+        }
+        LentWhat::Exit => view.here && log.entries < MOST_ENTRIES,
+        LentWhat::Event { number, payload } => {
+            view.here
+                && *number == view.number + 1
+                && payload.len() <= MOST_PAYLOAD
+                && log.payload_bytes + payload.len() as u64 <= MOST_BYTES
+                && log.entries < MOST_OPEN_ENTRIES
+        }
+    }
+}
+
+/// Whether a log that stands so may go on with the entry.
+pub fn goes_on(log: Standing, view: Stand, entry: &LentEntry<'_>) -> bool
+    requires bytes { log.payload_bytes ≤ most_bytes }
+    requires number { view.number ≤ most_entries }
+    ensures { (before : List Entry) → result ≡ goes_on log view (lent_entry before entry.now) }
+{
+    log.time < entry.time
+        && entry.time < TIME_BOUND
+        && entry.view != 0
+        && allows(log, view, &entry.what)
+}
+
+/// What an entry leaves of its view's stand.
+pub fn stood(view: Stand, what: &LentWhat<'_>) -> Stand
+    requires { view.number ≤ most_entries }
+    ensures { result ≡ stood view (lent_what what.now) }
+{
+    match what {
+        LentWhat::Join => Stand {
+            here: true,
+            number: view.number,
+        },
+        LentWhat::Exit => Stand {
+            here: false,
+            number: view.number,
+        },
+        LentWhat::Event { .. } => Stand {
+            here: view.here,
+            number: view.number + 1,
+        },
+    }
+}

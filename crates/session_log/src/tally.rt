@@ -1,0 +1,105 @@
+//! What legality needs of the entries so far, so that no entry goes through all before it.
+ghost use Rattle.std.specs.Prelude.{◌≡◌, ◌+◌, ◌-◌, ◌<◌, ◌≤◌, ◌==◌, [], ℕ, OnOk, if◌then◌else◌};
+ghost use Rattle.tea_base.specs.declared.entry.What.TheVariants.{Exit};
+ghost use Rattle.tea_base.specs.Legal.{MayFollow, most_entries};
+ghost use Rattle.session_log.specs.LogState.{with_next};
+ghost use Rattle.session_log.specs.Legality.{stood, may_follow};
+ghost use Rattle.session_log.specs.Lent.{lent_what, lent_entry};
+ghost use Rattle.session_log.specs.Tally.{stand_in, here_after, Tells};
+
+use crate::legality::{Stand, Standing, goes_on, stood};
+use crate::lent::{LentEntry, LentWhat};
+use crate::log::Log;
+use std::alloc::Global;
+use std::collections::BTreeMap;
+use tea_base::WantOfMemory;
+
+/// The last time, how many views are here, and how each view stands that an entry names.
+#[derive(Drop)]
+pub struct Tally {
+    pub time: u64,
+    pub views_here: u32,
+    pub stands: BTreeMap<u32, Stand>,
+}
+
+/// What is told of no entries. Takes no memory.
+pub fn no_entries(alloc: Global) -> Tally
+    ensures { Tells result [] }
+{
+    Tally {
+        time: 0,
+        views_here: 0,
+        stands: BTreeMap::new(alloc),
+    }
+}
+
+/// How a view stands.
+fn stand_of(tally: &Tally, view: u32) -> Stand
+    ensures { result ≡ stand_in tally.now.stands view }
+{
+    match tally.stands.get(&view) {
+        Some(stand) => *stand,
+        None => Stand {
+            here: false,
+            number: 0,
+        },
+    }
+}
+
+/// How many views are here after an entry.
+fn here_after(count: u32, view: Stand, what: &LentWhat<'_>) -> u32
+    requires few { count ≤ most_entries }
+    requires some { lent_what what.now ≡ Exit → 0 < count }
+    ensures { result ≡ here_after count view (lent_what what.now) }
+{
+    match what {
+        LentWhat::Join if view.here => count,
+        LentWhat::Join => count + 1,
+        LentWhat::Exit => count - 1,
+        LentWhat::Event { .. } => count,
+    }
+}
+
+/// Takes note of an entry, whose view stood so.
+fn note(tally: &mut Tally, view: Stand, entry: &LentEntry<'_>) -> Result<(), WantOfMemory>
+    requires number { view.number ≤ most_entries }
+    requires few { tally.old.views_here ≤ most_entries }
+    requires some { lent_what entry.now.what ≡ Exit → 0 < tally.old.views_here }
+    ensures time { OnOk result (tally.new.time ≡ entry.now.time) }
+    ensures views_here { OnOk result (tally.new.views_here ≡
+        here_after tally.old.views_here view (lent_what entry.now.what)) }
+    ensures stands { OnOk result ((other : ℕ) → stand_in tally.new.stands other ≡
+        (if entry.now.view == other then stood view (lent_what entry.now.what)
+        else stand_in tally.old.stands other)) }
+{
+    tally.stands.insert(entry.view, stood(view, &entry.what))?;
+    tally.time = entry.time;
+    tally.views_here = here_after(tally.views_here, view, &entry.what);
+    Ok(())
+}
+
+/// Whether a log may go on with an entry.
+pub fn may_follow(tally: &Tally, log: &Log, entry: &LentEntry<'_>) -> bool
+    requires { Tells tally.now log.now.entries }
+    ensures { result ≡ may_follow log.now.entries (lent_entry log.now.entries entry.now) }
+{
+    let view = stand_of(tally, entry.view);
+    let standing = Standing {
+        entries: log.len(),
+        payload_bytes: log.bytes(),
+        views_here: tally.views_here,
+        time: tally.time,
+    };
+    goes_on(standing, view, entry)
+}
+
+/// Takes note of an entry that a log goes on with.
+pub fn learn(tally: &mut Tally, log: &Log, entry: &LentEntry<'_>) -> Result<(), WantOfMemory>
+    requires told { Tells tally.old log.now.entries }
+    requires follows { MayFollow log.now.entries (lent_entry log.now.entries entry.now) }
+    ensures { OnOk result (Tells tally.new
+        (with_next log.now.entries entry.now.time entry.now.view (lent_what entry.now.what))) }
+{
+    let view = stand_of(tally, entry.view);
+    note(tally, view, entry)
+}

@@ -1,0 +1,11 @@
+use Rattle.std.proofs.Common.{◌≡◌, ◌≤◌, ◌++◌, drop}
+use Rattle.std.specs.List.{flat_map}
+use Rattle.model_value.specs.World.{known_weight, total, most_world_weight}
+use Rattle.snapshot_codec.specs.Spelling.{known_spelling}
+use Rattle.snapshot_codec.proofs.writing.put_known_names.Given as goal
+
+abbrev pub invariant-loop-one : goal.invariant-loop-one
+invariant-loop-one l = record {
+  light : total known_weight (drop l.one-index l.known) ≤ most_world_weight;
+  written : l.out ++ flat_map known_spelling (drop l.one-index l.known) ≡ l.initial.out ++ flat_map known_spelling l.known;
+}

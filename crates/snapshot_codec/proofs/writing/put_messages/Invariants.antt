@@ -1,0 +1,14 @@
+use Rattle.std.proofs.Common.{◌≡◌, ◌≤◌, ◌++◌, map, drop}
+use Rattle.std.specs.List.{flat_map, AllByRecursion}
+use Rattle.model_value.specs.Messages.{plain_message}
+use Rattle.model_value.specs.World.{message_weight, total, most_world_weight}
+use Rattle.snapshot_codec.specs.Conditions.{HasFewArguments}
+use Rattle.snapshot_codec.specs.Spelling.{message_spelling}
+use Rattle.snapshot_codec.proofs.writing.put_messages.Given as goal
+
+abbrev pub invariant-loop-message : goal.invariant-loop-message
+invariant-loop-message l = record {
+  few : AllByRecursion HasFewArguments (map plain_message (drop l.message-index l.messages));
+  light : total message_weight (map plain_message (drop l.message-index l.messages)) ≤ most_world_weight;
+  written : l.out ++ flat_map message_spelling (map plain_message (drop l.message-index l.messages)) ≡ l.initial.out ++ flat_map message_spelling (map plain_message l.messages);
+}
