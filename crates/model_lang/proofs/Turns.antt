@@ -2,28 +2,39 @@
 use Rattle.std.proofs.Common.{◌≡◌, ℕ, zero, suc, ◌+◌, ◌-◌, ◌<◌, ◌≤◌, List, [], ◌∷◌, ◌++◌, length, Some, None, refl, arith}
 use Rattle.std.proofs.lemmas.List.{map-append}
 use Rattle.model_tokens.specs.declared.token.Token.{Token}
+use Rattle.model_tokens.specs.declared.token.Symbol.{Symbol}
 use Rattle.model_tokens.specs.declared.token.Symbol.TheVariants as s
 use Rattle.model_tokens.specs.declared.token.Word.TheVariants as w
-use Rattle.model_lang.specs.Tree.{Name, Expression, binary, Statement, MethodTree}
-use Rattle.model_lang.specs.Reader.{Read, Reader, Front, reading, behind, either_way, on_front, more_of, read_items, read_whole, after_symbol, after_word, name_at, read_actions, read_action, read_block, read_fields, read_methods, read_method, read_further}
+use Rattle.model_lang.specs.Tree.{Name, Expression, unary, binary, Statement, MethodTree}
+use Rattle.model_lang.specs.Reader.{Read, Reader, reading, behind, either_way, on_found, operator_at, more_of, suffixes_of, read_suffix, read_more, read_line, read_unary, read_post, sign_at, after_symbol, after_word, name_at, read_actions, read_action, read_block, read_fields, read_methods, read_method, read_further, read_classes, read_class}
 
-pub more_of-turn : (front : Front) (inner : Reader) (turns i : ℕ) (left : Expression) (ts : List Token) → i < turns → more_of front inner (turns - i) left ts ≡ on_front (front ts) (λ o rest. reading (inner rest) (λ e. more_of front inner (turns - (i + 1)) (binary o left e))) (Some (left, ts))
-more_of-turn front inner turns i left ts h =
+pub more_of-turn : (k : ℕ) (inner : Reader) (turns i : ℕ) (left : Expression) (ts : List Token) → i < turns → more_of k inner (turns - i) left ts ≡ on_found (operator_at k ts) (λ o rest. reading (inner rest) (λ e. more_of k inner (turns - (i + 1)) (binary o left e))) (Some (left, ts))
+more_of-turn k inner turns i left ts h =
     let e : turns - i ≡ suc (turns - (i + 1)) = omega arith in
     rw e refl
 
-pub more_of-over : (front : Front) (inner : Reader) (turns i : ℕ) (left : Expression) (ts : List Token) → turns ≤ i → more_of front inner (turns - i) left ts ≡ Some (left, ts)
-more_of-over front inner turns i left ts h =
+pub more_of-over : (k : ℕ) (inner : Reader) (turns i : ℕ) (left : Expression) (ts : List Token) → turns ≤ i → more_of k inner (turns - i) left ts ≡ Some (left, ts)
+more_of-over k inner turns i left ts h =
     let e : turns - i ≡ 0 = omega arith in
     rw e refl
 
-pub read_items-turn : (turns i : ℕ) (found : List Expression) (ts : List Token) → i < turns → read_items (turns - i) found ts ≡ reading (read_whole ts) (λ e rest. either_way (after_symbol s.Comma rest) (read_items (turns - (i + 1)) (found ++ e ∷ [])) (Some (found ++ e ∷ [], rest)))
-read_items-turn turns i found ts h =
+pub suffixes_of-turn : (inner : Reader) (turns i : ℕ) (object : Expression) (ts : List Token) → i < turns → suffixes_of inner (turns - i) object ts ≡ either_way (after_symbol s.Dot ts) (λ ts. reading (read_suffix inner object ts) (suffixes_of inner (turns - (i + 1)))) (Some (object, ts))
+suffixes_of-turn inner turns i object ts h =
     let e : turns - i ≡ suc (turns - (i + 1)) = omega arith in
     rw e refl
 
-pub read_items-over : (turns i : ℕ) (found : List Expression) (ts : List Token) → turns ≤ i → read_items (turns - i) found ts ≡ None
-read_items-over turns i found ts h =
+pub suffixes_of-over : (inner : Reader) (turns i : ℕ) (object : Expression) (ts : List Token) → turns ≤ i → suffixes_of inner (turns - i) object ts ≡ Some (object, ts)
+suffixes_of-over inner turns i object ts h =
+    let e : turns - i ≡ 0 = omega arith in
+    rw e refl
+
+pub read_more-turn : (close : Symbol) (inner : Reader) (turns i : ℕ) (found : List Expression) (ts : List Token) → i < turns → read_more close inner (turns - i) found ts ≡ either_way (after_symbol s.Comma ts) (λ ts. reading (inner ts) (λ e. read_more close inner (turns - (i + 1)) (found ++ e ∷ []))) (behind (after_symbol close ts) (λ rest. Some (found, rest)))
+read_more-turn close inner turns i found ts h =
+    let e : turns - i ≡ suc (turns - (i + 1)) = omega arith in
+    rw e refl
+
+pub read_more-over : (close : Symbol) (inner : Reader) (turns i : ℕ) (found : List Expression) (ts : List Token) → turns ≤ i → read_more close inner (turns - i) found ts ≡ None
+read_more-over close inner turns i found ts h =
     let e : turns - i ≡ 0 = omega arith in
     rw e refl
 
@@ -67,7 +78,7 @@ read_further-over turns i found ts h =
     let e : turns - i ≡ 0 = omega arith in
     rw e refl
 
-pub ruleset by_turn = (more_of-turn, more_of-over, read_items-turn, read_items-over, read_actions-turn, read_actions-over, read_fields-turn, read_fields-over, read_methods-turn, read_methods-over, read_further-turn, read_further-over, map-append)
+pub ruleset by_turn = (more_of-turn, more_of-over, suffixes_of-turn, suffixes_of-over, read_more-turn, read_more-over, read_actions-turn, read_actions-over, read_fields-turn, read_fields-over, read_methods-turn, read_methods-over, read_further-turn, read_further-over, map-append)
 
 pub read_block-inside : (room : ℕ) (ts : List Token) → 0 < room → read_block room ts ≡ read_actions (read_block (room - 1)) (length ts) [] ts
 read_block-inside zero ts h = absurd (omega arith)
@@ -75,4 +86,10 @@ read_block-inside (suc room) ts h =
     let e : suc room - 1 ≡ room = omega arith in
     rw e refl
 
-pub ruleset by_room = (read_block-inside)
+pub read_unary-inside : (room : ℕ) (ts : List Token) → 0 < room → read_unary room ts ≡ on_found (sign_at ts) (λ o ts. reading (read_unary (room - 1) ts) (λ e ts. Some (unary o e, ts))) (read_post (read_line (read_unary (room - 1)) 6) ts)
+read_unary-inside zero ts h = absurd (omega arith)
+read_unary-inside (suc room) ts h =
+    let e : suc room - 1 ≡ room = omega arith in
+    rw e refl
+
+pub ruleset by_room = (read_block-inside, read_unary-inside)

@@ -1,49 +1,66 @@
 -- What the reading of a program answers.
-use Rattle.std.specs.Prelude.{◌≡◌, ℕ, List, [], ◌∷◌, Option, Some, None, Result, Ok, Err}
+use Rattle.std.specs.Prelude.{◌≡◌, ℕ, List, [], ◌∷◌, Option, Some, None, Result, Ok, Err, Vec}
 use Rattle.std.specs.Borrow.{Bor}
+use Rattle.std.specs.declared.alloc.Global.{Global}
+use Rattle.std.specs.declared.alloc.AllocError.{AllocError}
 use Rattle.model_tokens.specs.declared.token.Token.{Token}
 use Rattle.model_lang.specs.declared.tree.Class.{Class}
-use Rattle.model_lang.specs.declared.fault.LangFault.{LangFault}
-use Rattle.model_lang.specs.declared.fault.LangFault.TheVariants.{Syntax, WantOfMemory}
-use Rattle.std.specs.declared.alloc.AllocError.{AllocError}
 use Rattle.model_lang.specs.declared.tree.Expr.{Expr}
 use Rattle.model_lang.specs.declared.tree.BinaryOp.{BinaryOp}
-use Rattle.model_lang.specs.Tree.{ProgramTree, binary}
-use Rattle.model_lang.specs.TreeView.{program_tree, class_tree, expression_tree}
-use Rattle.model_lang.specs.Program.{IsSpelled, IsRead}
+use Rattle.model_lang.specs.declared.fault.LangFault.{LangFault}
+use Rattle.model_lang.specs.declared.fault.LangFault.TheVariants.{Syntax, TooLarge, WantOfMemory}
+use Rattle.model_lang.specs.declared.fault.Stop.{Stop}
+use Rattle.model_lang.specs.declared.fault.Stop.TheVariants as stop
+use Rattle.model_lang.specs.Tree.{Name, ClassTree, ProgramTree, binary}
+use Rattle.model_lang.specs.TreeView.{program_tree, expression_tree}
+use Rattle.model_lang.specs.Program.{IsSpelled, IsRead, ArePast, IsTooLarge, AreNoProgram, IsNoProgram}
 use Rattle.model_lang.specs.Reader.{Read}
 
--- the tree that the text is read as; a refusal exactly where there is none
+-- the tree that the text is read as, or the refusal that it meets
 abbrev pub Parses : Result (List Class) LangFault → List ℕ → Type 0
 Parses (Ok classes) text = IsRead text (program_tree classes)
-Parses (Err (Syntax at)) text = (at ≡ 0) × ((tree : ProgramTree) → ¬ IsRead text tree)
+Parses (Err (TooLarge what count)) text = IsTooLarge what count text
+Parses (Err (Syntax at)) text = IsNoProgram text
 Parses (Err WantOfMemory) text = Unit {0}
 
--- a class that all the tokens are, within the bounds of a program
-abbrev pub ReadsWhole : Result Class LangFault → List Token → Type 0
-ReadsWhole (Ok class) ts = IsSpelled ts (class_tree class ∷ [])
-ReadsWhole (Err (Syntax at)) ts = (at ≡ 0) × ((tree : ProgramTree) → ¬ IsSpelled ts tree)
-ReadsWhole (Err WantOfMemory) ts = Unit {0}
+-- the tree that the tokens are read as, or the refusal that they meet
+abbrev pub ParsesTokens : Result (Vec Class Global) LangFault → List Token → Type 0
+ParsesTokens (Ok classes) ts = IsSpelled ts (program_tree classes.items)
+ParsesTokens (Err (TooLarge what count)) ts = ArePast what count ts
+ParsesTokens (Err (Syntax at)) ts = AreNoProgram ts
+ParsesTokens (Err WantOfMemory) ts = Unit {0}
 
 -- beside what the reader reads
-abbrev pub Reads : {A B : Type 0} → (A → B) → Result (A × Bor (List Token)) LangFault → Read B → Type 0
+abbrev pub Reads : {A B : Type 0} → (A → B) → Result (A × Bor (List Token)) Stop → Read B → Type 0
 Reads seen (Ok found) meant = meant ≡ Some (seen found.0, found.1.now)
-Reads seen (Err (Syntax at)) meant = (at ≡ 0) × (meant ≡ None)
-Reads seen (Err WantOfMemory) meant = Unit {0}
+Reads seen (Err (stop.NoProgram left)) meant = meant ≡ None
+Reads seen (Err stop.WantOfMemory) meant = Unit {0}
+
+-- a part that may be there or not, and needs no memory
+abbrev pub Finds : {A : Type 0} → Option (A × Bor (List Token)) → Read A → Type 0
+Finds None meant = meant ≡ None
+Finds (Some found) meant = meant ≡ Some (found.0, found.1.now)
+
+-- a name that may be there or not
+abbrev pub FindsName : Option (Bor Name × Bor (List Token)) → Read Name → Type 0
+FindsName None meant = meant ≡ None
+FindsName (Some found) meant = meant ≡ Some (found.0.now, found.1.now)
 
 abbrev pub IsBehind : Option (Bor (List Token)) → Option (List Token) → Type 0
 IsBehind None meant = meant ≡ None
 IsBehind (Some rest) meant = meant ≡ Some rest.now
 
-abbrev pub Expects : Result (Bor (List Token)) LangFault → Option (List Token) → Type 0
+abbrev pub Expects : Result (Bor (List Token)) Stop → Option (List Token) → Type 0
 Expects (Ok rest) meant = meant ≡ Some rest.now
-Expects (Err (Syntax at)) meant = (at ≡ 0) × (meant ≡ None)
-Expects (Err WantOfMemory) meant = ⊥
-
-abbrev pub Fronts : Option (BinaryOp × Bor (List Token)) → Option (BinaryOp × List Token) → Type 0
-Fronts None meant = meant ≡ None
-Fronts (Some found) meant = meant ≡ Some (found.0, found.1.now)
+Expects (Err (stop.NoProgram left)) meant = meant ≡ None
+Expects (Err stop.WantOfMemory) meant = ⊥
 
 abbrev pub Joins : Result Expr AllocError → BinaryOp → Expr → Expr → Type 0
 Joins (Ok e) op left right = expression_tree e ≡ binary op (expression_tree left) (expression_tree right)
 Joins (Err e) op left right = Unit {0}
+
+-- all the classes, where they are read
+abbrev pub ReadsAll : Result (Vec Class Global) Stop → Option (List ClassTree) → Type 0
+ReadsAll (Ok classes) meant = meant ≡ Some (program_tree classes.items)
+ReadsAll (Err (stop.NoProgram left)) meant = meant ≡ None
+ReadsAll (Err stop.WantOfMemory) meant = Unit {0}

@@ -1,11 +1,13 @@
 -- The bounds of a program: brackets and operators among its tokens, and lists in its tree.
-use Rattle.std.specs.Prelude.{ℕ, ◌+◌, ◌-◌, ◌≤◌, max, List, [], ◌∷◌, length}
+use Rattle.std.specs.Prelude.{ℕ, ◌+◌, ◌-◌, ◌≤◌, max, nat_le, if◌then◌else◌, List, [], ◌∷◌, ◌++◌, length, map, flat_map, Option, Some, None}
 use Rattle.model_tokens.specs.declared.token.Token.{Token}
 use Rattle.model_tokens.specs.declared.token.Token.TheVariants as token
 use Rattle.model_tokens.specs.declared.token.Symbol.{Symbol}
 use Rattle.model_tokens.specs.declared.token.Symbol.TheVariants as symbol
 use Rattle.model_lang.specs.declared.bounds.Counted.{Counted}
 use Rattle.model_lang.specs.declared.bounds.Counted.TheVariants as what
+use Rattle.model_lang.specs.declared.fault.Bound.{Bound}
+use Rattle.model_lang.specs.declared.fault.Bound.TheVariants as bound
 use Rattle.model_lang.specs.Tree.{Expression, nil, bool, int, text, this, local, field, list, unary, binary, builtin, call, future, create, Expressions, no_expressions, expression, Statement, declare, assign, set_field, when, while, give, do_, Statements, no_statements, statement, Otherwise, no_else, else_block, MethodTree, ClassTree, ProgramTree}
 
 abbrev pub most_bytes : ℕ
@@ -121,3 +123,73 @@ ClassesFit (c ∷ cs) = ClassFits c × ClassesFit cs
 
 abbrev pub ProgramFits : ProgramTree → Type 0
 ProgramFits cs = (length cs ≤ most_members) × ClassesFit cs
+
+-- ---- what is too many
+
+-- how many there are in each list of arguments of a call or a future, in the order in which the lists begin
+abbrev mutual
+  pub argument_counts : Expression → List ℕ
+  argument_counts nil = []
+  argument_counts (bool b) = []
+  argument_counts (int n) = []
+  argument_counts (text s) = []
+  argument_counts this = []
+  argument_counts (local x) = []
+  argument_counts (field x) = []
+  argument_counts (list items) = all_argument_counts items
+  argument_counts (unary op e) = argument_counts e
+  argument_counts (binary op a b) = argument_counts a ++ argument_counts b
+  argument_counts (builtin x args) = all_argument_counts args
+  argument_counts (call object x args) = argument_counts object ++ how_many args ∷ all_argument_counts args
+  argument_counts (future object delay x args) = argument_counts object ++ (argument_counts delay ++ how_many args ∷ all_argument_counts args)
+  argument_counts (create x options) = argument_counts options
+
+  pub all_argument_counts : Expressions → List ℕ
+  all_argument_counts no_expressions = []
+  all_argument_counts (expression e es) = argument_counts e ++ all_argument_counts es
+
+abbrev mutual
+  pub statement_counts : Statement → List ℕ
+  statement_counts (declare x e) = argument_counts e
+  statement_counts (assign x e) = argument_counts e
+  statement_counts (set_field x e) = argument_counts e
+  statement_counts (when test block other) = argument_counts test ++ (all_statement_counts block ++ else_counts other)
+  statement_counts (while test block) = argument_counts test ++ all_statement_counts block
+  statement_counts (give e) = argument_counts e
+  statement_counts (do_ e) = argument_counts e
+
+  pub all_statement_counts : Statements → List ℕ
+  all_statement_counts no_statements = []
+  all_statement_counts (statement s ss) = statement_counts s ++ all_statement_counts ss
+
+  pub else_counts : Otherwise → List ℕ
+  else_counts no_else = []
+  else_counts (else_block block) = all_statement_counts block
+
+-- the list of parameters stands before the body
+abbrev pub method_counts : MethodTree → List ℕ
+method_counts m = length m.params ∷ all_statement_counts m.body
+
+abbrev pub class_counts : ClassTree → List ℕ
+class_counts c = flat_map method_counts c.methods
+
+abbrev pub first_above : ℕ → List ℕ → Option ℕ
+first_above most [] = None
+first_above most (n ∷ ns) = if nat_le n most then first_above most ns else Some n
+
+abbrev pub first_found : Option ℕ → Option ℕ → Option ℕ
+first_found None other = other
+first_found (Some n) other = Some n
+
+-- where a count is above its bound, that bound and the count, else what comes behind
+abbrev pub or_else : Bound → Option ℕ → Option (Bound × ℕ) → Option (Bound × ℕ)
+or_else what None behind = behind
+or_else what (Some count) behind = Some (what, count)
+
+-- the first bound that a program passes, in this order, with the first count that is above it
+abbrev pub passed : ProgramTree → Option (Bound × ℕ)
+passed cs =
+    or_else bound.Classes (first_above most_members (length cs ∷ []))
+    (or_else bound.Fields (first_above most_members (map (λ (c : ClassTree). length c.fields) cs))
+    (or_else bound.Methods (first_above most_members (map (λ (c : ClassTree). length c.methods) cs))
+    (or_else bound.Parameters (first_above most_arguments (flat_map class_counts cs)) None)))

@@ -1,51 +1,268 @@
--- The grammar: a type for each of its lines, with the tokens that each form spells and the tree that it stands for.
-use Rattle.std.specs.Prelude.{◌≡◌, ℤ, List, [], ◌∷◌, ◌++◌, map}
+-- The grammar: the forms of its lines, with the tokens that each form spells and the tree that it stands for.
+use Rattle.std.specs.Prelude.{◌≡◌, ◌≤◌, ◌<◌, ℕ, ℤ, Bool, true, false, List, [], ◌∷◌, ◌++◌, length, map}
 use Rattle.model_tokens.specs.declared.token.Token.{Token}
-use Rattle.model_tokens.specs.declared.token.Token.TheVariants.{Name as name, ClassName as class_name, Number as number, Word as word, Symbol as symbol}
+use Rattle.model_tokens.specs.declared.token.Token.TheVariants.{Name as name, ClassName as class_name, Number as number, Text as literal, Word as word, Symbol as symbol}
 use Rattle.model_tokens.specs.declared.token.Word.TheVariants as w
+use Rattle.model_tokens.specs.declared.token.Symbol.{Symbol}
 use Rattle.model_tokens.specs.declared.token.Symbol.TheVariants as s
+use Rattle.model_lang.specs.declared.tree.UnaryOp.{UnaryOp}
+use Rattle.model_lang.specs.declared.tree.UnaryOp.TheVariants as sign
+use Rattle.model_lang.specs.declared.tree.BinaryOp.{BinaryOp}
 use Rattle.model_lang.specs.declared.tree.BinaryOp.TheVariants as op
-use Rattle.model_lang.specs.Tree.{Name, Expression, nil, int, this, field, binary, future, Expressions, no_expressions, expression, Statement, set_field, when, do_, Statements, no_statements, statement, no_else, MethodTree, ClassTree, ProgramTree}
+use Rattle.model_lang.specs.Tree.{Name, Expression, nil, bool, int, text, this, local, field, list, unary, binary, builtin, call, future, create, Expressions, no_expressions, expression, Statement, declare, assign, set_field, when, while, give, do_, Statements, no_statements, statement, no_else, else_block, MethodTree, ClassTree, ProgramTree}
 
--- prim = number | "nil" | "this" "." name
-pub data Prim : Type 0 where
-  a_number : ℤ → Prim
-  a_nil : Prim
-  a_field : Name → Prim
+-- ---- expressions
 
--- sum = prim (("+" | "-") prim)*
-pub data Sum : Type 0 where
-  prim : Prim → Sum
-  added : Sum → Prim → Sum
-  taken : Sum → Prim → Sum
-
--- expr = sum ["<" sum]?
-pub data Whole : Type 0 where
-  sum : Sum → Whole
-  below : Sum → Sum → Whole
-
--- args = [expr ("," expr)*]?
-pub data Items : Type 0 where
-  last : Whole → Items
-  before : Whole → Items → Items
-
-pub data Arguments : Type 0 where
-  none : Arguments
-  some : Items → Arguments
-
--- block = "{" stmt* "}"
--- stmt = "this" "." name "=" expr ";"
---      | "if" "(" expr ")" block
---      | "this" "." "future" "(" expr ")" "." name "(" args ")" ";"
+-- An expression as it is written: its tree, and the round brackets, which leave no node there.
 mutual
-  pub data Action : Type 0 where
-    setting : Name → Whole → Action
-    choice : Whole → Block → Action
-    later : Whole → Name → Arguments → Action
+  pub data Phrase : Type 0 where
+    -- prim = number | text | "nil" | "true" | "false" | "this" | "this" "." name
+    --      | name | name "(" args ")" | "create" "(" CName "," expr ")" | "[" args "]" | "(" expr ")"
+    a_number : ℤ → Phrase
+    a_text : List ℕ → Phrase
+    a_nil : Phrase
+    a_bool : Bool → Phrase
+    a_this : Phrase
+    a_field : Name → Phrase
+    a_local : Name → Phrase
+    a_builtin : Name → Phrases → Phrase
+    a_create : Name → Phrase → Phrase
+    a_list : Phrases → Phrase
+    brackets : Phrase → Phrase
+    -- post = prim ("." name "(" args ")" | "." "future" "(" expr ")" "." name "(" args ")")*
+    a_call : Phrase → Name → Phrases → Phrase
+    a_future : Phrase → Phrase → Name → Phrases → Phrase
+    -- unary = ("-" | "!") unary | post
+    signed : UnaryOp → Phrase → Phrase
+    -- term = unary (("*" | "/" | "%") unary)*
+    -- sum  = term (("+" | "-") term)*
+    -- rel  = sum [("==" | "!=" | "<" | "<=" | ">" | ">=") sum]?
+    -- and  = rel ("&&" rel)*
+    -- expr = and ("||" and)*
+    joined : BinaryOp → Phrase → Phrase → Phrase
 
+  -- args = [expr ("," expr)*]?
+  pub data Phrases : Type 0 where
+    no_phrases : Phrases
+    phrase : Phrase → Phrases → Phrases
+
+-- The lines by number, from the tightest: post 0, unary 1, term 2, sum 3, rel 4, and 5, expr 6. A phrase of a line may stand
+-- wherever a looser line may.
+abbrev pub line_of : BinaryOp → ℕ
+line_of op.Or = 6
+line_of op.And = 5
+line_of op.Same = 4
+line_of op.Differs = 4
+line_of op.Less = 4
+line_of op.AtMost = 4
+line_of op.Greater = 4
+line_of op.AtLeast = 4
+line_of op.Plus = 3
+line_of op.Minus = 3
+line_of op.Times = 2
+line_of op.Divide = 2
+line_of op.Rest = 2
+
+abbrev pub line : Phrase → ℕ
+line (signed o a) = 1
+line (joined o a b) = line_of o
+line _ = 0
+
+-- The loosest line that may stand on the left of an operator: its own, since the operators of a line group to the left. But
+-- a relation has a sum on either side.
+abbrev pub left_of : BinaryOp → ℕ
+left_of op.Or = 6
+left_of op.And = 5
+left_of op.Same = 3
+left_of op.Differs = 3
+left_of op.Less = 3
+left_of op.AtMost = 3
+left_of op.Greater = 3
+left_of op.AtLeast = 3
+left_of op.Plus = 3
+left_of op.Minus = 3
+left_of op.Times = 2
+left_of op.Divide = 2
+left_of op.Rest = 2
+
+-- each part is of a line that may stand where it does
+abbrev mutual
+  pub Stands : Phrase → Type 0
+  Stands (a_number n) = Unit {0}
+  Stands (a_text t) = Unit {0}
+  Stands a_nil = Unit {0}
+  Stands (a_bool b) = Unit {0}
+  Stands a_this = Unit {0}
+  Stands (a_field x) = Unit {0}
+  Stands (a_local x) = Unit {0}
+  Stands (a_builtin x args) = AllStand args
+  Stands (a_create x options) = Stands options
+  Stands (a_list items) = AllStand items
+  Stands (brackets a) = Stands a
+  Stands (a_call object x args) = Stands object × (line object ≤ 0) × AllStand args
+  Stands (a_future object delay x args) = Stands object × (line object ≤ 0) × Stands delay × AllStand args
+  Stands (signed o a) = Stands a × (line a ≤ 1)
+  Stands (joined o a b) = Stands a × (line a ≤ left_of o) × Stands b × (line b < line_of o)
+
+  pub AllStand : Phrases → Type 0
+  AllStand no_phrases = Unit {0}
+  AllStand (phrase a more) = Stands a × AllStand more
+
+abbrev pub in_round : List Token → List Token
+in_round ts = symbol s.OpenRound ∷ (ts ++ symbol s.CloseRound ∷ [])
+
+abbrev pub in_square : List Token → List Token
+in_square ts = symbol s.OpenSquare ∷ (ts ++ symbol s.CloseSquare ∷ [])
+
+abbrev pub in_braces : List Token → List Token
+in_braces ts = symbol s.OpenBrace ∷ (ts ++ symbol s.CloseBrace ∷ [])
+
+abbrev pub sign_symbol : UnaryOp → Symbol
+sign_symbol sign.Minus = s.Minus
+sign_symbol sign.Not = s.Not
+
+abbrev pub op_symbol : BinaryOp → Symbol
+op_symbol op.Or = s.Or
+op_symbol op.And = s.And
+op_symbol op.Same = s.Same
+op_symbol op.Differs = s.Differs
+op_symbol op.Less = s.Less
+op_symbol op.AtMost = s.AtMost
+op_symbol op.Greater = s.Greater
+op_symbol op.AtLeast = s.AtLeast
+op_symbol op.Plus = s.Plus
+op_symbol op.Minus = s.Minus
+op_symbol op.Times = s.Times
+op_symbol op.Divide = s.Divide
+op_symbol op.Rest = s.Rest
+
+abbrev pub word_of : Bool → Token
+word_of true = word w.True
+word_of false = word w.False
+
+abbrev mutual
+  pub spelled : Phrase → List Token
+  spelled (a_number n) = number n ∷ []
+  spelled (a_text t) = literal t ∷ []
+  spelled a_nil = word w.Nil ∷ []
+  spelled (a_bool b) = word_of b ∷ []
+  spelled a_this = word w.This ∷ []
+  spelled (a_field x) = word w.This ∷ symbol s.Dot ∷ name x ∷ []
+  spelled (a_local x) = name x ∷ []
+  spelled (a_builtin x args) = name x ∷ in_round (spelled_args args)
+  spelled (a_create x options) = word w.Create ∷ in_round (class_name x ∷ symbol s.Comma ∷ spelled options)
+  spelled (a_list items) = in_square (spelled_args items)
+  spelled (brackets a) = in_round (spelled a)
+  spelled (a_call object x args) = spelled object ++ symbol s.Dot ∷ name x ∷ in_round (spelled_args args)
+  spelled (a_future object delay x args) =
+      spelled object ++ symbol s.Dot ∷ word w.Future ∷ (in_round (spelled delay) ++ symbol s.Dot ∷ name x ∷ in_round (spelled_args args))
+  spelled (signed o a) = symbol (sign_symbol o) ∷ spelled a
+  spelled (joined o a b) = spelled a ++ symbol (op_symbol o) ∷ spelled b
+
+  pub spelled_args : Phrases → List Token
+  spelled_args no_phrases = []
+  spelled_args (phrase a more) = spelled a ++ spelled_more more
+
+  pub spelled_more : Phrases → List Token
+  spelled_more no_phrases = []
+  spelled_more (phrase a more) = symbol s.Comma ∷ (spelled a ++ spelled_more more)
+
+-- round brackets leave no node
+abbrev mutual
+  pub tree_of : Phrase → Expression
+  tree_of (a_number n) = int n
+  tree_of (a_text t) = text t
+  tree_of a_nil = nil
+  tree_of (a_bool b) = bool b
+  tree_of a_this = this
+  tree_of (a_field x) = field x
+  tree_of (a_local x) = local x
+  tree_of (a_builtin x args) = builtin x (trees_of args)
+  tree_of (a_create x options) = create x (tree_of options)
+  tree_of (a_list items) = list (trees_of items)
+  tree_of (brackets a) = tree_of a
+  tree_of (a_call object x args) = call (tree_of object) x (trees_of args)
+  tree_of (a_future object delay x args) = future (tree_of object) (tree_of delay) x (trees_of args)
+  tree_of (signed o a) = unary o (tree_of a)
+  tree_of (joined o a b) = binary o (tree_of a) (tree_of b)
+
+  pub trees_of : Phrases → Expressions
+  trees_of no_phrases = no_expressions
+  trees_of (phrase a more) = expression (tree_of a) (trees_of more)
+
+-- ---- statements
+
+mutual
+  -- stmt = "let" name "=" expr ";" | name "=" expr ";" | "this" "." name "=" expr ";"
+  --      | "if" "(" expr ")" block ["else" block]? | "while" "(" expr ")" block
+  --      | "return" expr ";" | expr ";"
+  pub data Action : Type 0 where
+    declaring : Name → Phrase → Action
+    assigning : Name → Phrase → Action
+    setting : Name → Phrase → Action
+    choice : Phrase → Block → Action
+    choice_else : Phrase → Block → Block → Action
+    looping : Phrase → Block → Action
+    giving : Phrase → Action
+    doing : Phrase → Action
+
+  -- block = "{" stmt* "}"
   pub data Block : Type 0 where
     closed : Block
     first : Action → Block → Block
+
+abbrev mutual
+  pub ActionStands : Action → Type 0
+  ActionStands (declaring x a) = Stands a
+  ActionStands (assigning x a) = Stands a
+  ActionStands (setting x a) = Stands a
+  ActionStands (choice a block) = Stands a × BlockStands block
+  ActionStands (choice_else a block other) = Stands a × BlockStands block × BlockStands other
+  ActionStands (looping a block) = Stands a × BlockStands block
+  ActionStands (giving a) = Stands a
+  ActionStands (doing a) = Stands a
+
+  pub BlockStands : Block → Type 0
+  BlockStands closed = Unit {0}
+  BlockStands (first a block) = ActionStands a × BlockStands block
+
+-- an expression with the `;` behind it
+abbrev pub spelled_end : Phrase → List Token
+spelled_end a = spelled a ++ symbol s.Semicolon ∷ []
+
+abbrev mutual
+  pub spelled_action : Action → List Token
+  spelled_action (declaring x a) = word w.Let ∷ name x ∷ symbol s.Assign ∷ spelled_end a
+  spelled_action (assigning x a) = name x ∷ symbol s.Assign ∷ spelled_end a
+  spelled_action (setting x a) = word w.This ∷ symbol s.Dot ∷ name x ∷ symbol s.Assign ∷ spelled_end a
+  spelled_action (choice a block) = word w.If ∷ (in_round (spelled a) ++ in_braces (spelled_block block))
+  spelled_action (choice_else a block other) =
+      word w.If ∷ (in_round (spelled a) ++ (in_braces (spelled_block block) ++ word w.Else ∷ in_braces (spelled_block other)))
+  spelled_action (looping a block) = word w.While ∷ (in_round (spelled a) ++ in_braces (spelled_block block))
+  spelled_action (giving a) = word w.Return ∷ spelled_end a
+  spelled_action (doing a) = spelled_end a
+
+  -- between its braces
+  pub spelled_block : Block → List Token
+  spelled_block closed = []
+  spelled_block (first a block) = spelled_action a ++ spelled_block block
+
+abbrev mutual
+  pub tree_of_action : Action → Statement
+  tree_of_action (declaring x a) = declare x (tree_of a)
+  tree_of_action (assigning x a) = assign x (tree_of a)
+  tree_of_action (setting x a) = set_field x (tree_of a)
+  tree_of_action (choice a block) = when (tree_of a) (trees_of_block block) no_else
+  tree_of_action (choice_else a block other) = when (tree_of a) (trees_of_block block) (else_block (trees_of_block other))
+  tree_of_action (looping a block) = while (tree_of a) (trees_of_block block)
+  tree_of_action (giving a) = give (tree_of a)
+  tree_of_action (doing a) = do_ (tree_of a)
+
+  pub trees_of_block : Block → Statements
+  trees_of_block closed = no_statements
+  trees_of_block (first a block) = statement (tree_of_action a) (trees_of_block block)
+
+-- ---- classes
 
 -- method = name "(" [name ("," name)*]? ")" block
 pub record MethodForm : Type 0 where
@@ -59,41 +276,13 @@ pub record ClassForm : Type 0 where
   pub fields : List Name
   pub methods : List MethodForm
 
--- ---- what each form spells
+abbrev pub MethodsStand : List MethodForm → Type 0
+MethodsStand [] = Unit {0}
+MethodsStand (m ∷ ms) = BlockStands m.body × MethodsStand ms
 
-abbrev pub spelled_prim : Prim → List Token
-spelled_prim (a_number n) = number n ∷ []
-spelled_prim a_nil = word w.Nil ∷ []
-spelled_prim (a_field x) = word w.This ∷ symbol s.Dot ∷ name x ∷ []
-
-abbrev pub spelled_sum : Sum → List Token
-spelled_sum (prim p) = spelled_prim p
-spelled_sum (added a p) = spelled_sum a ++ symbol s.Plus ∷ spelled_prim p
-spelled_sum (taken a p) = spelled_sum a ++ symbol s.Minus ∷ spelled_prim p
-
-abbrev pub spelled : Whole → List Token
-spelled (sum a) = spelled_sum a
-spelled (below a b) = spelled_sum a ++ symbol s.Less ∷ spelled_sum b
-
-abbrev pub spelled_items : Items → List Token
-spelled_items (last e) = spelled e
-spelled_items (before e items) = spelled e ++ symbol s.Comma ∷ spelled_items items
-
-abbrev pub spelled_arguments : Arguments → List Token
-spelled_arguments none = []
-spelled_arguments (some items) = spelled_items items
-
-abbrev mutual
-  pub spelled_action : Action → List Token
-  spelled_action (setting x e) = word w.This ∷ symbol s.Dot ∷ name x ∷ symbol s.Assign ∷ (spelled e ++ symbol s.Semicolon ∷ [])
-  spelled_action (choice e block) = word w.If ∷ symbol s.OpenRound ∷ (spelled e ++ symbol s.CloseRound ∷ symbol s.OpenBrace ∷ spelled_block block)
-  spelled_action (later e x args) =
-      word w.This ∷ symbol s.Dot ∷ word w.Future ∷ symbol s.OpenRound ∷ (spelled e ++ symbol s.CloseRound ∷ symbol s.Dot ∷ name x ∷ symbol s.OpenRound ∷ (spelled_arguments args ++ symbol s.CloseRound ∷ symbol s.Semicolon ∷ []))
-
-  -- behind its opening brace
-  pub spelled_block : Block → List Token
-  spelled_block closed = symbol s.CloseBrace ∷ []
-  spelled_block (first a block) = spelled_action a ++ spelled_block block
+abbrev pub ClassesStand : List ClassForm → Type 0
+ClassesStand [] = Unit {0}
+ClassesStand (c ∷ cs) = MethodsStand c.methods × ClassesStand cs
 
 abbrev pub spelled_further : List Name → List Token
 spelled_further [] = []
@@ -104,7 +293,7 @@ spelled_params [] = []
 spelled_params (x ∷ xs) = name x ∷ spelled_further xs
 
 abbrev pub spelled_method : MethodForm → List Token
-spelled_method m = name m.name ∷ symbol s.OpenRound ∷ (spelled_params m.params ++ symbol s.CloseRound ∷ symbol s.OpenBrace ∷ spelled_block m.body)
+spelled_method m = name m.name ∷ (in_round (spelled_params m.params) ++ in_braces (spelled_block m.body))
 
 abbrev pub spelled_methods : List MethodForm → List Token
 spelled_methods [] = []
@@ -115,42 +304,11 @@ spelled_fields [] = []
 spelled_fields (x ∷ xs) = word w.Field ∷ name x ∷ symbol s.Semicolon ∷ spelled_fields xs
 
 abbrev pub spelled_class : ClassForm → List Token
-spelled_class c = word w.Class ∷ class_name c.name ∷ symbol s.OpenBrace ∷ (spelled_fields c.fields ++ (spelled_methods c.methods ++ symbol s.CloseBrace ∷ []))
+spelled_class c = word w.Class ∷ class_name c.name ∷ in_braces (spelled_fields c.fields ++ spelled_methods c.methods)
 
--- ---- the tree that each form stands for
-
-abbrev pub tree_of_prim : Prim → Expression
-tree_of_prim (a_number n) = int n
-tree_of_prim a_nil = nil
-tree_of_prim (a_field x) = field x
-
--- operators of one line group to the left
-abbrev pub tree_of_sum : Sum → Expression
-tree_of_sum (prim p) = tree_of_prim p
-tree_of_sum (added a p) = binary op.Plus (tree_of_sum a) (tree_of_prim p)
-tree_of_sum (taken a p) = binary op.Minus (tree_of_sum a) (tree_of_prim p)
-
-abbrev pub tree_of : Whole → Expression
-tree_of (sum a) = tree_of_sum a
-tree_of (below a b) = binary op.Less (tree_of_sum a) (tree_of_sum b)
-
-abbrev pub trees_of_items : Items → Expressions
-trees_of_items (last e) = expression (tree_of e) no_expressions
-trees_of_items (before e items) = expression (tree_of e) (trees_of_items items)
-
-abbrev pub trees_of : Arguments → Expressions
-trees_of none = no_expressions
-trees_of (some items) = trees_of_items items
-
-abbrev mutual
-  pub tree_of_action : Action → Statement
-  tree_of_action (setting x e) = set_field x (tree_of e)
-  tree_of_action (choice e block) = when (tree_of e) (trees_of_block block) no_else
-  tree_of_action (later e x args) = do_ (future this (tree_of e) x (trees_of args))
-
-  pub trees_of_block : Block → Statements
-  trees_of_block closed = no_statements
-  trees_of_block (first a block) = statement (tree_of_action a) (trees_of_block block)
+abbrev pub spelled_classes : List ClassForm → List Token
+spelled_classes [] = []
+spelled_classes (c ∷ cs) = spelled_class c ++ spelled_classes cs
 
 abbrev pub tree_of_method : MethodForm → MethodTree
 tree_of_method m = record { name = m.name; params = m.params; body = trees_of_block m.body }
@@ -158,10 +316,7 @@ tree_of_method m = record { name = m.name; params = m.params; body = trees_of_bl
 abbrev pub tree_of_class : ClassForm → ClassTree
 tree_of_class c = record { name = c.name; fields = c.fields; methods = map tree_of_method c.methods }
 
--- the letters of `Root`
-abbrev pub root_name : Name
-root_name = 82 ∷ 111 ∷ 111 ∷ 116 ∷ []
-
--- these tokens are a program, which stands for this tree. So far a program is one class, named Root
+-- program = class class*
+-- these tokens are a program, which stands for this tree
 abbrev pub Derives : List Token → ProgramTree → Type 0
-Derives ts tree = (c : ClassForm) × (c.name ≡ root_name) × (spelled_class c ≡ ts) × (tree_of_class c ∷ [] ≡ tree)
+Derives ts tree = (cs : List ClassForm) × (0 < length cs) × ClassesStand cs × (spelled_classes cs ≡ ts) × (map tree_of_class cs ≡ tree)

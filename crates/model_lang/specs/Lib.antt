@@ -2,8 +2,8 @@ pub mod Tree
 pub mod TreeView
 pub mod Bounds
 pub mod Grammar
-pub mod FirstForms
 pub mod Names
 pub mod Program
 pub mod Reader
+pub mod Lines
 pub mod Answer

@@ -1,17 +1,25 @@
--- What it is that a text is read as a program.
-use Rattle.std.specs.Prelude.{ℕ, ◌≤◌, List, length}
+-- What it is that a text is read as a program, and what it is that it is refused.
+use Rattle.std.specs.Prelude.{◌≡◌, ℕ, ◌≤◌, ◌<◌, List, length, Option, Some, None}
 use Rattle.model_tokens.specs.declared.token.Token.{Token}
 use Rattle.model_tokens.specs.Division.{Divides}
+use Rattle.model_lang.specs.declared.fault.Bound.{Bound}
+use Rattle.model_lang.specs.declared.fault.Bound.TheVariants as bound
 use Rattle.model_lang.specs.Tree.{ProgramTree}
 use Rattle.model_lang.specs.Grammar.{Derives}
-use Rattle.model_lang.specs.Bounds.{most_bytes, most_nested, greatest, brackets_after, operators_after, ProgramFits}
+use Rattle.model_lang.specs.Bounds.{most_bytes, most_nested, greatest, brackets_after, operators_after, passed}
+
+abbrev pub FewBrackets : List Token → Type 0
+FewBrackets ts = greatest brackets_after 0 ts ≤ most_nested
+
+abbrev pub FewOperators : List Token → Type 0
+FewOperators ts = greatest operators_after 0 ts ≤ most_nested
 
 -- these tokens are a program within the bounds, which stands for this tree
 pub record IsSpelled (tokens : List Token) (tree : ProgramTree) : Type 0 where
-  pub brackets : greatest brackets_after 0 tokens ≤ most_nested
-  pub operators : greatest operators_after 0 tokens ≤ most_nested
+  pub brackets : FewBrackets tokens
+  pub operators : FewOperators tokens
   pub derives : Derives tokens tree
-  pub fits : ProgramFits tree
+  pub fits : passed tree ≡ None
 
 -- this text is a program within the bounds, which stands for this tree
 pub record IsRead (text : List ℕ) (tree : ProgramTree) : Type 0 where
@@ -23,3 +31,27 @@ pub record IsRead (text : List ℕ) (tree : ProgramTree) : Type 0 where
 -- some text is read as this tree
 abbrev pub IsProgram : ProgramTree → Type 0
 IsProgram tree = (text : List ℕ) × IsRead text tree
+
+-- ---- refusals
+
+-- The first bound that the tokens pass, with the count. Of brackets and operators the count is the first above the bound.
+abbrev pub ArePast : Bound → ℕ → List Token → Type 0
+ArePast bound.Bytes count ts = ⊥
+ArePast bound.Brackets count ts = (most_nested < greatest brackets_after 0 ts) × (count ≡ 33)
+ArePast bound.Operators count ts = FewBrackets ts × (most_nested < greatest operators_after 0 ts) × (count ≡ 33)
+ArePast what count ts = FewBrackets ts × FewOperators ts × ((tree : ProgramTree) × Derives ts tree × (passed tree ≡ Some (what, count)))
+
+-- the text passes this bound first, with this count
+abbrev pub IsTooLarge : Bound → ℕ → List ℕ → Type 0
+IsTooLarge bound.Bytes count text = (most_bytes < length text) × (count ≡ length text)
+IsTooLarge what count text = (length text ≤ most_bytes) × ((ts : List Token) × Divides ts text × ArePast what count ts)
+
+-- these tokens are within the bounds for brackets and operators, and no program
+pub record AreNoProgram (tokens : List Token) : Type 0 where
+  pub brackets : FewBrackets tokens
+  pub operators : FewOperators tokens
+  pub underived : (tree : ProgramTree) → ¬ Derives tokens tree
+
+-- This text is not too long, and no program: it is divided into no tokens, or into tokens that are none.
+abbrev pub IsNoProgram : List ℕ → Type 0
+IsNoProgram text = (length text ≤ most_bytes) × ((ts : List Token) → Divides ts text → AreNoProgram ts)

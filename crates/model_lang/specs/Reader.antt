@@ -1,14 +1,17 @@
 -- A reader of tokens from left to right. That it reads the grammar is proved apart: no public clause names it.
-use Rattle.std.specs.Prelude.{ℕ, zero, suc, ℤ, Bool, true, false, List, [], ◌∷◌, ◌++◌, length, Option, Some, None, nat_eq}
+use Rattle.std.specs.Prelude.{ℕ, zero, suc, Bool, true, false, List, [], ◌∷◌, ◌++◌, length, Option, Some, None, nat_eq, if◌then◌else◌}
 use Rattle.model_tokens.specs.declared.token.Token.{Token}
 use Rattle.model_tokens.specs.declared.token.Token.TheVariants as token
 use Rattle.model_tokens.specs.declared.token.Word.{Word}
 use Rattle.model_tokens.specs.declared.token.Word.TheVariants as w
 use Rattle.model_tokens.specs.declared.token.Symbol.{Symbol}
 use Rattle.model_tokens.specs.declared.token.Symbol.TheVariants as s
+use Rattle.model_lang.specs.declared.tree.UnaryOp.{UnaryOp}
+use Rattle.model_lang.specs.declared.tree.UnaryOp.TheVariants as sign
 use Rattle.model_lang.specs.declared.tree.BinaryOp.{BinaryOp}
 use Rattle.model_lang.specs.declared.tree.BinaryOp.TheVariants as op
-use Rattle.model_lang.specs.Tree.{Name, Expression, nil, int, this, field, binary, future, expressions_of, Statement, set_field, when, do_, statements_of, no_else, MethodTree, ClassTree}
+use Rattle.model_lang.specs.Tree.{Name, Expression, nil, bool, int, text, this, local, field, list, unary, binary, builtin, call, future, create, expressions_of, Statement, declare, assign, set_field, when, while, give, do_, statements_of, no_else, else_block, MethodTree, ClassTree}
+use Rattle.model_lang.specs.Grammar.{line_of}
 
 -- what was read, and the tokens behind it
 abbrev pub Read : Type 0 → Type 0
@@ -26,6 +29,11 @@ behind (Some ts) next = next ts
 abbrev pub either_way : {B : Type 0} → Option (List Token) → (List Token → B) → B → B
 either_way None next other = other
 either_way (Some ts) next other = next ts
+
+-- with what was found, or what there is without it
+abbrev pub on_found : {A B : Type 0} → Read A → (A → List Token → B) → B → B
+on_found None with_it without = without
+on_found (Some p) with_it without = with_it p.0 p.1
 
 -- ---- the token at the front
 
@@ -90,97 +98,203 @@ abbrev pub class_name_at : List Token → Read Name
 class_name_at (token.ClassName x ∷ ts) = Some (x, ts)
 class_name_at _ = None
 
-abbrev pub number_at : List Token → Read ℤ
-number_at (token.Number n ∷ ts) = Some (n, ts)
-number_at _ = None
-
 -- ---- expressions
 
 abbrev pub Reader : Type 0
 Reader = List Token → Read Expression
 
-abbrev pub read_field : Reader
-read_field ts = behind (after_word w.This ts) (λ ts. behind (after_symbol s.Dot ts) (λ ts. reading (name_at ts) (λ x ts. Some (field x, ts))))
+-- expressions behind the first, up to the closing bracket, which is read too
+abbrev pub read_more : Symbol → Reader → ℕ → List Expression → List Token → Read (List Expression)
+read_more close inner zero found ts = None
+read_more close inner (suc turns) found ts =
+    either_way (after_symbol s.Comma ts) (λ ts. reading (inner ts) (λ e. read_more close inner turns (found ++ e ∷ []))) (behind (after_symbol close ts) (λ rest. Some (found, rest)))
 
-abbrev pub or_number : Read ℤ → Read Expression → Read Expression
-or_number None other = other
-or_number (Some p) other = Some (int p.0, p.1)
+abbrev pub read_args : Symbol → Reader → List Token → Read (List Expression)
+read_args close inner ts = either_way (after_symbol close ts) (λ rest. Some ([], rest)) (reading (inner ts) (λ e rest. read_more close inner (length ts) (e ∷ []) rest))
 
-abbrev pub read_prim : Reader
-read_prim ts = or_number (number_at ts) (either_way (after_word w.Nil ts) (λ ts. Some (nil, ts)) (read_field ts))
+-- behind a name at the start of a prim
+abbrev pub read_named : Reader → Name → Reader
+read_named inner x ts =
+    either_way (after_symbol s.OpenRound ts) (λ ts. reading (read_args s.CloseRound inner ts) (λ args ts. Some (builtin x (expressions_of args), ts))) (Some (local x, ts))
 
--- an operator at the front, and what is behind it
-abbrev pub Front : Type 0
-Front = List Token → Option (BinaryOp × List Token)
+-- `.` and a name that no `(` follows
+abbrev pub field_at : List Token → Read Name
+field_at ts = behind (after_symbol s.Dot ts) (λ ts. reading (name_at ts) (λ x ts. either_way (after_symbol s.OpenRound ts) (λ rest. None) (Some (x, ts))))
 
-abbrev pub front_of_sum : Front
-front_of_sum ts = either_way (after_symbol s.Plus ts) (λ ts. Some (op.Plus, ts)) (either_way (after_symbol s.Minus ts) (λ ts. Some (op.Minus, ts)) None)
+-- behind `this`
+abbrev pub read_this : Reader
+read_this ts = on_found (field_at ts) (λ x ts. Some (field x, ts)) (Some (this, ts))
 
-abbrev pub front_of_relation : Front
-front_of_relation ts = either_way (after_symbol s.Less ts) (λ ts. Some (op.Less, ts)) None
+-- behind `create`
+abbrev pub read_create : Reader → Reader
+read_create inner ts =
+    behind (after_symbol s.OpenRound ts) (λ ts. reading (class_name_at ts) (λ x ts. behind (after_symbol s.Comma ts) (λ ts.
+    reading (inner ts) (λ e ts. behind (after_symbol s.CloseRound ts) (λ ts. Some (create x e, ts))))))
 
--- with the operator, or what there is without one
-abbrev pub on_front : Option (BinaryOp × List Token) → (BinaryOp → List Token → Read Expression) → Read Expression → Read Expression
-on_front None with_it without = without
-on_front (Some p) with_it without = with_it p.0 p.1
+abbrev pub read_word : Reader → Word → Reader
+read_word inner w.Nil ts = Some (nil, ts)
+read_word inner w.True ts = Some (bool true, ts)
+read_word inner w.False ts = Some (bool false, ts)
+read_word inner w.This ts = read_this ts
+read_word inner w.Create ts = read_create inner ts
+read_word inner _ ts = None
 
--- at most so many operators, each with its right side
-abbrev pub more_of : Front → Reader → ℕ → Expression → Reader
-more_of front inner zero left ts = Some (left, ts)
-more_of front inner (suc turns) left ts =
-    on_front (front ts) (λ o rest. reading (inner rest) (λ e. more_of front inner turns (binary o left e))) (Some (left, ts))
+abbrev pub read_opened : Reader → Symbol → Reader
+read_opened inner s.OpenRound ts = reading (inner ts) (λ e ts. behind (after_symbol s.CloseRound ts) (λ ts. Some (e, ts)))
+read_opened inner s.OpenSquare ts = reading (read_args s.CloseSquare inner ts) (λ items ts. Some (list (expressions_of items), ts))
+read_opened inner _ ts = None
 
-abbrev pub read_sum : Reader
-read_sum ts = reading (read_prim ts) (more_of front_of_sum read_prim (length ts))
+abbrev pub read_prim : Reader → Reader
+read_prim inner (token.Number n ∷ ts) = Some (int n, ts)
+read_prim inner (token.Text t ∷ ts) = Some (text t, ts)
+read_prim inner (token.Name x ∷ ts) = read_named inner x ts
+read_prim inner (token.Word x ∷ ts) = read_word inner x ts
+read_prim inner (token.Symbol x ∷ ts) = read_opened inner x ts
+read_prim inner _ = None
 
--- at most one operator, with its right side
-abbrev pub one_more : Front → Reader → Expression → Reader
-one_more front inner left ts =
-    on_front (front ts) (λ o rest. reading (inner rest) (λ e behind. Some (binary o left e, behind))) (Some (left, ts))
+-- a call behind its `.`
+abbrev pub read_call : Reader → Expression → Reader
+read_call inner object ts =
+    reading (name_at ts) (λ x ts. behind (after_symbol s.OpenRound ts) (λ ts. reading (read_args s.CloseRound inner ts) (λ args ts. Some (call object x (expressions_of args), ts))))
 
-abbrev pub read_whole : Reader
-read_whole ts = reading (read_sum ts) (one_more front_of_relation read_sum)
+-- a future behind its delay
+abbrev pub read_message : Reader → Expression → Expression → Reader
+read_message inner object delay ts =
+    behind (after_symbol s.Dot ts) (λ ts. reading (name_at ts) (λ x ts. behind (after_symbol s.OpenRound ts) (λ ts.
+    reading (read_args s.CloseRound inner ts) (λ args ts. Some (future object delay x (expressions_of args), ts)))))
 
-abbrev pub read_items : ℕ → List Expression → List Token → Read (List Expression)
-read_items zero found ts = None
-read_items (suc turns) found ts =
-    reading (read_whole ts) (λ e rest. either_way (after_symbol s.Comma rest) (read_items turns (found ++ e ∷ [])) (Some (found ++ e ∷ [], rest)))
+-- a future behind `.future`
+abbrev pub read_future : Reader → Expression → Reader
+read_future inner object ts =
+    behind (after_symbol s.OpenRound ts) (λ ts. reading (inner ts) (λ delay ts. behind (after_symbol s.CloseRound ts) (read_message inner object delay)))
 
--- up to the closing bracket, which is read too
-abbrev pub read_arguments : List Token → Read (List Expression)
-read_arguments ts =
-    either_way (after_symbol s.CloseRound ts) (λ rest. Some ([], rest)) (reading (read_items (length ts) [] ts) (λ found ts. behind (after_symbol s.CloseRound ts) (λ ts. Some (found, ts))))
+-- behind the `.` of a call or a future
+abbrev pub read_suffix : Reader → Expression → Reader
+read_suffix inner object ts = either_way (after_word w.Future ts) (read_future inner object) (read_call inner object ts)
+
+-- at most so many calls and futures, each of what stands before it
+abbrev pub suffixes_of : Reader → ℕ → Expression → Reader
+suffixes_of inner zero object ts = Some (object, ts)
+suffixes_of inner (suc turns) object ts = either_way (after_symbol s.Dot ts) (λ ts. reading (read_suffix inner object ts) (suffixes_of inner turns)) (Some (object, ts))
+
+abbrev pub read_post : Reader → Reader
+read_post inner ts = reading (read_prim inner ts) (suffixes_of inner (length ts))
+
+abbrev pub sign_of : Symbol → Option UnaryOp
+sign_of s.Minus = Some sign.Minus
+sign_of s.Not = Some sign.Not
+sign_of _ = None
+
+abbrev pub operator_of : Symbol → Option BinaryOp
+operator_of s.Or = Some op.Or
+operator_of s.And = Some op.And
+operator_of s.Same = Some op.Same
+operator_of s.Differs = Some op.Differs
+operator_of s.Less = Some op.Less
+operator_of s.AtMost = Some op.AtMost
+operator_of s.Greater = Some op.Greater
+operator_of s.AtLeast = Some op.AtLeast
+operator_of s.Plus = Some op.Plus
+operator_of s.Minus = Some op.Minus
+operator_of s.Times = Some op.Times
+operator_of s.Divide = Some op.Divide
+operator_of s.Rest = Some op.Rest
+operator_of _ = None
+
+abbrev pub with_rest : {A : Type 0} → Option A → List Token → Read A
+with_rest None ts = None
+with_rest (Some o) ts = Some (o, ts)
+
+abbrev pub sign_at : List Token → Read UnaryOp
+sign_at (token.Symbol x ∷ ts) = with_rest (sign_of x) ts
+sign_at _ = None
+
+abbrev pub of_line : ℕ → Option BinaryOp → Option BinaryOp
+of_line k None = None
+of_line k (Some o) = if nat_eq (line_of o) k then Some o else None
+
+-- an operator of this line at the front
+abbrev pub operator_at : ℕ → List Token → Read BinaryOp
+operator_at k (token.Symbol x ∷ ts) = with_rest (of_line k (operator_of x)) ts
+operator_at k _ = None
+
+-- at most so many operators of this line, each with its right side
+abbrev pub more_of : ℕ → Reader → ℕ → Expression → Reader
+more_of k inner zero left ts = Some (left, ts)
+more_of k inner (suc turns) left ts =
+    on_found (operator_at k ts) (λ o ts. reading (inner ts) (λ e. more_of k inner turns (binary o left e))) (Some (left, ts))
+
+-- how many operators of a line may stand one behind the other, among so many tokens. Relations do not group
+abbrev pub turns_of : ℕ → ℕ → ℕ
+turns_of k many = if nat_eq k 4 then 1 else many
+
+-- an expression of this line or a tighter one
+abbrev pub read_line : Reader → ℕ → Reader
+read_line inner zero ts = inner ts
+read_line inner (suc zero) ts = inner ts
+read_line inner (suc (suc k)) ts =
+    reading (read_line inner (suc k) ts) (more_of (suc (suc k)) (read_line inner (suc k)) (turns_of (suc (suc k)) (length ts)))
+
+-- with at most so many signs and brackets one in another
+abbrev pub read_unary : ℕ → Reader
+read_unary zero ts = None
+read_unary (suc room) ts =
+    on_found (sign_at ts) (λ o ts. reading (read_unary room ts) (λ e ts. Some (unary o e, ts))) (read_post (read_line (read_unary room) 6) ts)
+
+abbrev pub read_expression : Reader
+read_expression ts = read_line (read_unary (length ts)) 6 ts
 
 -- ---- statements
 
--- behind `this.`
-abbrev pub read_setting : List Token → Read Statement
-read_setting ts =
-    reading (name_at ts) (λ x ts. behind (after_symbol s.Assign ts) (λ ts. reading (read_whole ts) (λ e ts. behind (after_symbol s.Semicolon ts) (λ ts. Some (set_field x e, ts)))))
+-- an expression and the `;` behind it
+abbrev pub read_ended : Reader
+read_ended ts = reading (read_expression ts) (λ e ts. behind (after_symbol s.Semicolon ts) (λ ts. Some (e, ts)))
 
--- behind `(delay)` of a future
-abbrev pub read_message : Expression → List Token → Read Statement
-read_message delay ts =
-    behind (after_symbol s.Dot ts) (λ ts. reading (name_at ts) (λ x ts. behind (after_symbol s.OpenRound ts) (λ ts.
-    reading (read_arguments ts) (λ args ts. behind (after_symbol s.Semicolon ts) (λ ts. Some (do_ (future this delay x (expressions_of args)), ts))))))
+-- a statement that ends with an expression
+abbrev pub read_end : (Expression → Statement) → List Token → Read Statement
+read_end make ts = reading (read_ended ts) (λ e ts. Some (make e, ts))
 
--- behind `this.future`
-abbrev pub read_later : List Token → Read Statement
-read_later ts =
-    behind (after_symbol s.OpenRound ts) (λ ts. reading (read_whole ts) (λ delay ts. behind (after_symbol s.CloseRound ts) (read_message delay)))
+-- behind `let`
+abbrev pub read_let : List Token → Read Statement
+read_let ts = reading (name_at ts) (λ x ts. behind (after_symbol s.Assign ts) (read_end (declare x)))
+
+-- a name and a `=`
+abbrev pub assigned_at : List Token → Read Name
+assigned_at ts = reading (name_at ts) (λ x ts. behind (after_symbol s.Assign ts) (λ ts. Some (x, ts)))
+
+-- `this`, `.`, a name and a `=`
+abbrev pub set_at : List Token → Read Name
+set_at ts = behind (after_word w.This ts) (λ ts. behind (after_symbol s.Dot ts) assigned_at)
+
+-- a statement that no word begins which stands before statements alone
+abbrev pub read_simple : List Token → Read Statement
+read_simple ts = on_found (assigned_at ts) (λ x. read_end (assign x)) (on_found (set_at ts) (λ x. read_end (set_field x)) (read_end do_ ts))
+
+-- an expression in round brackets, and the opening brace behind it
+abbrev pub read_test : List Token → Read Expression
+read_test ts =
+    behind (after_symbol s.OpenRound ts) (λ ts. reading (read_expression ts) (λ e ts. behind (after_symbol s.CloseRound ts) (λ ts. behind (after_symbol s.OpenBrace ts) (λ ts. Some (e, ts)))))
+
+-- behind `else`
+abbrev pub read_else : (List Token → Read (List Statement)) → Expression → List Statement → List Token → Read Statement
+read_else block test found ts =
+    behind (after_symbol s.OpenBrace ts) (λ ts. reading (block ts) (λ other ts. Some (when test (statements_of found) (else_block (statements_of other)), ts)))
 
 -- behind `if`
-abbrev pub read_choice : (List Token → Read (List Statement)) → List Token → Read Statement
-read_choice block ts =
-    behind (after_symbol s.OpenRound ts) (λ ts. reading (read_whole ts) (λ test ts. behind (after_symbol s.CloseRound ts) (λ ts. behind (after_symbol s.OpenBrace ts) (λ ts.
-    reading (block ts) (λ found ts. Some (when test (statements_of found) no_else, ts))))))
+abbrev pub read_if : (List Token → Read (List Statement)) → List Token → Read Statement
+read_if block ts =
+    reading (read_test ts) (λ test ts. reading (block ts) (λ found ts. either_way (after_word w.Else ts) (read_else block test found) (Some (when test (statements_of found) no_else, ts))))
 
--- behind `this`
-abbrev pub read_on_this : List Token → Read Statement
-read_on_this ts = behind (after_symbol s.Dot ts) (λ ts. either_way (after_word w.Future ts) read_later (read_setting ts))
+-- behind `while`
+abbrev pub read_while : (List Token → Read (List Statement)) → List Token → Read Statement
+read_while block ts = reading (read_test ts) (λ test ts. reading (block ts) (λ body ts. Some (while test (statements_of body), ts)))
 
 abbrev pub read_action : (List Token → Read (List Statement)) → List Token → Read Statement
-read_action block ts = either_way (after_word w.If ts) (read_choice block) (behind (after_word w.This ts) read_on_this)
+read_action block ts =
+    either_way (after_word w.If ts) (read_if block)
+    (either_way (after_word w.While ts) (read_while block)
+    (either_way (after_word w.Let ts) read_let
+    (either_way (after_word w.Return ts) (read_end give) (read_simple ts))))
 
 -- up to the closing brace, which is read too
 abbrev pub read_actions : (List Token → Read (List Statement)) → ℕ → List Statement → List Token → Read (List Statement)
@@ -228,3 +342,12 @@ read_members x ts =
 
 abbrev pub read_class : List Token → Read ClassTree
 read_class ts = behind (after_word w.Class ts) (λ ts. reading (class_name_at ts) (λ x ts. behind (after_symbol s.OpenBrace ts) (read_members x)))
+
+abbrev pub read_classes : ℕ → List ClassTree → List Token → Option (List ClassTree)
+read_classes turns found [] = Some found
+read_classes zero found (t ∷ ts) = None
+read_classes (suc turns) found (t ∷ ts) = reading (read_class (t ∷ ts)) (λ c. read_classes turns (found ++ c ∷ []))
+
+-- all the tokens
+abbrev pub read_program : List Token → Option (List ClassTree)
+read_program ts = reading (read_class ts) (λ c. read_classes (length ts) (c ∷ []))

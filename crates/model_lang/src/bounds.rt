@@ -1,8 +1,10 @@
 //! The bounds of a program.
-ghost use Rattle.std.specs.Prelude.{◌≡◌, ◌↔◌, ◌≤◌, IsTrue, map, length};
-ghost use Rattle.model_lang.specs.TreeView.{expression_tree, expression_trees, statement_tree, statement_trees, class_tree, method_tree, else_of};
-ghost use Rattle.model_lang.specs.Bounds.{greatest, counted, count_after, most_nested, most_arguments, how_many, FewArguments, AllFewArguments, HasFewArguments, AllHaveFewArguments, ClassFits, MethodFits, MethodsFit};
+ghost use Rattle.std.specs.Prelude.{◌≡◌, ◌↔◌, ◌≤◌, ◌∷◌, IsTrue, map, flat_map, length};
+ghost use Rattle.model_lang.specs.Tree.{ClassTree};
+ghost use Rattle.model_lang.specs.TreeView.{expression_tree, expression_trees, statement_tree, statement_trees, method_tree, program_tree};
+ghost use Rattle.model_lang.specs.Bounds.{greatest, counted, count_after, most_nested, most_members, most_arguments, how_many, argument_counts, all_argument_counts, statement_counts, all_statement_counts, method_counts, class_counts, first_above, first_found, passed as first_passed};
 
+use crate::fault::Bound;
 use crate::tree::{Class, Expr, Method, Stmt};
 use model_tokens::{Symbol, Token};
 
@@ -76,91 +78,150 @@ fn after_symbol(what: Counted, count: usize, symbol: Symbol) -> usize
     }
 }
 
-/// Whether a class has few enough fields and methods, and its methods few enough parameters and arguments.
-pub fn class_fits(class: &Class) -> bool
-    ensures { IsTrue result ↔ ClassFits (class_tree class.now) }
+/// The first bound that a program passes, with the first count that is above it.
+pub fn passed(classes: &[Class]) -> Option<(Bound, u64)>
+    ensures { result ≡ first_passed (program_tree classes.now) }
 {
-    class.fields.len() <= MOST_MEMBERS
-        && class.methods.len() <= MOST_MEMBERS
-        && methods_fit(&class.methods)
+    if classes.len() > MOST_MEMBERS {
+        return Some((Bound::Classes, classes.len() as u64));
+    }
+    if let Some(count) = many_fields(classes) {
+        return Some((Bound::Fields, count));
+    }
+    if let Some(count) = many_methods(classes) {
+        return Some((Bound::Methods, count));
+    }
+    let count = many_arguments(classes)?;
+    Some((Bound::Parameters, count))
 }
 
-fn methods_fit(methods: &[Method]) -> bool
-    ensures { IsTrue result ↔ MethodsFit (map method_tree methods.now) }
+fn many_fields(classes: &[Class]) -> Option<u64>
+    ensures { result ≡ first_above most_members (map (λ (c : ClassTree). length c.fields) (program_tree classes.now)) }
+{
+    for class in classes {
+        if class.fields.len() > MOST_MEMBERS {
+            return Some(class.fields.len() as u64);
+        }
+    }
+    None
+}
+
+fn many_methods(classes: &[Class]) -> Option<u64>
+    ensures { result ≡ first_above most_members (map (λ (c : ClassTree). length c.methods) (program_tree classes.now)) }
+{
+    for class in classes {
+        if class.methods.len() > MOST_MEMBERS {
+            return Some(class.methods.len() as u64);
+        }
+    }
+    None
+}
+
+fn many_arguments(classes: &[Class]) -> Option<u64>
+    ensures { result ≡ first_above most_arguments (flat_map class_counts (program_tree classes.now)) }
+{
+    for class in classes {
+        if let Some(count) = of_methods(&class.methods) {
+            return Some(count);
+        }
+    }
+    None
+}
+
+fn of_methods(methods: &[Method]) -> Option<u64>
+    ensures { result ≡ first_above most_arguments (flat_map method_counts (map method_tree methods.now)) }
 {
     for method in methods {
-        if !method_fits(method) {
-            return false;
+        if let Some(count) = of_method(method) {
+            return Some(count);
         }
     }
-    true
+    None
 }
 
-fn method_fits(method: &Method) -> bool
-    ensures { IsTrue result ↔ MethodFits (method_tree method.now) }
+fn of_method(method: &Method) -> Option<u64>
+    ensures { result ≡ first_above most_arguments (method_counts (method_tree method.now)) }
 {
-    method.params.len() <= MOST_ARGUMENTS && statements_fit(&method.body)
+    if method.params.len() > MOST_ARGUMENTS {
+        return Some(method.params.len() as u64);
+    }
+    of_statements(&method.body)
 }
 
 #[cycle(statements)]
-fn statements_fit(statements: &[Stmt]) -> bool
-    ensures { IsTrue result ↔ AllHaveFewArguments (statement_trees statements.now) }
+fn of_statements(statements: &[Stmt]) -> Option<u64>
+    ensures { result ≡ first_above most_arguments (all_statement_counts (statement_trees statements.now)) }
 {
     for statement in statements {
-        if !statement_fits(statement) {
-            return false;
+        if let Some(count) = of_statement(statement) {
+            return Some(count);
         }
     }
-    true
+    None
 }
 
 #[cycle(statements)]
-fn statement_fits(statement: &Stmt) -> bool
-    ensures { IsTrue result ↔ HasFewArguments (statement_tree statement.now) }
+fn of_statement(statement: &Stmt) -> Option<u64>
+    ensures { result ≡ first_above most_arguments (statement_counts (statement_tree statement.now)) }
 {
     match statement {
         Stmt::Let { value, .. }
         | Stmt::Assign { value, .. }
         | Stmt::SetField { value, .. }
         | Stmt::Return { value }
-        | Stmt::Do { value } => expression_fits(value),
+        | Stmt::Do { value } => of_expression(value),
         Stmt::If {
             test,
             yes,
             no: None,
-        } => expression_fits(test) && statements_fit(yes),
+        } => first(of_expression(test), of_statements(yes)),
         Stmt::If {
             test,
             yes,
             no: Some(no),
-        } => expression_fits(test) && statements_fit(yes) && statements_fit(no),
-        Stmt::While { test, body } => expression_fits(test) && statements_fit(body),
+        } => first(
+            of_expression(test),
+            first(of_statements(yes), of_statements(no)),
+        ),
+        Stmt::While { test, body } => first(of_expression(test), of_statements(body)),
+    }
+}
+
+// The first of two finds.
+fn first(one: Option<u64>, other: Option<u64>) -> Option<u64>
+    ensures { result ≡ first_found one other }
+{
+    match one {
+        Some(found) => Some(found),
+        None => other,
     }
 }
 
 #[cycle(expressions)]
-fn expressions_fit(expressions: &[Expr]) -> bool
-    ensures { IsTrue result ↔ AllFewArguments (expression_trees expressions.now) }
+fn of_expressions(expressions: &[Expr]) -> Option<u64>
+    ensures { result ≡ first_above most_arguments (all_argument_counts (expression_trees expressions.now)) }
 {
     for expression in expressions {
-        if !expression_fits(expression) {
-            return false;
+        if let Some(count) = of_expression(expression) {
+            return Some(count);
         }
     }
-    true
+    None
 }
 
 #[cycle(expressions)]
-#[tactic(auto, using(crate::proofs::Counts::by_count))]
-fn arguments_fit(args: &[Expr]) -> bool
-    ensures { IsTrue result ↔ (how_many (expression_trees args.now) ≤ most_arguments) × AllFewArguments (expression_trees args.now) }
+fn of_arguments(args: &[Expr]) -> Option<u64>
+    ensures { result ≡ first_above most_arguments (how_many (expression_trees args.now) ∷ all_argument_counts (expression_trees args.now)) }
 {
-    args.len() <= MOST_ARGUMENTS && expressions_fit(args)
+    if args.len() > MOST_ARGUMENTS {
+        return Some(args.len() as u64);
+    }
+    of_expressions(args)
 }
 
 #[cycle(expressions)]
-fn expression_fits(expression: &Expr) -> bool
-    ensures { IsTrue result ↔ FewArguments (expression_tree expression.now) }
+fn of_expression(expression: &Expr) -> Option<u64>
+    ensures { result ≡ first_above most_arguments (argument_counts (expression_tree expression.now)) }
 {
     match expression {
         Expr::Nil
@@ -169,18 +230,21 @@ fn expression_fits(expression: &Expr) -> bool
         | Expr::Text(_)
         | Expr::This
         | Expr::Local { .. }
-        | Expr::Field { .. } => true,
-        Expr::List { items } => expressions_fit(items),
-        Expr::Unary { of, .. } => expression_fits(of),
-        Expr::Binary { left, right, .. } => expression_fits(left) && expression_fits(right),
-        Expr::Builtin { args, .. } => expressions_fit(args),
-        Expr::Call { object, args, .. } => expression_fits(object) && arguments_fit(args),
+        | Expr::Field { .. } => None,
+        Expr::List { items } => of_expressions(items),
+        Expr::Unary { of, .. } => of_expression(of),
+        Expr::Binary { left, right, .. } => first(of_expression(left), of_expression(right)),
+        Expr::Builtin { args, .. } => of_expressions(args),
+        Expr::Call { object, args, .. } => first(of_expression(object), of_arguments(args)),
         Expr::Future {
             object,
             delay,
             args,
             ..
-        } => expression_fits(object) && expression_fits(delay) && arguments_fit(args),
-        Expr::Create { options, .. } => expression_fits(options),
+        } => first(
+            of_expression(object),
+            first(of_expression(delay), of_arguments(args)),
+        ),
+        Expr::Create { options, .. } => of_expression(options),
     }
 }

@@ -1,10 +1,10 @@
 //! Classes, read from the front of the tokens.
 ghost use Rattle.std.specs.Prelude.{[], length, map};
-ghost use Rattle.model_lang.specs.Answer.{Reads};
+ghost use Rattle.model_lang.specs.Answer.{Reads, ReadsAll};
 ghost use Rattle.model_lang.specs.TreeView.{class_tree, method_tree};
-ghost use Rattle.model_lang.specs.Reader.{read_class, read_members, read_fields, read_methods, read_method, read_body, read_params, read_further};
+ghost use Rattle.model_lang.specs.Reader.{read_class, read_members, read_fields, read_methods, read_method, read_body, read_params, read_further, read_program};
 
-use crate::fault::{LangFault, SYNTAX};
+use crate::fault::Stop;
 use crate::front::{class_name, expect_symbol, expect_word, name, symbol, word};
 use crate::statement::block;
 use crate::tree::{Class, Method};
@@ -12,8 +12,27 @@ use model_tokens::{Symbol, Token, Word};
 use std::alloc::Global;
 use tea_base::Text;
 
-/// Reads `class = "class" CName "{" ("field" name ";")* method* "}"`.
-pub fn class(alloc: Global, tokens: &[Token]) -> Result<(Class, &[Token]), LangFault>
+/// Reads `program = class class*`, all the tokens.
+#[tactic(auto, using(crate::proofs::Turns::by_turn))]
+pub fn program(alloc: Global, tokens: &[Token]) -> Result<Vec<Class>, Stop>
+    ensures { ReadsAll result (read_program tokens.now) }
+{
+    let mut found = Vec::new(alloc);
+    let (first, mut rest) = class(alloc, tokens)?;
+    found.push(first)?;
+    for _turn in 0..tokens.len() {
+        if rest.is_empty() {
+            return Ok(found);
+        }
+        let (next, behind) = class(alloc, rest)?;
+        found.push(next)?;
+        rest = behind;
+    }
+    if rest.is_empty() { Ok(found) } else { Err(Stop::at(rest)) }
+}
+
+// Reads `class = "class" CName "{" ("field" name ";")* method* "}"`.
+fn class(alloc: Global, tokens: &[Token]) -> Result<(Class, &[Token]), Stop>
     ensures { Reads class_tree result (read_class tokens.now) }
 {
     let rest = expect_word(tokens, Word::Class)?;
@@ -22,7 +41,7 @@ pub fn class(alloc: Global, tokens: &[Token]) -> Result<(Class, &[Token]), LangF
     members(alloc, name, rest)
 }
 
-fn members(alloc: Global, name: Text, tokens: &[Token]) -> Result<(Class, &[Token]), LangFault>
+fn members(alloc: Global, name: Text, tokens: &[Token]) -> Result<(Class, &[Token]), Stop>
     ensures { Reads class_tree result (read_members name tokens.now) }
 {
     let (fields, rest) = fields(alloc, tokens)?;
@@ -36,7 +55,7 @@ fn members(alloc: Global, name: Text, tokens: &[Token]) -> Result<(Class, &[Toke
 }
 
 #[tactic(auto, using(crate::proofs::Turns::by_turn))]
-fn fields(alloc: Global, tokens: &[Token]) -> Result<(Vec<Text>, &[Token]), LangFault>
+fn fields(alloc: Global, tokens: &[Token]) -> Result<(Vec<Text>, &[Token]), Stop>
     ensures { Reads (λ found. found.items) result (read_fields (length tokens.now) [] tokens.now) }
 {
     let mut found = Vec::new(alloc);
@@ -54,7 +73,7 @@ fn fields(alloc: Global, tokens: &[Token]) -> Result<(Vec<Text>, &[Token]), Lang
 
 // methods, up to the closing brace
 #[tactic(auto, using(crate::proofs::Turns::by_turn))]
-fn methods(alloc: Global, tokens: &[Token]) -> Result<(Vec<Method>, &[Token]), LangFault>
+fn methods(alloc: Global, tokens: &[Token]) -> Result<(Vec<Method>, &[Token]), Stop>
     ensures { Reads (λ found. map method_tree found.items) result (read_methods (length tokens.now) [] tokens.now) }
 {
     let mut found = Vec::new(alloc);
@@ -67,10 +86,10 @@ fn methods(alloc: Global, tokens: &[Token]) -> Result<(Vec<Method>, &[Token]), L
         found.push(next)?;
         rest = behind;
     }
-    Err(SYNTAX)
+    Err(Stop::at(rest))
 }
 
-fn method(alloc: Global, tokens: &[Token]) -> Result<(Method, &[Token]), LangFault>
+fn method(alloc: Global, tokens: &[Token]) -> Result<(Method, &[Token]), Stop>
     ensures { Reads method_tree result (read_method tokens.now) }
 {
     let (name, rest) = name(tokens)?;
@@ -84,7 +103,7 @@ fn body(
     name: Text,
     params: Vec<Text>,
     tokens: &[Token],
-) -> Result<(Method, &[Token]), LangFault>
+) -> Result<(Method, &[Token]), Stop>
     ensures { Reads method_tree result (read_body name params.items tokens.now) }
 {
     let rest = expect_symbol(tokens, Symbol::OpenBrace)?;
@@ -94,7 +113,7 @@ fn body(
 }
 
 // parameters, and the closing bracket
-fn params(alloc: Global, tokens: &[Token]) -> Result<(Vec<Text>, &[Token]), LangFault>
+fn params(alloc: Global, tokens: &[Token]) -> Result<(Vec<Text>, &[Token]), Stop>
     ensures { Reads (λ found. found.items) result (read_params tokens.now) }
 {
     let mut found = Vec::new(alloc);
@@ -111,7 +130,7 @@ fn further(
     turns: usize,
     mut found: Vec<Text>,
     tokens: &[Token],
-) -> Result<(Vec<Text>, &[Token]), LangFault>
+) -> Result<(Vec<Text>, &[Token]), Stop>
     ensures { Reads (λ found. found.items) result (read_further turns found.items tokens.now) }
 {
     let mut rest = tokens;
@@ -124,5 +143,5 @@ fn further(
         found.push(next)?;
         rest = behind;
     }
-    Err(SYNTAX)
+    Err(Stop::at(rest))
 }

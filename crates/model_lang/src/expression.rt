@@ -1,55 +1,51 @@
-//! Expressions, read from the front of the tokens.
-ghost use Rattle.std.specs.Prelude.{◌≡◌, [], length, map, Result, Ok, Err};
-ghost use Rattle.model_lang.specs.Answer.{Reads, Fronts, Joins};
+//! Expressions, read from tokens.
+ghost use Rattle.std.specs.Prelude.{◌≡◌, ◌-◌, [], length, map, Result, Ok, Err};
+ghost use Rattle.model_lang.specs.Answer.{Reads, FindsName, Joins};
 ghost use Rattle.model_lang.specs.TreeView.{expression_tree};
-ghost use Rattle.model_lang.specs.Reader.{read_prim, read_field, read_sum, read_whole, read_items, read_arguments, front_of_sum as sum_at, front_of_relation as relation_at};
+ghost use Rattle.model_lang.specs.Lines.{line_number};
+ghost use Rattle.model_lang.specs.Reader.{read_expression, read_line, read_unary, read_post, suffixes_of, read_suffix, read_call, read_future, read_message, read_prim, read_word, read_opened, read_named, read_this, field_at as read_field, read_create, read_args, read_more};
 
-use crate::fault::{LangFault, SYNTAX};
-use crate::front::{expect_symbol, expect_word, name, symbol, word};
+use crate::fault::Stop;
+use crate::front::{class_name, expect_symbol, name, named, symbol, word};
+use crate::operators::{Line, operator_at, sign_at};
 use crate::tree::{BinaryOp, Expr};
 use model_tokens::{Symbol, Token, Word};
 use std::alloc::{AllocError, Global};
+use tea_base::Text;
 
-/// Reads `expr = sum ["<" sum]?`.
-pub fn expression(alloc: Global, tokens: &[Token]) -> Result<(Expr, &[Token]), LangFault>
-    ensures { Reads expression_tree result (read_whole tokens.now) }
+/// Reads `expr`, with at most as many signs and brackets one in another as there are tokens.
+pub fn expression(alloc: Global, tokens: &[Token]) -> Result<(Expr, &[Token]), Stop>
+    ensures { Reads expression_tree result (read_expression tokens.now) }
 {
-    let (left, rest) = sum(alloc, tokens)?;
-    let Some((op, more)) = front_of_relation(rest) else {
-        return Ok((left, rest));
-    };
-    let (right, behind) = sum(alloc, more)?;
-    let whole = joined(alloc, op, left, right)?;
-    Ok((whole, behind))
+    line(alloc, tokens.len(), Line::Or, tokens)
 }
 
-/// Reads `args = [expr ("," expr)*]?` and the closing bracket.
-pub fn arguments(alloc: Global, tokens: &[Token]) -> Result<(Vec<Expr>, &[Token]), LangFault>
-    ensures { Reads (λ args. map expression_tree args.items) result (read_arguments tokens.now) }
+// An expression of this line or a tighter one.
+#[cycle(line)]
+fn line(alloc: Global, room: usize, line: Line, tokens: &[Token]) -> Result<(Expr, &[Token]), Stop>
+    ensures { Reads expression_tree result (read_line (read_unary room) (line_number line) tokens.now) }
 {
-    if let Some(rest) = symbol(tokens, Symbol::CloseRound) {
-        return Ok((Vec::new(alloc), rest));
+    let (mut left, mut rest) = inner(alloc, room, line, tokens)?;
+    for _turn in 0..line.turns(tokens.len()) {
+        let Some((op, more)) = operator_at(line, rest) else {
+            return Ok((left, rest));
+        };
+        let (right, behind) = inner(alloc, room, line, more)?;
+        left = joined(alloc, op, left, right)?;
+        rest = behind;
     }
-    let (items, rest) = items(alloc, tokens)?;
-    let rest = expect_symbol(rest, Symbol::CloseRound)?;
-    Ok((items, rest))
+    Ok((left, rest))
 }
 
-#[tactic(auto, using(crate::proofs::Turns::by_turn))]
-fn items(alloc: Global, tokens: &[Token]) -> Result<(Vec<Expr>, &[Token]), LangFault>
-    ensures { Reads (λ items. map expression_tree items.items) result (read_items (length tokens.now) [] tokens.now) }
+// A side of an operator of this line.
+#[cycle(line)]
+fn inner(alloc: Global, room: usize, line: Line, tokens: &[Token]) -> Result<(Expr, &[Token]), Stop>
+    ensures { Reads expression_tree result (read_line (read_unary room) (line_number line - 1) tokens.now) }
 {
-    let mut items = Vec::new(alloc);
-    let mut rest = tokens;
-    for _turn in 0..tokens.len() {
-        let (item, behind) = expression(alloc, rest)?;
-        items.push(item)?;
-        match symbol(behind, Symbol::Comma) {
-            Some(more) => rest = more,
-            None => return Ok((items, behind)),
-        }
+    match line.tighter() {
+        Some(tighter) => crate::expression::line(alloc, room, tighter, tokens),
+        None => unary(alloc, room, tokens),
     }
-    Err(SYNTAX)
 }
 
 fn joined(alloc: Global, op: BinaryOp, left: Expr, right: Expr) -> Result<Expr, AllocError>
@@ -62,58 +58,206 @@ fn joined(alloc: Global, op: BinaryOp, left: Expr, right: Expr) -> Result<Expr, 
     })
 }
 
-fn front_of_sum(tokens: &[Token]) -> Option<(BinaryOp, &[Token])>
-    ensures { Fronts result (sum_at tokens.now) }
+// unary = ("-" | "!") unary | post
+#[cycle(line)]
+fn unary(alloc: Global, room: usize, tokens: &[Token]) -> Result<(Expr, &[Token]), Stop>
+    ensures { Reads expression_tree result (read_unary room tokens.now) }
 {
-    if let Some(rest) = symbol(tokens, Symbol::Plus) {
-        return Some((BinaryOp::Plus, rest));
+    if room == 0 {
+        return Err(Stop::at(tokens));
     }
-    let rest = symbol(tokens, Symbol::Minus)?;
-    Some((BinaryOp::Minus, rest))
+    let Some((op, rest)) = sign_at(tokens) else {
+        return post(alloc, room - 1, tokens);
+    };
+    let (of, rest) = unary(alloc, room - 1, rest)?;
+    let of = Box::new(alloc, of)?;
+    Ok((Expr::Unary { op, of }, rest))
 }
 
-fn front_of_relation(tokens: &[Token]) -> Option<(BinaryOp, &[Token])>
-    ensures { Fronts result (relation_at tokens.now) }
+// A prim, and the calls and futures behind it.
+#[cycle(line)]
+fn post(alloc: Global, room: usize, tokens: &[Token]) -> Result<(Expr, &[Token]), Stop>
+    ensures { Reads expression_tree result (read_post (read_line (read_unary room) 6) tokens.now) }
 {
-    let rest = symbol(tokens, Symbol::Less)?;
-    Some((BinaryOp::Less, rest))
-}
-
-// sum = prim (("+" | "-") prim)*
-#[tactic(auto, using(crate::proofs::Turns::by_turn))]
-fn sum(alloc: Global, tokens: &[Token]) -> Result<(Expr, &[Token]), LangFault>
-    ensures { Reads expression_tree result (read_sum tokens.now) }
-{
-    let (mut left, mut rest) = prim(tokens)?;
+    let (mut object, mut rest) = prim(alloc, room, tokens)?;
     for _turn in 0..tokens.len() {
-        let Some((op, more)) = front_of_sum(rest) else {
-            return Ok((left, rest));
+        let Some(behind) = symbol(rest, Symbol::Dot) else {
+            return Ok((object, rest));
         };
-        let (right, behind) = prim(more)?;
-        left = joined(alloc, op, left, right)?;
+        (object, rest) = suffix(alloc, room, object, behind)?;
+    }
+    Ok((object, rest))
+}
+
+// Behind the `.` of a call or a future.
+#[cycle(line)]
+fn suffix(alloc: Global, room: usize, object: Expr, tokens: &[Token]) -> Result<(Expr, &[Token]), Stop>
+    ensures { Reads expression_tree result (read_suffix (read_line (read_unary room) 6) (expression_tree object) tokens.now) }
+{
+    match word(tokens, Word::Future) {
+        Some(rest) => future(alloc, room, object, rest),
+        None => call(alloc, room, object, tokens),
+    }
+}
+
+#[cycle(line)]
+fn call(alloc: Global, room: usize, object: Expr, tokens: &[Token]) -> Result<(Expr, &[Token]), Stop>
+    ensures { Reads expression_tree result (read_call (read_line (read_unary room) 6) (expression_tree object) tokens.now) }
+{
+    let (name, rest) = name(tokens)?;
+    let rest = expect_symbol(rest, Symbol::OpenRound)?;
+    let (args, rest) = arguments(alloc, room, Symbol::CloseRound, rest)?;
+    let object = Box::new(alloc, object)?;
+    Ok((Expr::Call { object, name, args }, rest))
+}
+
+// Behind `.future`.
+#[cycle(line)]
+fn future(alloc: Global, room: usize, object: Expr, tokens: &[Token]) -> Result<(Expr, &[Token]), Stop>
+    ensures { Reads expression_tree result (read_future (read_line (read_unary room) 6) (expression_tree object) tokens.now) }
+{
+    let rest = expect_symbol(tokens, Symbol::OpenRound)?;
+    let (delay, rest) = line(alloc, room, Line::Or, rest)?;
+    let rest = expect_symbol(rest, Symbol::CloseRound)?;
+    message(alloc, room, object, delay, rest)
+}
+
+// Behind the delay of a future.
+#[cycle(line)]
+fn message(alloc: Global, room: usize, object: Expr, delay: Expr, tokens: &[Token]) -> Result<(Expr, &[Token]), Stop>
+    ensures { Reads expression_tree result (read_message (read_line (read_unary room) 6) (expression_tree object) (expression_tree delay) tokens.now) }
+{
+    let rest = expect_symbol(tokens, Symbol::Dot)?;
+    let (name, rest) = name(rest)?;
+    let rest = expect_symbol(rest, Symbol::OpenRound)?;
+    let (args, rest) = arguments(alloc, room, Symbol::CloseRound, rest)?;
+    let object = Box::new(alloc, object)?;
+    let delay = Box::new(alloc, delay)?;
+    Ok((Expr::Future { object, delay, name, args }, rest))
+}
+
+#[cycle(line)]
+fn prim(alloc: Global, room: usize, tokens: &[Token]) -> Result<(Expr, &[Token]), Stop>
+    ensures { Reads expression_tree result (read_prim (read_line (read_unary room) 6) tokens.now) }
+{
+    match tokens.split_first() {
+        Some((Token::Number(number), rest)) => Ok((Expr::Int(*number), rest)),
+        Some((Token::Text(text), rest)) => Ok((Expr::Text(text.clone()?), rest)),
+        Some((Token::Name(name), rest)) => builtin_or_local(alloc, room, name.clone()?, rest),
+        Some((Token::Word(word), rest)) => worded(alloc, room, *word, rest),
+        Some((Token::Symbol(symbol), rest)) => opened(alloc, room, *symbol, rest),
+        _ => Err(Stop::at(tokens)),
+    }
+}
+
+// Behind a name: the arguments of a builtin, or nothing.
+#[cycle(line)]
+fn builtin_or_local(alloc: Global, room: usize, name: Text, tokens: &[Token]) -> Result<(Expr, &[Token]), Stop>
+    ensures { Reads expression_tree result (read_named (read_line (read_unary room) 6) name tokens.now) }
+{
+    let Some(rest) = symbol(tokens, Symbol::OpenRound) else {
+        return Ok((Expr::Local { name }, tokens));
+    };
+    let (args, rest) = arguments(alloc, room, Symbol::CloseRound, rest)?;
+    Ok((Expr::Builtin { name, args }, rest))
+}
+
+// Behind a word.
+#[cycle(line)]
+fn worded(alloc: Global, room: usize, word: Word, tokens: &[Token]) -> Result<(Expr, &[Token]), Stop>
+    ensures { Reads expression_tree result (read_word (read_line (read_unary room) 6) word tokens.now) }
+{
+    match word {
+        Word::Nil => Ok((Expr::Nil, tokens)),
+        Word::True => Ok((Expr::Bool(true), tokens)),
+        Word::False => Ok((Expr::Bool(false), tokens)),
+        Word::This => this(tokens),
+        Word::Create => create(alloc, room, tokens),
+        _ => Err(Stop::before(tokens)),
+    }
+}
+
+// Behind `this`.
+fn this(tokens: &[Token]) -> Result<(Expr, &[Token]), Stop>
+    ensures { Reads expression_tree result (read_this tokens.now) }
+{
+    let Some((name, rest)) = field_at(tokens) else {
+        return Ok((Expr::This, tokens));
+    };
+    Ok((Expr::Field { name: name.clone()? }, rest))
+}
+
+// `.` and a name that no `(` follows.
+fn field_at(tokens: &[Token]) -> Option<(&Text, &[Token])>
+    ensures { FindsName result (read_field tokens.now) }
+{
+    let rest = symbol(tokens, Symbol::Dot)?;
+    let (name, rest) = named(rest)?;
+    match symbol(rest, Symbol::OpenRound) {
+        Some(_) => None,
+        None => Some((name, rest)),
+    }
+}
+
+#[cycle(line)]
+fn create(alloc: Global, room: usize, tokens: &[Token]) -> Result<(Expr, &[Token]), Stop>
+    ensures { Reads expression_tree result (read_create (read_line (read_unary room) 6) tokens.now) }
+{
+    let rest = expect_symbol(tokens, Symbol::OpenRound)?;
+    let (class, rest) = class_name(rest)?;
+    let rest = expect_symbol(rest, Symbol::Comma)?;
+    let (options, rest) = line(alloc, room, Line::Or, rest)?;
+    let rest = expect_symbol(rest, Symbol::CloseRound)?;
+    let options = Box::new(alloc, options)?;
+    Ok((Expr::Create { class, options }, rest))
+}
+
+// Behind a symbol that opens an expression in brackets or a list.
+#[cycle(line)]
+fn opened(alloc: Global, room: usize, bracket: Symbol, tokens: &[Token]) -> Result<(Expr, &[Token]), Stop>
+    ensures { Reads expression_tree result (read_opened (read_line (read_unary room) 6) bracket tokens.now) }
+{
+    match bracket {
+        Symbol::OpenRound => {
+            let (inside, rest) = line(alloc, room, Line::Or, tokens)?;
+            let rest = expect_symbol(rest, Symbol::CloseRound)?;
+            Ok((inside, rest))
+        }
+        Symbol::OpenSquare => {
+            let (items, rest) = arguments(alloc, room, Symbol::CloseSquare, tokens)?;
+            Ok((Expr::List { items }, rest))
+        }
+        _ => Err(Stop::before(tokens)),
+    }
+}
+
+// args = [expr ("," expr)*]?, and the closing bracket
+#[cycle(line)]
+fn arguments(alloc: Global, room: usize, close: Symbol, tokens: &[Token]) -> Result<(Vec<Expr>, &[Token]), Stop>
+    ensures { Reads (λ args. map expression_tree args.items) result (read_args close (read_line (read_unary room) 6) tokens.now) }
+{
+    let mut found = Vec::new(alloc);
+    if let Some(rest) = symbol(tokens, close) {
+        return Ok((found, rest));
+    }
+    let (first, rest) = line(alloc, room, Line::Or, tokens)?;
+    found.push(first)?;
+    further(alloc, room, close, tokens.len(), found, rest)
+}
+
+#[cycle(line)]
+fn further(alloc: Global, room: usize, close: Symbol, turns: usize, mut found: Vec<Expr>, tokens: &[Token]) -> Result<(Vec<Expr>, &[Token]), Stop>
+    ensures { Reads (λ args. map expression_tree args.items) result (read_more close (read_line (read_unary room) 6) turns (map expression_tree found.items) tokens.now) }
+{
+    let mut rest = tokens;
+    for _turn in 0..turns {
+        let Some(more) = symbol(rest, Symbol::Comma) else {
+            let behind = expect_symbol(rest, close)?;
+            return Ok((found, behind));
+        };
+        let (next, behind) = line(alloc, room, Line::Or, more)?;
+        found.push(next)?;
         rest = behind;
     }
-    Ok((left, rest))
-}
-
-// prim = number | "nil" | "this" "." name
-fn prim(tokens: &[Token]) -> Result<(Expr, &[Token]), LangFault>
-    ensures { Reads expression_tree result (read_prim tokens.now) }
-{
-    if let Some((Token::Number(number), rest)) = tokens.split_first() {
-        return Ok((Expr::Int(*number), rest));
-    }
-    if let Some(rest) = word(tokens, Word::Nil) {
-        return Ok((Expr::Nil, rest));
-    }
-    field(tokens)
-}
-
-fn field(tokens: &[Token]) -> Result<(Expr, &[Token]), LangFault>
-    ensures { Reads expression_tree result (read_field tokens.now) }
-{
-    let rest = expect_word(tokens, Word::This)?;
-    let rest = expect_symbol(rest, Symbol::Dot)?;
-    let (name, rest) = name(rest)?;
-    Ok((Expr::Field { name }, rest))
+    Err(Stop::at(rest))
 }

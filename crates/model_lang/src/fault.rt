@@ -1,19 +1,60 @@
 //! Why a text is refused.
 
-use model_tokens::TokenFault;
+use model_tokens::Token;
 use std::alloc::{AllocError, AllocFailed};
 use tea_base::WantOfMemory;
 
 /// Why a text was not read as a program.
 #[derive(Clone, Copy, Debug, PartialEq, Eq)]
 pub enum LangFault {
-    /// The text is no program within the bounds. So far the place is 0.
+    /// The text is no program. `at` is the place, in bytes, of the first byte that no token can begin or go on with, of a
+    /// number that is too large or a name that is too long, or of the first token at which no program can go on; it is the
+    /// length of the text where more would have to follow.
     Syntax { at: u32 },
+    /// The text passes a bound. `count` is the number of bytes, of classes, or the first number of fields, of methods, of
+    /// parameters or arguments that is above the bound; of brackets and operators it is 33.
+    TooLarge { what: Bound, count: u64 },
     WantOfMemory,
 }
 
-/// The refusal of a text that is no program.
-pub const SYNTAX: LangFault = LangFault::Syntax { at: 0 };
+/// What is bounded in a program, in the order in which it is looked at.
+#[derive(Clone, Copy, Debug, PartialEq, Eq)]
+pub enum Bound {
+    /// Bytes of the text: at most 65,536.
+    Bytes,
+    /// Brackets that are open at a token: at most 32.
+    Brackets,
+    /// Operators since the last `,`, `;`, `{` or `}`: at most 32.
+    Operators,
+    /// Classes: at most 256.
+    Classes,
+    /// Fields of a class: at most 256.
+    Fields,
+    /// Methods of a class: at most 256.
+    Methods,
+    /// Parameters of a method, and arguments of a call or a future: at most 16.
+    Parameters,
+}
+
+/// Why tokens were not read on.
+#[derive(Clone, Copy, Debug, PartialEq, Eq)]
+pub enum Stop {
+    /// No program can go on at the token that so many tokens, itself among them, are left from.
+    NoProgram { left: usize },
+    WantOfMemory,
+}
+
+impl Stop {
+    /// The stop at the first of these tokens.
+    pub fn at(tokens: &[Token]) -> Stop {
+        Stop::NoProgram { left: tokens.len() }
+    }
+
+    /// The stop at the token before these.
+    pub fn before(tokens: &[Token]) -> Stop {
+        Stop::NoProgram { left: tokens.len().saturating_add(1) }
+    }
+}
 
 impl From<AllocError> for LangFault {
     ghost use Rattle.std.specs.Prelude.{◌≡◌};
@@ -45,5 +86,38 @@ impl From<WantOfMemory> for LangFault {
 
     fn from(_error: WantOfMemory) -> LangFault {
         LangFault::WantOfMemory
+    }
+}
+
+impl From<AllocError> for Stop {
+    ghost use Rattle.std.specs.Prelude.{◌≡◌};
+    ghost use Rattle.model_lang.specs.declared.fault.Stop.TheVariants.{WantOfMemory};
+
+    ghost from_gives = { λ _ r. r ≡ WantOfMemory };
+
+    fn from(_error: AllocError) -> Stop {
+        Stop::WantOfMemory
+    }
+}
+
+impl<T: Drop> From<AllocFailed<T>> for Stop {
+    ghost use Rattle.std.specs.Prelude.{◌≡◌};
+    ghost use Rattle.model_lang.specs.declared.fault.Stop.TheVariants.{WantOfMemory};
+
+    ghost from_gives = { λ _ r. r ≡ WantOfMemory };
+
+    fn from(_error: AllocFailed<T>) -> Stop {
+        Stop::WantOfMemory
+    }
+}
+
+impl From<WantOfMemory> for Stop {
+    ghost use Rattle.std.specs.Prelude.{◌≡◌};
+    ghost use Rattle.model_lang.specs.declared.fault.Stop.TheVariants.{WantOfMemory};
+
+    ghost from_gives = { λ _ r. r ≡ WantOfMemory };
+
+    fn from(_error: WantOfMemory) -> Stop {
+        Stop::WantOfMemory
     }
 }

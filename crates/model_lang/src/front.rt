@@ -1,8 +1,8 @@
 //! The token at the front, and the tokens behind it.
-ghost use Rattle.model_lang.specs.Answer.{IsBehind, Expects, Reads};
+ghost use Rattle.model_lang.specs.Answer.{IsBehind, Expects, Reads, FindsName};
 ghost use Rattle.model_lang.specs.Reader.{after_word, after_symbol, name_at, class_name_at};
 
-use crate::fault::{LangFault, SYNTAX};
+use crate::fault::Stop;
 use model_tokens::{Symbol, Token, Word};
 use tea_base::Text;
 
@@ -27,35 +27,45 @@ pub fn symbol(tokens: &[Token], wanted: Symbol) -> Option<&[Token]>
 }
 
 /// The tokens behind a reserved word, which must be at the front.
-pub fn expect_word(tokens: &[Token], wanted: Word) -> Result<&[Token], LangFault>
+pub fn expect_word(tokens: &[Token], wanted: Word) -> Result<&[Token], Stop>
     ensures { Expects result (after_word wanted tokens.now) }
 {
-    word(tokens, wanted).ok_or(SYNTAX)
+    word(tokens, wanted).ok_or(Stop::at(tokens))
 }
 
 /// The tokens behind a symbol, which must be at the front.
-pub fn expect_symbol(tokens: &[Token], wanted: Symbol) -> Result<&[Token], LangFault>
+pub fn expect_symbol(tokens: &[Token], wanted: Symbol) -> Result<&[Token], Stop>
     ensures { Expects result (after_symbol wanted tokens.now) }
 {
-    symbol(tokens, wanted).ok_or(SYNTAX)
+    symbol(tokens, wanted).ok_or(Stop::at(tokens))
+}
+
+/// The name at the front, if one is there, and the tokens behind it.
+pub fn named(tokens: &[Token]) -> Option<(&Text, &[Token])>
+    ensures { FindsName result (name_at tokens.now) }
+{
+    match tokens.split_first() {
+        Some((Token::Name(found), rest)) => Some((found, rest)),
+        _ => None,
+    }
 }
 
 /// The name at the front.
-pub fn name(tokens: &[Token]) -> Result<(Text, &[Token]), LangFault>
+pub fn name(tokens: &[Token]) -> Result<(Text, &[Token]), Stop>
     ensures { Reads (λ name. name) result (name_at tokens.now) }
 {
     match tokens.split_first() {
         Some((Token::Name(found), rest)) => Ok((found.clone()?, rest)),
-        _ => Err(SYNTAX),
+        _ => Err(Stop::at(tokens)),
     }
 }
 
 /// The name of a class at the front.
-pub fn class_name(tokens: &[Token]) -> Result<(Text, &[Token]), LangFault>
+pub fn class_name(tokens: &[Token]) -> Result<(Text, &[Token]), Stop>
     ensures { Reads (λ name. name) result (class_name_at tokens.now) }
 {
     match tokens.split_first() {
         Some((Token::ClassName(found), rest)) => Ok((found.clone()?, rest)),
-        _ => Err(SYNTAX),
+        _ => Err(Stop::at(tokens)),
     }
 }

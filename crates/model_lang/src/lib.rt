@@ -6,6 +6,7 @@ mod class;
 mod expression;
 mod fault;
 mod front;
+mod operators;
 mod parsing;
 mod program;
 mod statement;
@@ -13,7 +14,7 @@ mod statement;
 mod tests;
 mod tree;
 
-pub use fault::LangFault;
+pub use fault::{Bound, LangFault};
 pub use parsing::{one_tree, parse};
 pub use program::Program;
 pub use tree::{BinaryOp, Class, Expr, Method, Stmt, UnaryOp};

@@ -1,62 +1,80 @@
 //! A text, read as a program.
-ghost use Rattle.std.specs.Prelude.{◌≡◌, ◌↔◌, ℕ, List, IsTrue};
+ghost use Rattle.std.specs.Prelude.{◌≡◌, ℕ, List};
 ghost use Rattle.model_lang.specs.Tree.{ProgramTree};
 ghost use Rattle.model_lang.specs.Program.{IsRead};
-ghost use Rattle.model_lang.specs.Answer.{Parses, ReadsWhole};
-ghost use Rattle.model_lang.specs.Grammar.{root_name};
+ghost use Rattle.model_lang.specs.Answer.{Parses, ParsesTokens};
 
-use crate::bounds::{Counted, MOST_BYTES, class_fits, stays_low};
-use crate::class::class;
-use crate::fault::{LangFault, SYNTAX};
+use crate::bounds::{Counted, MOST_BYTES, passed, stays_low};
+use crate::class::program;
+use crate::fault::{Bound, LangFault, Stop};
 use crate::program::Program;
 use crate::tree::Class;
-use model_tokens::{Token, TokenFault, one_division, tokens};
+use model_tokens::{Token, TokenFault, one_division, place_of_fault, place_of_token, tokens};
 use std::alloc::Global;
+
+// The first count of brackets or operators that is above the bound.
+const ONE_TOO_MANY: u64 = 33;
 
 /// Reads the program that a text spells.
 ///
-/// So far a program is one class, named `Root`, and its statements and expressions have few forms.
-///
 /// # Errors
 ///
-/// `Syntax` exactly where the text is no program within the bounds; so far `at` is 0.
+/// `TooLarge` and `Syntax`, of which the first in this order comes: more than 65,536 bytes; no list of tokens; more than 32
+/// brackets that are open at a token; more than 32 operators since the last `,`, `;`, `{` or `}`; tokens that are no
+/// program; more than 256 classes; a class with more than 256 fields; one with more than 256 methods; more than 16
+/// parameters of a method or arguments of a call or a future.
 pub fn parse(alloc: Global, text: &[u8]) -> Result<Program, LangFault>
     ensures { Parses result text.now }
 {
     if text.len() > MOST_BYTES {
-        return Err(SYNTAX);
+        return Err(LangFault::TooLarge {
+            what: Bound::Bytes,
+            count: text.len() as u64,
+        });
     }
     let tokens = match tokens(alloc, text) {
         Ok(tokens) => tokens,
-        Err(TokenFault::NoToken) => return Err(SYNTAX),
+        Err(TokenFault::NoToken) => {
+            return Err(LangFault::Syntax {
+                at: place_of_fault(text),
+            });
+        }
         Err(TokenFault::WantOfMemory) => return Err(LangFault::WantOfMemory),
     };
     // If these tokens are refused, so is the text, which is divided in no other way.
     one_division();
-    let class = whole(alloc, tokens.as_slice())?;
-    let mut classes = Vec::new(alloc);
-    classes.push(class)?;
-    Ok(Program::of_classes(classes))
+    Ok(Program::of_classes(whole(alloc, text, tokens.as_slice())?))
 }
 
-// The class that all the tokens spell.
-fn whole(alloc: Global, tokens: &[Token]) -> Result<Class, LangFault>
-    ensures { ReadsWhole result tokens.now }
+// The classes that all the tokens of this text spell.
+fn whole(alloc: Global, text: &[u8], tokens: &[Token]) -> Result<Vec<Class>, LangFault>
+    ensures { ParsesTokens result tokens.now }
 {
-    if !stays_low(tokens, Counted::Brackets) || !stays_low(tokens, Counted::Operators) {
-        return Err(SYNTAX);
+    if !stays_low(tokens, Counted::Brackets) {
+        return Err(LangFault::TooLarge {
+            what: Bound::Brackets,
+            count: ONE_TOO_MANY,
+        });
     }
-    let (class, rest) = class(alloc, tokens)?;
-    if !rest.is_empty() || !is_root(&class) || !class_fits(&class) {
-        return Err(SYNTAX);
+    if !stays_low(tokens, Counted::Operators) {
+        return Err(LangFault::TooLarge {
+            what: Bound::Operators,
+            count: ONE_TOO_MANY,
+        });
     }
-    Ok(class)
-}
-
-fn is_root(class: &Class) -> bool
-    ensures { IsTrue result ↔ class.now.name ≡ root_name }
-{
-    class.name.as_str() == "Root"
+    let classes = match program(alloc, tokens) {
+        Ok(classes) => classes,
+        Err(Stop::NoProgram { left }) => {
+            return Err(LangFault::Syntax {
+                at: place_of_token(text, tokens.len().saturating_sub(left)),
+            });
+        }
+        Err(Stop::WantOfMemory) => return Err(LangFault::WantOfMemory),
+    };
+    match passed(&classes) {
+        Some((what, count)) => Err(LangFault::TooLarge { what, count }),
+        None => Ok(classes),
+    }
 }
 
 /// A text is read as one tree, or as none.

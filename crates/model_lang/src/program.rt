@@ -2,7 +2,7 @@
 ghost use Rattle.std.specs.Prelude.{◌≡◌};
 ghost use Rattle.model_lang.specs.TreeView.{program_tree};
 ghost use Rattle.model_lang.specs.Program.{IsProgram};
-ghost use Rattle.model_lang.specs.FirstForms.{IsFirstProgram};
+ghost use Rattle.model_lang.specs.Bounds.{ProgramFits};
 
 use crate::tree::Class;
 use std::marker::Model;
@@ -43,7 +43,7 @@ impl Program {
     pub fn classes(&self) -> &[Class]
         ensures classes { result.now ≡ self.now }
         ensures program { IsProgram (program_tree self.now) }
-        ensures forms { IsFirstProgram (program_tree self.now) }
+        ensures fits { ProgramFits (program_tree self.now) }
     {
         &self.classes
     }

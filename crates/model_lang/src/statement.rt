@@ -1,15 +1,16 @@
-//! Statements, read from the front of the tokens.
+//! Statements and blocks, read from tokens.
 ghost use Rattle.std.specs.Prelude.{[], length, map};
-ghost use Rattle.model_lang.specs.Answer.{Reads};
+ghost use Rattle.model_lang.specs.Answer.{Reads, FindsName};
 ghost use Rattle.model_lang.specs.TreeView.{statement_tree, expression_tree};
-ghost use Rattle.model_lang.specs.Reader.{read_block, read_actions, read_action, read_on_this, read_choice, read_later, read_message, read_setting};
+ghost use Rattle.model_lang.specs.Reader.{read_block, read_actions, read_action, read_if, read_else, read_while, read_test, read_simple, read_let, read_ended, assigned_at as read_assigned, set_at as read_set};
 
-use crate::expression::{arguments, expression};
-use crate::fault::{LangFault, SYNTAX};
-use crate::front::{expect_symbol, expect_word, name, symbol, word};
+use crate::expression::expression;
+use crate::fault::Stop;
+use crate::front::{expect_symbol, name, named, symbol, word};
 use crate::tree::{Expr, Stmt};
 use model_tokens::{Symbol, Token, Word};
 use std::alloc::Global;
+use tea_base::Text;
 
 /// Reads the statements of a block behind its opening brace, and the closing one. At most `room` blocks may stand one in
 /// another.
@@ -19,11 +20,11 @@ pub fn block(
     alloc: Global,
     room: usize,
     tokens: &[Token],
-) -> Result<(Vec<Stmt>, &[Token]), LangFault>
+) -> Result<(Vec<Stmt>, &[Token]), Stop>
     ensures { Reads (λ found. map statement_tree found.items) result (read_block room tokens.now) }
 {
     if room == 0 {
-        return Err(SYNTAX);
+        return Err(Stop::at(tokens));
     }
     statements(alloc, room - 1, tokens)
 }
@@ -34,7 +35,7 @@ fn statements(
     alloc: Global,
     room: usize,
     tokens: &[Token],
-) -> Result<(Vec<Stmt>, &[Token]), LangFault>
+) -> Result<(Vec<Stmt>, &[Token]), Stop>
     ensures { Reads (λ found. map statement_tree found.items) result (read_actions (read_block room) (length tokens.now) [] tokens.now) }
 {
     let mut found = Vec::new(alloc);
@@ -47,86 +48,144 @@ fn statements(
         found.push(next)?;
         rest = behind;
     }
-    Err(SYNTAX)
+    Err(Stop::at(rest))
 }
 
 #[cycle(block)]
-fn statement(alloc: Global, room: usize, tokens: &[Token]) -> Result<(Stmt, &[Token]), LangFault>
+fn statement(alloc: Global, room: usize, tokens: &[Token]) -> Result<(Stmt, &[Token]), Stop>
     ensures { Reads statement_tree result (read_action (read_block room) tokens.now) }
 {
     if let Some(rest) = word(tokens, Word::If) {
         return choice(alloc, room, rest);
     }
-    let rest = expect_word(tokens, Word::This)?;
-    on_this(alloc, rest)
+    if let Some(rest) = word(tokens, Word::While) {
+        return looping(alloc, room, rest);
+    }
+    if let Some(rest) = word(tokens, Word::Let) {
+        return declaration(alloc, rest);
+    }
+    if let Some(rest) = word(tokens, Word::Return) {
+        let (value, rest) = ended(alloc, rest)?;
+        return Ok((Stmt::Return { value }, rest));
+    }
+    simple(alloc, tokens)
 }
 
-// behind `if`
+// Behind `if`.
 #[cycle(block)]
-fn choice(alloc: Global, room: usize, tokens: &[Token]) -> Result<(Stmt, &[Token]), LangFault>
-    ensures { Reads statement_tree result (read_choice (read_block room) tokens.now) }
+fn choice(alloc: Global, room: usize, tokens: &[Token]) -> Result<(Stmt, &[Token]), Stop>
+    ensures { Reads statement_tree result (read_if (read_block room) tokens.now) }
 {
-    let rest = expect_symbol(tokens, Symbol::OpenRound)?;
-    let (test, rest) = expression(alloc, rest)?;
-    let rest = expect_symbol(rest, Symbol::CloseRound)?;
-    let rest = expect_symbol(rest, Symbol::OpenBrace)?;
+    let (test, rest) = tested(alloc, tokens)?;
     let (yes, rest) = block(alloc, room, rest)?;
+    match word(rest, Word::Else) {
+        Some(rest) => otherwise(alloc, room, test, yes, rest),
+        None => Ok((
+            Stmt::If {
+                test,
+                yes,
+                no: None,
+            },
+            rest,
+        )),
+    }
+}
+
+// Behind `else`.
+#[cycle(block)]
+fn otherwise(
+    alloc: Global,
+    room: usize,
+    test: Expr,
+    yes: Vec<Stmt>,
+    tokens: &[Token],
+) -> Result<(Stmt, &[Token]), Stop>
+    ensures { Reads statement_tree result (read_else (read_block room) (expression_tree test) (map statement_tree yes.items) tokens.now) }
+{
+    let rest = expect_symbol(tokens, Symbol::OpenBrace)?;
+    let (no, rest) = block(alloc, room, rest)?;
     Ok((
         Stmt::If {
             test,
             yes,
-            no: None,
+            no: Some(no),
         },
         rest,
     ))
 }
 
-// behind `this`
-fn on_this(alloc: Global, tokens: &[Token]) -> Result<(Stmt, &[Token]), LangFault>
-    ensures { Reads statement_tree result (read_on_this tokens.now) }
+// Behind `while`.
+#[cycle(block)]
+fn looping(alloc: Global, room: usize, tokens: &[Token]) -> Result<(Stmt, &[Token]), Stop>
+    ensures { Reads statement_tree result (read_while (read_block room) tokens.now) }
 {
-    let rest = expect_symbol(tokens, Symbol::Dot)?;
-    match word(rest, Word::Future) {
-        Some(rest) => later(alloc, rest),
-        None => setting(alloc, rest),
-    }
+    let (test, rest) = tested(alloc, tokens)?;
+    let (body, rest) = block(alloc, room, rest)?;
+    Ok((Stmt::While { test, body }, rest))
 }
 
-// behind `this.future`
-fn later(alloc: Global, tokens: &[Token]) -> Result<(Stmt, &[Token]), LangFault>
-    ensures { Reads statement_tree result (read_later tokens.now) }
+// An expression in round brackets, and the opening brace behind it.
+fn tested(alloc: Global, tokens: &[Token]) -> Result<(Expr, &[Token]), Stop>
+    ensures { Reads expression_tree result (read_test tokens.now) }
 {
     let rest = expect_symbol(tokens, Symbol::OpenRound)?;
-    let (delay, rest) = expression(alloc, rest)?;
+    let (test, rest) = expression(alloc, rest)?;
     let rest = expect_symbol(rest, Symbol::CloseRound)?;
-    message(alloc, delay, rest)
+    let rest = expect_symbol(rest, Symbol::OpenBrace)?;
+    Ok((test, rest))
 }
 
-// behind `this.future(delay)`
-fn message(alloc: Global, delay: Expr, tokens: &[Token]) -> Result<(Stmt, &[Token]), LangFault>
-    ensures { Reads statement_tree result (read_message (expression_tree delay) tokens.now) }
-{
-    let rest = expect_symbol(tokens, Symbol::Dot)?;
-    let (name, rest) = name(rest)?;
-    let rest = expect_symbol(rest, Symbol::OpenRound)?;
-    let (args, rest) = arguments(alloc, rest)?;
-    let rest = expect_symbol(rest, Symbol::Semicolon)?;
-    let value = Expr::Future {
-        object: Box::new(alloc, Expr::This)?,
-        delay: Box::new(alloc, delay)?,
-        name,
-        args,
-    };
-    Ok((Stmt::Do { value }, rest))
-}
-
-// behind `this.`
-fn setting(alloc: Global, tokens: &[Token]) -> Result<(Stmt, &[Token]), LangFault>
-    ensures { Reads statement_tree result (read_setting tokens.now) }
+// Behind `let`.
+fn declaration(alloc: Global, tokens: &[Token]) -> Result<(Stmt, &[Token]), Stop>
+    ensures { Reads statement_tree result (read_let tokens.now) }
 {
     let (name, rest) = name(tokens)?;
     let rest = expect_symbol(rest, Symbol::Assign)?;
-    let (value, rest) = expression(alloc, rest)?;
+    let (value, rest) = ended(alloc, rest)?;
+    Ok((Stmt::Let { name, value }, rest))
+}
+
+// A statement that begins with no word of its own.
+fn simple(alloc: Global, tokens: &[Token]) -> Result<(Stmt, &[Token]), Stop>
+    ensures { Reads statement_tree result (read_simple tokens.now) }
+{
+    if let Some((name, rest)) = assigned_at(tokens) {
+        let name = name.clone()?;
+        let (value, rest) = ended(alloc, rest)?;
+        return Ok((Stmt::Assign { name, value }, rest));
+    }
+    if let Some((name, rest)) = set_at(tokens) {
+        let name = name.clone()?;
+        let (value, rest) = ended(alloc, rest)?;
+        return Ok((Stmt::SetField { name, value }, rest));
+    }
+    let (value, rest) = ended(alloc, tokens)?;
+    Ok((Stmt::Do { value }, rest))
+}
+
+// A name and a `=`.
+fn assigned_at(tokens: &[Token]) -> Option<(&Text, &[Token])>
+    ensures { FindsName result (read_assigned tokens.now) }
+{
+    let (name, rest) = named(tokens)?;
+    let rest = symbol(rest, Symbol::Assign)?;
+    Some((name, rest))
+}
+
+// `this`, `.`, a name and a `=`.
+fn set_at(tokens: &[Token]) -> Option<(&Text, &[Token])>
+    ensures { FindsName result (read_set tokens.now) }
+{
+    let rest = word(tokens, Word::This)?;
+    let rest = symbol(rest, Symbol::Dot)?;
+    assigned_at(rest)
+}
+
+// An expression and the `;` behind it.
+fn ended(alloc: Global, tokens: &[Token]) -> Result<(Expr, &[Token]), Stop>
+    ensures { Reads expression_tree result (read_ended tokens.now) }
+{
+    let (value, rest) = expression(alloc, tokens)?;
     let rest = expect_symbol(rest, Symbol::Semicolon)?;
-    Ok((Stmt::SetField { name, value }, rest))
+    Ok((value, rest))
 }

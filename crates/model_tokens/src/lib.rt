@@ -18,10 +18,12 @@ mod literals;
 mod names;
 mod numbers;
 mod pieces;
+mod places;
 mod symbols;
 #[cfg(test)]
 mod tests;
 mod token;
 
 pub use dividing::{TokenFault, one_division, tokens};
+pub use places::{place_of_fault, place_of_token};
 pub use token::{Symbol, Token, Tokens, Word};

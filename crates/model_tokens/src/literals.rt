@@ -67,7 +67,7 @@ fn escape(text: &[u8]) -> Option<(u8, usize)>
 }
 
 /// The byte that the spelling at the front stands for, and how many bytes of the spelling stand behind the first.
-fn spelled_byte(text: &[u8]) -> Option<(u8, usize)>
+pub fn spelled_byte(text: &[u8]) -> Option<(u8, usize)>
     ensures byte { result ≡ byte_at text.now }
     ensures within { IfSome result (λ found. found.1 < length text.now) }
 {

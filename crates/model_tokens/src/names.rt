@@ -11,7 +11,7 @@ use crate::token::{Token, Word};
 use std::alloc::Global;
 
 // How many bytes a name has at most.
-const LONGEST_NAME: usize = 64;
+pub const LONGEST_NAME: usize = 64;
 
 /// The reserved word that these bytes are.
 fn reserved(name: &[u8]) -> Option<Word>

@@ -222,3 +222,49 @@ fn each_character_has_one_spelling(rt: HostRuntime) {
     assert!(rt; is_refused(alloc, b"\"\xff\""));
     assert!(rt; is_refused(alloc, b"\"\xc3\" \""));
 }
+
+#[test]
+fn places_of_faults(rt: HostRuntime) {
+    for (text, place) in [
+        ("a&b", 2),
+        ("a|", 2),
+        ("a &", 3),
+        ("a # b", 2),
+        ("\"abc", 4),
+        ("a \"b\n\"", 4),
+        ("\"a\\q\"", 3),
+        ("\"a\\", 3),
+        ("\"\\x0a\"", 4),
+        ("\"\\x2f\"", 3),
+        ("\"\\x7e\"", 4),
+        ("\"\\x1F\"", 4),
+        ("1 9223372036854775808", 2),
+        ("// \u{e9}\n9223372036854775807 \u{e9}", 26),
+    ] {
+        assert!(rt; place_of_fault(text.as_bytes()) == place, "of {text:?}");
+    }
+    assert!(rt; place_of_fault(b"a \"b\xff\"") == 4);
+    assert!(rt; place_of_fault(b"\"\xc3(\"") == 2);
+    assert!(rt; place_of_fault(b"\"\xe2\x82\"") == 3);
+    assert!(rt; place_of_fault(b"a \xc3\xa9") == 2);
+}
+
+#[test]
+fn places_of_tokens(rt: HostRuntime) {
+    let text = b"class //x\n A{\"\\n;\"012!= n}";
+    for (number, place) in [
+        (0, 0),
+        (1, 11),
+        (2, 12),
+        (3, 13),
+        (4, 18),
+        (5, 19),
+        (6, 21),
+        (7, 24),
+        (8, 25),
+        (9, 26),
+        (100, 26),
+    ] {
+        assert!(rt; place_of_token(text, number) == place, "of {number}");
+    }
+}
