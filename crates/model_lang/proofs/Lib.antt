@@ -1,2 +1,9 @@
 pub mod Turns
 pub mod Counts
+pub mod Fronts
+pub mod Expected
+pub mod StatementFronts
+pub mod CompleteStatements
+pub mod CompletePrograms
+pub mod SoundStatements
+pub mod SoundPrograms
