@@ -2,7 +2,7 @@
 use Rattle.std.proofs.Common.{◌≡◌, List, [], ◌∷◌, ◌++◌, map, None, refl, sym}
 use Rattle.std.proofs.lemmas.Option.{none-some}
 use Rattle.model_lang.specs.Tree.{Name, Expression, nil, bool, int, text, this, local, field, list, unary, binary, builtin, call, future, create, Expressions, no_expressions, expression, Statement, declare, assign, set_field, when, while, give, do_, Statements, no_statements, statement, Otherwise, no_else, else_block, MethodTree, ProgramTree}
-use Rattle.model_lang.specs.FirstForms.{IsFirstExpression, AreFirstExpressions, IsFirstStatement, AreFirstStatements, IsFirstElse}
+use Rattle.model_check.specs.FirstForms.{IsFirstExpression, AreFirstExpressions, IsFirstStatement, AreFirstStatements, IsFirstElse}
 use Rattle.model_check.specs.declared.fault.CheckFault.{CheckFault}
 use Rattle.model_check.specs.Faults.{first_of, faults_of_name, faults_of_names, faults_of_field, faults_of_expression, faults_of_expressions, faults_of_statement, faults_of_statements, faults_of_else, faults_of_method, faults_of_methods, faults_of_class, faults_of_classes}
 use Rattle.model_check.specs.Solving.{solve_expression, solve_expressions, solve_statement, solve_statements, solve_else, solve_method, solve_program, IsSolvableMethod, AreSolvableMethods, AreSolvable}

@@ -4,3 +4,4 @@ pub mod Trees
 pub mod Faultless
 pub mod Standing
 pub mod Programs
+pub mod Root

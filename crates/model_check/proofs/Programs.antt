@@ -1,9 +1,8 @@
 -- A program in the first forms is solvable, and is checked where it has no faults.
-use Rattle.std.proofs.Common.{rules, ◌≡◌, List, [], ◌∷◌, None, refl, sym, subst}
+use Rattle.std.proofs.Common.{◌≡◌, List, [], ◌∷◌, None, refl, sym, subst}
 use Rattle.model_lang.specs.Tree.{MethodTree, ClassTree, ProgramTree}
 use Rattle.model_lang.specs.Bounds.{MethodsFit, ProgramFits}
-use Rattle.model_lang.specs.Program.{IsProgram}
-use Rattle.model_lang.specs.FirstForms.{AreFirstMethods, IsFirstProgram}
+use Rattle.model_check.specs.FirstForms.{AreFirstMethods, IsFirstProgram}
 use Rattle.model_check.specs.Faults.{first_of, faults_of_program}
 use Rattle.model_check.specs.Methods.{IsChecked}
 use Rattle.model_check.specs.SolvedTree.{SolvedMethod}
@@ -18,16 +17,13 @@ solvable-methods (m ∷ ms) f b = ((f.0, b.0.0), solvable-methods ms f.1 b.1)
 solvable-one : (c : ClassTree) → AreFirstMethods c.methods → ProgramFits (c ∷ []) → AreSolvable (c ∷ [])
 solvable-one c f b = ((b.1.0.0, solvable-methods c.methods f b.1.0.2), tt)
 
-program-fits : (tree : ProgramTree) → IsProgram tree → ProgramFits tree
-program-fits tree p = let read = p.1 in search rules
-
-pub solvable-program : (tree : ProgramTree) → IsProgram tree → IsFirstProgram tree → AreSolvable tree
+pub solvable-program : (tree : ProgramTree) → ProgramFits tree → IsFirstProgram tree → AreSolvable tree
 solvable-program tree p f =
     let one : tree ≡ f.0 ∷ [] = f.1 in
-    let fits : ProgramFits (f.0 ∷ []) = subst ProgramFits one (program-fits tree p) in
+    let fits : ProgramFits (f.0 ∷ []) = subst ProgramFits one p in
     subst AreSolvable (sym one) (solvable-one f.0 f.3 fits)
 
-pub checked-program : (tree : ProgramTree) (solved : List (List SolvedMethod)) → IsProgram tree → IsFirstProgram tree → first_of (faults_of_program tree) ≡ None → solved ≡ solve_program tree → IsChecked tree 0 solved
+pub checked-program : (tree : ProgramTree) (solved : List (List SolvedMethod)) → ProgramFits tree → IsFirstProgram tree → first_of (faults_of_program tree) ≡ None → solved ≡ solve_program tree → IsChecked tree 0 solved
 checked-program tree solved p f h e =
     let stands = solved-program tree (solvable-program tree p f) h in
     record { faultless = h; root_is = (f.0, rw f.1 refl, f.2); stands = subst (λ (found : List (List SolvedMethod)). StandForProgram tree found) (sym e) stands }

@@ -1,3 +1,4 @@
+pub mod FirstForms
 pub mod Faults
 pub mod SolvedTree
 pub mod SolvedView

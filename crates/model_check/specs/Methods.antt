@@ -1,8 +1,7 @@
 -- The classes and the methods of a program.
 use Rattle.std.specs.Prelude.{◌≡◌, ℕ, List, length, find, bytes_eq, Option, Some, None, option_map, option_and_then, slice_get}
 use Rattle.std.specs.Borrow.{Bor}
-use Rattle.model_lang.specs.Grammar.{root_name}
-use Rattle.model_lang.specs.Tree.{Name, MethodTree, ClassTree, ProgramTree}
+use Rattle.model_lang.specs.Tree.{Name, MethodTree, ClassTree, ProgramTree, root_name}
 use Rattle.model_check.specs.Faults.{first_fault}
 use Rattle.model_check.specs.SolvedTree.{SolvedMethod}
 use Rattle.model_check.specs.SolvedView.{solved_method}

@@ -3,7 +3,7 @@ use Rattle.std.specs.Prelude.{ℕ, ◌≤◌, List, [], ◌∷◌, length, map, 
 use Rattle.std.specs.List.{position_from}
 use Rattle.model_lang.specs.Tree.{Name, Expression, nil, int, this, field, binary, future, Expressions, no_expressions, expression, Statement, set_field, when, do_, Statements, no_statements, statement, Otherwise, no_else, else_block, MethodTree, ClassTree, ProgramTree}
 use Rattle.model_lang.specs.Bounds.{most_members, most_arguments}
-use Rattle.model_lang.specs.FirstForms.{IsFirstMethod}
+use Rattle.model_check.specs.FirstForms.{IsFirstMethod}
 use Rattle.model_check.specs.SolvedTree.{SolvedExpression, SolvedExpressions, SolvedStatement, SolvedStatements, SolvedOtherwise, SolvedMethod}
 use Rattle.model_check.specs.SolvedTree as solved
 

@@ -1,7 +1,7 @@
 //! Checked programs.
 ghost use Rattle.std.specs.Prelude.{◌≡◌, length, map, None};
 ghost use Rattle.model_lang.specs.TreeView.{class_tree, program_tree};
-ghost use Rattle.model_lang.specs.Grammar.{root_name};
+ghost use Rattle.model_lang.specs.Tree.{root_name};
 ghost use Rattle.model_check.specs.Answer.{Checks};
 ghost use Rattle.model_check.specs.Faults.{first_fault};
 ghost use Rattle.model_check.specs.Methods.{field_count, IsClass, FindsMethodIn, FindsMethod};
@@ -10,6 +10,7 @@ ghost use Rattle.model_check.specs.Stands.{StandForMethods};
 
 use crate::class::solve;
 use crate::fault::CheckFault;
+use crate::forms::is_first;
 use crate::names::is_name;
 use crate::solved::Solved;
 use model_lang::{Class, Program};
@@ -49,6 +50,9 @@ impl Model for Checked {
 pub fn check(alloc: Global, program: Program) -> Result<Checked, CheckFault>
     ensures { Checks result program }
 {
+    if !is_first(program.classes()) {
+        return Err(CheckFault::NotBuilt);
+    }
     let classes = solve(alloc, program.classes())?;
     Ok(Checked {
         program,

@@ -1,7 +1,7 @@
 //! Expressions: their first fault, or what stands for them.
 ghost use Rattle.std.specs.Prelude.{◌≡◌, ◌≤◌, length, IfOk};
 ghost use Rattle.model_lang.specs.Bounds.{most_members};
-ghost use Rattle.model_lang.specs.FirstForms.{IsFirstExpression, AreFirstExpressions};
+ghost use Rattle.model_check.specs.FirstForms.{IsFirstExpression, AreFirstExpressions};
 ghost use Rattle.model_lang.specs.TreeView.{expression_tree, expression_trees};
 ghost use Rattle.model_check.specs.Answer.{Solves};
 ghost use Rattle.model_check.specs.Faults.{faults_of_expression, faults_of_expressions};

@@ -10,6 +10,9 @@ pub enum CheckFault {
     Twice { name: Text },
     /// The class has no such field.
     NoField { name: Text },
+    /// The program is not one class, named `Root`, or it has a form whose meaning is not there yet: another than numbers,
+    /// `nil`, `this`, fields that are read or set, `+`, `-`, `<`, futures and `if`. Comes before any other fault.
+    NotBuilt,
     WantOfMemory,
 }
 

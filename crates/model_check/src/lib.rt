@@ -5,6 +5,7 @@ mod checked;
 mod class;
 mod expression;
 mod fault;
+mod forms;
 mod names;
 mod solved;
 mod statement;

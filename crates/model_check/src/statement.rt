@@ -1,7 +1,7 @@
 //! Statements: their first fault, or what stands for them.
 ghost use Rattle.std.specs.Prelude.{◌≡◌, ◌≤◌, length};
 ghost use Rattle.model_lang.specs.Bounds.{most_members};
-ghost use Rattle.model_lang.specs.FirstForms.{IsFirstStatement, AreFirstStatements};
+ghost use Rattle.model_check.specs.FirstForms.{IsFirstStatement, AreFirstStatements};
 ghost use Rattle.model_lang.specs.TreeView.{statement_tree, statement_trees};
 ghost use Rattle.model_check.specs.Answer.{Solves};
 ghost use Rattle.model_check.specs.Faults.{faults_of_statement, faults_of_statements};

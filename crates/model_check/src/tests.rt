@@ -12,6 +12,7 @@ fn answer(alloc: Global, text: &str) -> Result<String, Fail> {
         Ok(_) => Ok(String::from_str(alloc, "taken")?),
         Err(CheckFault::Twice { name }) => Ok(format!(in alloc; "twice {}", name.as_str())?),
         Err(CheckFault::NoField { name }) => Ok(format!(in alloc; "no field {}", name.as_str())?),
+        Err(CheckFault::NotBuilt) => Ok(String::from_str(alloc, "not built")?),
         Err(CheckFault::WantOfMemory) => Err("want of memory")?,
     }
 }

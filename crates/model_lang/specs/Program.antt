@@ -1,5 +1,5 @@
 -- What it is that a text is read as a program, and what it is that it is refused.
-use Rattle.std.specs.Prelude.{◌≡◌, ℕ, ◌≤◌, ◌<◌, List, length, Option, Some, None}
+use Rattle.std.specs.Prelude.{◌≡◌, ◌⊎◌, ℕ, ◌≤◌, ◌<◌, List, length, Option, Some, None}
 use Rattle.model_tokens.specs.declared.token.Token.{Token}
 use Rattle.model_tokens.specs.Division.{Divides}
 use Rattle.model_lang.specs.declared.fault.Bound.{Bound}
@@ -34,17 +34,19 @@ IsProgram tree = (text : List ℕ) × IsRead text tree
 
 -- ---- refusals
 
--- The first bound that the tokens pass, with the count. Of brackets and operators the count is the first above the bound.
+-- The bound that the tokens pass first, and the count. Brackets and operators are looked at first, and their count is the
+-- first that is above the bound.
 abbrev pub ArePast : Bound → ℕ → List Token → Type 0
-ArePast bound.Bytes count ts = ⊥
-ArePast bound.Brackets count ts = (most_nested < greatest brackets_after 0 ts) × (count ≡ 33)
-ArePast bound.Operators count ts = FewBrackets ts × (most_nested < greatest operators_after 0 ts) × (count ≡ 33)
-ArePast what count ts = FewBrackets ts × FewOperators ts × ((tree : ProgramTree) × Derives ts tree × (passed tree ≡ Some (what, count)))
+ArePast what count ts =
+    ((most_nested < greatest brackets_after 0 ts) × (what ≡ bound.Brackets) × (count ≡ 33))
+    ⊎ ((FewBrackets ts × (most_nested < greatest operators_after 0 ts) × (what ≡ bound.Operators) × (count ≡ 33))
+    ⊎ (FewBrackets ts × FewOperators ts × ((tree : ProgramTree) × Derives ts tree × (passed tree ≡ Some (what, count)))))
 
--- the text passes this bound first, with this count
+-- the bound that the text passes first, and the count
 abbrev pub IsTooLarge : Bound → ℕ → List ℕ → Type 0
-IsTooLarge bound.Bytes count text = (most_bytes < length text) × (count ≡ length text)
-IsTooLarge what count text = (length text ≤ most_bytes) × ((ts : List Token) × Divides ts text × ArePast what count ts)
+IsTooLarge what count text =
+    ((most_bytes < length text) × (what ≡ bound.Bytes) × (count ≡ length text))
+    ⊎ ((length text ≤ most_bytes) × ((ts : List Token) × Divides ts text × ArePast what count ts))
 
 -- these tokens are within the bounds for brackets and operators, and no program
 pub record AreNoProgram (tokens : List Token) : Type 0 where
@@ -55,3 +57,15 @@ pub record AreNoProgram (tokens : List Token) : Type 0 where
 -- This text is not too long, and no program: it is divided into no tokens, or into tokens that are none.
 abbrev pub IsNoProgram : List ℕ → Type 0
 IsNoProgram text = (length text ≤ most_bytes) × ((ts : List Token) → Divides ts text → AreNoProgram ts)
+
+-- ---- what comes of a text: a program within the bounds, none, or a bound that is passed
+
+pub data Reading : Type 0 where
+  a_program : ProgramTree → Reading
+  no_program : Reading
+  too_large : Bound → ℕ → Reading
+
+abbrev pub IsReading : List ℕ → Reading → Type 0
+IsReading text (a_program tree) = IsRead text tree
+IsReading text no_program = IsNoProgram text
+IsReading text (too_large what count) = IsTooLarge what count text

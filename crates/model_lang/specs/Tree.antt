@@ -46,6 +46,10 @@ mutual
     no_else : Otherwise
     else_block : Statements → Otherwise
 
+-- the name of the class whose object a world begins with: `Root`
+abbrev pub root_name : Name
+root_name = 82 ∷ 111 ∷ 111 ∷ 116 ∷ []
+
 pub record MethodTree : Type 0 where
   pub name : Name
   pub params : List Name

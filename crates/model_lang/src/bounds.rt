@@ -79,6 +79,7 @@ fn after_symbol(what: Counted, count: usize, symbol: Symbol) -> usize
 }
 
 /// The first bound that a program passes, with the first count that is above it.
+#[tactic(auto, using(crate::proofs::Counts::by_first))]
 pub fn passed(classes: &[Class]) -> Option<(Bound, u64)>
     ensures { result ≡ first_passed (program_tree classes.now) }
 {
@@ -95,6 +96,7 @@ pub fn passed(classes: &[Class]) -> Option<(Bound, u64)>
     Some((Bound::Parameters, count))
 }
 
+#[tactic(auto, using(crate::proofs::Counts::by_first))]
 fn many_fields(classes: &[Class]) -> Option<u64>
     ensures { result ≡ first_above most_members (map (λ (c : ClassTree). length c.fields) (program_tree classes.now)) }
 {
@@ -106,6 +108,7 @@ fn many_fields(classes: &[Class]) -> Option<u64>
     None
 }
 
+#[tactic(auto, using(crate::proofs::Counts::by_first))]
 fn many_methods(classes: &[Class]) -> Option<u64>
     ensures { result ≡ first_above most_members (map (λ (c : ClassTree). length c.methods) (program_tree classes.now)) }
 {
@@ -117,6 +120,7 @@ fn many_methods(classes: &[Class]) -> Option<u64>
     None
 }
 
+#[tactic(auto, using(crate::proofs::Counts::by_first))]
 fn many_arguments(classes: &[Class]) -> Option<u64>
     ensures { result ≡ first_above most_arguments (flat_map class_counts (program_tree classes.now)) }
 {
@@ -128,6 +132,7 @@ fn many_arguments(classes: &[Class]) -> Option<u64>
     None
 }
 
+#[tactic(auto, using(crate::proofs::Counts::by_first))]
 fn of_methods(methods: &[Method]) -> Option<u64>
     ensures { result ≡ first_above most_arguments (flat_map method_counts (map method_tree methods.now)) }
 {
@@ -139,6 +144,7 @@ fn of_methods(methods: &[Method]) -> Option<u64>
     None
 }
 
+#[tactic(auto, using(crate::proofs::Counts::by_first))]
 fn of_method(method: &Method) -> Option<u64>
     ensures { result ≡ first_above most_arguments (method_counts (method_tree method.now)) }
 {
@@ -149,6 +155,7 @@ fn of_method(method: &Method) -> Option<u64>
 }
 
 #[cycle(statements)]
+#[tactic(auto, using(crate::proofs::Counts::by_first))]
 fn of_statements(statements: &[Stmt]) -> Option<u64>
     ensures { result ≡ first_above most_arguments (all_statement_counts (statement_trees statements.now)) }
 {
@@ -161,6 +168,7 @@ fn of_statements(statements: &[Stmt]) -> Option<u64>
 }
 
 #[cycle(statements)]
+#[tactic(auto, using(crate::proofs::Counts::by_first))]
 fn of_statement(statement: &Stmt) -> Option<u64>
     ensures { result ≡ first_above most_arguments (statement_counts (statement_tree statement.now)) }
 {
@@ -198,6 +206,7 @@ fn first(one: Option<u64>, other: Option<u64>) -> Option<u64>
 }
 
 #[cycle(expressions)]
+#[tactic(auto, using(crate::proofs::Counts::by_first))]
 fn of_expressions(expressions: &[Expr]) -> Option<u64>
     ensures { result ≡ first_above most_arguments (all_argument_counts (expression_trees expressions.now)) }
 {
@@ -210,6 +219,7 @@ fn of_expressions(expressions: &[Expr]) -> Option<u64>
 }
 
 #[cycle(expressions)]
+#[tactic(auto, using(crate::proofs::Counts::by_first))]
 fn of_arguments(args: &[Expr]) -> Option<u64>
     ensures { result ≡ first_above most_arguments (how_many (expression_trees args.now) ∷ all_argument_counts (expression_trees args.now)) }
 {
@@ -220,6 +230,7 @@ fn of_arguments(args: &[Expr]) -> Option<u64>
 }
 
 #[cycle(expressions)]
+#[tactic(auto, using(crate::proofs::Counts::by_first))]
 fn of_expression(expression: &Expr) -> Option<u64>
     ensures { result ≡ first_above most_arguments (argument_counts (expression_tree expression.now)) }
 {

@@ -1,7 +1,7 @@
 //! A text, read as a program.
 ghost use Rattle.std.specs.Prelude.{◌≡◌, ℕ, List};
 ghost use Rattle.model_lang.specs.Tree.{ProgramTree};
-ghost use Rattle.model_lang.specs.Program.{IsRead};
+ghost use Rattle.model_lang.specs.Program.{IsRead, Reading, IsReading};
 ghost use Rattle.model_lang.specs.Answer.{Parses, ParsesTokens};
 
 use crate::bounds::{Counted, MOST_BYTES, passed, stays_low};
@@ -80,6 +80,14 @@ fn whole(alloc: Global, text: &[u8], tokens: &[Token]) -> Result<Vec<Class>, Lan
 /// A text is read as one tree, or as none.
 pub fn one_tree()
     ensures { (text : List ℕ) (tree other : ProgramTree) → IsRead text tree → IsRead text other → tree ≡ other }
+{
+    one_division();
+}
+
+/// Of each text one thing comes: a program, none, or a bound that it passes.
+pub fn one_reading()
+    ensures one { (text : List ℕ) (reading other : Reading) → IsReading text reading → IsReading text other → reading ≡ other }
+    ensures some { (text : List ℕ) → ¬ ((reading : Reading) → ¬ IsReading text reading) }
 {
     one_division();
 }

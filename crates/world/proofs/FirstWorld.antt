@@ -6,8 +6,7 @@ use Rattle.std.proofs.lemmas.List.{length-replicate}
 use Rattle.model_value.specs.Plain.{nil}
 use Rattle.model_value.specs.World.{values_weight}
 use Rattle.model_value.specs.Valid.{Valid, AllInBounds}
-use Rattle.model_lang.specs.Tree.{ClassTree, ProgramTree}
-use Rattle.model_lang.specs.Grammar.{root_name}
+use Rattle.model_lang.specs.Tree.{ClassTree, ProgramTree, root_name}
 use Rattle.model_lang.specs.Bounds.{most_members, ClassesFit}
 use Rattle.model_check.specs.Methods.{method_named}
 use Rattle.model_eval.proofs.FieldBounds.{nil-in_bounds}

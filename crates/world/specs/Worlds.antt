@@ -8,8 +8,7 @@ use Rattle.model_value.specs.Plain.{PlainValue, nil}
 use Rattle.model_value.specs.Messages.{PlainMessage, PlainOutgoing}
 use Rattle.model_value.specs.World.{WorldRecord}
 use Rattle.model_value.specs.Valid.{most_turns, most_views, most_pending}
-use Rattle.model_lang.specs.Tree.{Name, ClassTree, ProgramTree}
-use Rattle.model_lang.specs.Grammar.{root_name}
+use Rattle.model_lang.specs.Tree.{Name, ClassTree, ProgramTree, root_name}
 use Rattle.model_eval.specs.declared.fault.Fault.{Fault}
 use Rattle.model_eval.specs.declared.fault.Fault.TheVariants as fault
 use Rattle.model_eval.specs.Kept.{now_due}

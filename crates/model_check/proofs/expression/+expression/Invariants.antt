@@ -1,5 +1,5 @@
 use Rattle.std.proofs.Common.{◌≡◌, drop, take, map}
-use Rattle.model_lang.specs.FirstForms.{AreFirstExpressions}
+use Rattle.model_check.specs.FirstForms.{AreFirstExpressions}
 use Rattle.model_lang.specs.TreeView.{expression_tree, expression_trees}
 use Rattle.model_check.specs.Faults.{first_of, faults_of_expressions}
 use Rattle.model_check.specs.SolvedView.{solved_expression}

@@ -1,5 +1,5 @@
 use Rattle.std.proofs.Common.{◌≡◌, drop, take, map}
-use Rattle.model_lang.specs.FirstForms.{AreFirstStatements}
+use Rattle.model_check.specs.FirstForms.{AreFirstStatements}
 use Rattle.model_lang.specs.TreeView.{statement_tree, statement_trees}
 use Rattle.model_check.specs.Faults.{first_of, faults_of_statements}
 use Rattle.model_check.specs.SolvedView.{solved_statement}
