@@ -8,23 +8,19 @@ use Rattle.model_tokens.specs.declared.token.Symbol.TheVariants as s
 use Rattle.model_lang.specs.Tree.{Expression, Statement, declare, assign, set_field, when, while, give, do_, Statements, statements_of, statement, no_else, else_block}
 use Rattle.model_lang.specs.Grammar.{Phrase, Stands, spelled, tree_of, Action, declaring, assigning, setting, choice, choice_else, looping, giving, doing, Block, closed, first, ActionStands, BlockStands, in_round, in_braces, spelled_end, spelled_action, spelled_block, tree_of_action, trees_of_block}
 use Rattle.model_lang.specs.Reader.{Read, reading, behind, either_way, word_number, after_word, after_symbol, assigned_at, set_at, read_expression, read_end, read_test, read_else, read_if, read_while, read_action, read_actions, read_block}
-use Rattle.model_lang.proofs.Expected.{phrase_tokens, expression_read}
-use Rattle.model_lang.proofs.StatementFronts.{ended, no_word, no_brace, not_assigned, not_set}
+use Rattle.model_lang.proofs.Phrases.{phrase_no_word, phrase_no_brace, phrase_not_assigned, phrase_not_set}
+use Rattle.model_lang.proofs.CompleteExpressions.{expression_then}
 
 -- ---- parts of statements
 
 end_read : (a : Phrase) → Stands a → (make : Expression → Statement) (rest : List Token) → read_end make (spelled_end a ++ rest) ≡ Some (make (tree_of a), rest)
 end_read a stands make rest =
     let next : Expression → List Token → Read Expression = λ e ts. behind (after_symbol s.Semicolon ts) (λ ts. Some (e, ts)) in
-    let made : Expression → List Token → Read Statement = λ e ts. Some (make e, ts) in
-    ap (λ ts. reading (reading (read_expression ts) next) made) (append_assoc (spelled a) (symbol s.Semicolon ∷ []) rest)
-    ∙ ap (λ o. reading (reading o next) made) (expression_read a stands (symbol s.Semicolon ∷ rest) (omega arith))
+    ap (λ o. reading o (λ e ts. Some (make e, ts))) (expression_then a stands (symbol s.Semicolon) [] rest next (omega arith))
 
 test_read : (a : Phrase) → Stands a → (rest : List Token) → read_test (in_round (spelled a) ++ symbol s.OpenBrace ∷ rest) ≡ Some (tree_of a, rest)
 test_read a stands rest =
-    let next : Expression → List Token → Read Expression = λ e ts. behind (after_symbol s.CloseRound ts) (λ ts. behind (after_symbol s.OpenBrace ts) (λ ts. Some (e, ts))) in
-    ap (λ ts. reading (read_expression ts) next) (append_assoc (spelled a) (symbol s.CloseRound ∷ []) (symbol s.OpenBrace ∷ rest))
-    ∙ ap (λ o. reading o next) (expression_read a stands (symbol s.CloseRound ∷ symbol s.OpenBrace ∷ rest) (omega arith))
+    expression_then a stands (symbol s.CloseRound) [] (symbol s.OpenBrace ∷ rest) (λ e ts. behind (after_symbol s.CloseRound ts) (λ ts. behind (after_symbol s.OpenBrace ts) (λ ts. Some (e, ts)))) (omega arith)
 
 -- tokens behind a block
 pub braces_then : (ts rest : List Token) → in_braces ts ++ rest ≡ symbol s.OpenBrace ∷ (ts ++ symbol s.CloseBrace ∷ rest)
@@ -96,21 +92,23 @@ looping_read reader a stands block rest is =
 simple : (reader : BlockReader) (ts : List Token) → after_word w.If ts ≡ None → after_word w.While ts ≡ None → after_word w.Let ts ≡ None → after_word w.Return ts ≡ None → assigned_at ts ≡ None → set_at ts ≡ None → read_action reader ts ≡ read_end do_ ts
 simple reader ts a b c d e f = rw (a, b, c, d, e, f) refl
 
+-- an expression, and the `;` behind it
+end_then : (a : Phrase) (rest : List Token) → spelled_end a ++ rest ≡ spelled a ++ symbol s.Semicolon ∷ rest
+end_then a rest = append_assoc (spelled a) (symbol s.Semicolon ∷ []) rest
+
 doing_read : (reader : BlockReader) (a : Phrase) → Stands a → (rest : List Token) → read_action reader (spelled_end a ++ rest) ≡ Some (do_ (tree_of a), rest)
 doing_read reader a stands rest =
-    let ts = ended (spelled a) rest in
-    let tokens = phrase_tokens a in
-    let assoc = append_assoc (spelled a) (symbol s.Semicolon ∷ []) rest in
-    let none : (x : Word) → word_number x < 7 → after_word x ts ≡ None = λ x low. no_word x low (spelled a) rest tokens in
-    ap (read_action reader) assoc
-    ∙ simple reader ts (none w.If (omega arith)) (none w.While (omega arith)) (none w.Let (omega arith)) (none w.Return (omega arith)) (not_assigned (spelled a) rest tokens) (not_set (spelled a) rest tokens)
-    ∙ ap (read_end do_) (sym assoc)
+    let ts = spelled a ++ symbol s.Semicolon ∷ rest in
+    let none : (x : Word) → word_number x < 7 → after_word x ts ≡ None = λ x low. phrase_no_word x low a (symbol s.Semicolon ∷ rest) in
+    ap (read_action reader) (end_then a rest)
+    ∙ simple reader ts (none w.If (omega arith)) (none w.While (omega arith)) (none w.Let (omega arith)) (none w.Return (omega arith)) (phrase_not_assigned a rest) (phrase_not_set a rest)
+    ∙ ap (read_end do_) (sym (end_then a rest))
     ∙ end_read a stands do_ rest
 
 -- ---- what no statement begins with
 
 no_end : (a : Action) (rest : List Token) → after_symbol s.CloseBrace (spelled_action a ++ rest) ≡ None
-no_end (doing a) rest = ap (after_symbol s.CloseBrace) (append_assoc (spelled a) (symbol s.Semicolon ∷ []) rest) ∙ no_brace (spelled a) rest (phrase_tokens a)
+no_end (doing a) rest = ap (after_symbol s.CloseBrace) (end_then a rest) ∙ phrase_no_brace a (symbol s.Semicolon ∷ rest)
 no_end (declaring x a) rest = refl
 no_end (assigning x a) rest = refl
 no_end (setting x a) rest = refl
@@ -120,7 +118,7 @@ no_end (looping a block) rest = refl
 no_end (giving a) rest = refl
 
 no_else_word : (a : Action) (rest : List Token) → after_word w.Else (spelled_action a ++ rest) ≡ None
-no_else_word (doing a) rest = ap (after_word w.Else) (append_assoc (spelled a) (symbol s.Semicolon ∷ []) rest) ∙ no_word w.Else (omega arith) (spelled a) rest (phrase_tokens a)
+no_else_word (doing a) rest = ap (after_word w.Else) (end_then a rest) ∙ phrase_no_word w.Else (omega arith) a (symbol s.Semicolon ∷ rest)
 no_else_word (declaring x a) rest = refl
 no_else_word (assigning x a) rest = refl
 no_else_word (setting x a) rest = refl
