@@ -1,2 +1,10 @@
 pub mod Turns
 pub mod Counts
+pub mod Fronts
+pub mod GoesOn
+pub mod Phrases
+pub mod CompleteExpressions
+pub mod SoundExpressions
+pub mod Arguments
+pub mod CompleteStatements
+pub mod CompletePrograms
