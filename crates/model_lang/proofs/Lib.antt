@@ -6,3 +6,5 @@ pub mod Phrases
 pub mod CompleteExpressions
 pub mod SoundExpressions
 pub mod Arguments
+pub mod Posts
+pub mod LineTurns
