@@ -8,3 +8,5 @@ pub mod SoundExpressions
 pub mod Arguments
 pub mod CompleteStatements
 pub mod CompletePrograms
+pub mod Posts
+pub mod LineTurns
