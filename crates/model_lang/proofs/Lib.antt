@@ -10,3 +10,4 @@ pub mod CompleteStatements
 pub mod CompletePrograms
 pub mod Posts
 pub mod LineTurns
+pub mod Names
