@@ -8,3 +8,8 @@ pub mod SoundExpressions
 pub mod Arguments
 pub mod CompleteStatements
 pub mod CompletePrograms
+pub mod SoundStatements
+pub mod SoundPrograms
+pub mod Fitting
+pub mod Whole
+pub mod Readings
