@@ -11,3 +11,8 @@ pub mod CompletePrograms
 pub mod Posts
 pub mod LineTurns
 pub mod Names
+pub mod SoundStatements
+pub mod SoundPrograms
+pub mod Fitting
+pub mod Whole
+pub mod Readings
