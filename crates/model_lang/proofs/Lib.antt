@@ -8,3 +8,5 @@ pub mod SoundExpressions
 pub mod Arguments
 pub mod Posts
 pub mod LineTurns
+pub mod SoundArguments
+pub mod SoundPosts
