@@ -7,10 +7,10 @@ use Rattle.model_tokens.specs.declared.token.Word.TheVariants as w
 use Rattle.model_tokens.specs.declared.token.Symbol.TheVariants as s
 use Rattle.model_lang.specs.declared.tree.UnaryOp.{UnaryOp}
 use Rattle.model_lang.specs.declared.tree.BinaryOp.{BinaryOp}
-use Rattle.model_lang.specs.Tree.{Expression, unary}
+use Rattle.model_lang.specs.Tree.{Name, Expression, unary}
 use Rattle.model_lang.specs.Grammar.{Phrase, a_number, a_text, a_nil, a_bool, a_this, a_field, a_local, a_builtin, a_create, a_list, brackets, a_call, a_future, signed, joined, Phrases, no_phrases, phrase, Stands, AllStand, line, line_of, left_of, in_round, sign_symbol, op_symbol, spelled, spelled_args, spelled_more, tree_of}
 use Rattle.model_lang.specs.Reader.{Read, Reader, reading, on_found, sign_at, read_line, read_unary, read_post, read_expression}
-use Rattle.model_lang.proofs.GoesOn.{front_line, sign_found, line_of-two, line_of-le, left_of-relation}
+use Rattle.model_lang.proofs.GoesOn.{front_line, sign_found, line_of-two, line_of-le, left_of-le, left_of-relation}
 use Rattle.model_lang.proofs.Turns.{read_line-one}
 use Rattle.model_lang.proofs.Phrases.{phrase_long}
 use Rattle.model_lang.proofs.Fronts.{not_same}
@@ -89,19 +89,100 @@ abbrev AreOwn : Phrases → Type 0
 AreOwn no_phrases = Unit {0}
 AreOwn (phrase a more) = IsOwn a × AreOwn more
 
--- the arguments within brackets
+-- the expressions within brackets
+more_wholes : (es : Phrases) → AllStand es → AreOwn es → (room : ℕ) → length (spelled_more es) ≤ room → AreReadBy (read_line (read_unary room) 6) es
+more_wholes no_phrases st own room fits = tt
+more_wholes (phrase a more) st own room fits =
+    let long = length-append (spelled a) (spelled_more more) in
+    (whole a st.0 own.0 room (omega (arith, long)), more_wholes more st.1 own.1 room (omega (arith, long)))
+
 wholes : (es : Phrases) → AllStand es → AreOwn es → (room : ℕ) → length (spelled_args es) ≤ room → AreReadBy (read_line (read_unary room) 6) es
-wholes es st own room fits = ?
+wholes no_phrases st own room fits = tt
+wholes (phrase a more) st own room fits =
+    let long = length-append (spelled a) (spelled_more more) in
+    (whole a st.0 own.0 room (omega (arith, long)), more_wholes more st.1 own.1 room (omega (arith, long)))
+
+builtin_own : (x : Name) (args : Phrases) → AllStand args → AreOwn args → IsOwn (a_builtin x args)
+builtin_own x args st own room fits =
+    builtin_post (read_line (read_unary room) 6) x args (wholes args st own room (omega (arith, length-append (spelled_args args) (symbol s.CloseRound ∷ []))))
+
+create_own : (x : Name) (options : Phrase) → Stands options → IsOwn options → IsOwn (a_create x options)
+create_own x options st own room fits =
+    create_post (read_line (read_unary room) 6) x options (whole options st own room (omega (arith, length-append (spelled options) (symbol s.CloseRound ∷ []))))
+
+list_own : (items : Phrases) → AllStand items → AreOwn items → IsOwn (a_list items)
+list_own items st own room fits =
+    list_post (read_line (read_unary room) 6) items (wholes items st own room (omega (arith, length-append (spelled_args items) (symbol s.CloseSquare ∷ []))))
+
+brackets_own : (a : Phrase) → Stands a → IsOwn a → IsOwn (brackets a)
+brackets_own a st own room fits =
+    brackets_post (read_line (read_unary room) 6) a (whole a st own room (omega (arith, length-append (spelled a) (symbol s.CloseRound ∷ []))))
+
+-- what the phrase before a call or a future has on its own line
+post_of : (p : Phrase) → line p ≤ 0 → IsOwn p → (room : ℕ) → length (spelled p) ≤ suc room → IsPost (read_line (read_unary room) 6) p
+post_of p low own room fits =
+    let e : line p ≡ 0 = omega arith in
+    subst (λ n. OwnAt room p n) e (own room fits)
+
+call_own : (object : Phrase) (x : Name) (args : Phrases) → line object ≤ 0 → AllStand args → IsOwn object → AreOwn args → IsOwn (a_call object x args)
+call_own object x args low st own_object own_args room fits =
+    let long = length-append (spelled object) (symbol s.Dot ∷ name x ∷ in_round (spelled_args args)) in
+    let inside = length-append (spelled_args args) (symbol s.CloseRound ∷ []) in
+    call_post (read_line (read_unary room) 6) object x args (post_of object low own_object room (omega (arith, long))) (wholes args st own_args room (omega (arith, long, inside)))
+
+future_own : (object delay : Phrase) (x : Name) (args : Phrases) → line object ≤ 0 → Stands delay → AllStand args → IsOwn object → IsOwn delay → AreOwn args → IsOwn (a_future object delay x args)
+future_own object delay x args low st_delay st_args own_object own_delay own_args room fits =
+    let message = symbol s.Dot ∷ name x ∷ in_round (spelled_args args) in
+    let long = length-append (spelled object) (symbol s.Dot ∷ word w.Future ∷ (in_round (spelled delay) ++ message)) in
+    let behind = length-append (in_round (spelled delay)) message in
+    let in_delay = length-append (spelled delay) (symbol s.CloseRound ∷ []) in
+    let in_args = length-append (spelled_args args) (symbol s.CloseRound ∷ []) in
+    future_post (read_line (read_unary room) 6) object delay x args
+    (post_of object low own_object room (omega (arith, long)))
+    (whole delay st_delay own_delay room (omega (arith, long, behind, in_delay)))
+    (wholes args st_args own_args room (omega (arith, long, behind, in_args)))
 
 signed_own : (o : UnaryOp) (a : Phrase) → Stands a → line a ≤ 1 → IsOwn a → IsOwn (signed o a)
-signed_own o a st low own room fits rest h = ?
+signed_own o a st low own room fits rest h =
+    let next : UnaryOp → List Token → Read Expression = λ o ts. reading (read_unary room ts) (λ e ts. Some (unary o e, ts)) in
+    let one = ap (λ (f : Reader). f (spelled a ++ rest)) (read_line-one (read_unary room)) in
+    ap (λ f. on_found f next (read_post (read_line (read_unary room) 6) (symbol (sign_symbol o) ∷ (spelled a ++ rest)))) (sign_found o (spelled a ++ rest))
+    ∙ ap (λ f. reading f (λ e ts. Some (unary o e, ts))) (sym one ∙ up a st own room (omega arith) 0 low rest h)
 
-joined_own : (o : BinaryOp) (a b : Phrase) → Stands (joined o a b) → IsOwn a → IsOwn b → (k : ℕ) → line_of o ≡ suc (suc k) → (room : ℕ) → length (spelled (joined o a b)) ≤ suc room → IsLine (read_line (read_unary (suc room)) (suc k)) (suc k) (joined o a b) (spine (joined o a b))
-joined_own o a b st own_a own_b k is room fits = ?
+left_own : (b : Bool) (a : Phrase) (k n : ℕ) → nat_eq (line a) n ≡ b → n ≡ suc (suc k) → line a ≤ n → Stands a → IsOwn a → (room : ℕ) → length (spelled a) ≤ suc room → IsLine (read_line (read_unary (suc room)) (suc k)) (suc k) a (if b then spine a else 0)
+left_own true a k n same is le st own room fits =
+    let e : line a ≡ suc (suc k) = grind (arith, nat_tests) in
+    subst (λ n. OwnAt room a n) e (own room fits)
+left_own false a k n same is le st own room fits =
+    let less : line a ≤ suc k = grind (arith, nat_tests) in
+    side_line (read_line (read_unary (suc room)) (suc k)) (suc k) a (up a st own (suc room) fits k less)
+
+joined_own : (o : BinaryOp) (a b : Phrase) → Stands (joined o a b) → IsOwn a → IsOwn b → (k : ℕ) → line_of o ≡ suc (suc k) → (room : ℕ) → length (spelled (joined o a b)) ≤ suc room → OwnAt room (joined o a b) (suc (suc k))
+joined_own o a b st own_a own_b k is room fits =
+    let long = length-append (spelled a) (symbol (op_symbol o) ∷ spelled b) in
+    let lefts = if nat_eq (line a) (line_of o) then spine a else 0 in
+    joined_line (read_line (read_unary (suc room)) (suc k)) (suc k) o a b lefts is
+    (left_own (nat_eq (line a) (line_of o)) a k (line_of o) refl is (omega (arith, st.1, left_of-le o)) st.0 own_a room (omega (arith, long)))
+    (up b st.2 own_b (suc room) (omega (arith, long)) k (omega (arith, st.3)))
 
 mutual
   own : (p : Phrase) → Stands p → IsOwn p
-  own p st room fits = ?
+  own (a_number n) st room fits = number_post (read_line (read_unary room) 6) n
+  own (a_text t) st room fits = text_post (read_line (read_unary room) 6) t
+  own a_nil st room fits = nil_post (read_line (read_unary room) 6)
+  own (a_bool b) st room fits = bool_post (read_line (read_unary room) 6) b
+  own a_this st room fits = this_post (read_line (read_unary room) 6)
+  own (a_field x) st room fits = field_post (read_line (read_unary room) 6) x
+  own (a_local x) st room fits = local_post (read_line (read_unary room) 6) x
+  own (a_builtin x args) st room fits = builtin_own x args st (all_own args st) room fits
+  own (a_create x options) st room fits = create_own x options st (own options st) room fits
+  own (a_list items) st room fits = list_own items st (all_own items st) room fits
+  own (brackets a) st room fits = brackets_own a st (own a st) room fits
+  own (a_call object x args) st room fits = call_own object x args st.1 st.2 (own object st.0) (all_own args st.2) room fits
+  own (a_future object delay x args) st room fits = future_own object delay x args st.1 st.2 st.3 (own object st.0) (own delay st.2) (all_own args st.3) room fits
+  own (signed o a) st room fits = signed_own o a st.0 st.1 (own a st.0) room fits
+  own (joined o a b) st room fits =
+      subst (λ n. OwnAt room (joined o a b) n) (sym (line_of-two o)) (joined_own o a b st (own a st.0) (own b st.2) (line_of o - 2) (line_of-two o) room fits)
 
   all_own : (es : Phrases) → AllStand es → AreOwn es
   all_own no_phrases st = tt

@@ -16,3 +16,5 @@ pub mod SoundPrograms
 pub mod Fitting
 pub mod Whole
 pub mod Readings
+pub mod SoundArguments
+pub mod SoundPosts
