@@ -13,3 +13,4 @@ pub mod SoundPrograms
 pub mod Fitting
 pub mod Whole
 pub mod Readings
+pub mod Elses
