@@ -6,7 +6,15 @@ pub mod Phrases
 pub mod CompleteExpressions
 pub mod SoundExpressions
 pub mod Arguments
+pub mod CompleteStatements
+pub mod CompletePrograms
 pub mod Posts
 pub mod LineTurns
 pub mod SoundArguments
 pub mod SoundPosts
+pub mod Names
+pub mod SoundStatements
+pub mod SoundPrograms
+pub mod Fitting
+pub mod Whole
+pub mod Readings

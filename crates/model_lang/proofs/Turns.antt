@@ -5,7 +5,7 @@ use Rattle.model_tokens.specs.declared.token.Token.{Token}
 use Rattle.model_tokens.specs.declared.token.Symbol.{Symbol}
 use Rattle.model_tokens.specs.declared.token.Symbol.TheVariants as s
 use Rattle.model_tokens.specs.declared.token.Word.TheVariants as w
-use Rattle.model_lang.specs.Tree.{Name, Expression, unary, binary, Statement, MethodTree}
+use Rattle.model_lang.specs.Tree.{Name, Expression, unary, binary, Statement, MethodTree, ClassTree}
 use Rattle.model_lang.specs.Reader.{Read, Reader, reading, behind, either_way, on_found, operator_at, more_of, turns_of, suffixes_of, read_suffix, read_more, read_line, read_unary, read_post, sign_at, after_symbol, after_word, name_at, read_actions, read_action, read_block, read_fields, read_methods, read_method, read_further, read_classes, read_class}
 
 pub more_of-turn : (k : ℕ) (inner : Reader) (turns i : ℕ) (left : Expression) (ts : List Token) → i < turns → more_of k inner (turns - i) left ts ≡ on_found (operator_at k ts) (λ o rest. reading (inner rest) (λ e. more_of k inner (turns - (i + 1)) (binary o left e))) (Some (left, ts))
@@ -78,6 +78,22 @@ read_further-over turns i found ts h =
     let e : turns - i ≡ 0 = omega arith in
     rw e refl
 
+pub read_classes-turn : (turns i : ℕ) (found : List ClassTree) (ts : List Token) → i < turns → 0 < length ts → read_classes (turns - i) found ts ≡ reading (read_class ts) (λ c. read_classes (turns - (i + 1)) (found ++ c ∷ []))
+read_classes-turn turns i found [] h some = absurd (omega arith)
+read_classes-turn turns i found (t ∷ ts) h some =
+    let e : turns - i ≡ suc (turns - (i + 1)) = omega arith in
+    rw e refl
+
+pub read_classes-over : (turns i : ℕ) (found : List ClassTree) (ts : List Token) → turns ≤ i → 0 < length ts → read_classes (turns - i) found ts ≡ None
+read_classes-over turns i found [] h some = absurd (omega arith)
+read_classes-over turns i found (t ∷ ts) h some =
+    let e : turns - i ≡ 0 = omega arith in
+    rw e refl
+
+pub read_classes-end : (turns : ℕ) (found : List ClassTree) (ts : List Token) → length ts ≡ 0 → read_classes turns found ts ≡ Some found
+read_classes-end turns found [] none = refl
+read_classes-end turns found (t ∷ ts) none = absurd (omega arith)
+
 pub read_line-one : (inner : Reader) → read_line inner 1 ≡ inner
 unfolding read_line
 read_line-one inner = refl
@@ -86,7 +102,7 @@ pub read_line-next : (inner : Reader) (k : ℕ) (ts : List Token) → read_line 
 unfolding read_line
 read_line-next inner k ts = refl
 
-pub ruleset by_turn = (more_of-turn, more_of-over, suffixes_of-turn, suffixes_of-over, read_more-turn, read_more-over, read_actions-turn, read_actions-over, read_fields-turn, read_fields-over, read_methods-turn, read_methods-over, read_further-turn, read_further-over, map-append)
+pub ruleset by_turn = (more_of-turn, more_of-over, suffixes_of-turn, suffixes_of-over, read_more-turn, read_more-over, read_actions-turn, read_actions-over, read_fields-turn, read_fields-over, read_methods-turn, read_methods-over, read_further-turn, read_further-over, read_classes-turn, read_classes-over, read_classes-end, map-append)
 
 pub read_block-inside : (room : ℕ) (ts : List Token) → 0 < room → read_block room ts ≡ read_actions (read_block (room - 1)) (length ts) [] ts
 read_block-inside zero ts h = absurd (omega arith)

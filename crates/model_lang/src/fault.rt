@@ -1,4 +1,5 @@
 //! Why a text is refused.
+ghost use Rattle.std.specs.Prelude.{◌≡◌, length};
 
 use model_tokens::Token;
 use std::alloc::{AllocError, AllocFailed};
@@ -46,7 +47,9 @@ pub enum Stop {
 
 impl Stop {
     /// The stop at the first of these tokens.
-    pub fn at(tokens: &[Token]) -> Stop {
+    pub fn at(tokens: &[Token]) -> Stop
+        ensures { result ≡ Stop.NoProgram (length tokens.now) }
+    {
         Stop::NoProgram { left: tokens.len() }
     }
 

@@ -4,16 +4,22 @@ use Rattle.model_lang.specs.Reader.{read_block, read_actions}
 use Rattle.model_lang.proofs.statement.+block.Given as goal
 
 abbrev pub decreases-block : goal.decreases-block
-decreases-block l = 4 * l.room
+decreases-block l = 5 * l.room
+
+abbrev pub decreases-otherwise : goal.decreases-otherwise
+decreases-otherwise l = 5 * l.room + 1
+
+abbrev pub decreases-looping : goal.decreases-looping
+decreases-looping l = 5 * l.room + 1
 
 abbrev pub decreases-choice : goal.decreases-choice
-decreases-choice l = 4 * l.room + 1
+decreases-choice l = 5 * l.room + 2
 
 abbrev pub decreases-statement : goal.decreases-statement
-decreases-statement l = 4 * l.room + 2
+decreases-statement l = 5 * l.room + 3
 
 abbrev pub decreases-statements : goal.decreases-statements
-decreases-statements l = 4 * l.room + 3
+decreases-statements l = 5 * l.room + 4
 
 abbrev pub invariant-statements-loop-turn : goal.invariant-statements-loop-turn
 invariant-statements-loop-turn l =
