@@ -3,15 +3,15 @@ use Rattle.std.proofs.Common.{◌≡◌, ◌⊎◌, inl, inr, ℕ, ◌≤◌, �
 use Rattle.std.proofs.lemmas.Bool.Decides.{nat_tests}
 use Rattle.tea_base.specs.declared.entry.Entry.{Entry}
 use Rattle.model_lang.specs.Tree.{ProgramTree}
-use Rattle.model_lang.specs.Program.{IsRead}
+use Rattle.model_lang.specs.Program.{Reading, a_program, no_program, too_large, IsReading}
+use Rattle.model_check.specs.FirstForms.{IsFirstProgram}
 use Rattle.model_check.specs.declared.fault.CheckFault.{CheckFault}
 use Rattle.model_check.specs.Faults.{first_fault}
 use Rattle.tea_io.specs.Files.{Content, Untold, Absent, Known}
 use Rattle.croquet_main.specs.declared.words.Command.{Command}
 use Rattle.croquet_main.specs.declared.words.Command.TheVariants.{Stamp, Replay}
 use Rattle.croquet_main.specs.declared.status.Input.TheVariants.{Program, Log}
-use Rattle.croquet_main.specs.PrintedText.{check_line, syntax_line}
-use Rattle.croquet_main.specs.Verdict.{Verdict, BadWords, Unreadable, BadProgram, BadInput, Unknown, Done, Comes, LogComes, OfCheck, OfLog, OfProgram, ReplayComes, program_limit, replay_text, stamp_verdict}
+use Rattle.croquet_main.specs.Verdict.{Verdict, NoProgram, TooLarge, NotBuilt, Faulty, OfTree, OfReading, BadWords, Unreadable, BadProgram, BadInput, Unknown, Done, Comes, LogComes, OfCheck, OfLog, OfProgram, ReplayComes, program_limit, replay_text, stamp_verdict}
 
 -- no verdict comes
 abbrev pub IsNone : (Verdict → Type 0) → Type 0
@@ -27,25 +27,37 @@ some_log (Known bytes) text none = some_of_log bytes text none
 
 some_check : (found : Option CheckFault) (log : Content) (text : List Entry → List ℕ) → ¬ IsNone (λ verdict. OfCheck found (LogComes log text verdict) verdict)
 some_check None log text none = some_log log text none
-some_check (Some fault) log text none = none (BadProgram (check_line fault)) refl
+some_check (Some fault) log text none = none (BadProgram (Faulty fault)) refl
 
-some_read : (name : List ℕ) (time : ℕ) (log : Content) (bytes : List ℕ) → length bytes ≤ program_limit → ¬ IsNone (λ verdict. OfProgram bytes (λ tree. LogComes log (replay_text name time bytes tree) verdict) verdict)
-some_read name time log bytes within none =
-    let no_tree : (tree : ProgramTree) → ¬ IsRead bytes tree =
-    λ tree read. some_check (first_fault tree) log (replay_text name time bytes tree) (λ verdict checked. none verdict (inr (inr (tree, within, read, checked)))) in
-    none (BadProgram (syntax_line 0)) (inr (inl (within, no_tree, refl)))
+some_tree : (tree : ProgramTree) (log : Content) (text : List Entry → List ℕ) → ¬ IsNone (λ verdict. OfTree tree (LogComes log text verdict) verdict)
+some_tree tree log text none =
+    let never : ¬ IsFirstProgram tree = λ first. some_check (first_fault tree) log text (λ verdict checked. none verdict (inr (first, checked))) in
+    none (BadProgram NotBuilt) (inl (never, refl))
 
-some_program : (name : List ℕ) (time : ℕ) (log : Content) (bytes : List ℕ) (b : Bool) → nat_le (length bytes) program_limit ≡ b → ¬ IsNone (λ verdict. OfProgram bytes (λ tree. LogComes log (replay_text name time bytes tree) verdict) verdict)
-some_program name time log bytes true is none = let within : length bytes ≤ program_limit = grind (arith, nat_tests) in some_read name time log bytes within none
-some_program name time log bytes false is none = let long : program_limit < length bytes = grind (arith, nat_tests) in none (BadInput Program) (inl (long, refl))
+some_reading : (reading : Reading) (name : List ℕ) (time : ℕ) (log : Content) (bytes : List ℕ) → ¬ IsNone (λ verdict. OfReading reading (λ tree. LogComes log (replay_text name time bytes tree) verdict) verdict)
+some_reading (a_program tree) name time log bytes none = some_tree tree log (replay_text name time bytes tree) none
+some_reading no_program name time log bytes none = none (BadProgram NoProgram) refl
+some_reading (too_large what count) name time log bytes none = none (BadProgram (TooLarge what count)) refl
 
-some_replay : (name : List ℕ) (time : ℕ) (program log : Content) → ¬ IsNone (ReplayComes name time program log)
-some_replay name time Untold log none = none (Unknown (Program ∷ Log ∷ [])) refl
-some_replay name time Absent log none = none (Unreadable Program) refl
-some_replay name time (Known bytes) log none = some_program name time log bytes (nat_le (length bytes) program_limit) refl none
+-- of each text something comes: what `model_lang::one_reading` says
+abbrev pub IsSomeReading : Type 0
+IsSomeReading = (text : List ℕ) → ¬ ((reading : Reading) → ¬ IsReading text reading)
+
+some_read : IsSomeReading → (name : List ℕ) (time : ℕ) (log : Content) (bytes : List ℕ) → length bytes ≤ program_limit → ¬ IsNone (λ verdict. OfProgram bytes (λ tree. LogComes log (replay_text name time bytes tree) verdict) verdict)
+some_read always name time log bytes within none =
+    always bytes (λ reading read. some_reading reading name time log bytes (λ verdict comes. none verdict (inr (within, (reading, read, comes)))))
+
+some_program : IsSomeReading → (name : List ℕ) (time : ℕ) (log : Content) (bytes : List ℕ) (b : Bool) → nat_le (length bytes) program_limit ≡ b → ¬ IsNone (λ verdict. OfProgram bytes (λ tree. LogComes log (replay_text name time bytes tree) verdict) verdict)
+some_program always name time log bytes true is none = let within : length bytes ≤ program_limit = grind (arith, nat_tests) in some_read always name time log bytes within none
+some_program always name time log bytes false is none = let long : program_limit < length bytes = grind (arith, nat_tests) in none (BadInput Program) (inl (long, refl))
+
+some_replay : IsSomeReading → (name : List ℕ) (time : ℕ) (program log : Content) → ¬ IsNone (ReplayComes name time program log)
+some_replay always name time Untold log none = none (Unknown (Program ∷ Log ∷ [])) refl
+some_replay always name time Absent log none = none (Unreadable Program) refl
+some_replay always name time (Known bytes) log none = some_program always name time log bytes (nat_le (length bytes) program_limit) refl none
 
 -- some verdict comes
-pub Comes-some : (command : Option Command) (held : List ℕ → Content) → ¬ IsNone (Comes command held)
-Comes-some None held none = none BadWords refl
-Comes-some (Some (Stamp script log)) held none = none (stamp_verdict log (held script)) refl
-Comes-some (Some (Replay program name log time)) held none = some_replay name time (held program) (held log) none
+pub Comes-some : IsSomeReading → (command : Option Command) (held : List ℕ → Content) → ¬ IsNone (Comes command held)
+Comes-some always None held none = none BadWords refl
+Comes-some always (Some (Stamp script log)) held none = none (stamp_verdict log (held script)) refl
+Comes-some always (Some (Replay program name log time)) held none = some_replay always name time (held program) (held log) none

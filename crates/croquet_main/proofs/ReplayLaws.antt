@@ -4,7 +4,11 @@ use Rattle.tea_base.specs.declared.entry.Entry.{Entry}
 use Rattle.tea_base.specs.Legal.{IsLegal}
 use Rattle.session_log.specs.Spelling.{log_spelling}
 use Rattle.model_lang.specs.Tree.{ProgramTree}
-use Rattle.model_lang.specs.Program.{IsRead}
+use Rattle.model_lang.specs.declared.fault.LangFault.{LangFault}
+use Rattle.model_lang.specs.declared.fault.LangFault.TheVariants as lang
+use Rattle.model_lang.specs.Answer.{Parses}
+use Rattle.model_lang.specs.Program.{Reading, a_program, no_program, too_large, IsReading}
+use Rattle.model_check.specs.FirstForms.{IsFirstProgram}
 use Rattle.model_check.specs.declared.fault.CheckFault.{CheckFault}
 use Rattle.model_check.specs.Faults.{first_fault}
 use Rattle.tea_io.specs.Files.{Content, Untold, Absent, Known, MayBe}
@@ -18,14 +22,14 @@ use Rattle.croquet_main.specs.declared.status.Fault.{Fault}
 use Rattle.croquet_main.specs.declared.status.Fault.TheVariants.{Usage, Program, Input, Read, Write, Sink, Memory}
 use Rattle.croquet_main.specs.declared.status.Input.{Input as InputName}
 use Rattle.croquet_main.specs.declared.status.Input.TheVariants as input
-use Rattle.croquet_main.specs.PrintedText.{syntax_line, check_line}
-use Rattle.croquet_main.specs.Verdict.{Verdict, BadWords, Unreadable, BadProgram, BadInput, Unknown, Done, AreKept, HasGoodWords, IsInputLog, IsProgramLine, IsNotDone, LogComes, MayBeBad, MayBeDone, MayBeRead, MayBeRefused, OfCheck, OfLog, OfProgram, OfText, PutsFiles, ReplayComes, has_event, log_limit, program_limit, replay_text}
-use Rattle.croquet_main.specs.Ends.{AskedFor, AskedTo, IsDoneWith, IsLonger, IsReadingFault, IsReadLog, IsRefused, LogEnd, ProgramEnd, IsSinkFault, IsSoundProgram, LeavesBefore, MayEnd, ReadEnd, WorkEnd, WritesBefore}
+use Rattle.croquet_main.specs.PrintedText.{check_line}
+use Rattle.croquet_main.specs.Verdict.{Verdict, Refusal, NoProgram, TooLarge, NotBuilt, Faulty, IsLineOf, OfTree, OfReading, BadWords, Unreadable, BadProgram, BadInput, Unknown, Done, AreKept, HasGoodWords, IsInputLog, IsProgramLine, IsNotDone, LogComes, MayBeBad, MayBeDone, MayBeRead, MayBeRefused, OfCheck, OfLog, OfProgram, OfText, PutsFiles, ReplayComes, has_event, log_limit, program_limit, replay_text}
+use Rattle.croquet_main.specs.Ends.{AskedFor, AskedTo, IsDoneWith, IsLonger, IsReadingFault, IsReadLog, IsRefused, IsRefusedFor, IsUnread, LogEnd, ProgramEnd, IsSinkFault, IsSoundProgram, LeavesBefore, MayEnd, ReadEnd, WorkEnd, WritesBefore}
 use Rattle.croquet_main.proofs.StampLaws.{grown-append}
 
--- a text is read as one tree
-abbrev pub IsOneTree : Type 0
-IsOneTree = (text : List ℕ) (tree other : ProgramTree) → IsRead text tree → IsRead text other → tree ≡ other
+-- one thing comes of a text: what `model_lang::one_reading` says
+abbrev pub IsOneReading : Type 0
+IsOneReading = (text : List ℕ) (reading other : Reading) → IsReading text reading → IsReading text other → reading ≡ other
 
 -- ---- the program
 
@@ -41,19 +45,18 @@ of_check : (found : Option CheckFault) (next : Type 0) (verdict : Verdict) → f
 of_check None next verdict none comes = comes
 of_check (Some fault) next verdict none comes = absurd cc
 
-of_tree : (name : List ℕ) (time : ℕ) (log : Content) (bytes : List ℕ) (tree other : ProgramTree) (verdict : Verdict) → tree ≡ other → IsSoundProgram bytes tree → OfCheck (first_fault other) (LogComes log (replay_text name time bytes other) verdict) verdict → LogComes log (replay_text name time bytes tree) verdict
-of_tree name time log bytes tree other verdict same sound comes =
-    let P : ProgramTree → Type 0 = λ t. OfCheck (first_fault t) (LogComes log (replay_text name time bytes t) verdict) verdict in
-    of_check (first_fault tree) _ verdict sound.sound (subst P (sym same) comes)
+of_tree : (tree : ProgramTree) (next : Type 0) (verdict : Verdict) → IsFirstProgram tree → first_fault tree ≡ None → OfTree tree next verdict → next
+of_tree tree next verdict built sound (inl (not, is)) = absurd (not built)
+of_tree tree next verdict built sound (inr (first, checked)) = of_check (first_fault tree) next verdict sound checked
 
-of_bytes : IsOneTree → (name : List ℕ) (time : ℕ) (log : Content) (bytes : List ℕ) (tree : ProgramTree) (verdict : Verdict) → length bytes ≤ program_limit → IsSoundProgram bytes tree → ProgramComes name time log bytes verdict → ComesAfter name time log bytes tree verdict
+of_bytes : IsOneReading → (name : List ℕ) (time : ℕ) (log : Content) (bytes : List ℕ) (tree : ProgramTree) (verdict : Verdict) → length bytes ≤ program_limit → IsSoundProgram bytes tree → ProgramComes name time log bytes verdict → ComesAfter name time log bytes tree verdict
 of_bytes one name time log bytes tree verdict within sound (inl (long, is)) = absurd (omega (arith, within, long))
-of_bytes one name time log bytes tree verdict within sound (inr (inl (short, none, is))) = absurd (none tree sound.read)
-of_bytes one name time log bytes tree verdict within sound (inr (inr (other, short, read, checked))) =
-    inr (of_tree name time log bytes tree other verdict (one bytes tree other sound.read read) sound checked)
+of_bytes one name time log bytes tree verdict within sound (inr (short, (reading, read, comes))) =
+    let P : Reading → Type 0 = λ r. OfReading r (λ tree. LogComes log (replay_text name time bytes tree) verdict) verdict in
+    inr (of_tree tree _ verdict sound.built sound.sound (subst P (sym (one bytes (a_program tree) reading sound.read read)) comes))
 
 -- where a program was read
-pub to_log : IsOneTree → (name : List ℕ) (time : ℕ) (content log : Content) (bytes : List ℕ) (tree : ProgramTree) (verdict : Verdict) → MayBe content bytes → length bytes ≤ program_limit → IsSoundProgram bytes tree → ReplayComes name time content log verdict → ComesAfter name time log bytes tree verdict
+pub to_log : IsOneReading → (name : List ℕ) (time : ℕ) (content log : Content) (bytes : List ℕ) (tree : ProgramTree) (verdict : Verdict) → MayBe content bytes → length bytes ≤ program_limit → IsSoundProgram bytes tree → ReplayComes name time content log verdict → ComesAfter name time log bytes tree verdict
 to_log one name time Untold log bytes tree verdict held within sound comes = inl comes
 to_log one name time Absent log bytes tree verdict held within sound comes = absurd held
 to_log one name time (Known told) log bytes tree verdict held within sound comes =
@@ -63,8 +66,7 @@ to_log one name time (Known told) log bytes tree verdict held within sound comes
 -- a program above its limit
 long_bytes : (name : List ℕ) (time : ℕ) (log : Content) (bytes : List ℕ) (verdict : Verdict) → program_limit < length bytes → ProgramComes name time log bytes verdict → MayBeBad input.Program verdict
 long_bytes name time log bytes verdict longer (inl (long, is)) = rw is refl
-long_bytes name time log bytes verdict longer (inr (inl (short, none, is))) = absurd (omega (arith, longer, short))
-long_bytes name time log bytes verdict longer (inr (inr (tree, short, read, rest))) = absurd (omega (arith, longer, short))
+long_bytes name time log bytes verdict longer (inr (short, rest)) = absurd (omega (arith, longer, short))
 
 pub long_program : (name : List ℕ) (time : ℕ) (content log : Content) (verdict : Verdict) → IsLonger content program_limit → ReplayComes name time content log verdict → MayBeBad input.Program verdict
 long_program name time Untold log verdict longer comes = rw comes (0, omega arith, refl)
@@ -82,13 +84,21 @@ read_check : (found : Option CheckFault) (log : Content) (text : List Entry → 
 read_check None log text verdict comes = log_read_any log text verdict input.Program comes
 read_check (Some fault) log text verdict comes = rw comes refl
 
+read_tree : (tree : ProgramTree) (log : Content) (text : List Entry → List ℕ) (verdict : Verdict) → OfTree tree (LogComes log text verdict) verdict → MayBeRead input.Program verdict
+read_tree tree log text verdict (inl (not, is)) = rw is refl
+read_tree tree log text verdict (inr (first, checked)) = read_check (first_fault tree) log text verdict checked
+
+read_reading : (reading : Reading) (name : List ℕ) (time : ℕ) (log : Content) (bytes : List ℕ) (verdict : Verdict) → OfReading reading (λ tree. LogComes log (replay_text name time bytes tree) verdict) verdict → MayBeRead input.Program verdict
+read_reading (a_program tree) name time log bytes verdict comes = read_tree tree log (replay_text name time bytes tree) verdict comes
+read_reading no_program name time log bytes verdict comes = rw comes refl
+read_reading (too_large what count) name time log bytes verdict comes = rw comes refl
+
 -- the read of a program may fail
 pub program_read : (name : List ℕ) (time : ℕ) (content log : Content) (verdict : Verdict) → ReplayComes name time content log verdict → MayBeRead input.Program verdict
 program_read name time Untold log verdict comes = rw comes tt
 program_read name time Absent log verdict comes = rw comes refl
 program_read name time (Known bytes) log verdict (inl (long, is)) = rw is refl
-program_read name time (Known bytes) log verdict (inr (inl (short, none, is))) = rw is refl
-program_read name time (Known bytes) log verdict (inr (inr (tree, short, read, checked))) = read_check (first_fault tree) log (replay_text name time bytes tree) verdict checked
+program_read name time (Known bytes) log verdict (inr (short, (reading, read, comes))) = read_reading reading name time log bytes verdict comes
 
 pub log_read : (name : List ℕ) (time : ℕ) (log : Content) (bytes : List ℕ) (tree : ProgramTree) (verdict : Verdict) → ComesAfter name time log bytes tree verdict → MayBeRead input.Log verdict
 log_read name time log bytes tree verdict (inl is) = rw is tt
@@ -109,20 +119,42 @@ refused_check None next line fault verdict is told comes = absurd cc
 refused_check (Some found) next line fault verdict is told comes =
     let same : fault ≡ found = cc in rw comes (told ∙ ap check_line same)
 
-refused_bytes : IsOneTree → (name : List ℕ) (time : ℕ) (log : Content) (bytes line : List ℕ) (verdict : Verdict) → length bytes ≤ program_limit → IsRefused bytes line → ProgramComes name time log bytes verdict → MayBeRefused line verdict
+refused_tree : (tree : ProgramTree) (next : Type 0) (line : List ℕ) (fault : CheckFault) (verdict : Verdict) → IsFirstProgram tree → first_fault tree ≡ Some fault → line ≡ check_line fault → OfTree tree next verdict → MayBeRefused line verdict
+refused_tree tree next line fault verdict built found told (inl (not, is)) = absurd (not built)
+refused_tree tree next line fault verdict built found told (inr (first, checked)) = refused_check (first_fault tree) next line fault verdict found told checked
+
+unbuilt_tree : (tree : ProgramTree) (next : Type 0) (line : List ℕ) (verdict : Verdict) → ¬ IsFirstProgram tree → IsLineOf NotBuilt line → OfTree tree next verdict → MayBeRefused line verdict
+unbuilt_tree tree next line verdict never told (inl (not, is)) = rw is told
+unbuilt_tree tree next line verdict never told (inr (first, checked)) = absurd (never first)
+
+-- of bytes that are refused another thing comes than what the reading of a program leads to
+refused_reading : IsOneReading → (bytes line : List ℕ) (next : ProgramTree → Type 0) (verdict : Verdict) (refusal : Refusal) → IsRefusedFor bytes refusal → IsLineOf refusal line → (reading : Reading) → IsReading bytes reading → OfReading reading next verdict → MayBeRefused line verdict
+refused_reading one bytes line next verdict NoProgram none told reading read comes =
+    let is : verdict ≡ BadProgram NoProgram = subst (λ r. OfReading r next verdict) (sym (one bytes no_program reading none read)) comes in
+    rw is told
+refused_reading one bytes line next verdict (TooLarge what count) many told reading read comes =
+    let is : verdict ≡ BadProgram (TooLarge what count) = subst (λ r. OfReading r next verdict) (sym (one bytes (too_large what count) reading many read)) comes in
+    rw is told
+refused_reading one bytes line next verdict NotBuilt (tree, is_read, never) told reading read comes =
+    unbuilt_tree tree (next tree) line verdict never told (subst (λ r. OfReading r next verdict) (sym (one bytes (a_program tree) reading is_read read)) comes)
+refused_reading one bytes line next verdict (Faulty fault) (tree, is_read, first, found) told reading read comes =
+    refused_tree tree (next tree) line fault verdict first found told (subst (λ r. OfReading r next verdict) (sym (one bytes (a_program tree) reading is_read read)) comes)
+
+refused_bytes : IsOneReading → (name : List ℕ) (time : ℕ) (log : Content) (bytes line : List ℕ) (verdict : Verdict) → length bytes ≤ program_limit → IsRefused bytes line → ProgramComes name time log bytes verdict → MayBeRefused line verdict
 refused_bytes one name time log bytes line verdict within refused (inl (long, is)) = absurd (omega (arith, within, long))
-refused_bytes one name time log bytes line verdict within (inl (none, told)) (inr (inl (short, not, is))) = rw is told
-refused_bytes one name time log bytes line verdict within (inl (none, told)) (inr (inr (tree, short, read, checked))) = absurd (none tree read)
-refused_bytes one name time log bytes line verdict within (inr (tree, read, found)) (inr (inl (short, none, is))) = absurd (none tree read)
-refused_bytes one name time log bytes line verdict within (inr (tree, read, (fault, found, told))) (inr (inr (other, short, is_read, checked))) =
-    let P : ProgramTree → Type 0 = λ t. OfCheck (first_fault t) (LogComes log (replay_text name time bytes t) verdict) verdict in
-    refused_check (first_fault tree) _ line fault verdict found told (subst P (sym (one bytes tree other read is_read)) checked)
+refused_bytes one name time log bytes line verdict within (refusal, is_refused, told) (inr (short, (reading, read, comes))) =
+    refused_reading one bytes line (λ tree. LogComes log (replay_text name time bytes tree) verdict) verdict refusal is_refused told reading read comes
 
 line_of_refused : (bytes line : List ℕ) → IsRefused bytes line → IsProgramLine line
-line_of_refused bytes line (inl (none, told)) = inl told
-line_of_refused bytes line (inr (tree, read, (fault, found, told))) = inr (fault, told)
+line_of_refused bytes line (refusal, is_refused, told) = (refusal, told)
 
-pub refused_program : IsOneTree → (name : List ℕ) (time : ℕ) (content log : Content) (bytes line : List ℕ) (verdict : Verdict) → MayBe content bytes → length bytes ≤ program_limit → IsRefused bytes line → ReplayComes name time content log verdict → MayBeRefused line verdict
+-- a text that is not read
+pub refused_unread : (bytes : List ℕ) (lang_fault : LangFault) (fault : Fault) → Parses (Err lang_fault) bytes → IsUnread lang_fault fault → ProgramEnd (Err fault) bytes
+refused_unread bytes (lang.Syntax at) fault none is = rw is (NoProgram, none, (at, refl))
+refused_unread bytes (lang.TooLarge what count) fault many is = rw is (TooLarge what count, many, refl)
+refused_unread bytes lang.WantOfMemory fault parsed is = rw is tt
+
+pub refused_program : IsOneReading → (name : List ℕ) (time : ℕ) (content log : Content) (bytes line : List ℕ) (verdict : Verdict) → MayBe content bytes → length bytes ≤ program_limit → IsRefused bytes line → ReplayComes name time content log verdict → MayBeRefused line verdict
 refused_program one name time Untold log bytes line verdict held within refused comes = rw comes ((0, omega arith, refl), line_of_refused bytes line refused)
 refused_program one name time Absent log bytes line verdict held within refused comes = absurd held
 refused_program one name time (Known told) log bytes line verdict held within refused comes =
@@ -190,7 +222,7 @@ check_comes (Some fault) next verdict none comes = absurd cc
 bytes_come : (name : List ℕ) (time : ℕ) (log : Content) (bytes spelled : List ℕ) (tree : ProgramTree) (entries : List Entry) → length bytes ≤ program_limit → IsSoundProgram bytes tree → MayBe log spelled → IsInputLog spelled entries → (verdict : Verdict) × ProgramComes name time log bytes verdict × MayBeDone verdict
 bytes_come name time log bytes spelled tree entries within sound held is_log =
     let found = log_comes log spelled entries (replay_text name time bytes tree) held is_log in
-    (found.0, inr (inr (tree, within, sound.read, check_comes (first_fault tree) _ found.0 sound.sound found.1)), found.2)
+    (found.0, inr (within, (a_program tree, sound.read, inr (sound.built, check_comes (first_fault tree) _ found.0 sound.sound found.1))), found.2)
 
 pub some_verdict : (name : List ℕ) (time : ℕ) (content log : Content) (bytes spelled : List ℕ) (tree : ProgramTree) (entries : List Entry) → MayBe content bytes → length bytes ≤ program_limit → IsSoundProgram bytes tree → MayBe log spelled → length spelled ≤ log_limit → IsReadLog spelled entries → (verdict : Verdict) × ReplayComes name time content log verdict × MayBeDone verdict
 some_verdict name time Untold log bytes spelled tree entries held within sound log_held short read = (Unknown (input.Program ∷ input.Log ∷ []), refl, tt)
@@ -239,7 +271,7 @@ asked_both program log old mid new first second = both_reads program log old mid
 -- ---- how the work ends
 
 -- the program was read, and refused
-end_program_err : (A : Type 0) → IsOneTree → (fault : Fault) (name : List ℕ) (time : ℕ) (content log : Content) (bytes : List ℕ) (verdict : Verdict) → MayBe content bytes → length bytes ≤ program_limit → ProgramEnd (Err fault) bytes → ReplayComes name time content log verdict → WorkEnd {A = A} (Err fault) verdict
+end_program_err : (A : Type 0) → IsOneReading → (fault : Fault) (name : List ℕ) (time : ℕ) (content log : Content) (bytes : List ℕ) (verdict : Verdict) → MayBe content bytes → length bytes ≤ program_limit → ProgramEnd (Err fault) bytes → ReplayComes name time content log verdict → WorkEnd {A = A} (Err fault) verdict
 end_program_err A one Usage name time content log bytes verdict held within end comes = absurd end
 end_program_err A one (Program line) name time content log bytes verdict held within end comes = refused_program one name time content log bytes line verdict held within end comes
 end_program_err A one (Input at) name time content log bytes verdict held within end comes = absurd end
@@ -276,7 +308,7 @@ pub asked_bad_log : {T : Type 0} (result : Result T Fault) (fault : Fault) (prog
 asked_bad_log {T = T} result fault program log bytes verdict old mid new given p0 p1 p2 =
     by_fault (λ r. AskedFor r verdict ((input.Program, program) ∷ (input.Log, log) ∷ []) [] old new ⊤) result fault given (asked_bad_log_err T fault program log bytes verdict old mid new p0 p1 p2)
 
-pub end_program : {A : Type 0} (one : IsOneTree) (result : Result (String A) Fault) (fault : Fault) (name : List ℕ) (time : ℕ) (content log : Content) (bytes : List ℕ) (verdict : Verdict) → IsErrAnd result (λ found. found ≡ fault) → MayBe content bytes → length bytes ≤ program_limit → ProgramEnd (Err fault) bytes → ReplayComes name time content log verdict → WorkEnd result verdict
+pub end_program : {A : Type 0} (one : IsOneReading) (result : Result (String A) Fault) (fault : Fault) (name : List ℕ) (time : ℕ) (content log : Content) (bytes : List ℕ) (verdict : Verdict) → IsErrAnd result (λ found. found ≡ fault) → MayBe content bytes → length bytes ≤ program_limit → ProgramEnd (Err fault) bytes → ReplayComes name time content log verdict → WorkEnd result verdict
 end_program {A = A} one result fault name time content log bytes verdict given p0 p1 p2 p3 =
     by_fault (λ r. WorkEnd r verdict) result fault given (end_program_err A one fault name time content log bytes verdict p0 p1 p2 p3)
 

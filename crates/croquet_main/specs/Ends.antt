@@ -14,10 +14,12 @@ use Rattle.tea_base.specs.Legal.{IsLegal}
 use Rattle.model_lang.specs.declared.tree.Class.{Class}
 use Rattle.model_lang.specs.Tree.{ProgramTree}
 use Rattle.model_lang.specs.TreeView.{program_tree}
-use Rattle.model_lang.specs.Program.{IsRead}
-use Rattle.model_check.specs.declared.fault.CheckFault.{CheckFault}
+use Rattle.model_lang.specs.declared.fault.LangFault.{LangFault}
+use Rattle.model_lang.specs.declared.fault.LangFault.TheVariants as lang
+use Rattle.model_lang.specs.Program.{IsRead, IsNoProgram, IsTooLarge}
+use Rattle.model_check.specs.FirstForms.{IsFirstProgram}
+use Rattle.croquet_main.specs.PrintedText.{syntax_line, too_large_line}
 use Rattle.model_check.specs.Faults.{first_fault}
-use Rattle.croquet_main.specs.PrintedText.{syntax_line, check_line}
 use Rattle.croquet_main.specs.declared.status.Fault.{Fault}
 use Rattle.croquet_main.specs.declared.status.Fault.TheVariants.{Usage, Program, Input, Read, Write, Sink, Memory}
 use Rattle.croquet_main.specs.declared.status.Input.{Input as InputName}
@@ -25,7 +27,7 @@ use Rattle.croquet_main.specs.declared.status.Status.{Status}
 use Rattle.croquet_main.specs.declared.status.Status.TheVariants.{WriteFault, WantOfMemory}
 use Rattle.croquet_main.specs.declared.status.Status.TheVariants as status
 use Rattle.croquet_main.specs.declared.status.Input.TheVariants as input_name
-use Rattle.croquet_main.specs.Verdict.{Verdict, BadWords, Unreadable, BadProgram, BadInput, Unknown, Done, Comes, MayBeRefused, MayBeRead, IsInputLog, has_event, reads_in, reads_to, MayBeDone, MayBeBad, HasBadWords, HasGoodWords, AreKept, IsNonEmpty, IsNotDone, OfText, PutsFiles, usage_line, input_line, read_line, write_line, memory_line}
+use Rattle.croquet_main.specs.Verdict.{Verdict, Refusal, NoProgram, TooLarge, NotBuilt, Faulty, IsLineOf, BadWords, Unreadable, BadProgram, BadInput, Unknown, Done, Comes, MayBeRefused, MayBeRead, IsInputLog, has_event, reads_in, reads_to, MayBeDone, MayBeBad, HasBadWords, HasGoodWords, AreKept, IsNonEmpty, IsNotDone, OfText, PutsFiles, usage_line, input_line, read_line, write_line, memory_line}
 
 -- what stands there is longer
 abbrev pub IsLonger : Content → ℕ → Type 0
@@ -166,16 +168,28 @@ IsTold Write result old new rose = Tells write_line WriteFault result old new ro
 IsTold Sink result old new rose = (result ≡ WriteFault) × (new ≡ old)
 IsTold Memory result old new rose = Tells memory_line WantOfMemory result old new rose
 
--- the bytes of a program are read as this tree, in which a check finds no fault
+-- the bytes of a program are read as this tree, whose forms are there and in which a check finds no fault
 pub record IsSoundProgram (bytes : List ℕ) (tree : ProgramTree) : Type 0 where
   pub read : IsRead bytes tree
+  pub built : IsFirstProgram tree
   pub sound : first_fault tree ≡ None
 
--- these bytes are no program, or one with a fault, and this is the line of it
+-- these bytes are refused for this
+abbrev pub IsRefusedFor : List ℕ → Refusal → Type 0
+IsRefusedFor bytes NoProgram = IsNoProgram bytes
+IsRefusedFor bytes (TooLarge what count) = IsTooLarge what count bytes
+IsRefusedFor bytes NotBuilt = (tree : ProgramTree) × IsRead bytes tree × ¬ IsFirstProgram tree
+IsRefusedFor bytes (Faulty fault) = (tree : ProgramTree) × IsRead bytes tree × IsFirstProgram tree × (first_fault tree ≡ Some fault)
+
+-- these bytes are refused, and this is the line of it
 abbrev pub IsRefused : List ℕ → List ℕ → Type 0
-IsRefused bytes line =
-    (((tree : ProgramTree) → ¬ IsRead bytes tree) × (line ≡ syntax_line 0))
-    ⊎ ((tree : ProgramTree) × IsRead bytes tree × ((fault : CheckFault) × (first_fault tree ≡ Some fault) × (line ≡ check_line fault)))
+IsRefused bytes line = (refusal : Refusal) × IsRefusedFor bytes refusal × IsLineOf refusal line
+
+-- how a text is told that is not read
+abbrev pub IsUnread : LangFault → Fault → Type 0
+IsUnread (lang.Syntax at) fault = fault ≡ Program (syntax_line at)
+IsUnread (lang.TooLarge what count) fault = fault ≡ Program (too_large_line what count)
+IsUnread lang.WantOfMemory fault = fault ≡ Memory
 
 -- how the reading of a program ends
 abbrev pub ProgramEnd : Result (List Class) Fault → List ℕ → Type 0
@@ -210,7 +224,7 @@ LogEnd (Err Memory) bytes = ⊤
 abbrev pub IsDoneWith : List ℕ → Verdict → Type 0
 IsDoneWith text BadWords = ⊥
 IsDoneWith text (Unreadable absent) = ⊥
-IsDoneWith text (BadProgram line) = ⊥
+IsDoneWith text (BadProgram refusal) = ⊥
 IsDoneWith text (BadInput bad) = ⊥
 IsDoneWith text (Unknown inputs) = ⊤
 IsDoneWith text (Done meant files) = (text ≡ meant) × (files ≡ [])

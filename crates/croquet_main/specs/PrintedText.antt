@@ -6,7 +6,9 @@ use Rattle.sha2.specs.Sha256.{sha256}
 use Rattle.snapshot_codec.specs.Spelling.{world_spelling}
 use Rattle.model_value.specs.World.{WorldRecord}
 use Rattle.model_check.specs.declared.fault.CheckFault.{CheckFault}
-use Rattle.model_check.specs.declared.fault.CheckFault.TheVariants.{Twice, NoField, WantOfMemory}
+use Rattle.model_lang.specs.declared.fault.Bound.{Bound}
+use Rattle.model_lang.specs.declared.fault.Bound.TheVariants as bound
+use Rattle.model_check.specs.declared.fault.CheckFault.TheVariants.{Twice, NoField, NotBuilt, WantOfMemory}
 use Rattle.reflector_core.specs.declared.start.Base.{Base}
 use Rattle.reflector_core.specs.declared.request.Reply.{Reply}
 use Rattle.reflector_core.specs.declared.request.Reply.TheVariants.{Joined, Stamped, Again, Ticked, Left, Kept, Batch, Refused}
@@ -84,6 +86,23 @@ world_line w = digested_line w (sha256 (world_spelling w))
 abbrev pub syntax_line : ℕ → List ℕ
 syntax_line at = numbered (codes "syntax") (at ∷ []) ++ codes "\n"
 
+abbrev pub bound_word : Bound → List ℕ
+bound_word bound.Bytes = codes "too-large bytes"
+bound_word bound.Brackets = codes "too-large brackets"
+bound_word bound.Operators = codes "too-large operators"
+bound_word bound.Classes = codes "too-large classes"
+bound_word bound.Fields = codes "too-large fields"
+bound_word bound.Methods = codes "too-large methods"
+bound_word bound.Parameters = codes "too-large parameters"
+
+-- the text passes this bound, with this count
+abbrev pub too_large_line : Bound → ℕ → List ℕ
+too_large_line what count = numbered (bound_word what) (count ∷ []) ++ codes "\n"
+
+-- the program has a form whose meaning is not there yet
+abbrev pub not_built_line : List ℕ
+not_built_line = codes "not-built\n"
+
 -- a name is named a second time
 abbrev pub twice_line : List ℕ → List ℕ
 twice_line name = codes "twice " ++ encode_utf8_all name ++ codes "\n"
@@ -96,4 +115,5 @@ no_field_line name = codes "no-field " ++ encode_utf8_all name ++ codes "\n"
 abbrev pub check_line : CheckFault → List ℕ
 check_line (Twice name) = twice_line name
 check_line (NoField name) = no_field_line name
+check_line NotBuilt = not_built_line
 check_line WantOfMemory = []

@@ -16,17 +16,33 @@ use Rattle.croquet_main.specs.declared.status.Input.TheVariants.{Script, Program
 use Rattle.croquet_main.specs.declared.status.Status.{Status}
 use Rattle.croquet_main.specs.declared.status.Status.TheVariants as status
 use Rattle.croquet_main.specs.Script.{script_of}
-use Rattle.croquet_main.specs.PrintedText.{text_of, world_line, syntax_line, check_line}
+use Rattle.croquet_main.specs.PrintedText.{text_of, world_line, syntax_line, too_large_line, not_built_line, check_line}
 use Rattle.tea_base.specs.declared.entry.What.{What}
 use Rattle.tea_base.specs.declared.entry.What.TheVariants.{Join, Exit, Event}
 use Rattle.tea_base.specs.Legal.{IsLegal}
 use Rattle.sha2.specs.Sha256.{sha256}
 use Rattle.model_value.specs.Spelling.{text_field}
 use Rattle.model_lang.specs.Tree.{ProgramTree}
-use Rattle.model_lang.specs.Program.{IsRead}
+use Rattle.model_lang.specs.declared.fault.Bound.{Bound}
+use Rattle.model_lang.specs.Program.{Reading, a_program, no_program, too_large, IsReading}
 use Rattle.model_check.specs.declared.fault.CheckFault.{CheckFault}
+use Rattle.model_check.specs.FirstForms.{IsFirstProgram}
 use Rattle.model_check.specs.Faults.{first_fault}
 use Rattle.world.specs.Worlds.{replay}
+
+-- why a program is refused
+pub data Refusal : Type 0 where
+  NoProgram : Refusal
+  TooLarge : Bound → ℕ → Refusal
+  NotBuilt : Refusal
+  Faulty : CheckFault → Refusal
+
+-- the line that tells it; of a text that is no program it tells some place
+abbrev pub IsLineOf : Refusal → List ℕ → Type 0
+IsLineOf NoProgram line = (at : ℕ) × (line ≡ syntax_line at)
+IsLineOf (TooLarge what count) line = line ≡ too_large_line what count
+IsLineOf NotBuilt line = line ≡ not_built_line
+IsLineOf (Faulty fault) line = line ≡ check_line fault
 
 -- what a run comes to where nothing of the outside fails
 pub data Verdict : Type 0 where
@@ -34,8 +50,8 @@ pub data Verdict : Type 0 where
   BadWords : Verdict
   -- this input is told not to be there
   Unreadable : Input → Verdict
-  -- the program is refused with this line
-  BadProgram : List ℕ → Verdict
+  -- the program is refused
+  BadProgram : Refusal → Verdict
   -- this input is not in its grammar, or above its limit
   BadInput : Input → Verdict
   -- the files do not tell; one of these inputs may be bad
@@ -114,14 +130,24 @@ LogComes (Known bytes) text verdict = OfLog bytes text verdict
 -- a fault that was found is told; else it is what follows
 abbrev pub OfCheck : Option CheckFault → Type 0 → Verdict → Type 0
 OfCheck None next verdict = next
-OfCheck (Some fault) next verdict = verdict ≡ BadProgram (check_line fault)
+OfCheck (Some fault) next verdict = verdict ≡ BadProgram (Faulty fault)
 
--- what comes of a program's bytes: they are above their limit, or no program, or they are read as the one tree
+-- a program whose forms are not there yet is refused, and another is checked
+abbrev pub OfTree : ProgramTree → Type 0 → Verdict → Type 0
+OfTree tree next verdict =
+    ((¬ IsFirstProgram tree) × (verdict ≡ BadProgram NotBuilt))
+    ⊎ (IsFirstProgram tree × OfCheck (first_fault tree) next verdict)
+
+abbrev pub OfReading : Reading → (ProgramTree → Type 0) → Verdict → Type 0
+OfReading (a_program tree) next verdict = OfTree tree (next tree) verdict
+OfReading no_program next verdict = verdict ≡ BadProgram NoProgram
+OfReading (too_large what count) next verdict = verdict ≡ BadProgram (TooLarge what count)
+
+-- what comes of a program's bytes: they are above the file's limit, or they are read
 abbrev pub OfProgram : List ℕ → (ProgramTree → Type 0) → Verdict → Type 0
 OfProgram bytes next verdict =
     ((program_limit < length bytes) × (verdict ≡ BadInput Program))
-    ⊎ (((length bytes ≤ program_limit) × ((tree : ProgramTree) → ¬ IsRead bytes tree) × (verdict ≡ BadProgram (syntax_line 0)))
-    ⊎ ((tree : ProgramTree) × (length bytes ≤ program_limit) × IsRead bytes tree × OfCheck (first_fault tree) (next tree) verdict))
+    ⊎ ((length bytes ≤ program_limit) × ((reading : Reading) × IsReading bytes reading × OfReading reading next verdict))
 
 -- what comes of a replay where a program and a log are read, one after the other
 abbrev pub ReplayComes : List ℕ → ℕ → Content → Content → Verdict → Type 0
@@ -196,9 +222,9 @@ MayBeDone (Done text files) = ⊤
 MayBeDone (Unknown inputs) = ⊤
 MayBeDone verdict = ⊥
 
--- the line of some fault of a program
+-- the line of some refusal of a program
 abbrev pub IsProgramLine : List ℕ → Type 0
-IsProgramLine line = (line ≡ syntax_line 0) ⊎ ((fault : CheckFault) × (line ≡ check_line fault))
+IsProgramLine line = (refusal : Refusal) × IsLineOf refusal line
 
 abbrev pub HasBadWords : Verdict → Type 0
 HasBadWords BadWords = ⊤
@@ -212,7 +238,7 @@ HasGoodWords verdict = ⊤
 abbrev pub MayBeBad : Input → Verdict → Type 0
 MayBeBad input BadWords = ⊥
 MayBeBad input (Unreadable absent) = ⊥
-MayBeBad input (BadProgram line) = ⊥
+MayBeBad input (BadProgram refusal) = ⊥
 MayBeBad input (BadInput bad) = input ≡ bad
 MayBeBad input (Unknown inputs) = Contains inputs input
 MayBeBad input (Done text files) = ⊥
@@ -221,7 +247,7 @@ MayBeBad input (Done text files) = ⊥
 abbrev pub MayBeRefused : List ℕ → Verdict → Type 0
 MayBeRefused line BadWords = ⊥
 MayBeRefused line (Unreadable absent) = ⊥
-MayBeRefused line (BadProgram told) = line ≡ told
+MayBeRefused line (BadProgram refusal) = IsLineOf refusal line
 MayBeRefused line (BadInput bad) = ⊥
 MayBeRefused line (Unknown inputs) = Contains inputs Program × IsProgramLine line
 MayBeRefused line (Done text files) = ⊥
@@ -235,7 +261,7 @@ IsReadBy stop other = ⊤
 abbrev pub MayBeRead : Input → Verdict → Type 0
 MayBeRead input BadWords = ⊥
 MayBeRead input (Unreadable absent) = IsReadBy absent input
-MayBeRead input (BadProgram line) = IsReadBy Program input
+MayBeRead input (BadProgram refusal) = IsReadBy Program input
 MayBeRead input (BadInput bad) = IsReadBy bad input
 MayBeRead input (Unknown inputs) = ⊤
 MayBeRead input (Done text files) = ⊤
@@ -321,7 +347,7 @@ pub record IsCutByMemory (old new : Option (List ℕ)) (text : List ℕ) : Type 
 abbrev pub OfText : Verdict → (List ℕ → Type 0) → Type 0
 OfText BadWords fact = fact []
 OfText (Unreadable absent) fact = fact []
-OfText (BadProgram line) fact = fact []
+OfText (BadProgram refusal) fact = fact []
 OfText (BadInput input) fact = fact []
 OfText (Unknown inputs) fact = ⊤
 OfText (Done text files) fact = fact text
@@ -374,7 +400,7 @@ ArePut (file ∷ files) old new = (mid : List ℕ → Content) × IsPut file old
 abbrev pub PutsFiles : Verdict → (List ℕ → Content) → (List ℕ → Content) → Type 0
 PutsFiles BadWords old new = ⊥
 PutsFiles (Unreadable absent) old new = ⊥
-PutsFiles (BadProgram line) old new = ⊥
+PutsFiles (BadProgram refusal) old new = ⊥
 PutsFiles (BadInput input) old new = ⊥
 PutsFiles (Unknown inputs) old new = ⊤
 PutsFiles (Done text files) old new = ArePut files old new
@@ -392,7 +418,7 @@ AreKept old new = (name : List ℕ) → new name ≡ old name
 abbrev pub IsNotDone : Verdict → Type 0
 IsNotDone BadWords = ⊤
 IsNotDone (Unreadable absent) = ⊤
-IsNotDone (BadProgram line) = ⊤
+IsNotDone (BadProgram refusal) = ⊤
 IsNotDone (BadInput input) = ⊤
 IsNotDone (Unknown inputs) = ⊥
 IsNotDone (Done text files) = ⊥

@@ -3,16 +3,17 @@ ghost use Rattle.std.specs.Prelude.{◌≡◌, ℕ, ◌≤◌, ◌<◌, List, []
 ghost use Rattle.tea_io.specs.Told.{grown, Rose};
 ghost use Rattle.croquet_main.specs.declared.status.Input.TheVariants as input;
 ghost use Rattle.croquet_main.specs.CommandWords.{most_name};
-ghost use Rattle.croquet_main.specs.PrintedText.{syntax_line};
+ghost use Rattle.croquet_main.specs.PrintedText.{bound_word};
+ghost use Rattle.text_lines.specs.Lines.{numbered};
 ghost use Rattle.croquet_main.specs.Verdict.{Verdict, program_limit, log_limit, AreKept, MayBeDone, OfText, ReplayComes};
-ghost use Rattle.croquet_main.specs.Ends.{AskedFor, IsReadingFault, LeavesBefore, LogEnd, MayEnd, ProgramEnd, WorkEnd, WritesBefore};
+ghost use Rattle.croquet_main.specs.Ends.{AskedFor, IsReadingFault, IsUnread, LeavesBefore, LogEnd, MayEnd, ProgramEnd, WorkEnd, WritesBefore};
 ghost use Rattle.model_value.specs.Valid.{time_limit};
 
 use crate::calls::{print, read_input};
 use crate::status::{Fault, Input};
 use crate::world_run::{has_event, replayed};
 use model_check::{CheckFault, Checked, check};
-use model_lang::{LangFault, one_tree, parse};
+use model_lang::{Bound, LangFault, one_reading, parse};
 use session_log::{Log, LogFault, decode};
 use snapshot_codec::session_id;
 use std::alloc::Global;
@@ -26,13 +27,43 @@ const PROGRAM_LIMIT: u64 = 65536;
 /// The most bytes of a log.
 const LOG_LIMIT: u64 = 134217728;
 
-/// The line of a text that is no program from a place on.
-fn syntax_line(alloc: Global, at: u32) -> Result<Blob, WantOfMemory>
-    ensures { IfOk result (λ line. line ≡ syntax_line at) }
+/// The line of words and a number.
+fn numbered_line(alloc: Global, words: &str, number: u64) -> Result<Blob, WantOfMemory>
+    ensures { IfOk result (λ line. line ≡ numbered words.now (number ∷ []) ++ codes "\n") }
 {
-    let mut line = numbered(alloc, "syntax", &[u64::from(at)])?;
+    let mut line = numbered(alloc, words, &[number])?;
     line.push_str("\n")?;
     Ok(Blob::from_vec(line.into_bytes()))
+}
+
+/// What a bound that is passed is told by.
+fn bound_word(what: Bound) -> &'static str
+    ensures { result.now ≡ bound_word what }
+{
+    match what {
+        Bound::Bytes => "too-large bytes",
+        Bound::Brackets => "too-large brackets",
+        Bound::Operators => "too-large operators",
+        Bound::Classes => "too-large classes",
+        Bound::Fields => "too-large fields",
+        Bound::Methods => "too-large methods",
+        Bound::Parameters => "too-large parameters",
+    }
+}
+
+/// The fault of a text that is not read, with its line.
+fn unread(alloc: Global, fault: LangFault) -> Result<Fault, WantOfMemory>
+    ensures { IfOk result (IsUnread fault) }
+{
+    match fault {
+        LangFault::Syntax { at } => Ok(Fault::Program {
+            line: numbered_line(alloc, "syntax", u64::from(at))?,
+        }),
+        LangFault::TooLarge { what, count } => Ok(Fault::Program {
+            line: numbered_line(alloc, bound_word(what), count)?,
+        }),
+        LangFault::WantOfMemory => Ok(Fault::Memory),
+    }
 }
 
 /// A line of a word and a name.
@@ -51,12 +82,7 @@ fn read_program(alloc: Global, text: &[u8]) -> Result<Checked, Fault>
 {
     let program = match parse(alloc, text) {
         Ok(program) => program,
-        Err(LangFault::Syntax { at }) => {
-            return Err(Fault::Program {
-                line: syntax_line(alloc, at)?,
-            });
-        }
-        Err(LangFault::WantOfMemory) => return Err(Fault::Memory),
+        Err(fault) => return Err(unread(alloc, fault)?),
     };
     match check(alloc, program) {
         Ok(checked) => Ok(checked),
@@ -65,6 +91,9 @@ fn read_program(alloc: Global, text: &[u8]) -> Result<Checked, Fault>
         }),
         Err(CheckFault::NoField { name }) => Err(Fault::Program {
             line: named_line(alloc, "no-field ", &name)?,
+        }),
+        Err(CheckFault::NotBuilt) => Err(Fault::Program {
+            line: Blob::copy(alloc, b"not-built\n")?,
         }),
         Err(CheckFault::WantOfMemory) => Err(Fault::Memory),
     }
@@ -107,8 +136,8 @@ fn work<F: Files>(
     ensures later { F.faults files.old ≤ F.faults files.new }
     ensures cause { IsErrOf result Fault.Read → Rose (F.faults files.old) (F.faults files.new) }
 {
-    // A text that is read as this program is read as no other.
-    one_tree();
+    // Of a text that is read as this program, or refused, nothing else comes.
+    one_reading();
     let text = read_input(files, program, PROGRAM_LIMIT, Input::Program)?;
     let program = read_program(alloc, text.bytes())?;
     let spelled = read_input(files, log, LOG_LIMIT, Input::Log)?;

@@ -112,6 +112,11 @@ line_of-two op.Times = refl
 line_of-two op.Divide = refl
 line_of-two op.Rest = refl
 
+pub line_of-le : (o : BinaryOp) → line_of o ≤ 6
+line_of-le op.Or = omega arith
+line_of-le op.And = omega arith
+line_of-le _ = omega arith
+
 pub left_of-le : (o : BinaryOp) → left_of o ≤ line_of o
 left_of-le op.Or = omega arith
 left_of-le op.And = omega arith

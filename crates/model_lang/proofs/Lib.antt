@@ -8,6 +8,11 @@ pub mod SoundExpressions
 pub mod Arguments
 pub mod CompleteStatements
 pub mod CompletePrograms
+pub mod Posts
+pub mod LineTurns
+pub mod SoundArguments
+pub mod SoundPosts
+pub mod Names
 pub mod SoundStatements
 pub mod SoundPrograms
 pub mod Fitting

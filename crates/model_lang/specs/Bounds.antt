@@ -1,5 +1,5 @@
 -- The bounds of a program: brackets and operators among its tokens, and lists in its tree.
-use Rattle.std.specs.Prelude.{ℕ, ◌+◌, ◌-◌, ◌≤◌, max, nat_le, if◌then◌else◌, List, [], ◌∷◌, ◌++◌, length, map, flat_map, Option, Some, None}
+use Rattle.std.specs.Prelude.{ℕ, ◌+◌, ◌-◌, ◌≤◌, max, nat_le, if◌then◌else◌, List, [], ◌∷◌, length, Option, Some, None}
 use Rattle.model_tokens.specs.declared.token.Token.{Token}
 use Rattle.model_tokens.specs.declared.token.Token.TheVariants as token
 use Rattle.model_tokens.specs.declared.token.Symbol.{Symbol}
@@ -126,60 +126,72 @@ ProgramFits cs = (length cs ≤ most_members) × ClassesFit cs
 
 -- ---- what is too many
 
--- how many there are in each list of arguments of a call or a future, in the order in which the lists begin
-abbrev mutual
-  pub argument_counts : Expression → List ℕ
-  argument_counts nil = []
-  argument_counts (bool b) = []
-  argument_counts (int n) = []
-  argument_counts (text s) = []
-  argument_counts this = []
-  argument_counts (local x) = []
-  argument_counts (field x) = []
-  argument_counts (list items) = all_argument_counts items
-  argument_counts (unary op e) = argument_counts e
-  argument_counts (binary op a b) = argument_counts a ++ argument_counts b
-  argument_counts (builtin x args) = all_argument_counts args
-  argument_counts (call object x args) = argument_counts object ++ how_many args ∷ all_argument_counts args
-  argument_counts (future object delay x args) = argument_counts object ++ (argument_counts delay ++ how_many args ∷ all_argument_counts args)
-  argument_counts (create x options) = argument_counts options
+-- a count that is above its bound
+abbrev pub above : ℕ → ℕ → Option ℕ
+above most count = if nat_le count most then None else Some count
 
-  pub all_argument_counts : Expressions → List ℕ
-  all_argument_counts no_expressions = []
-  all_argument_counts (expression e es) = argument_counts e ++ all_argument_counts es
-
-abbrev mutual
-  pub statement_counts : Statement → List ℕ
-  statement_counts (declare x e) = argument_counts e
-  statement_counts (assign x e) = argument_counts e
-  statement_counts (set_field x e) = argument_counts e
-  statement_counts (when test block other) = argument_counts test ++ (all_statement_counts block ++ else_counts other)
-  statement_counts (while test block) = argument_counts test ++ all_statement_counts block
-  statement_counts (give e) = argument_counts e
-  statement_counts (do_ e) = argument_counts e
-
-  pub all_statement_counts : Statements → List ℕ
-  all_statement_counts no_statements = []
-  all_statement_counts (statement s ss) = statement_counts s ++ all_statement_counts ss
-
-  pub else_counts : Otherwise → List ℕ
-  else_counts no_else = []
-  else_counts (else_block block) = all_statement_counts block
-
--- the list of parameters stands before the body
-abbrev pub method_counts : MethodTree → List ℕ
-method_counts m = length m.params ∷ all_statement_counts m.body
-
-abbrev pub class_counts : ClassTree → List ℕ
-class_counts c = flat_map method_counts c.methods
-
-abbrev pub first_above : ℕ → List ℕ → Option ℕ
-first_above most [] = None
-first_above most (n ∷ ns) = if nat_le n most then first_above most ns else Some n
-
+-- the first of two counts that are above a bound
 abbrev pub first_found : Option ℕ → Option ℕ → Option ℕ
 first_found None other = other
 first_found (Some n) other = Some n
+
+-- the first list of arguments of a call or a future that is too long, in the order in which the lists begin
+abbrev mutual
+  pub many_arguments : Expression → Option ℕ
+  many_arguments nil = None
+  many_arguments (bool b) = None
+  many_arguments (int n) = None
+  many_arguments (text s) = None
+  many_arguments this = None
+  many_arguments (local x) = None
+  many_arguments (field x) = None
+  many_arguments (list items) = all_many_arguments items
+  many_arguments (unary op e) = many_arguments e
+  many_arguments (binary op a b) = first_found (many_arguments a) (many_arguments b)
+  many_arguments (builtin x args) = all_many_arguments args
+  many_arguments (call object x args) = first_found (many_arguments object) (first_found (above most_arguments (how_many args)) (all_many_arguments args))
+  many_arguments (future object delay x args) =
+      first_found (many_arguments object) (first_found (many_arguments delay) (first_found (above most_arguments (how_many args)) (all_many_arguments args)))
+  many_arguments (create x options) = many_arguments options
+
+  pub all_many_arguments : Expressions → Option ℕ
+  all_many_arguments no_expressions = None
+  all_many_arguments (expression e es) = first_found (many_arguments e) (all_many_arguments es)
+
+abbrev mutual
+  pub many_in_statement : Statement → Option ℕ
+  many_in_statement (declare x e) = many_arguments e
+  many_in_statement (assign x e) = many_arguments e
+  many_in_statement (set_field x e) = many_arguments e
+  many_in_statement (when test block other) = first_found (many_arguments test) (first_found (many_in_block block) (many_in_else other))
+  many_in_statement (while test block) = first_found (many_arguments test) (many_in_block block)
+  many_in_statement (give e) = many_arguments e
+  many_in_statement (do_ e) = many_arguments e
+
+  pub many_in_block : Statements → Option ℕ
+  many_in_block no_statements = None
+  many_in_block (statement s ss) = first_found (many_in_statement s) (many_in_block ss)
+
+  pub many_in_else : Otherwise → Option ℕ
+  many_in_else no_else = None
+  many_in_else (else_block block) = many_in_block block
+
+-- the parameters of a method stand before its body
+abbrev pub many_in_methods : List MethodTree → Option ℕ
+many_in_methods [] = None
+many_in_methods (m ∷ ms) = first_found (first_found (above most_arguments (length m.params)) (many_in_block m.body)) (many_in_methods ms)
+
+abbrev pub many_parameters : List ClassTree → Option ℕ
+many_parameters [] = None
+many_parameters (c ∷ cs) = first_found (many_in_methods c.methods) (many_parameters cs)
+
+abbrev pub many_fields : List ClassTree → Option ℕ
+many_fields [] = None
+many_fields (c ∷ cs) = first_found (above most_members (length c.fields)) (many_fields cs)
+
+abbrev pub many_methods : List ClassTree → Option ℕ
+many_methods [] = None
+many_methods (c ∷ cs) = first_found (above most_members (length c.methods)) (many_methods cs)
 
 -- where a count is above its bound, that bound and the count, else what comes behind
 abbrev pub or_else : Bound → Option ℕ → Option (Bound × ℕ) → Option (Bound × ℕ)
@@ -189,7 +201,5 @@ or_else what (Some count) behind = Some (what, count)
 -- the first bound that a program passes, in this order, with the first count that is above it
 abbrev pub passed : ProgramTree → Option (Bound × ℕ)
 passed cs =
-    or_else bound.Classes (first_above most_members (length cs ∷ []))
-    (or_else bound.Fields (first_above most_members (map (λ (c : ClassTree). length c.fields) cs))
-    (or_else bound.Methods (first_above most_members (map (λ (c : ClassTree). length c.methods) cs))
-    (or_else bound.Parameters (first_above most_arguments (flat_map class_counts cs)) None)))
+    or_else bound.Classes (above most_members (length cs))
+    (or_else bound.Fields (many_fields cs) (or_else bound.Methods (many_methods cs) (or_else bound.Parameters (many_parameters cs) None)))

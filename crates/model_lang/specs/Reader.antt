@@ -229,7 +229,7 @@ abbrev pub turns_of : ℕ → ℕ → ℕ
 turns_of k many = if nat_eq k 4 then 1 else many
 
 -- an expression of this line or a tighter one
-abbrev pub read_line : Reader → ℕ → Reader
+unfoldable pub read_line : Reader → ℕ → Reader
 read_line inner zero ts = inner ts
 read_line inner (suc zero) ts = inner ts
 read_line inner (suc (suc k)) ts =

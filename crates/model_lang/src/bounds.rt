@@ -1,8 +1,7 @@
 //! The bounds of a program.
-ghost use Rattle.std.specs.Prelude.{◌≡◌, ◌↔◌, ◌≤◌, ◌∷◌, IsTrue, map, flat_map, length};
-ghost use Rattle.model_lang.specs.Tree.{ClassTree};
+ghost use Rattle.std.specs.Prelude.{◌≡◌, ◌↔◌, ◌≤◌, IsTrue, map, length};
 ghost use Rattle.model_lang.specs.TreeView.{expression_tree, expression_trees, statement_tree, statement_trees, method_tree, program_tree};
-ghost use Rattle.model_lang.specs.Bounds.{greatest, counted, count_after, most_nested, most_members, most_arguments, how_many, argument_counts, all_argument_counts, statement_counts, all_statement_counts, method_counts, class_counts, first_above, first_found, passed as first_passed};
+ghost use Rattle.model_lang.specs.Bounds.{greatest, counted, count_after, most_nested, most_members, most_arguments, how_many, above as too_many, first_found, many_arguments as many_in_expression, all_many_arguments, many_in_statement, many_in_block, many_in_methods, many_parameters, many_fields as too_many_fields, many_methods as too_many_methods, passed as first_passed};
 
 use crate::fault::Bound;
 use crate::tree::{Class, Expr, Method, Stmt};
@@ -79,12 +78,11 @@ fn after_symbol(what: Counted, count: usize, symbol: Symbol) -> usize
 }
 
 /// The first bound that a program passes, with the first count that is above it.
-#[tactic(auto, using(crate::proofs::Counts::by_first))]
 pub fn passed(classes: &[Class]) -> Option<(Bound, u64)>
     ensures { result ≡ first_passed (program_tree classes.now) }
 {
-    if classes.len() > MOST_MEMBERS {
-        return Some((Bound::Classes, classes.len() as u64));
+    if let Some(count) = above(classes.len(), MOST_MEMBERS) {
+        return Some((Bound::Classes, count));
     }
     if let Some(count) = many_fields(classes) {
         return Some((Bound::Fields, count));
@@ -92,110 +90,21 @@ pub fn passed(classes: &[Class]) -> Option<(Bound, u64)>
     if let Some(count) = many_methods(classes) {
         return Some((Bound::Methods, count));
     }
-    let count = many_arguments(classes)?;
+    let count = in_classes(classes)?;
     Some((Bound::Parameters, count))
 }
 
-#[tactic(auto, using(crate::proofs::Counts::by_first))]
-fn many_fields(classes: &[Class]) -> Option<u64>
-    ensures { result ≡ first_above most_members (map (λ (c : ClassTree). length c.fields) (program_tree classes.now)) }
+// A count that is above its bound.
+fn above(count: usize, most: usize) -> Option<u64>
+    ensures { result ≡ too_many most count }
 {
-    for class in classes {
-        if class.fields.len() > MOST_MEMBERS {
-            return Some(class.fields.len() as u64);
-        }
+    if count > most {
+        return Some(count as u64);
     }
     None
 }
 
-#[tactic(auto, using(crate::proofs::Counts::by_first))]
-fn many_methods(classes: &[Class]) -> Option<u64>
-    ensures { result ≡ first_above most_members (map (λ (c : ClassTree). length c.methods) (program_tree classes.now)) }
-{
-    for class in classes {
-        if class.methods.len() > MOST_MEMBERS {
-            return Some(class.methods.len() as u64);
-        }
-    }
-    None
-}
-
-#[tactic(auto, using(crate::proofs::Counts::by_first))]
-fn many_arguments(classes: &[Class]) -> Option<u64>
-    ensures { result ≡ first_above most_arguments (flat_map class_counts (program_tree classes.now)) }
-{
-    for class in classes {
-        if let Some(count) = of_methods(&class.methods) {
-            return Some(count);
-        }
-    }
-    None
-}
-
-#[tactic(auto, using(crate::proofs::Counts::by_first))]
-fn of_methods(methods: &[Method]) -> Option<u64>
-    ensures { result ≡ first_above most_arguments (flat_map method_counts (map method_tree methods.now)) }
-{
-    for method in methods {
-        if let Some(count) = of_method(method) {
-            return Some(count);
-        }
-    }
-    None
-}
-
-#[tactic(auto, using(crate::proofs::Counts::by_first))]
-fn of_method(method: &Method) -> Option<u64>
-    ensures { result ≡ first_above most_arguments (method_counts (method_tree method.now)) }
-{
-    if method.params.len() > MOST_ARGUMENTS {
-        return Some(method.params.len() as u64);
-    }
-    of_statements(&method.body)
-}
-
-#[cycle(statements)]
-#[tactic(auto, using(crate::proofs::Counts::by_first))]
-fn of_statements(statements: &[Stmt]) -> Option<u64>
-    ensures { result ≡ first_above most_arguments (all_statement_counts (statement_trees statements.now)) }
-{
-    for statement in statements {
-        if let Some(count) = of_statement(statement) {
-            return Some(count);
-        }
-    }
-    None
-}
-
-#[cycle(statements)]
-#[tactic(auto, using(crate::proofs::Counts::by_first))]
-fn of_statement(statement: &Stmt) -> Option<u64>
-    ensures { result ≡ first_above most_arguments (statement_counts (statement_tree statement.now)) }
-{
-    match statement {
-        Stmt::Let { value, .. }
-        | Stmt::Assign { value, .. }
-        | Stmt::SetField { value, .. }
-        | Stmt::Return { value }
-        | Stmt::Do { value } => of_expression(value),
-        Stmt::If {
-            test,
-            yes,
-            no: None,
-        } => first(of_expression(test), of_statements(yes)),
-        Stmt::If {
-            test,
-            yes,
-            no: Some(no),
-        } => first(
-            of_expression(test),
-            first(of_statements(yes), of_statements(no)),
-        ),
-        Stmt::While { test, body } => first(of_expression(test), of_statements(body)),
-    }
-}
-
-// The first of two finds.
+// The first of two counts that are above a bound.
 fn first(one: Option<u64>, other: Option<u64>) -> Option<u64>
     ensures { result ≡ first_found one other }
 {
@@ -205,13 +114,96 @@ fn first(one: Option<u64>, other: Option<u64>) -> Option<u64>
     }
 }
 
+fn many_fields(classes: &[Class]) -> Option<u64>
+    ensures { result ≡ too_many_fields (program_tree classes.now) }
+{
+    for class in classes {
+        if let Some(count) = above(class.fields.len(), MOST_MEMBERS) {
+            return Some(count);
+        }
+    }
+    None
+}
+
+fn many_methods(classes: &[Class]) -> Option<u64>
+    ensures { result ≡ too_many_methods (program_tree classes.now) }
+{
+    for class in classes {
+        if let Some(count) = above(class.methods.len(), MOST_MEMBERS) {
+            return Some(count);
+        }
+    }
+    None
+}
+
+fn in_classes(classes: &[Class]) -> Option<u64>
+    ensures { result ≡ many_parameters (program_tree classes.now) }
+{
+    for class in classes {
+        if let Some(count) = in_methods(&class.methods) {
+            return Some(count);
+        }
+    }
+    None
+}
+
+fn in_methods(methods: &[Method]) -> Option<u64>
+    ensures { result ≡ many_in_methods (map method_tree methods.now) }
+{
+    for method in methods {
+        let params = above(method.params.len(), MOST_ARGUMENTS);
+        if let Some(count) = first(params, in_statements(&method.body)) {
+            return Some(count);
+        }
+    }
+    None
+}
+
+#[cycle(statements)]
+fn in_statements(statements: &[Stmt]) -> Option<u64>
+    ensures { result ≡ many_in_block (statement_trees statements.now) }
+{
+    for statement in statements {
+        if let Some(count) = in_statement(statement) {
+            return Some(count);
+        }
+    }
+    None
+}
+
+#[cycle(statements)]
+fn in_statement(statement: &Stmt) -> Option<u64>
+    ensures { result ≡ many_in_statement (statement_tree statement.now) }
+{
+    match statement {
+        Stmt::Let { value, .. }
+        | Stmt::Assign { value, .. }
+        | Stmt::SetField { value, .. }
+        | Stmt::Return { value }
+        | Stmt::Do { value } => in_expression(value),
+        Stmt::If {
+            test,
+            yes,
+            no: None,
+        } => first(in_expression(test), first(in_statements(yes), None)),
+        Stmt::If {
+            test,
+            yes,
+            no: Some(no),
+        } => first(
+            in_expression(test),
+            first(in_statements(yes), in_statements(no)),
+        ),
+        Stmt::While { test, body } => first(in_expression(test), in_statements(body)),
+    }
+}
+
 #[cycle(expressions)]
-#[tactic(auto, using(crate::proofs::Counts::by_first))]
-fn of_expressions(expressions: &[Expr]) -> Option<u64>
-    ensures { result ≡ first_above most_arguments (all_argument_counts (expression_trees expressions.now)) }
+fn in_expressions(expressions: &[Expr]) -> Option<u64>
+    ensures { result ≡ all_many_arguments (expression_trees expressions.now) }
 {
     for expression in expressions {
-        if let Some(count) = of_expression(expression) {
+        if let Some(count) = in_expression(expression) {
             return Some(count);
         }
     }
@@ -219,20 +211,16 @@ fn of_expressions(expressions: &[Expr]) -> Option<u64>
 }
 
 #[cycle(expressions)]
-#[tactic(auto, using(crate::proofs::Counts::by_first))]
-fn of_arguments(args: &[Expr]) -> Option<u64>
-    ensures { result ≡ first_above most_arguments (how_many (expression_trees args.now) ∷ all_argument_counts (expression_trees args.now)) }
+#[tactic(auto, using(crate::proofs::Counts::by_count))]
+fn in_arguments(args: &[Expr]) -> Option<u64>
+    ensures { result ≡ first_found (too_many most_arguments (how_many (expression_trees args.now))) (all_many_arguments (expression_trees args.now)) }
 {
-    if args.len() > MOST_ARGUMENTS {
-        return Some(args.len() as u64);
-    }
-    of_expressions(args)
+    first(above(args.len(), MOST_ARGUMENTS), in_expressions(args))
 }
 
 #[cycle(expressions)]
-#[tactic(auto, using(crate::proofs::Counts::by_first))]
-fn of_expression(expression: &Expr) -> Option<u64>
-    ensures { result ≡ first_above most_arguments (argument_counts (expression_tree expression.now)) }
+fn in_expression(expression: &Expr) -> Option<u64>
+    ensures { result ≡ many_in_expression (expression_tree expression.now) }
 {
     match expression {
         Expr::Nil
@@ -242,20 +230,20 @@ fn of_expression(expression: &Expr) -> Option<u64>
         | Expr::This
         | Expr::Local { .. }
         | Expr::Field { .. } => None,
-        Expr::List { items } => of_expressions(items),
-        Expr::Unary { of, .. } => of_expression(of),
-        Expr::Binary { left, right, .. } => first(of_expression(left), of_expression(right)),
-        Expr::Builtin { args, .. } => of_expressions(args),
-        Expr::Call { object, args, .. } => first(of_expression(object), of_arguments(args)),
+        Expr::List { items } => in_expressions(items),
+        Expr::Unary { of, .. } => in_expression(of),
+        Expr::Binary { left, right, .. } => first(in_expression(left), in_expression(right)),
+        Expr::Builtin { args, .. } => in_expressions(args),
+        Expr::Call { object, args, .. } => first(in_expression(object), in_arguments(args)),
         Expr::Future {
             object,
             delay,
             args,
             ..
         } => first(
-            of_expression(object),
-            first(of_expression(delay), of_arguments(args)),
+            in_expression(object),
+            first(in_expression(delay), in_arguments(args)),
         ),
-        Expr::Create { options, .. } => of_expression(options),
+        Expr::Create { options, .. } => in_expression(options),
     }
 }

@@ -10,14 +10,14 @@ use std::str;
 /// Where the token of this number, from 0, begins; the length of the text where it has fewer.
 pub fn place_of_token(text: &[u8], number: usize) -> u32 {
     let mut place = 0;
-    let mut before = 0;
+    let mut before: usize = 0;
     for _piece in 0..text.len() {
         let rest = from(text, place);
         if begins_token(rest) {
             if before == number {
                 break;
             }
-            before += 1;
+            before = before.saturating_add(1);
         }
         place = piece_length(rest).saturating_add(place);
     }

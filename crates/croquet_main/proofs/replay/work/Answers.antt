@@ -15,19 +15,19 @@ use Rattle.croquet_main.proofs.replay.work.Goals as goal
 
 pub returns-in_err-program-clause-end : goal.returns-in_err-program-clause-end
 returns-in_err-program-clause-end g c verdict comes =
-    end_program c.one_tree.ensures c.from_residual-in_err-program.result c.in_err-program.field-0.0 c.args.name.now c.args.time (g.F.Files.held c.args.files.now c.args.program.now) (g.F.Files.held c.args.files.now c.args.log.now)
+    end_program c.one_reading.ensures.one c.from_residual-in_err-program.result c.in_err-program.field-0.0 c.args.name.now c.args.time (g.F.Files.held c.args.files.now c.args.program.now) (g.F.Files.held c.args.files.now c.args.log.now)
     c.in_ok-text.text verdict c.from_residual-in_err-program.ensures.1 c.in_ok-text.ensures.end.0 c.in_ok-text.ensures.end.1 (rw c.bytes.ensures at c.in_err-program.ensures) comes
 
 pub returns-in_err-spelled-clause-end : goal.returns-in_err-spelled-clause-end
 returns-in_err-spelled-clause-end g c verdict comes =
-    let after = to_log c.one_tree.ensures c.args.name.now c.args.time (g.F.Files.held c.args.files.now c.args.program.now) (g.F.Files.held c.args.files.now c.args.log.now)
+    let after = to_log c.one_reading.ensures.one c.args.name.now c.args.time (g.F.Files.held c.args.files.now c.args.program.now) (g.F.Files.held c.args.files.now c.args.log.now)
     c.in_ok-text.text (program_tree c.in_ok-program.program) verdict c.in_ok-text.ensures.end.0 c.in_ok-text.ensures.end.1 (rw c.bytes.ensures at c.in_ok-program.ensures) comes in
     end_log c.from_residual-in_err-spelled.result c.in_err-spelled.field-0.0 c.args.name.now c.args.time (g.F.Files.held c.args.files.now c.args.log.now) c.in_ok-text.text (program_tree c.in_ok-program.program) verdict c.from_residual-in_err-spelled.ensures.1
     (subst (λ (content : Content). ReadEnd content log_limit input.Log (Err c.in_err-spelled.field-0.0)) (c.in_ok-text.ensures.same c.args.log.now) c.in_err-spelled.ensures.end) after
 
 pub returns-in_err-spelled-clause-asked : goal.returns-in_err-spelled-clause-asked
 returns-in_err-spelled-clause-asked g c verdict comes =
-    let after = to_log c.one_tree.ensures c.args.name.now c.args.time (g.F.Files.held c.args.files.now c.args.program.now) (g.F.Files.held c.args.files.now c.args.log.now)
+    let after = to_log c.one_reading.ensures.one c.args.name.now c.args.time (g.F.Files.held c.args.files.now c.args.program.now) (g.F.Files.held c.args.files.now c.args.log.now)
     c.in_ok-text.text (program_tree c.in_ok-program.program) verdict c.in_ok-text.ensures.end.0 c.in_ok-text.ensures.end.1 (rw c.bytes.ensures at c.in_ok-program.ensures) comes in
     asked_log c.from_residual-in_err-spelled.result c.in_err-spelled.field-0.0 c.args.program.now c.args.log.now verdict (g.F.Files.held c.read_input.new.files c.args.log.now)
     (g.F.Files.asked c.args.files.now) (g.F.Files.asked c.read_input.new.files) (g.F.Files.asked c.read_input-2.new.files)
@@ -36,7 +36,7 @@ returns-in_err-spelled-clause-asked g c verdict comes =
 
 pub returns-in_err-log-clause-end : goal.returns-in_err-log-clause-end
 returns-in_err-log-clause-end g c verdict comes =
-    let after = to_log c.one_tree.ensures c.args.name.now c.args.time (g.F.Files.held c.args.files.now c.args.program.now) (g.F.Files.held c.args.files.now c.args.log.now)
+    let after = to_log c.one_reading.ensures.one c.args.name.now c.args.time (g.F.Files.held c.args.files.now c.args.program.now) (g.F.Files.held c.args.files.now c.args.log.now)
     c.in_ok-text.text (program_tree c.in_ok-program.program) verdict c.in_ok-text.ensures.end.0 c.in_ok-text.ensures.end.1 (rw c.bytes.ensures at c.in_ok-program.ensures) comes in
     end_bad_log c.from_residual-in_err-log.result c.in_err-log.field-0.0 c.args.name.now c.args.time (g.F.Files.held c.args.files.now c.args.log.now) c.in_ok-text.text c.in_ok-spelled.spelled (program_tree c.in_ok-program.program) verdict c.from_residual-in_err-log.ensures.1
     (rw (c.in_ok-text.ensures.same c.args.log.now) at c.in_ok-spelled.ensures.end.0) (rw c.bytes-2.ensures at c.in_err-log.ensures) after
@@ -58,7 +58,7 @@ pub returns-clause-end : goal.returns-clause-end
 returns-clause-end g c verdict comes =
     let tree = program_tree c.in_ok-program.program in
     let entries = c.in_ok-log.log.entries in
-    let after = to_log c.one_tree.ensures c.args.name.now c.args.time (g.F.Files.held c.args.files.now c.args.program.now) (g.F.Files.held c.args.files.now c.args.log.now)
+    let after = to_log c.one_reading.ensures.one c.args.name.now c.args.time (g.F.Files.held c.args.files.now c.args.program.now) (g.F.Files.held c.args.files.now c.args.log.now)
     c.in_ok-text.text tree verdict c.in_ok-text.ensures.end.0 c.in_ok-text.ensures.end.1 (rw c.bytes.ensures at c.in_ok-program.ensures) comes in
     let done = done_log c.args.name.now c.args.time (g.F.Files.held c.args.files.now c.args.log.now) c.in_ok-text.text c.in_ok-spelled.spelled tree entries verdict
     (rw (c.in_ok-text.ensures.same c.args.log.now) at c.in_ok-spelled.ensures.end.0) c.in_ok-spelled.ensures.end.1 (rw c.bytes-2.ensures at c.in_ok-log.ensures) after in

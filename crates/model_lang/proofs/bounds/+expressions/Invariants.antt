@@ -1,7 +1,7 @@
 use Rattle.std.proofs.Common.{◌≡◌, drop}
 use Rattle.model_lang.specs.TreeView.{expression_trees}
-use Rattle.model_lang.specs.Bounds.{most_arguments, first_above, all_argument_counts}
+use Rattle.model_lang.specs.Bounds.{all_many_arguments}
 use Rattle.model_lang.proofs.bounds.+expressions.Given as goal
 
-abbrev pub invariant-of_expressions-loop-expression : goal.invariant-of_expressions-loop-expression
-invariant-of_expressions-loop-expression l = first_above most_arguments (all_argument_counts (expression_trees (drop l.expression-index l.expressions))) ≡ first_above most_arguments (all_argument_counts (expression_trees l.expressions))
+abbrev pub invariant-in_expressions-loop-expression : goal.invariant-in_expressions-loop-expression
+invariant-in_expressions-loop-expression l = all_many_arguments (expression_trees (drop l.expression-index l.expressions)) ≡ all_many_arguments (expression_trees l.expressions)

@@ -1,7 +1,7 @@
 use Rattle.std.proofs.Common.{◌≡◌, drop}
 use Rattle.model_lang.specs.TreeView.{statement_trees}
-use Rattle.model_lang.specs.Bounds.{most_arguments, first_above, all_statement_counts}
+use Rattle.model_lang.specs.Bounds.{many_in_block}
 use Rattle.model_lang.proofs.bounds.+statements.Given as goal
 
-abbrev pub invariant-of_statements-loop-statement : goal.invariant-of_statements-loop-statement
-invariant-of_statements-loop-statement l = first_above most_arguments (all_statement_counts (statement_trees (drop l.statement-index l.statements))) ≡ first_above most_arguments (all_statement_counts (statement_trees l.statements))
+abbrev pub invariant-in_statements-loop-statement : goal.invariant-in_statements-loop-statement
+invariant-in_statements-loop-statement l = many_in_block (statement_trees (drop l.statement-index l.statements)) ≡ many_in_block (statement_trees l.statements)

@@ -1,0 +1,172 @@
+-- The tightest line of expressions is read, as soon as the expressions in its brackets are.
+use Rattle.std.proofs.Common.{◌≡◌, ℕ, zero, suc, ◌+◌, ◌-◌, ◌<◌, ◌≤◌, ℤ, Bool, true, false, List, [], ◌∷◌, ◌++◌, length, Option, Some, None, nat_eq, if◌then◌else◌, refl, sym, ap, ◌∙◌, arith, append_assoc, length-append}
+use Rattle.model_tokens.specs.declared.token.Token.{Token}
+use Rattle.model_tokens.specs.declared.token.Token.TheVariants.{Name as name, ClassName as class_name, Word as word, Symbol as symbol}
+use Rattle.model_tokens.specs.declared.token.Word.TheVariants as w
+use Rattle.model_tokens.specs.declared.token.Symbol.TheVariants as s
+use Rattle.model_lang.specs.declared.tree.UnaryOp.{UnaryOp}
+use Rattle.model_lang.specs.declared.tree.UnaryOp.TheVariants as sign
+use Rattle.model_lang.specs.Tree.{Name, Expression, nil, bool, this, local, field, list, builtin, call, future, create, Expressions, expressions_of}
+use Rattle.model_lang.specs.Grammar.{Phrase, a_number, a_text, a_nil, a_bool, a_this, a_field, a_local, a_builtin, a_create, a_list, brackets, a_call, a_future, signed, joined, Phrases, line, line_of, Stands, in_round, spelled, spelled_args, tree_of, trees_of, word_of, op_symbol, sign_symbol}
+use Rattle.model_lang.specs.Reader.{Read, Reader, reading, behind, either_way, on_found, after_symbol, field_at, sign_at, read_prim, read_suffix, read_message, suffixes_of, read_post}
+use Rattle.model_lang.proofs.GoesOn.{front_line, no_dot, no_round, no_field, line_of-two}
+use Rattle.model_lang.proofs.Phrases.{list_of, list_of-trees}
+use Rattle.model_lang.proofs.Arguments.{IsReadBy, AreReadBy, round, square, args_then}
+
+-- how many calls and futures, or how many operators of one line, stand one behind the other at the end of a phrase
+abbrev pub spine : Phrase → ℕ
+spine (a_call object x args) = suc (spine object)
+spine (a_future object delay x args) = suc (spine object)
+spine (joined o a b) = suc (if nat_eq (line a) (line_of o) then spine a else 0)
+spine _ = 0
+
+-- ---- primaries
+
+-- behind it no arguments stand and no field's name
+abbrev IsPrim : Reader → Phrase → Type 0
+IsPrim inner p = (rest : List Token) → after_symbol s.OpenRound rest ≡ None → field_at rest ≡ None → read_prim inner (spelled p ++ rest) ≡ Some (tree_of p, rest)
+
+bool_read : (inner : Reader) (b : Bool) → IsPrim inner (a_bool b)
+bool_read inner true rest round_none field_none = refl
+bool_read inner false rest round_none field_none = refl
+
+this_read : (inner : Reader) → IsPrim inner a_this
+this_read inner rest round_none field_none = ap (λ o. on_found o (λ x ts. Some (field x, ts)) (Some (this, rest))) field_none
+
+field_read : (inner : Reader) (x : Name) → IsPrim inner (a_field x)
+field_read inner x rest round_none field_none =
+    ap (λ o. on_found (either_way o (λ ts. None) (Some (x, rest))) (λ x ts. Some (field x, ts)) (Some (this, symbol s.Dot ∷ name x ∷ rest))) round_none
+
+local_read : (inner : Reader) (x : Name) → IsPrim inner (a_local x)
+local_read inner x rest round_none field_none = rw round_none refl
+
+builtin_read : (inner : Reader) (x : Name) (args : Phrases) → AreReadBy inner args → IsPrim inner (a_builtin x args)
+builtin_read inner x args all rest round_none field_none =
+    args_then round inner args all rest (λ args ts. Some (builtin x (expressions_of args), ts)) ∙ ap (λ es. Some (builtin x es, rest)) (list_of-trees args)
+
+create_read : (inner : Reader) (x : Name) (options : Phrase) → IsReadBy inner 6 options → IsPrim inner (a_create x options)
+create_read inner x options at rest round_none field_none =
+    let next : Expression → List Token → Read Expression = λ e ts. behind (after_symbol s.CloseRound ts) (λ ts. Some (create x e, ts)) in
+    ap (λ ts. reading (inner ts) next) (append_assoc (spelled options) (symbol s.CloseRound ∷ []) rest)
+    ∙ ap (λ o. reading o next) (at (symbol s.CloseRound ∷ rest) (omega arith))
+
+list_read : (inner : Reader) (items : Phrases) → AreReadBy inner items → IsPrim inner (a_list items)
+list_read inner items all rest round_none field_none =
+    args_then square inner items all rest (λ items ts. Some (list (expressions_of items), ts)) ∙ ap (λ es. Some (list es, rest)) (list_of-trees items)
+
+brackets_read : (inner : Reader) (a : Phrase) → IsReadBy inner 6 a → IsPrim inner (brackets a)
+brackets_read inner a at rest round_none field_none =
+    let next : Expression → List Token → Read Expression = λ e ts. behind (after_symbol s.CloseRound ts) (λ ts. Some (e, ts)) in
+    ap (λ ts. reading (inner ts) next) (append_assoc (spelled a) (symbol s.CloseRound ∷ []) rest)
+    ∙ ap (λ o. reading o next) (at (symbol s.CloseRound ∷ rest) (omega arith))
+
+-- ---- calls and futures
+
+-- the turns of the loop, and the calls and futures that the phrase has at its end
+abbrev pub IsPost : Reader → Phrase → Type 0
+IsPost inner p =
+    (turns : ℕ) (rest : List Token) → after_symbol s.OpenRound rest ≡ None → field_at rest ≡ None → reading (read_prim inner (spelled p ++ rest)) (suffixes_of inner (turns + spine p)) ≡ suffixes_of inner turns (tree_of p) rest
+
+prim_post : (inner : Reader) (p : Phrase) → spine p ≡ 0 → IsPrim inner p → IsPost inner p
+prim_post inner p none at turns rest round_none field_none =
+    let e : turns + spine p ≡ turns = omega arith in
+    ap (λ o. reading o (suffixes_of inner (turns + spine p))) (at rest round_none field_none) ∙ ap (λ n. suffixes_of inner n (tree_of p) rest) e
+
+pub number_post : (inner : Reader) (n : ℤ) → IsPost inner (a_number n)
+number_post inner n = prim_post inner (a_number n) refl (λ rest h k. refl)
+
+pub text_post : (inner : Reader) (t : List ℕ) → IsPost inner (a_text t)
+text_post inner t = prim_post inner (a_text t) refl (λ rest h k. refl)
+
+pub nil_post : (inner : Reader) → IsPost inner a_nil
+nil_post inner = prim_post inner a_nil refl (λ rest h k. refl)
+
+pub bool_post : (inner : Reader) (b : Bool) → IsPost inner (a_bool b)
+bool_post inner b = prim_post inner (a_bool b) refl (bool_read inner b)
+
+pub this_post : (inner : Reader) → IsPost inner a_this
+this_post inner = prim_post inner a_this refl (this_read inner)
+
+pub field_post : (inner : Reader) (x : Name) → IsPost inner (a_field x)
+field_post inner x = prim_post inner (a_field x) refl (field_read inner x)
+
+pub local_post : (inner : Reader) (x : Name) → IsPost inner (a_local x)
+local_post inner x = prim_post inner (a_local x) refl (local_read inner x)
+
+pub builtin_post : (inner : Reader) (x : Name) (args : Phrases) → AreReadBy inner args → IsPost inner (a_builtin x args)
+builtin_post inner x args all = prim_post inner (a_builtin x args) refl (builtin_read inner x args all)
+
+pub create_post : (inner : Reader) (x : Name) (options : Phrase) → IsReadBy inner 6 options → IsPost inner (a_create x options)
+create_post inner x options at = prim_post inner (a_create x options) refl (create_read inner x options at)
+
+pub list_post : (inner : Reader) (items : Phrases) → AreReadBy inner items → IsPost inner (a_list items)
+list_post inner items all = prim_post inner (a_list items) refl (list_read inner items all)
+
+pub brackets_post : (inner : Reader) (a : Phrase) → IsReadBy inner 6 a → IsPost inner (brackets a)
+brackets_post inner a at = prim_post inner (brackets a) refl (brackets_read inner a at)
+
+call_suffix : (inner : Reader) (object : Expression) (x : Name) (args : Phrases) → AreReadBy inner args → (rest : List Token) → read_suffix inner object (name x ∷ (in_round (spelled_args args) ++ rest)) ≡ Some (call object x (trees_of args), rest)
+call_suffix inner object x args all rest =
+    args_then round inner args all rest (λ args ts. Some (call object x (expressions_of args), ts)) ∙ ap (λ es. Some (call object x es, rest)) (list_of-trees args)
+
+pub call_post : (inner : Reader) (object : Phrase) (x : Name) (args : Phrases) → IsPost inner object → AreReadBy inner args → IsPost inner (a_call object x args)
+call_post inner object x args at all turns rest round_none field_none =
+    let more = symbol s.Dot ∷ name x ∷ in_round (spelled_args args) in
+    let e : turns + suc (spine object) ≡ suc turns + spine object = omega arith in
+    ap (λ n. reading (read_prim inner ((spelled object ++ more) ++ rest)) (suffixes_of inner n)) e
+    ∙ ap (λ ts. reading (read_prim inner ts) (suffixes_of inner (suc turns + spine object))) (append_assoc (spelled object) more rest)
+    ∙ at (suc turns) (more ++ rest) refl refl
+    ∙ ap (λ o. reading o (suffixes_of inner turns)) (call_suffix inner (tree_of object) x args all rest)
+
+message_read : (inner : Reader) (object delay : Expression) (x : Name) (args : Phrases) → AreReadBy inner args → (rest : List Token) → read_message inner object delay (symbol s.Dot ∷ name x ∷ (in_round (spelled_args args) ++ rest)) ≡ Some (future object delay x (trees_of args), rest)
+message_read inner object delay x args all rest =
+    args_then round inner args all rest (λ args ts. Some (future object delay x (expressions_of args), ts)) ∙ ap (λ es. Some (future object delay x es, rest)) (list_of-trees args)
+
+future_suffix : (inner : Reader) (object : Expression) (delay : Phrase) (x : Name) (args : Phrases) → IsReadBy inner 6 delay → AreReadBy inner args → (rest : List Token)
+    → read_suffix inner object (word w.Future ∷ ((in_round (spelled delay) ++ symbol s.Dot ∷ name x ∷ in_round (spelled_args args)) ++ rest)) ≡ Some (future object (tree_of delay) x (trees_of args), rest)
+future_suffix inner object delay x args at all rest =
+    let more = symbol s.Dot ∷ name x ∷ in_round (spelled_args args) in
+    let next : Expression → List Token → Read Expression = λ delay ts. behind (after_symbol s.CloseRound ts) (read_message inner object delay) in
+    ap (λ ts. read_suffix inner object (word w.Future ∷ ts)) (append_assoc (in_round (spelled delay)) more rest)
+    ∙ ap (λ ts. reading (inner ts) next) (append_assoc (spelled delay) (symbol s.CloseRound ∷ []) (more ++ rest))
+    ∙ ap (λ o. reading o next) (at (symbol s.CloseRound ∷ (more ++ rest)) (omega arith))
+    ∙ message_read inner object (tree_of delay) x args all rest
+
+pub future_post : (inner : Reader) (object delay : Phrase) (x : Name) (args : Phrases) → IsPost inner object → IsReadBy inner 6 delay → AreReadBy inner args → IsPost inner (a_future object delay x args)
+future_post inner object delay x args at_object at_delay all turns rest round_none field_none =
+    let more = symbol s.Dot ∷ word w.Future ∷ (in_round (spelled delay) ++ symbol s.Dot ∷ name x ∷ in_round (spelled_args args)) in
+    let e : turns + suc (spine object) ≡ suc turns + spine object = omega arith in
+    ap (λ n. reading (read_prim inner ((spelled object ++ more) ++ rest)) (suffixes_of inner n)) e
+    ∙ ap (λ ts. reading (read_prim inner ts) (suffixes_of inner (suc turns + spine object))) (append_assoc (spelled object) more rest)
+    ∙ at_object (suc turns) (more ++ rest) refl refl
+    ∙ ap (λ o. reading o (suffixes_of inner turns)) (future_suffix inner (tree_of object) delay x args at_delay all rest)
+
+-- ---- the whole line
+
+no_suffix : (inner : Reader) (turns : ℕ) (object : Expression) (ts : List Token) → after_symbol s.Dot ts ≡ None → suffixes_of inner turns object ts ≡ Some (object, ts)
+no_suffix inner zero object ts h = refl
+no_suffix inner (suc turns) object ts h = rw h refl
+
+-- no phrase of this line begins with a sign
+unsigned : (p : Phrase) → Stands p → line p ≤ 0 → (rest : List Token) → sign_at (spelled p ++ rest) ≡ None
+unsigned (a_bool true) st low rest = refl
+unsigned (a_bool false) st low rest = refl
+unsigned (a_call object x args) st low rest =
+    let more = symbol s.Dot ∷ name x ∷ in_round (spelled_args args) in
+    ap sign_at (append_assoc (spelled object) more rest) ∙ unsigned object st.0 st.1 (more ++ rest)
+unsigned (a_future object delay x args) st low rest =
+    let more = symbol s.Dot ∷ word w.Future ∷ (in_round (spelled delay) ++ symbol s.Dot ∷ name x ∷ in_round (spelled_args args)) in
+    ap sign_at (append_assoc (spelled object) more rest) ∙ unsigned object st.0 st.1 (more ++ rest)
+unsigned (signed o a) st low rest = absurd (omega arith)
+unsigned (joined o a b) st low rest = absurd (omega (arith, line_of-two o))
+unsigned _ st low rest = refl
+
+pub post_read : (inner : Reader) (u : Reader) (p : Phrase) → Stands p → line p ≤ 0 → spine p ≤ length (spelled p) → ((ts : List Token) → sign_at ts ≡ None → u ts ≡ read_post inner ts) → IsPost inner p → IsReadBy u 1 p
+post_read inner u p st low few to_post at rest h =
+    let ts = spelled p ++ rest in
+    let n = length ts - spine p in
+    let e : n + spine p ≡ length ts = omega (arith, length-append (spelled p) rest) in
+    to_post ts (unsigned p st low rest)
+    ∙ ap (λ n. reading (read_prim inner ts) (suffixes_of inner n)) (sym e)
+    ∙ at n rest (no_round 1 rest h) (no_field 1 rest h)
+    ∙ no_suffix inner n (tree_of p) rest (no_dot 1 rest h)

@@ -1,0 +1,7 @@
+use Rattle.std.proofs.Common.{◌≡◌, drop}
+use Rattle.model_lang.specs.TreeView.{program_tree}
+use Rattle.model_lang.specs.Bounds.{many_parameters}
+use Rattle.model_lang.proofs.bounds.in_classes.Given as goal
+
+abbrev pub invariant-loop-class : goal.invariant-loop-class
+invariant-loop-class l = many_parameters (program_tree (drop l.class-index l.classes)) ≡ many_parameters (program_tree l.classes)
