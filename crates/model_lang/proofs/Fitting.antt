@@ -42,18 +42,15 @@ mutual
   few_arguments (builtin x args) h = all_few args h
   few_arguments (call object x args) h =
       let each = neither (many_arguments object) (first_found (above most_arguments (how_many args)) (all_many_arguments args)) h in
-      (few_arguments object each.0, own_few args each.1)
+      let own = neither (above most_arguments (how_many args)) (all_many_arguments args) each.1 in
+      (few_arguments object each.0, (low most_arguments (how_many args) own.0, all_few args own.1))
   few_arguments (future object delay x args) h =
-      let own = first_found (above most_arguments (how_many args)) (all_many_arguments args) in
-      let each = neither (many_arguments object) (first_found (many_arguments delay) own) h in
-      let behind = neither (many_arguments delay) own each.1 in
-      (few_arguments object each.0, few_arguments delay behind.0, own_few args behind.1)
+      let more = first_found (above most_arguments (how_many args)) (all_many_arguments args) in
+      let each = neither (many_arguments object) (first_found (many_arguments delay) more) h in
+      let behind = neither (many_arguments delay) more each.1 in
+      let own = neither (above most_arguments (how_many args)) (all_many_arguments args) behind.1 in
+      (few_arguments object each.0, few_arguments delay behind.0, (low most_arguments (how_many args) own.0, all_few args own.1))
   few_arguments (create x options) h = few_arguments options h
-
-  own_few : (es : Expressions) → first_found (above most_arguments (how_many es)) (all_many_arguments es) ≡ None → (how_many es ≤ most_arguments) × AllFewArguments es
-  own_few es h =
-      let each = neither (above most_arguments (how_many es)) (all_many_arguments es) h in
-      (low most_arguments (how_many es) each.0, all_few es each.1)
 
   all_few : (es : Expressions) → all_many_arguments es ≡ None → AllFewArguments es
   all_few no_expressions h = tt

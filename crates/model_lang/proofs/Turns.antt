@@ -1,10 +1,13 @@
 -- One turn of the reader's loops, and one level of room.
-use Rattle.std.proofs.Common.{◌≡◌, ℕ, zero, suc, ◌+◌, ◌-◌, ◌<◌, ◌≤◌, List, [], ◌∷◌, ◌++◌, length, Some, None, refl, arith}
+use Rattle.std.proofs.Common.{◌≡◌, ℕ, zero, suc, ◌+◌, ◌-◌, ◌<◌, ◌≤◌, List, [], ◌∷◌, ◌++◌, length, Option, Some, None, refl, ap, arith}
 use Rattle.std.proofs.lemmas.List.{map-append}
 use Rattle.model_tokens.specs.declared.token.Token.{Token}
 use Rattle.model_tokens.specs.declared.token.Symbol.{Symbol}
 use Rattle.model_tokens.specs.declared.token.Symbol.TheVariants as s
 use Rattle.model_tokens.specs.declared.token.Word.TheVariants as w
+use Rattle.model_lang.specs.declared.operators.Line.{Line}
+use Rattle.model_lang.specs.declared.operators.Line.TheVariants as line
+use Rattle.model_lang.specs.Lines.{line_number, tighter_of}
 use Rattle.model_lang.specs.Tree.{Name, Expression, unary, binary, Statement, MethodTree, ClassTree}
 use Rattle.model_lang.specs.Reader.{Read, Reader, reading, behind, either_way, on_found, operator_at, more_of, turns_of, suffixes_of, read_suffix, read_more, read_line, read_unary, read_post, sign_at, after_symbol, after_word, name_at, read_actions, read_action, read_block, read_fields, read_methods, read_method, read_further, read_classes, read_class}
 
@@ -101,6 +104,32 @@ read_line-one inner = refl
 pub read_line-next : (inner : Reader) (k : ℕ) (ts : List Token) → read_line inner (suc (suc k)) ts ≡ reading (read_line inner (suc k) ts) (more_of (suc (suc k)) (read_line inner (suc k)) (turns_of (suc (suc k)) (length ts)))
 unfolding read_line
 read_line-next inner k ts = refl
+
+abbrev line_number_if : Option Line → ℕ
+line_number_if None = 0
+line_number_if (Some l) = line_number l
+
+-- the same by the lines of operators
+pub read_line-turns : (inner : Reader) (l : Line) (ts : List Token) → read_line inner (line_number l) ts ≡ reading (read_line inner (line_number l - 1) ts) (more_of (line_number l) (read_line inner (line_number l - 1)) (turns_of (line_number l) (length ts)))
+read_line-turns inner line.Term ts = read_line-next inner 0 ts
+read_line-turns inner line.Sum ts = read_line-next inner 1 ts
+read_line-turns inner line.Relation ts = read_line-next inner 2 ts
+read_line-turns inner line.And ts = read_line-next inner 3 ts
+read_line-turns inner line.Or ts = read_line-next inner 4 ts
+
+pub tighter-number : (l t : Line) → tighter_of l ≡ Some t → line_number l - 1 ≡ line_number t
+tighter-number line.Term t h = cc
+tighter-number line.Sum t h = ap line_number_if h
+tighter-number line.Relation t h = ap line_number_if h
+tighter-number line.And t h = ap line_number_if h
+tighter-number line.Or t h = ap line_number_if h
+
+pub tightest-number : (l : Line) → tighter_of l ≡ None → line_number l ≡ 2
+tightest-number line.Term h = refl
+tightest-number line.Sum h = cc
+tightest-number line.Relation h = cc
+tightest-number line.And h = cc
+tightest-number line.Or h = cc
 
 pub ruleset by_turn = (more_of-turn, more_of-over, suffixes_of-turn, suffixes_of-over, read_more-turn, read_more-over, read_actions-turn, read_actions-over, read_fields-turn, read_fields-over, read_methods-turn, read_methods-over, read_further-turn, read_further-over, read_classes-turn, read_classes-over, read_classes-end, map-append)
 

@@ -1,14 +1,17 @@
 -- All the tokens of a text: what a reading of them answers.
-use Rattle.std.proofs.Common.{◌≡◌, ◌⊎◌, inl, inr, ⊎_elim, ℕ, ◌<◌, ◌≤◌, Bool, true, false, List, length, map, Option, Some, None, refl, sym, ap, ◌∙◌, subst, arith}
+use Rattle.std.proofs.Common.{◌≡◌, inl, inr, ℕ, ◌<◌, ◌≤◌, List, length, Option, Some, None, Err, refl, sym, ap, ◌∙◌, subst, arith}
 use Rattle.model_tokens.specs.declared.token.Token.{Token}
 use Rattle.model_tokens.specs.Division.{Divides}
 use Rattle.model_lang.specs.declared.fault.Bound.{Bound}
 use Rattle.model_lang.specs.declared.fault.Bound.TheVariants as bound
+use Rattle.model_lang.specs.declared.fault.LangFault.{LangFault}
+use Rattle.model_lang.specs.declared.fault.LangFault.TheVariants.{Syntax, TooLarge, WantOfMemory}
 use Rattle.model_lang.specs.Tree.{ProgramTree}
-use Rattle.model_lang.specs.Grammar.{tree_of_class, Derives}
+use Rattle.model_lang.specs.Grammar.{Derives}
 use Rattle.model_lang.specs.Bounds.{most_bytes, most_nested, greatest, brackets_after, operators_after, passed}
-use Rattle.model_lang.specs.Program.{FewBrackets, FewOperators, IsSpelled, IsRead, ArePast, IsTooLarge, AreNoProgram, IsNoProgram, Reading, a_program, no_program, too_large, IsReading}
+use Rattle.model_lang.specs.Program.{FewBrackets, FewOperators, IsSpelled, IsRead, ArePast, IsTooLarge, AreNoProgram, IsNoProgram}
 use Rattle.model_lang.specs.Reader.{read_program}
+use Rattle.model_lang.specs.Answer.{ParsesTokens, Parses}
 use Rattle.model_lang.proofs.CompletePrograms.{program_read}
 use Rattle.model_lang.proofs.SoundPrograms.{program_sound}
 
@@ -65,3 +68,8 @@ tokens_no_program one text ts few divides none = (few, λ us d. subst AreNoProgr
 
 pub no_tokens : (text : List ℕ) → length text ≤ most_bytes → ((ts : List Token) → ¬ Divides ts text) → IsNoProgram text
 no_tokens text few never = (few, λ ts d. absurd (never ts d))
+
+pub parse_failed : OneDivision → (text : List ℕ) (ts : List Token) → length text ≤ most_bytes → Divides ts text → (fault : LangFault) → ParsesTokens (Err fault) ts → Parses (Err fault) text
+parse_failed one text ts few divides (TooLarge what count) h = tokens_past text ts what count few divides h
+parse_failed one text ts few divides (Syntax at) h = tokens_no_program one text ts few divides h
+parse_failed one text ts few divides WantOfMemory h = tt

@@ -22,6 +22,7 @@ pub fn expression(alloc: Global, tokens: &[Token]) -> Result<(Expr, &[Token]), S
 
 // An expression of this line or a tighter one.
 #[cycle(line)]
+#[tactic(auto, using(crate::proofs::Turns::by_turn))]
 fn line(alloc: Global, room: usize, line: Line, tokens: &[Token]) -> Result<(Expr, &[Token]), Stop>
     ensures { Reads expression_tree result (read_line (read_unary room) (line_number line) tokens.now) }
 {
@@ -60,6 +61,7 @@ fn joined(alloc: Global, op: BinaryOp, left: Expr, right: Expr) -> Result<Expr, 
 
 // unary = ("-" | "!") unary | post
 #[cycle(line)]
+#[tactic(auto, using(crate::proofs::Turns::by_room))]
 fn unary(alloc: Global, room: usize, tokens: &[Token]) -> Result<(Expr, &[Token]), Stop>
     ensures { Reads expression_tree result (read_unary room tokens.now) }
 {
@@ -76,6 +78,7 @@ fn unary(alloc: Global, room: usize, tokens: &[Token]) -> Result<(Expr, &[Token]
 
 // A prim, and the calls and futures behind it.
 #[cycle(line)]
+#[tactic(auto, using(crate::proofs::Turns::by_turn))]
 fn post(alloc: Global, room: usize, tokens: &[Token]) -> Result<(Expr, &[Token]), Stop>
     ensures { Reads expression_tree result (read_post (read_line (read_unary room) 6) tokens.now) }
 {
@@ -246,6 +249,7 @@ fn arguments(alloc: Global, room: usize, close: Symbol, tokens: &[Token]) -> Res
 }
 
 #[cycle(line)]
+#[tactic(auto, using(crate::proofs::Turns::by_turn))]
 fn further(alloc: Global, room: usize, close: Symbol, turns: usize, mut found: Vec<Expr>, tokens: &[Token]) -> Result<(Vec<Expr>, &[Token]), Stop>
     ensures { Reads (λ args. map expression_tree args.items) result (read_more close (read_line (read_unary room) 6) turns (map expression_tree found.items) tokens.now) }
 {

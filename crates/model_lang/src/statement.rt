@@ -93,6 +93,7 @@ fn choice(alloc: Global, room: usize, tokens: &[Token]) -> Result<(Stmt, &[Token
 
 // Behind `else`.
 #[cycle(block)]
+#[tactic(auto, using(crate::proofs::Elses::else_tree))]
 fn otherwise(
     alloc: Global,
     room: usize,
