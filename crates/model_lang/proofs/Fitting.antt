@@ -1,45 +1,32 @@
 -- A program that passes no bound keeps each of them.
-use Rattle.std.proofs.Common.{◌≡◌, ℕ, ◌≤◌, nat_le, Bool, true, false, if◌then◌else◌, List, [], ◌∷◌, ◌++◌, length, map, flat_map, Option, Some, None, refl, arith}
+use Rattle.std.proofs.Common.{◌≡◌, ℕ, ◌≤◌, nat_le, Bool, true, false, if◌then◌else◌, List, [], ◌∷◌, length, Option, Some, None, refl, arith}
 use Rattle.std.proofs.lemmas.Bool.Decides.{nat_tests}
 use Rattle.model_lang.specs.declared.fault.Bound.{Bound}
 use Rattle.model_lang.specs.declared.fault.Bound.TheVariants as bound
 use Rattle.model_lang.specs.Tree.{Expression, nil, bool, int, text, this, local, field, list, unary, binary, builtin, call, future, create, Expressions, no_expressions, expression, Statement, declare, assign, set_field, when, while, give, do_, Statements, no_statements, statement, Otherwise, no_else, else_block, MethodTree, ClassTree, ProgramTree}
-use Rattle.model_lang.specs.Bounds.{most_members, most_arguments, how_many, FewArguments, AllFewArguments, HasFewArguments, AllHaveFewArguments, ElseHasFewArguments, MethodFits, MethodsFit, ClassesFit, ProgramFits, argument_counts, all_argument_counts, statement_counts, all_statement_counts, else_counts, method_counts, class_counts, first_above, or_else, passed}
+use Rattle.model_lang.specs.Bounds.{most_members, most_arguments, how_many, FewArguments, AllFewArguments, HasFewArguments, AllHaveFewArguments, ElseHasFewArguments, MethodsFit, ClassesFit, ProgramFits, above, first_found, many_arguments, all_many_arguments, many_in_statement, many_in_block, many_in_else, many_in_methods, many_parameters, many_fields, many_methods, or_else, passed}
 
 -- ---- counts
 
-abbrev AreLow : ℕ → List ℕ → Type 0
-AreLow most [] = Unit {0}
-AreLow most (n ∷ ns) = (n ≤ most) × AreLow most ns
+low_by : (most n : ℕ) (b : Bool) → nat_le n most ≡ b → ◌≡◌ {A = Option ℕ} (if b then None else Some n) None → n ≤ most
+low_by most n true is h = grind (arith, nat_tests)
+low_by most n false is h = cc
 
-low_head : (most n : ℕ) (others : Option ℕ) (b : Bool) → nat_le n most ≡ b → (if b then others else Some n) ≡ None → (n ≤ most) × (others ≡ None)
-low_head most n others true is h =
-    let low : n ≤ most = grind (arith, nat_tests) in
-    (low, h)
-low_head most n others false is h = cc
+low : (most n : ℕ) → above most n ≡ None → n ≤ most
+low most n h = low_by most n (nat_le n most) refl h
 
-none_above : (most : ℕ) (ns : List ℕ) → first_above most ns ≡ None → AreLow most ns
-none_above most [] h = tt
-none_above most (n ∷ ns) h =
-    let q = low_head most n (first_above most ns) (nat_le n most) refl h in
-    (q.0, none_above most ns q.1)
+neither : (one other : Option ℕ) → first_found one other ≡ None → (one ≡ None) × (other ≡ None)
+neither None other h = (refl, h)
+neither (Some n) other h = cc
 
-front : (most : ℕ) (ns ms : List ℕ) → AreLow most (ns ++ ms) → AreLow most ns
-front most [] ms h = tt
-front most (n ∷ ns) ms h = (h.0, front most ns ms h.1)
-
-back : (most : ℕ) (ns ms : List ℕ) → AreLow most (ns ++ ms) → AreLow most ms
-back most [] ms h = h
-back most (n ∷ ns) ms h = back most ns ms h.1
-
-neither : (what : Bound) (count : Option ℕ) (behind : Option (Bound × ℕ)) → or_else what count behind ≡ None → (count ≡ None) × (behind ≡ None)
-neither what None behind h = (refl, h)
-neither what (Some n) behind h = cc
+neither_bound : (what : Bound) (count : Option ℕ) (behind : Option (Bound × ℕ)) → or_else what count behind ≡ None → (count ≡ None) × (behind ≡ None)
+neither_bound what None behind h = (refl, h)
+neither_bound what (Some n) behind h = cc
 
 -- ---- arguments
 
 mutual
-  few_arguments : (e : Expression) → AreLow most_arguments (argument_counts e) → FewArguments e
+  few_arguments : (e : Expression) → many_arguments e ≡ None → FewArguments e
   few_arguments nil h = tt
   few_arguments (bool b) h = tt
   few_arguments (int n) h = tt
@@ -50,76 +37,76 @@ mutual
   few_arguments (list items) h = all_few items h
   few_arguments (unary o e) h = few_arguments e h
   few_arguments (binary o a b) h =
-      (few_arguments a (front most_arguments (argument_counts a) (argument_counts b) h), few_arguments b (back most_arguments (argument_counts a) (argument_counts b) h))
+      let each = neither (many_arguments a) (many_arguments b) h in
+      (few_arguments a each.0, few_arguments b each.1)
   few_arguments (builtin x args) h = all_few args h
   few_arguments (call object x args) h =
-      let own = how_many args ∷ all_argument_counts args in
-      let behind : AreLow most_arguments own = back most_arguments (argument_counts object) own h in
-      (few_arguments object (front most_arguments (argument_counts object) own h), (behind.0, all_few args behind.1))
+      let each = neither (many_arguments object) (first_found (above most_arguments (how_many args)) (all_many_arguments args)) h in
+      let own = neither (above most_arguments (how_many args)) (all_many_arguments args) each.1 in
+      (few_arguments object each.0, (low most_arguments (how_many args) own.0, all_few args own.1))
   few_arguments (future object delay x args) h =
-      let own = how_many args ∷ all_argument_counts args in
-      let inside : AreLow most_arguments (argument_counts delay ++ own) = back most_arguments (argument_counts object) (argument_counts delay ++ own) h in
-      let behind : AreLow most_arguments own = back most_arguments (argument_counts delay) own inside in (
-        few_arguments object (front most_arguments (argument_counts object) (argument_counts delay ++ own) h),
-        few_arguments delay (front most_arguments (argument_counts delay) own inside),
-        (behind.0, all_few args behind.1),
-      )
+      let more = first_found (above most_arguments (how_many args)) (all_many_arguments args) in
+      let each = neither (many_arguments object) (first_found (many_arguments delay) more) h in
+      let behind = neither (many_arguments delay) more each.1 in
+      let own = neither (above most_arguments (how_many args)) (all_many_arguments args) behind.1 in
+      (few_arguments object each.0, few_arguments delay behind.0, (low most_arguments (how_many args) own.0, all_few args own.1))
   few_arguments (create x options) h = few_arguments options h
 
-  all_few : (es : Expressions) → AreLow most_arguments (all_argument_counts es) → AllFewArguments es
+  all_few : (es : Expressions) → all_many_arguments es ≡ None → AllFewArguments es
   all_few no_expressions h = tt
   all_few (expression e es) h =
-      (few_arguments e (front most_arguments (argument_counts e) (all_argument_counts es) h), all_few es (back most_arguments (argument_counts e) (all_argument_counts es) h))
+      let each = neither (many_arguments e) (all_many_arguments es) h in
+      (few_arguments e each.0, all_few es each.1)
 
 mutual
-  statement_few : (t : Statement) → AreLow most_arguments (statement_counts t) → HasFewArguments t
+  statement_few : (t : Statement) → many_in_statement t ≡ None → HasFewArguments t
   statement_few (declare x e) h = few_arguments e h
   statement_few (assign x e) h = few_arguments e h
   statement_few (set_field x e) h = few_arguments e h
   statement_few (when test block other) h =
-      let more = all_statement_counts block ++ else_counts other in
-      let inside : AreLow most_arguments more = back most_arguments (argument_counts test) more h in (
-        few_arguments test (front most_arguments (argument_counts test) more h),
-        statements_few block (front most_arguments (all_statement_counts block) (else_counts other) inside),
-        else_few other (back most_arguments (all_statement_counts block) (else_counts other) inside),
-      )
+      let each = neither (many_arguments test) (first_found (many_in_block block) (many_in_else other)) h in
+      let behind = neither (many_in_block block) (many_in_else other) each.1 in
+      (few_arguments test each.0, statements_few block behind.0, else_few other behind.1)
   statement_few (while test block) h =
-      (few_arguments test (front most_arguments (argument_counts test) (all_statement_counts block) h), statements_few block (back most_arguments (argument_counts test) (all_statement_counts block) h))
+      let each = neither (many_arguments test) (many_in_block block) h in
+      (few_arguments test each.0, statements_few block each.1)
   statement_few (give e) h = few_arguments e h
   statement_few (do_ e) h = few_arguments e h
 
-  statements_few : (ts : Statements) → AreLow most_arguments (all_statement_counts ts) → AllHaveFewArguments ts
+  statements_few : (ts : Statements) → many_in_block ts ≡ None → AllHaveFewArguments ts
   statements_few no_statements h = tt
   statements_few (statement t ts) h =
-      (statement_few t (front most_arguments (statement_counts t) (all_statement_counts ts) h), statements_few ts (back most_arguments (statement_counts t) (all_statement_counts ts) h))
+      let each = neither (many_in_statement t) (many_in_block ts) h in
+      (statement_few t each.0, statements_few ts each.1)
 
-  else_few : (other : Otherwise) → AreLow most_arguments (else_counts other) → ElseHasFewArguments other
+  else_few : (other : Otherwise) → many_in_else other ≡ None → ElseHasFewArguments other
   else_few no_else h = tt
   else_few (else_block block) h = statements_few block h
 
 -- ---- classes
 
-methods_fit : (ms : List MethodTree) → AreLow most_arguments (flat_map method_counts ms) → MethodsFit ms
+methods_fit : (ms : List MethodTree) → many_in_methods ms ≡ None → MethodsFit ms
 methods_fit [] h = tt
 methods_fit (m ∷ ms) h =
-    let own : AreLow most_arguments (method_counts m) = front most_arguments (method_counts m) (flat_map method_counts ms) h in
-    ((own.0, statements_few m.body own.1), methods_fit ms (back most_arguments (method_counts m) (flat_map method_counts ms) h))
+    let each = neither (first_found (above most_arguments (length m.params)) (many_in_block m.body)) (many_in_methods ms) h in
+    let own = neither (above most_arguments (length m.params)) (many_in_block m.body) each.0 in
+    ((low most_arguments (length m.params) own.0, statements_few m.body own.1), methods_fit ms each.1)
 
-classes_fit : (cs : List ClassTree) → AreLow most_members (map (λ (c : ClassTree). length c.fields) cs) → AreLow most_members (map (λ (c : ClassTree). length c.methods) cs) → AreLow most_arguments (flat_map class_counts cs) → ClassesFit cs
+classes_fit : (cs : List ClassTree) → many_fields cs ≡ None → many_methods cs ≡ None → many_parameters cs ≡ None → ClassesFit cs
 classes_fit [] fields methods args = tt
-classes_fit (c ∷ cs) fields methods args = (
-  (fields.0, methods.0, methods_fit c.methods (front most_arguments (class_counts c) (flat_map class_counts cs) args)),
-  classes_fit cs fields.1 methods.1 (back most_arguments (class_counts c) (flat_map class_counts cs) args),
-)
+classes_fit (c ∷ cs) fields methods args =
+    let f = neither (above most_members (length c.fields)) (many_fields cs) fields in
+    let m = neither (above most_members (length c.methods)) (many_methods cs) methods in
+    let a = neither (many_in_methods c.methods) (many_parameters cs) args in
+    ((low most_members (length c.fields) f.0, low most_members (length c.methods) m.0, methods_fit c.methods a.0), classes_fit cs f.1 m.1 a.1)
 
 pub program-fits : (tree : ProgramTree) → passed tree ≡ None → ProgramFits tree
 program-fits tree h =
-    let arguments = or_else bound.Parameters (first_above most_arguments (flat_map class_counts tree)) None in
-    let methods = or_else bound.Methods (first_above most_members (map (λ (c : ClassTree). length c.methods) tree)) arguments in
-    let fields = or_else bound.Fields (first_above most_members (map (λ (c : ClassTree). length c.fields) tree)) methods in
-    let a = neither bound.Classes (first_above most_members (length tree ∷ [])) fields h in
-    let b = neither bound.Fields (first_above most_members (map (λ (c : ClassTree). length c.fields) tree)) methods a.1 in
-    let c = neither bound.Methods (first_above most_members (map (λ (c : ClassTree). length c.methods) tree)) arguments b.1 in
-    let d = neither bound.Parameters (first_above most_arguments (flat_map class_counts tree)) None c.1 in
-    let few : AreLow most_members (length tree ∷ []) = none_above most_members (length tree ∷ []) a.0 in
-    (few.0, classes_fit tree (none_above most_members _ b.0) (none_above most_members _ c.0) (none_above most_arguments _ d.0))
+    let arguments = or_else bound.Parameters (many_parameters tree) None in
+    let methods = or_else bound.Methods (many_methods tree) arguments in
+    let fields = or_else bound.Fields (many_fields tree) methods in
+    let a = neither_bound bound.Classes (above most_members (length tree)) fields h in
+    let b = neither_bound bound.Fields (many_fields tree) methods a.1 in
+    let c = neither_bound bound.Methods (many_methods tree) arguments b.1 in
+    let d = neither_bound bound.Parameters (many_parameters tree) None c.1 in
+    (low most_members (length tree) a.0, classes_fit tree b.0 c.0 d.0)

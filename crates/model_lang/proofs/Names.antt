@@ -98,23 +98,20 @@ mutual
   short_action (setting x a) h = (short x h.1.1.0, short_end a h.1.1.1.1)
   short_action (choice a block) h =
       let body : List Token = in_braces (spelled_block block) in
-      (short_phrase a (between (spelled a) (front (in_round (spelled a)) body h.1)), short_braces block (back (in_round (spelled a)) body h.1), tt)
+      (short_phrase a (between (spelled a) (front (in_round (spelled a)) body h.1)), short_block block (front (spelled_block block) (symbol s.CloseBrace ∷ []) (back (in_round (spelled a)) body h.1).1), tt)
   short_action (choice_else a block other) h =
       let last : List Token = word w.Else ∷ in_braces (spelled_block other) in
       let body : List Token = in_braces (spelled_block block) ++ last in
       let behind = back (in_round (spelled a)) body h.1 in (
         short_phrase a (between (spelled a) (front (in_round (spelled a)) body h.1)),
-        short_braces block (front (in_braces (spelled_block block)) last behind),
-        short_braces other (back (in_braces (spelled_block block)) last behind).1,
+        short_block block (front (spelled_block block) (symbol s.CloseBrace ∷ []) (front (in_braces (spelled_block block)) last behind).1),
+        short_block other (front (spelled_block other) (symbol s.CloseBrace ∷ []) (back (in_braces (spelled_block block)) last behind).1.1),
       )
   short_action (looping a block) h =
       let body : List Token = in_braces (spelled_block block) in
-      (short_phrase a (between (spelled a) (front (in_round (spelled a)) body h.1)), short_braces block (back (in_round (spelled a)) body h.1))
+      (short_phrase a (between (spelled a) (front (in_round (spelled a)) body h.1)), short_block block (front (spelled_block block) (symbol s.CloseBrace ∷ []) (back (in_round (spelled a)) body h.1).1))
   short_action (giving a) h = short_end a h.1
   short_action (doing a) h = short_end a h
-
-  short_braces : (block : Block) → AreTokens (in_braces (spelled_block block)) → AllNamesAreShort (trees_of_block block)
-  short_braces block h = short_block block (front (spelled_block block) (symbol s.CloseBrace ∷ []) h.1)
 
   short_block : (block : Block) → AreTokens (spelled_block block) → AllNamesAreShort (trees_of_block block)
   short_block closed h = tt

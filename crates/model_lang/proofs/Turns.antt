@@ -1,5 +1,5 @@
 -- One turn of the reader's loops, and one level of room.
-use Rattle.std.proofs.Common.{◌≡◌, ℕ, zero, suc, ◌+◌, ◌-◌, ◌<◌, ◌≤◌, List, [], ◌∷◌, ◌++◌, length, Option, Some, None, refl, ap, arith}
+use Rattle.std.proofs.Common.{◌≡◌, ℕ, zero, suc, ◌+◌, ◌-◌, ◌<◌, ◌≤◌, List, [], ◌∷◌, ◌++◌, length, Option, Some, None, refl, sym, ap, ◌∙◌, arith}
 use Rattle.std.proofs.lemmas.List.{map-append}
 use Rattle.model_tokens.specs.declared.token.Token.{Token}
 use Rattle.model_tokens.specs.declared.token.Symbol.{Symbol}
@@ -130,6 +130,24 @@ tightest-number line.Sum h = cc
 tightest-number line.Relation h = cc
 tightest-number line.And h = cc
 tightest-number line.Or h = cc
+
+-- a line whose first side is read, or is not
+pub line_begins : (inner : Reader) (l : Line) (ts : List Token) (e : Expression) (rest : List Token) → read_line inner (line_number l - 1) ts ≡ Some (e, rest) → more_of (line_number l) (read_line inner (line_number l - 1)) (turns_of (line_number l) (length ts) - 0) e rest ≡ read_line inner (line_number l) ts
+line_begins inner l ts e rest h =
+    let next = more_of (line_number l) (read_line inner (line_number l - 1)) in
+    let all : turns_of (line_number l) (length ts) - 0 ≡ turns_of (line_number l) (length ts) = omega arith in
+    ap (λ n. next n e rest) all ∙ sym (ap (λ o. reading o (next (turns_of (line_number l) (length ts)))) h) ∙ sym (read_line-turns inner l ts)
+
+pub line_stops : (inner : Reader) (l : Line) (ts : List Token) → read_line inner (line_number l - 1) ts ≡ None → read_line inner (line_number l) ts ≡ None
+line_stops inner l ts h = read_line-turns inner l ts ∙ ap (λ o. reading o (more_of (line_number l) (read_line inner (line_number l - 1)) (turns_of (line_number l) (length ts)))) h
+
+-- the sides of the tightest line
+pub tightest_sides : (inner : Reader) (l : Line) (ts : List Token) → tighter_of l ≡ None → read_line inner (line_number l - 1) ts ≡ inner ts
+tightest_sides inner l ts h =
+    let e : line_number l - 1 ≡ 1 = omega (arith, tightest-number l h) in
+    ap (λ k. read_line inner k ts) e ∙ ap (λ (f : Reader). f ts) (read_line-one inner)
+
+pub ruleset by_line = (line_stops, more_of-turn, more_of-over)
 
 pub ruleset by_turn = (more_of-turn, more_of-over, suffixes_of-turn, suffixes_of-over, read_more-turn, read_more-over, read_actions-turn, read_actions-over, read_fields-turn, read_fields-over, read_methods-turn, read_methods-over, read_further-turn, read_further-over, read_classes-turn, read_classes-over, read_classes-end, map-append)
 

@@ -22,7 +22,7 @@ pub fn expression(alloc: Global, tokens: &[Token]) -> Result<(Expr, &[Token]), S
 
 // An expression of this line or a tighter one.
 #[cycle(line)]
-#[tactic(auto, using(crate::proofs::Turns::by_turn))]
+#[tactic(auto, using(crate::proofs::Turns::by_line))]
 fn line(alloc: Global, room: usize, line: Line, tokens: &[Token]) -> Result<(Expr, &[Token]), Stop>
     ensures { Reads expression_tree result (read_line (read_unary room) (line_number line) tokens.now) }
 {
