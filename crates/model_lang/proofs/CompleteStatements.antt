@@ -26,10 +26,14 @@ test_read a stands rest =
 pub braces_then : (ts rest : List Token) → in_braces ts ++ rest ≡ symbol s.OpenBrace ∷ (ts ++ symbol s.CloseBrace ∷ rest)
 braces_then ts rest = ap (λ r. symbol s.OpenBrace ∷ r) (append_assoc ts (symbol s.CloseBrace ∷ []) rest)
 
-pub block_then : (test body rest : List Token) → (in_round test ++ in_braces body) ++ rest ≡ in_round test ++ symbol s.OpenBrace ∷ (body ++ symbol s.CloseBrace ∷ rest)
+-- a test, a block and tokens behind it
+abbrev pub guarded : List Token → List Token → List Token → List Token
+guarded test body rest = in_round test ++ symbol s.OpenBrace ∷ (body ++ symbol s.CloseBrace ∷ rest)
+
+pub block_then : (test body rest : List Token) → (in_round test ++ in_braces body) ++ rest ≡ guarded test body rest
 block_then test body rest = append_assoc (in_round test) (in_braces body) rest ∙ ap (λ r. in_round test ++ r) (braces_then body rest)
 
-pub else_then : (test body other rest : List Token) → (in_round test ++ (in_braces body ++ word w.Else ∷ in_braces other)) ++ rest ≡ in_round test ++ symbol s.OpenBrace ∷ (body ++ symbol s.CloseBrace ∷ word w.Else ∷ symbol s.OpenBrace ∷ (other ++ symbol s.CloseBrace ∷ rest))
+pub else_then : (test body other rest : List Token) → (in_round test ++ (in_braces body ++ word w.Else ∷ in_braces other)) ++ rest ≡ guarded test body (word w.Else ∷ symbol s.OpenBrace ∷ (other ++ symbol s.CloseBrace ∷ rest))
 else_then test body other rest =
     let more = word w.Else ∷ in_braces other in
     append_assoc (in_round test) (in_braces body ++ more) rest

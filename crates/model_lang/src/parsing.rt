@@ -1,6 +1,8 @@
 //! A text, read as a program.
 ghost use Rattle.std.specs.Prelude.{◌≡◌, ℕ, List};
+ghost use Rattle.model_tokens.specs.declared.token.Token.{Token as Held};
 ghost use Rattle.model_lang.specs.Tree.{ProgramTree};
+ghost use Rattle.model_lang.specs.Grammar.{Derives};
 ghost use Rattle.model_lang.specs.Program.{IsRead, Reading, IsReading};
 ghost use Rattle.model_lang.specs.Answer.{Parses, ParsesTokens};
 
@@ -75,6 +77,12 @@ fn whole(alloc: Global, text: &[u8], tokens: &[Token]) -> Result<Vec<Class>, Lan
         Some((what, count)) => Err(LangFault::TooLarge { what, count }),
         None => Ok(classes),
     }
+}
+
+/// The grammar is unambiguous: tokens stand for one program, or for none.
+pub fn one_derivation()
+    ensures { (tokens : List Held) (tree other : ProgramTree) → Derives tokens tree → Derives tokens other → tree ≡ other }
+{
 }
 
 /// A text is read as one tree, or as none.
