@@ -1,12 +1,12 @@
 -- Whatever the reader reads is spelled by the grammar: statements and blocks.
-use Rattle.std.proofs.Common.{◌≡◌, ⊎_elim, ℕ, zero, suc, List, [], ◌∷◌, ◌++◌, length, Option, Some, None, refl, sym, ap, ◌∙◌, append_assoc, append-nil}
+use Rattle.std.proofs.Common.{◌≡◌, ⊎_elim, ℕ, zero, suc, List, [], ◌∷◌, ◌++◌, length, Option, Some, sym, ap, ◌∙◌, append_assoc, append-nil}
 use Rattle.model_tokens.specs.declared.token.Token.{Token}
 use Rattle.model_tokens.specs.declared.token.Token.TheVariants.{Name as name, Word as word, Symbol as symbol}
 use Rattle.model_tokens.specs.declared.token.Word.TheVariants as w
 use Rattle.model_tokens.specs.declared.token.Symbol.TheVariants as s
 use Rattle.model_lang.specs.Tree.{Name, Expression, Statement, declare, assign, set_field, when, while, give, do_, statements_of, no_else, else_block}
 use Rattle.model_lang.specs.Grammar.{Phrase, Stands, spelled, tree_of, Action, declaring, assigning, setting, choice, choice_else, looping, giving, doing, Block, closed, first, ActionStands, BlockStands, in_round, spelled_end, spelled_action, spelled_block, tree_of_action, trees_of_block}
-use Rattle.model_lang.specs.Reader.{Read, reading, behind, either_way, on_found, after_word, after_symbol, name_at, assigned_at, set_at, read_expression, read_ended, read_end, read_let, read_simple, read_test, read_else, read_if, read_while, read_action, read_actions, read_block}
+use Rattle.model_lang.specs.Reader.{Read, reading, behind, either_way, on_found, after_word, after_symbol, assigned_at, set_at, read_expression, read_ended, read_end, read_let, read_simple, read_test, read_else, read_if, read_while, read_action, read_actions, read_block}
 use Rattle.model_lang.proofs.Fronts.{parts, apart, word_then, symbol_then, name_then, word_or, symbol_or, both_spelled, found_or}
 use Rattle.model_lang.proofs.SoundExpressions.{expression_at_front}
 use Rattle.model_lang.proofs.CompleteStatements.{BlockReader, guarded, block_then, else_then, list_of_block, block-list}

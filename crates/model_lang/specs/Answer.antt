@@ -1,5 +1,5 @@
 -- What the reading of a program answers.
-use Rattle.std.specs.Prelude.{◌≡◌, ◌≤◌, ℕ, List, [], ◌∷◌, Option, Some, None, Result, Ok, Err, Vec}
+use Rattle.std.specs.Prelude.{◌≡◌, ◌≤◌, ℕ, List, Option, Some, None, Result, Ok, Err, Vec}
 use Rattle.std.specs.Borrow.{Bor}
 use Rattle.std.specs.declared.alloc.Global.{Global}
 use Rattle.std.specs.declared.alloc.AllocError.{AllocError}
@@ -11,7 +11,7 @@ use Rattle.model_lang.specs.declared.fault.LangFault.{LangFault}
 use Rattle.model_lang.specs.declared.fault.LangFault.TheVariants.{Syntax, TooLarge, WantOfMemory}
 use Rattle.model_lang.specs.declared.fault.Stop.{Stop}
 use Rattle.model_lang.specs.declared.fault.Stop.TheVariants as stop
-use Rattle.model_lang.specs.Tree.{Name, ClassTree, ProgramTree, binary}
+use Rattle.model_lang.specs.Tree.{Name, ClassTree, binary}
 use Rattle.model_lang.specs.TreeView.{program_tree, expression_tree}
 use Rattle.model_lang.specs.Program.{IsSpelled, IsRead, ArePast, IsTooLarge, AreNoProgram, IsNoProgram}
 use Rattle.model_lang.specs.Reader.{Read}

@@ -84,8 +84,7 @@ fn whole(alloc: Global, text: &[u8], tokens: &[Token]) -> Result<Vec<Class>, Lan
 /// The grammar is unambiguous: tokens stand for one program, or for none.
 pub fn one_derivation()
     ensures { (tokens : List Held) (tree other : ProgramTree) → Derives tokens tree → Derives tokens other → tree ≡ other }
-{
-}
+{}
 
 /// A text is read as one tree, or as none.
 pub fn one_tree()
