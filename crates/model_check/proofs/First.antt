@@ -2,7 +2,7 @@
 use Rattle.std.proofs.Common.{◌≡◌, List, [], ◌∷◌, ◌++◌, Option, Some, None, refl, sym, ap, ◌∙◌, subst}
 use Rattle.std.specs.Prelude.{Result, Err}
 use Rattle.model_check.specs.declared.fault.CheckFault.{CheckFault}
-use Rattle.model_check.specs.declared.fault.CheckFault.TheVariants.{Twice, NoField, WantOfMemory}
+use Rattle.model_check.specs.declared.fault.CheckFault.TheVariants.{Twice, NoField, NotBuilt, WantOfMemory}
 use Rattle.model_check.specs.Answer.{Solves}
 use Rattle.model_check.specs.Faults.{first_of}
 
@@ -26,6 +26,7 @@ first_behind a b none = first_of-append a b ∙ ap (λ (f : Option CheckFault). 
 pub refused_behind : {A B : Type 0} (r : Result B CheckFault) (f : CheckFault) (a b : List CheckFault) (p : A → Type 0) (q : B → Type 0) → r ≡ Err f → first_of a ≡ None → Solves (Err f) b p → Solves r (a ++ b) q
 refused_behind {A} {B} r (Twice x) a b p q e none h = subst (λ (s : Result B CheckFault). Solves s (a ++ b) q) (sym e) (first_behind a b none ∙ h)
 refused_behind {A} {B} r (NoField x) a b p q e none h = subst (λ (s : Result B CheckFault). Solves s (a ++ b) q) (sym e) (first_behind a b none ∙ h)
+refused_behind {A} {B} r NotBuilt a b p q e none h = absurd h
 refused_behind {A} {B} r WantOfMemory a b p q e none h = subst (λ (s : Result B CheckFault). Solves s (a ++ b) q) (sym e) tt
 
 pub ruleset by_first = (first_of-append, first_of-three)

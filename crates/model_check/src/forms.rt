@@ -1,7 +1,7 @@
 //! The forms whose meaning is there.
 ghost use Rattle.std.specs.Prelude.{◌≡◌, ◌↔◌, IsTrue, map};
 ghost use Rattle.model_lang.specs.Tree.{root_name};
-ghost use Rattle.model_lang.specs.TreeView.{expression_tree, expression_trees, statement_tree, statement_trees, method_tree, program_tree};
+ghost use Rattle.model_lang.specs.TreeView.{expression_tree, expression_trees, statement_tree, statement_trees, method_tree, class_tree, program_tree};
 ghost use Rattle.model_check.specs.FirstForms.{IsFirstOperator, IsFirstExpression, AreFirstExpressions, IsFirstStatement, AreFirstStatements, AreFirstMethods, IsFirstProgram};
 
 use model_lang::{BinaryOp, Class, Expr, Method, Stmt};
@@ -11,9 +11,15 @@ pub fn is_first(classes: &[Class]) -> bool
     ensures { IsTrue result ↔ IsFirstProgram (program_tree classes.now) }
 {
     match classes {
-        [class] => is_root(class) && are_first_methods(&class.methods),
+        [class] => is_first_class(class),
         _ => false,
     }
+}
+
+fn is_first_class(class: &Class) -> bool
+    ensures { IsTrue result ↔ (class.now.name ≡ root_name) × AreFirstMethods (class_tree class.now).methods }
+{
+    is_root(class) && are_first_methods(&class.methods)
 }
 
 fn is_root(class: &Class) -> bool

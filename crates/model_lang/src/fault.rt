@@ -1,5 +1,5 @@
 //! Why a text is refused.
-ghost use Rattle.std.specs.Prelude.{◌≡◌, length};
+ghost use Rattle.std.specs.Prelude.{ℕ, ◌≡◌, length};
 
 use model_tokens::Token;
 use std::alloc::{AllocError, AllocFailed};
@@ -54,8 +54,12 @@ impl Stop {
     }
 
     /// The stop at the token before these.
-    pub fn before(tokens: &[Token]) -> Stop {
-        Stop::NoProgram { left: tokens.len().saturating_add(1) }
+    pub fn before(tokens: &[Token]) -> Stop
+        ensures { (left : ℕ) × (result ≡ Stop.NoProgram left) }
+    {
+        Stop::NoProgram {
+            left: tokens.len().saturating_add(1),
+        }
     }
 }
 

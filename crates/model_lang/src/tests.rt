@@ -39,9 +39,16 @@ fn programs_are_read(rt: HostRuntime) -> Result<(), Fail> {
         "class A{m(){this.future(1).m();a.future(b+c).m(d).future(e).n();let x=a.future(1).m();}}",
         "// a\nclass//\nA\t{\r\nfield a ; m ( b , c ) { this . a = 1 ; // {\n } } // b",
     ] {
-        assert_eq!(rt; told(rt.alloc(), text.as_bytes())?.as_str(), "read", "of {text:?}");
+        assert_eq!(rt;
+            told(rt.alloc(), text.as_bytes())?.as_str(),
+            "read",
+            "of {text:?}"
+        );
     }
-    assert_eq!(rt; told(rt.alloc(), b"//\xff\xfe\x00\nclass A{}//\xc3")?.as_str(), "read");
+    assert_eq!(rt;
+        told(rt.alloc(), b"//\xff\xfe\x00\nclass A{}//\xc3")?.as_str(),
+        "read"
+    );
     Ok(())
 }
 
@@ -62,7 +69,11 @@ fn places_of_tokens_that_no_program_goes_on_with(rt: HostRuntime) -> Result<(), 
         ("class A{m(a b){}}", "syntax 12"),
         ("class A{m()}", "syntax 11"),
     ] {
-        assert_eq!(rt; told(rt.alloc(), text.as_bytes())?.as_str(), place, "of {text:?}");
+        assert_eq!(rt;
+            told(rt.alloc(), text.as_bytes())?.as_str(),
+            place,
+            "of {text:?}"
+        );
     }
     Ok(())
 }
@@ -151,7 +162,13 @@ fn places_where_no_token_goes_on(rt: HostRuntime) -> Result<(), Fail> {
 }
 
 /// What the reading answers of a text with a piece so many times in it.
-fn of_many(alloc: Global, before: &str, piece: &str, times: u32, behind: &str) -> Result<String, Fail> {
+fn of_many(
+    alloc: Global,
+    before: &str,
+    piece: &str,
+    times: u32,
+    behind: &str,
+) -> Result<String, Fail> {
     let text = repeated(alloc, &[(before, 1), (piece, times), (behind, 1)])?;
     told(alloc, text.as_bytes())
 }
@@ -166,16 +183,40 @@ fn lists_are_bounded(rt: HostRuntime) -> Result<(), Fail> {
         ("class A{m(){}n(p", ",p", 15, "){}}", "Parameters 17"),
         ("class A{m(){a.m(1", ",1", 15, ");}}", "Parameters 17"),
         ("class A{m(){f([a.m(1", ",1", 15, ")]);}}", "Parameters 17"),
-        ("class A{m(){if(1){}else{this.future(0).m(1", ",1", 15, ");}}}", "Parameters 17"),
+        (
+            "class A{m(){if(1){}else{this.future(0).m(1",
+            ",1",
+            15,
+            ");}}}",
+            "Parameters 17",
+        ),
         ("class A{field ", "a", 64, ";}", "syntax 14"),
         ("class A{}", " ", 65527, "", "Bytes 65537"),
     ] {
         let alloc = rt.alloc();
-        assert_eq!(rt; of_many(alloc, before, piece, most, behind)?.as_str(), "read", "of {most} {piece:?}");
-        assert_eq!(rt; of_many(alloc, before, piece, most + 1, behind)?.as_str(), over, "of {most} {piece:?} and one");
+        assert_eq!(rt;
+            of_many(alloc, before, piece, most, behind)?.as_str(),
+            "read",
+            "of {most} {piece:?}"
+        );
+        assert_eq!(rt;
+            of_many(alloc, before, piece, most + 1, behind)?.as_str(),
+            over,
+            "of {most} {piece:?} and one"
+        );
     }
     let alloc = rt.alloc();
-    assert_eq!(rt; of_many(alloc, "class A{m(){[1", ",1", 300, "];f(1,1,1,1,1,1,1,1,1,1,1,1,1,1,1,1,1,1);}}")?.as_str(), "read");
+    assert_eq!(rt;
+        of_many(
+            alloc,
+            "class A{m(){[1",
+            ",1",
+            300,
+            "];f(1,1,1,1,1,1,1,1,1,1,1,1,1,1,1,1,1,1);}}"
+        )?
+        .as_str(),
+        "read"
+    );
     Ok(())
 }
 
@@ -183,11 +224,37 @@ fn lists_are_bounded(rt: HostRuntime) -> Result<(), Fail> {
 fn brackets_and_operators_are_bounded(rt: HostRuntime) -> Result<(), Fail> {
     let alloc = rt.alloc();
     for (opened, wanted) in [(30, "read"), (31, "Brackets 33"), (20000, "Brackets 33")] {
-        let round = repeated(alloc, &[("class A{m(){", 1), ("(", opened), ("1", 1), (")", opened), (";}}", 1)])?;
-        assert_eq!(rt; told(alloc, round.as_bytes())?.as_str(), wanted, "of {opened}");
-        let blocks = repeated(alloc, &[("class A{m(){", 1), ("if(1){", opened - 1), ("[1];", 1), ("}", opened - 1), ("}}", 1)])?;
+        let round = repeated(
+            alloc,
+            &[
+                ("class A{m(){", 1),
+                ("(", opened),
+                ("1", 1),
+                (")", opened),
+                (";}}", 1),
+            ],
+        )?;
+        assert_eq!(rt;
+            told(alloc, round.as_bytes())?.as_str(),
+            wanted,
+            "of {opened}"
+        );
+        let blocks = repeated(
+            alloc,
+            &[
+                ("class A{m(){", 1),
+                ("if(1){", opened - 1),
+                ("[1];", 1),
+                ("}", opened - 1),
+                ("}}", 1),
+            ],
+        )?;
         if opened < 1000 {
-            assert_eq!(rt; told(alloc, blocks.as_bytes())?.as_str(), wanted, "of {opened}");
+            assert_eq!(rt;
+                told(alloc, blocks.as_bytes())?.as_str(),
+                wanted,
+                "of {opened}"
+            );
         }
     }
     for (before, piece, most, behind) in [
@@ -199,15 +266,28 @@ fn brackets_and_operators_are_bounded(rt: HostRuntime) -> Result<(), Fail> {
         ("class A{m(){1+(1", "+1", 31, ");}}"),
         ("class A{m(){1+1;if(1", "+1", 32, "){-1;}}}"),
     ] {
-        assert_eq!(rt; of_many(alloc, before, piece, most, behind)?.as_str(), "read", "of {most} in {before:?}");
-        assert_eq!(rt; of_many(alloc, before, piece, most + 1, behind)?.as_str(), "Operators 33", "of {most} and one in {before:?}");
+        assert_eq!(rt;
+            of_many(alloc, before, piece, most, behind)?.as_str(),
+            "read",
+            "of {most} in {before:?}"
+        );
+        assert_eq!(rt;
+            of_many(alloc, before, piece, most + 1, behind)?.as_str(),
+            "Operators 33",
+            "of {most} and one in {before:?}"
+        );
     }
     Ok(())
 }
 
+/// What the reading of pieces answers, one behind another.
+fn of_pieces(alloc: Global, pieces: &[(&str, u32)]) -> Result<String, Fail> {
+    let text = repeated(alloc, pieces)?;
+    told(alloc, text.as_bytes())
+}
+
 #[test]
 fn refusals_come_in_their_order(rt: HostRuntime) -> Result<(), Fail> {
-    let alloc = rt.alloc();
     for (pieces, wanted) in [
         ([("(", 65537), ("#", 0), ("", 0)], "Bytes 65537"),
         ([("(", 65535), ("#", 1), ("", 0)], "syntax 65535"),
@@ -216,14 +296,65 @@ fn refusals_come_in_their_order(rt: HostRuntime) -> Result<(), Fail> {
         ([("-", 40), ("[", 33), ("", 0)], "Brackets 33"),
         ([("(])", 33), ("{", 32), ("-", 32)], "syntax 0"),
         ([("class A{}", 257), ("x", 1), ("", 0)], "syntax 2313"),
-        ([("class A{}", 256), ("class A{", 1), ("field a;", 257)], "syntax 4368"),
-        ([("class A{m(a,b,c,d,e,f,g,h,i,j,k,l,m,n,o,p,q){}}", 1), ("class A{}", 256), ("", 0)], "Classes 257"),
-        ([("class A{m(a,b,c,d,e,f,g,h,i,j,k,l,m,n,o,p,q){", 1), ("a.m(1,1,1,1,1,1,1,1,1,1,1,1,1,1,1,1,1,1);", 1), ("}}", 1)], "Parameters 17"),
-        ([("class A{m(){", 1), ("a.m(1,1,1,1,1,1,1,1,1,1,1,1,1,1,1,1,1,b.m(1,1,1,1,1,1,1,1,1,1,1,1,1,1,1,1,1));", 1), ("}}", 1)], "Parameters 18"),
-        ([("class A{m(){", 1), ("b.m(1,1,1,1,1,1,1,1,1,1,1,1,1,1,1,1,1).n(1,1,1,1,1,1,1,1,1,1,1,1,1,1,1,1,1,1);", 1), ("}}", 1)], "Parameters 17"),
+        (
+            [("class A{}", 256), ("class A{", 1), ("field a;", 257)],
+            "syntax 4368",
+        ),
     ] {
-        let text = repeated(alloc, &pieces)?;
-        assert_eq!(rt; told(alloc, text.as_bytes())?.as_str(), wanted, "of {pieces:?}");
+        assert_eq!(rt;
+            of_pieces(rt.alloc(), &pieces)?.as_str(),
+            wanted,
+            "of {pieces:?}"
+        );
+    }
+    Ok(())
+}
+
+#[test]
+fn the_first_list_that_is_too_long_is_told(rt: HostRuntime) -> Result<(), Fail> {
+    for (pieces, wanted) in [
+        (
+            [
+                ("class A{m(p", 1),
+                (",p", 17),
+                ("){}}", 1),
+                ("class A{}", 256),
+            ],
+            "Classes 257",
+        ),
+        (
+            [
+                ("class A{m(p", 1),
+                (",p", 16),
+                ("){a.m(1,1,1,1,1,1,1,1,1,1,1,1,1,1,1,1,1,1);", 1),
+                ("}}", 1),
+            ],
+            "Parameters 17",
+        ),
+        (
+            [
+                ("class A{m(){a.m(1", 1),
+                (",1", 16),
+                (",b.m(1,1,1,1,1,1,1,1,1,1,1,1,1,1,1,1,1)", 1),
+                (");}}", 1),
+            ],
+            "Parameters 18",
+        ),
+        (
+            [
+                ("class A{m(){b.m(1", 1),
+                (",1", 16),
+                (").n(1,1,1,1,1,1,1,1,1,1,1,1,1,1,1,1,1,1)", 1),
+                (";}}", 1),
+            ],
+            "Parameters 17",
+        ),
+    ] {
+        assert_eq!(rt;
+            of_pieces(rt.alloc(), &pieces)?.as_str(),
+            wanted,
+            "of {pieces:?}"
+        );
     }
     Ok(())
 }

@@ -121,7 +121,11 @@ fn literal_fault(text: &[u8]) -> Option<usize> {
     }
     match from(text, length).split_first() {
         Some((b'"', _)) => None,
-        Some((b'\\', behind)) => Some(escape_fault(behind).saturating_add(length).saturating_add(1)),
+        Some((b'\\', behind)) => Some(
+            escape_fault(behind)
+                .saturating_add(length)
+                .saturating_add(1),
+        ),
         _ => Some(length),
     }
 }
