@@ -34,10 +34,10 @@ some_tree tree log text none =
     let never : ¬ IsFirstProgram tree = λ first. some_check (first_fault tree) log text (λ verdict checked. none verdict (inr (first, checked))) in
     none (BadProgram NotBuilt) (inl (never, refl))
 
-some_reading : (reading : Reading) (name : List ℕ) (time : ℕ) (log : Content) (bytes : List ℕ) → ¬ IsNone (λ verdict. OfReading reading (λ tree. LogComes log (replay_text name time bytes tree) verdict) verdict)
-some_reading (a_program tree) name time log bytes none = some_tree tree log (replay_text name time bytes tree) none
-some_reading no_program name time log bytes none = none (BadProgram NoProgram) refl
-some_reading (too_large what count) name time log bytes none = none (BadProgram (TooLarge what count)) refl
+some_reading : (most : ℕ) (reading : Reading) (name : List ℕ) (time : ℕ) (log : Content) (bytes : List ℕ) → ¬ IsNone (λ verdict. OfReading most reading (λ tree. LogComes log (replay_text name time bytes tree) verdict) verdict)
+some_reading most (a_program tree) name time log bytes none = some_tree tree log (replay_text name time bytes tree) none
+some_reading most no_program name time log bytes none = none (BadProgram (NoProgram most)) refl
+some_reading most (too_large what count) name time log bytes none = none (BadProgram (TooLarge what count)) refl
 
 -- of each text something comes: what `model_lang::one_reading` says
 abbrev pub IsSomeReading : Type 0
@@ -45,7 +45,7 @@ IsSomeReading = (text : List ℕ) → ¬ ((reading : Reading) → ¬ IsReading t
 
 some_read : IsSomeReading → (name : List ℕ) (time : ℕ) (log : Content) (bytes : List ℕ) → length bytes ≤ program_limit → ¬ IsNone (λ verdict. OfProgram bytes (λ tree. LogComes log (replay_text name time bytes tree) verdict) verdict)
 some_read always name time log bytes within none =
-    always bytes (λ reading read. some_reading reading name time log bytes (λ verdict comes. none verdict (inr (within, (reading, read, comes)))))
+    always bytes (λ reading read. some_reading (length bytes) reading name time log bytes (λ verdict comes. none verdict (inr (within, (reading, read, comes)))))
 
 some_program : IsSomeReading → (name : List ℕ) (time : ℕ) (log : Content) (bytes : List ℕ) (b : Bool) → nat_le (length bytes) program_limit ≡ b → ¬ IsNone (λ verdict. OfProgram bytes (λ tree. LogComes log (replay_text name time bytes tree) verdict) verdict)
 some_program always name time log bytes true is none = let within : length bytes ≤ program_limit = grind (arith, nat_tests) in some_read always name time log bytes within none

@@ -6,7 +6,8 @@ use Rattle.session_log.specs.Spelling.{log_spelling}
 use Rattle.model_lang.specs.Tree.{ProgramTree}
 use Rattle.model_lang.specs.declared.fault.LangFault.{LangFault}
 use Rattle.model_lang.specs.declared.fault.LangFault.TheVariants as lang
-use Rattle.model_lang.specs.Answer.{Parses}
+use Rattle.model_lang.specs.declared.tree.Class.{Class}
+use Rattle.model_lang.specs.Answer.{Parses, IsPlaced}
 use Rattle.model_lang.specs.Program.{Reading, a_program, no_program, too_large, IsReading}
 use Rattle.model_check.specs.FirstForms.{IsFirstProgram}
 use Rattle.model_check.specs.declared.fault.CheckFault.{CheckFault}
@@ -23,8 +24,8 @@ use Rattle.croquet_main.specs.declared.status.Fault.TheVariants.{Usage, Program,
 use Rattle.croquet_main.specs.declared.status.Input.{Input as InputName}
 use Rattle.croquet_main.specs.declared.status.Input.TheVariants as input
 use Rattle.croquet_main.specs.PrintedText.{check_line}
-use Rattle.croquet_main.specs.Verdict.{Verdict, Refusal, NoProgram, TooLarge, NotBuilt, Faulty, IsLineOf, OfTree, OfReading, BadWords, Unreadable, BadProgram, BadInput, Unknown, Done, AreKept, HasGoodWords, IsInputLog, IsProgramLine, IsNotDone, LogComes, MayBeBad, MayBeDone, MayBeRead, MayBeRefused, OfCheck, OfLog, OfProgram, OfText, PutsFiles, ReplayComes, has_event, log_limit, program_limit, replay_text}
-use Rattle.croquet_main.specs.Ends.{AskedFor, AskedTo, IsDoneWith, IsLonger, IsReadingFault, IsReadLog, IsRefused, IsRefusedFor, IsUnread, LogEnd, ProgramEnd, IsSinkFault, IsSoundProgram, LeavesBefore, MayEnd, ReadEnd, WorkEnd, WritesBefore}
+use Rattle.croquet_main.specs.Verdict.{Verdict, Refusal, NoProgram, TooLarge, NotBuilt, Faulty, IsLineOf, IsRefused, IsRefusedFor, OfTree, OfReading, BadWords, Unreadable, BadProgram, BadInput, Unknown, Done, AreKept, HasGoodWords, IsInputLog, IsProgramLine, IsNotDone, LogComes, MayBeBad, MayBeDone, MayBeRead, MayBeRefused, OfCheck, OfLog, OfProgram, OfText, PutsFiles, ReplayComes, has_event, log_limit, program_limit, replay_text}
+use Rattle.croquet_main.specs.Ends.{AskedFor, AskedTo, IsDoneWith, IsLonger, IsReadingFault, IsReadLog, IsUnread, LogEnd, ProgramEnd, IsSinkFault, IsSoundProgram, LeavesBefore, MayEnd, ReadEnd, WorkEnd, WritesBefore}
 use Rattle.croquet_main.proofs.StampLaws.{grown-append}
 
 -- one thing comes of a text: what `model_lang::one_reading` says
@@ -52,7 +53,7 @@ of_tree tree next verdict built sound (inr (first, checked)) = of_check (first_f
 of_bytes : IsOneReading → (name : List ℕ) (time : ℕ) (log : Content) (bytes : List ℕ) (tree : ProgramTree) (verdict : Verdict) → length bytes ≤ program_limit → IsSoundProgram bytes tree → ProgramComes name time log bytes verdict → ComesAfter name time log bytes tree verdict
 of_bytes one name time log bytes tree verdict within sound (inl (long, is)) = absurd (omega (arith, within, long))
 of_bytes one name time log bytes tree verdict within sound (inr (short, (reading, read, comes))) =
-    let P : Reading → Type 0 = λ r. OfReading r (λ tree. LogComes log (replay_text name time bytes tree) verdict) verdict in
+    let P : Reading → Type 0 = λ r. OfReading (length bytes) r (λ tree. LogComes log (replay_text name time bytes tree) verdict) verdict in
     inr (of_tree tree _ verdict sound.built sound.sound (subst P (sym (one bytes (a_program tree) reading sound.read read)) comes))
 
 -- where a program was read
@@ -88,17 +89,17 @@ read_tree : (tree : ProgramTree) (log : Content) (text : List Entry → List ℕ
 read_tree tree log text verdict (inl (not, is)) = rw is refl
 read_tree tree log text verdict (inr (first, checked)) = read_check (first_fault tree) log text verdict checked
 
-read_reading : (reading : Reading) (name : List ℕ) (time : ℕ) (log : Content) (bytes : List ℕ) (verdict : Verdict) → OfReading reading (λ tree. LogComes log (replay_text name time bytes tree) verdict) verdict → MayBeRead input.Program verdict
-read_reading (a_program tree) name time log bytes verdict comes = read_tree tree log (replay_text name time bytes tree) verdict comes
-read_reading no_program name time log bytes verdict comes = rw comes refl
-read_reading (too_large what count) name time log bytes verdict comes = rw comes refl
+read_reading : (most : ℕ) (reading : Reading) (name : List ℕ) (time : ℕ) (log : Content) (bytes : List ℕ) (verdict : Verdict) → OfReading most reading (λ tree. LogComes log (replay_text name time bytes tree) verdict) verdict → MayBeRead input.Program verdict
+read_reading most (a_program tree) name time log bytes verdict comes = read_tree tree log (replay_text name time bytes tree) verdict comes
+read_reading most no_program name time log bytes verdict comes = rw comes refl
+read_reading most (too_large what count) name time log bytes verdict comes = rw comes refl
 
 -- the read of a program may fail
 pub program_read : (name : List ℕ) (time : ℕ) (content log : Content) (verdict : Verdict) → ReplayComes name time content log verdict → MayBeRead input.Program verdict
 program_read name time Untold log verdict comes = rw comes tt
 program_read name time Absent log verdict comes = rw comes refl
 program_read name time (Known bytes) log verdict (inl (long, is)) = rw is refl
-program_read name time (Known bytes) log verdict (inr (short, (reading, read, comes))) = read_reading reading name time log bytes verdict comes
+program_read name time (Known bytes) log verdict (inr (short, (reading, read, comes))) = read_reading (length bytes) reading name time log bytes verdict comes
 
 pub log_read : (name : List ℕ) (time : ℕ) (log : Content) (bytes : List ℕ) (tree : ProgramTree) (verdict : Verdict) → ComesAfter name time log bytes tree verdict → MayBeRead input.Log verdict
 log_read name time log bytes tree verdict (inl is) = rw is tt
@@ -128,34 +129,34 @@ unbuilt_tree tree next line verdict never told (inl (not, is)) = rw is told
 unbuilt_tree tree next line verdict never told (inr (first, checked)) = absurd (never first)
 
 -- of bytes that are refused another thing comes than what the reading of a program leads to
-refused_reading : IsOneReading → (bytes line : List ℕ) (next : ProgramTree → Type 0) (verdict : Verdict) (refusal : Refusal) → IsRefusedFor bytes refusal → IsLineOf refusal line → (reading : Reading) → IsReading bytes reading → OfReading reading next verdict → MayBeRefused line verdict
-refused_reading one bytes line next verdict NoProgram none told reading read comes =
-    let is : verdict ≡ BadProgram NoProgram = subst (λ r. OfReading r next verdict) (sym (one bytes no_program reading none read)) comes in
-    rw is told
+refused_reading : IsOneReading → (bytes line : List ℕ) (next : ProgramTree → Type 0) (verdict : Verdict) (refusal : Refusal) → IsRefusedFor bytes refusal → IsLineOf refusal line → (reading : Reading) → IsReading bytes reading → OfReading (length bytes) reading next verdict → MayBeRefused line verdict
+refused_reading one bytes line next verdict (NoProgram most) (long, none) told reading read comes =
+    let is : verdict ≡ BadProgram (NoProgram (length bytes)) = subst (λ r. OfReading (length bytes) r next verdict) (sym (one bytes no_program reading none read)) comes in
+    rw is (rw long at told)
 refused_reading one bytes line next verdict (TooLarge what count) many told reading read comes =
-    let is : verdict ≡ BadProgram (TooLarge what count) = subst (λ r. OfReading r next verdict) (sym (one bytes (too_large what count) reading many read)) comes in
+    let is : verdict ≡ BadProgram (TooLarge what count) = subst (λ r. OfReading (length bytes) r next verdict) (sym (one bytes (too_large what count) reading many read)) comes in
     rw is told
 refused_reading one bytes line next verdict NotBuilt (tree, is_read, never) told reading read comes =
-    unbuilt_tree tree (next tree) line verdict never told (subst (λ r. OfReading r next verdict) (sym (one bytes (a_program tree) reading is_read read)) comes)
+    unbuilt_tree tree (next tree) line verdict never told (subst (λ r. OfReading (length bytes) r next verdict) (sym (one bytes (a_program tree) reading is_read read)) comes)
 refused_reading one bytes line next verdict (Faulty fault) (tree, is_read, first, found) told reading read comes =
-    refused_tree tree (next tree) line fault verdict first found told (subst (λ r. OfReading r next verdict) (sym (one bytes (a_program tree) reading is_read read)) comes)
+    refused_tree tree (next tree) line fault verdict first found told (subst (λ r. OfReading (length bytes) r next verdict) (sym (one bytes (a_program tree) reading is_read read)) comes)
 
 refused_bytes : IsOneReading → (name : List ℕ) (time : ℕ) (log : Content) (bytes line : List ℕ) (verdict : Verdict) → length bytes ≤ program_limit → IsRefused bytes line → ProgramComes name time log bytes verdict → MayBeRefused line verdict
 refused_bytes one name time log bytes line verdict within refused (inl (long, is)) = absurd (omega (arith, within, long))
 refused_bytes one name time log bytes line verdict within (refusal, is_refused, told) (inr (short, (reading, read, comes))) =
     refused_reading one bytes line (λ tree. LogComes log (replay_text name time bytes tree) verdict) verdict refusal is_refused told reading read comes
 
-line_of_refused : (bytes line : List ℕ) → IsRefused bytes line → IsProgramLine line
-line_of_refused bytes line (refusal, is_refused, told) = (refusal, told)
+line_of_refused : (bytes line : List ℕ) → length bytes ≤ program_limit → IsRefused bytes line → IsProgramLine line
+line_of_refused bytes line within refused = (bytes, within, refused)
 
 -- a text that is not read
-pub refused_unread : (bytes : List ℕ) (lang_fault : LangFault) (fault : Fault) → Parses (Err lang_fault) bytes → IsUnread lang_fault fault → ProgramEnd (Err fault) bytes
-refused_unread bytes (lang.Syntax at) fault none is = rw is (NoProgram, none, (at, refl))
-refused_unread bytes (lang.TooLarge what count) fault many is = rw is (TooLarge what count, many, refl)
-refused_unread bytes lang.WantOfMemory fault parsed is = rw is tt
+pub refused_unread : (bytes : List ℕ) (lang_fault : LangFault) (fault : Fault) → Parses (Err lang_fault) bytes → IsPlaced {A = List Class} (Err lang_fault) (length bytes) → IsUnread lang_fault fault → ProgramEnd (Err fault) bytes
+refused_unread bytes (lang.Syntax at) fault none placed is = rw is (NoProgram (length bytes), (refl, none), (at, placed, refl))
+refused_unread bytes (lang.TooLarge what count) fault many placed is = rw is (TooLarge what count, many, refl)
+refused_unread bytes lang.WantOfMemory fault parsed placed is = rw is tt
 
 pub refused_program : IsOneReading → (name : List ℕ) (time : ℕ) (content log : Content) (bytes line : List ℕ) (verdict : Verdict) → MayBe content bytes → length bytes ≤ program_limit → IsRefused bytes line → ReplayComes name time content log verdict → MayBeRefused line verdict
-refused_program one name time Untold log bytes line verdict held within refused comes = rw comes ((0, omega arith, refl), line_of_refused bytes line refused)
+refused_program one name time Untold log bytes line verdict held within refused comes = rw comes ((0, omega arith, refl), line_of_refused bytes line within refused)
 refused_program one name time Absent log bytes line verdict held within refused comes = absurd held
 refused_program one name time (Known told) log bytes line verdict held within refused comes =
     let P : List ℕ → Type 0 = λ b. ProgramComes name time log b verdict in

@@ -16,7 +16,7 @@ use Rattle.model_lang.specs.Tree.{ProgramTree}
 use Rattle.model_lang.specs.TreeView.{program_tree}
 use Rattle.model_lang.specs.declared.fault.LangFault.{LangFault}
 use Rattle.model_lang.specs.declared.fault.LangFault.TheVariants as lang
-use Rattle.model_lang.specs.Program.{IsRead, IsNoProgram, IsTooLarge}
+use Rattle.model_lang.specs.Program.{IsRead}
 use Rattle.model_check.specs.FirstForms.{IsFirstProgram}
 use Rattle.croquet_main.specs.PrintedText.{syntax_line, too_large_line}
 use Rattle.model_check.specs.Faults.{first_fault}
@@ -27,7 +27,7 @@ use Rattle.croquet_main.specs.declared.status.Status.{Status}
 use Rattle.croquet_main.specs.declared.status.Status.TheVariants.{WriteFault, WantOfMemory}
 use Rattle.croquet_main.specs.declared.status.Status.TheVariants as status
 use Rattle.croquet_main.specs.declared.status.Input.TheVariants as input_name
-use Rattle.croquet_main.specs.Verdict.{Verdict, Refusal, NoProgram, TooLarge, NotBuilt, Faulty, IsLineOf, BadWords, Unreadable, BadProgram, BadInput, Unknown, Done, Comes, MayBeRefused, MayBeRead, IsInputLog, has_event, reads_in, reads_to, MayBeDone, MayBeBad, HasBadWords, HasGoodWords, AreKept, IsNonEmpty, IsNotDone, OfText, PutsFiles, usage_line, input_line, read_line, write_line, memory_line}
+use Rattle.croquet_main.specs.Verdict.{Verdict, IsRefused, BadWords, Unreadable, BadProgram, BadInput, Unknown, Done, Comes, MayBeRefused, MayBeRead, IsInputLog, has_event, reads_in, reads_to, MayBeDone, MayBeBad, HasBadWords, HasGoodWords, AreKept, IsNonEmpty, IsNotDone, OfText, PutsFiles, usage_line, input_line, read_line, write_line, memory_line}
 
 -- what stands there is longer
 abbrev pub IsLonger : Content → ℕ → Type 0
@@ -173,17 +173,6 @@ pub record IsSoundProgram (bytes : List ℕ) (tree : ProgramTree) : Type 0 where
   pub read : IsRead bytes tree
   pub built : IsFirstProgram tree
   pub sound : first_fault tree ≡ None
-
--- these bytes are refused for this
-abbrev pub IsRefusedFor : List ℕ → Refusal → Type 0
-IsRefusedFor bytes NoProgram = IsNoProgram bytes
-IsRefusedFor bytes (TooLarge what count) = IsTooLarge what count bytes
-IsRefusedFor bytes NotBuilt = (tree : ProgramTree) × IsRead bytes tree × ¬ IsFirstProgram tree
-IsRefusedFor bytes (Faulty fault) = (tree : ProgramTree) × IsRead bytes tree × IsFirstProgram tree × (first_fault tree ≡ Some fault)
-
--- these bytes are refused, and this is the line of it
-abbrev pub IsRefused : List ℕ → List ℕ → Type 0
-IsRefused bytes line = (refusal : Refusal) × IsRefusedFor bytes refusal × IsLineOf refusal line
 
 -- how a text is told that is not read
 abbrev pub IsUnread : LangFault → Fault → Type 0

@@ -24,7 +24,7 @@ use Rattle.sha2.specs.Sha256.{sha256}
 use Rattle.model_value.specs.Spelling.{text_field}
 use Rattle.model_lang.specs.Tree.{ProgramTree}
 use Rattle.model_lang.specs.declared.fault.Bound.{Bound}
-use Rattle.model_lang.specs.Program.{Reading, a_program, no_program, too_large, IsReading}
+use Rattle.model_lang.specs.Program.{IsRead, IsNoProgram, IsTooLarge, Reading, a_program, no_program, too_large, IsReading}
 use Rattle.model_check.specs.declared.fault.CheckFault.{CheckFault}
 use Rattle.model_check.specs.FirstForms.{IsFirstProgram}
 use Rattle.model_check.specs.Faults.{first_fault}
@@ -32,14 +32,15 @@ use Rattle.world.specs.Worlds.{replay}
 
 -- why a program is refused
 pub data Refusal : Type 0 where
-  NoProgram : Refusal
+  -- of a text with so many bytes
+  NoProgram : ℕ → Refusal
   TooLarge : Bound → ℕ → Refusal
   NotBuilt : Refusal
   Faulty : CheckFault → Refusal
 
--- the line that tells it; of a text that is no program it tells some place
+-- the line that tells it; of a text that is no program it tells a place in it, or its end
 abbrev pub IsLineOf : Refusal → List ℕ → Type 0
-IsLineOf NoProgram line = (at : ℕ) × (line ≡ syntax_line at)
+IsLineOf (NoProgram most) line = (at : ℕ) × (at ≤ most) × (line ≡ syntax_line at)
 IsLineOf (TooLarge what count) line = line ≡ too_large_line what count
 IsLineOf NotBuilt line = line ≡ not_built_line
 IsLineOf (Faulty fault) line = line ≡ check_line fault
@@ -138,16 +139,16 @@ OfTree tree next verdict =
     ((¬ IsFirstProgram tree) × (verdict ≡ BadProgram NotBuilt))
     ⊎ (IsFirstProgram tree × OfCheck (first_fault tree) next verdict)
 
-abbrev pub OfReading : Reading → (ProgramTree → Type 0) → Verdict → Type 0
-OfReading (a_program tree) next verdict = OfTree tree (next tree) verdict
-OfReading no_program next verdict = verdict ≡ BadProgram NoProgram
-OfReading (too_large what count) next verdict = verdict ≡ BadProgram (TooLarge what count)
+abbrev pub OfReading : ℕ → Reading → (ProgramTree → Type 0) → Verdict → Type 0
+OfReading most (a_program tree) next verdict = OfTree tree (next tree) verdict
+OfReading most no_program next verdict = verdict ≡ BadProgram (NoProgram most)
+OfReading most (too_large what count) next verdict = verdict ≡ BadProgram (TooLarge what count)
 
 -- what comes of a program's bytes: they are above the file's limit, or they are read
 abbrev pub OfProgram : List ℕ → (ProgramTree → Type 0) → Verdict → Type 0
 OfProgram bytes next verdict =
     ((program_limit < length bytes) × (verdict ≡ BadInput Program))
-    ⊎ ((length bytes ≤ program_limit) × ((reading : Reading) × IsReading bytes reading × OfReading reading next verdict))
+    ⊎ ((length bytes ≤ program_limit) × ((reading : Reading) × IsReading bytes reading × OfReading (length bytes) reading next verdict))
 
 -- what comes of a replay where a program and a log are read, one after the other
 abbrev pub ReplayComes : List ℕ → ℕ → Content → Content → Verdict → Type 0
@@ -222,9 +223,20 @@ MayBeDone (Done text files) = ⊤
 MayBeDone (Unknown inputs) = ⊤
 MayBeDone verdict = ⊥
 
--- the line of some refusal of a program
+-- these bytes are refused for this
+abbrev pub IsRefusedFor : List ℕ → Refusal → Type 0
+IsRefusedFor bytes (NoProgram most) = (most ≡ length bytes) × IsNoProgram bytes
+IsRefusedFor bytes (TooLarge what count) = IsTooLarge what count bytes
+IsRefusedFor bytes NotBuilt = (tree : ProgramTree) × IsRead bytes tree × ¬ IsFirstProgram tree
+IsRefusedFor bytes (Faulty fault) = (tree : ProgramTree) × IsRead bytes tree × IsFirstProgram tree × (first_fault tree ≡ Some fault)
+
+-- these bytes are refused, and this is the line of it
+abbrev pub IsRefused : List ℕ → List ℕ → Type 0
+IsRefused bytes line = (refusal : Refusal) × IsRefusedFor bytes refusal × IsLineOf refusal line
+
+-- the line of some bytes that are refused as a program
 abbrev pub IsProgramLine : List ℕ → Type 0
-IsProgramLine line = (refusal : Refusal) × IsLineOf refusal line
+IsProgramLine line = (bytes : List ℕ) × (length bytes ≤ program_limit) × IsRefused bytes line
 
 abbrev pub HasBadWords : Verdict → Type 0
 HasBadWords BadWords = ⊤

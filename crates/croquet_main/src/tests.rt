@@ -355,31 +355,42 @@ fn a_world_that_never_rests_is_printed(rt: HostRuntime) -> Result<(), Fail> {
 }
 
 #[test]
+fn a_program_may_be_refused(rt: HostRuntime) -> Result<(), Fail> {
+    let alloc = rt.alloc();
+    for (program, text) in [
+        ("class Root{init(o){this.x=1;}}", "no-field x\n"),
+        ("class Root{field x;field x;}", "twice x\n"),
+        ("class Root{m(){a&b;}}", "syntax 17\n"),
+        ("class Root{m(){return 1 2;}}", "syntax 24\n"),
+        ("class A{}", "not-built\n"),
+        ("class Root{m(){while(1){}}}", "not-built\n"),
+        (
+            "class Root{m(){(((((((((((((((((((((((((((((((1",
+            "too-large brackets 33\n",
+        ),
+        (
+            "class Root{m(a,a,a,a,a,a,a,a,a,a,a,a,a,a,a,a,a){}}",
+            "too-large parameters 17\n",
+        ),
+    ] {
+        let (status, written) = replayed(
+            alloc,
+            program.as_bytes(),
+            WITH_EVENT,
+            ("a", "0"),
+            (3, 0),
+        )?;
+        assert_eq!(rt; written.as_str(), text, "of {program}");
+        assert_eq!(rt; status, Status::Program);
+    }
+    Ok(())
+}
+
+#[test]
 fn what_a_replay_reads_may_be_at_fault(rt: HostRuntime) -> Result<(), Fail> {
     let alloc = rt.alloc();
     let long = vec![in alloc; b' '; 65537]?;
     for (program, log, fail, status, text) in [
-        (
-            "class Root{init(o){this.x=1;}}".as_bytes(),
-            NO_ENTRIES,
-            (0, 0),
-            Status::Program,
-            "no-field x\n",
-        ),
-        (
-            "class Root{field x;field x;}".as_bytes(),
-            WITH_EVENT,
-            (0, 0),
-            Status::Program,
-            "twice x\n",
-        ),
-        (
-            "class A{}".as_bytes(),
-            WITH_EVENT,
-            (3, 0),
-            Status::Program,
-            "syntax 0\n",
-        ),
         (
             long.as_slice(),
             WITH_EVENT,

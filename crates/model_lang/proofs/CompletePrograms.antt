@@ -1,12 +1,12 @@
 -- The reader reads whatever the grammar spells: methods, classes and whole programs.
-use Rattle.std.proofs.Common.{◌≡◌, ℕ, zero, suc, ◌+◌, ◌<◌, ◌≤◌, List, [], ◌∷◌, ◌++◌, length, map, Option, Some, None, refl, sym, ap, ◌∙◌, arith, append_assoc, append-nil, length-append}
+use Rattle.std.proofs.Common.{◌≡◌, ℕ, zero, suc, ◌<◌, ◌≤◌, List, [], ◌∷◌, ◌++◌, length, map, Some, None, refl, sym, ap, ◌∙◌, arith, append_assoc, append-nil, length-append}
 use Rattle.model_tokens.specs.declared.token.Token.{Token}
-use Rattle.model_tokens.specs.declared.token.Token.TheVariants.{Name as name, ClassName as class_name, Word as word, Symbol as symbol}
+use Rattle.model_tokens.specs.declared.token.Token.TheVariants.{Name as name, Symbol as symbol}
 use Rattle.model_tokens.specs.declared.token.Word.TheVariants as w
 use Rattle.model_tokens.specs.declared.token.Symbol.TheVariants as s
 use Rattle.model_lang.specs.Tree.{Name, Statement, statements_of, MethodTree, ClassTree}
 use Rattle.model_lang.specs.Grammar.{Block, BlockStands, MethodForm, ClassForm, MethodsStand, ClassesStand, in_braces, spelled_block, spelled_further, spelled_params, spelled_method, spelled_methods, spelled_fields, spelled_class, spelled_classes, trees_of_block, tree_of_method, tree_of_class}
-use Rattle.model_lang.specs.Reader.{Read, reading, behind, either_way, after_word, after_symbol, name_at, read_block, read_further, read_params, read_body, read_method, read_fields, read_methods, read_members, read_class, read_classes, read_program}
+use Rattle.model_lang.specs.Reader.{Read, reading, behind, either_way, after_word, after_symbol, name_at, read_further, read_params, read_body, read_method, read_fields, read_methods, read_members, read_class, read_classes, read_program}
 use Rattle.model_lang.proofs.CompleteStatements.{braces_then, block-list, block_read}
 
 -- ---- methods

@@ -1,13 +1,13 @@
 -- The reader reads whatever the grammar spells: statements and blocks.
-use Rattle.std.proofs.Common.{◌≡◌, ℕ, zero, suc, ◌+◌, ◌<◌, ◌≤◌, List, [], ◌∷◌, ◌++◌, length, Option, Some, None, refl, sym, ap, ◌∙◌, arith, append_assoc, append-nil, length-append}
+use Rattle.std.proofs.Common.{◌≡◌, ℕ, zero, suc, ◌+◌, ◌<◌, ◌≤◌, List, [], ◌∷◌, ◌++◌, length, Some, None, refl, sym, ap, ◌∙◌, arith, append_assoc, append-nil, length-append}
 use Rattle.model_tokens.specs.declared.token.Token.{Token}
 use Rattle.model_tokens.specs.declared.token.Token.TheVariants.{Word as word, Symbol as symbol}
 use Rattle.model_tokens.specs.declared.token.Word.{Word}
 use Rattle.model_tokens.specs.declared.token.Word.TheVariants as w
 use Rattle.model_tokens.specs.declared.token.Symbol.TheVariants as s
-use Rattle.model_lang.specs.Tree.{Expression, Statement, declare, assign, set_field, when, while, give, do_, Statements, statements_of, statement, no_else, else_block}
+use Rattle.model_lang.specs.Tree.{Expression, Statement, declare, assign, set_field, when, while, give, do_, statements_of, statement, no_else, else_block}
 use Rattle.model_lang.specs.Grammar.{Phrase, Stands, spelled, tree_of, Action, declaring, assigning, setting, choice, choice_else, looping, giving, doing, Block, closed, first, ActionStands, BlockStands, in_round, in_braces, spelled_end, spelled_action, spelled_block, tree_of_action, trees_of_block}
-use Rattle.model_lang.specs.Reader.{Read, reading, behind, either_way, word_number, after_word, after_symbol, assigned_at, set_at, read_expression, read_end, read_test, read_else, read_if, read_while, read_action, read_actions, read_block}
+use Rattle.model_lang.specs.Reader.{Read, reading, behind, either_way, word_number, after_word, after_symbol, assigned_at, set_at, read_end, read_test, read_else, read_if, read_while, read_action, read_actions, read_block}
 use Rattle.model_lang.proofs.Phrases.{phrase_no_word, phrase_no_brace, phrase_not_assigned, phrase_not_set}
 use Rattle.model_lang.proofs.CompleteExpressions.{expression_then}
 
@@ -26,10 +26,14 @@ test_read a stands rest =
 pub braces_then : (ts rest : List Token) → in_braces ts ++ rest ≡ symbol s.OpenBrace ∷ (ts ++ symbol s.CloseBrace ∷ rest)
 braces_then ts rest = ap (λ r. symbol s.OpenBrace ∷ r) (append_assoc ts (symbol s.CloseBrace ∷ []) rest)
 
-pub block_then : (test body rest : List Token) → (in_round test ++ in_braces body) ++ rest ≡ in_round test ++ symbol s.OpenBrace ∷ (body ++ symbol s.CloseBrace ∷ rest)
+-- a test, a block and tokens behind it
+abbrev pub guarded : List Token → List Token → List Token → List Token
+guarded test body rest = in_round test ++ symbol s.OpenBrace ∷ (body ++ symbol s.CloseBrace ∷ rest)
+
+pub block_then : (test body rest : List Token) → (in_round test ++ in_braces body) ++ rest ≡ guarded test body rest
 block_then test body rest = append_assoc (in_round test) (in_braces body) rest ∙ ap (λ r. in_round test ++ r) (braces_then body rest)
 
-pub else_then : (test body other rest : List Token) → (in_round test ++ (in_braces body ++ word w.Else ∷ in_braces other)) ++ rest ≡ in_round test ++ symbol s.OpenBrace ∷ (body ++ symbol s.CloseBrace ∷ word w.Else ∷ symbol s.OpenBrace ∷ (other ++ symbol s.CloseBrace ∷ rest))
+pub else_then : (test body other rest : List Token) → (in_round test ++ (in_braces body ++ word w.Else ∷ in_braces other)) ++ rest ≡ guarded test body (word w.Else ∷ symbol s.OpenBrace ∷ (other ++ symbol s.CloseBrace ∷ rest))
 else_then test body other rest =
     let more = word w.Else ∷ in_braces other in
     append_assoc (in_round test) (in_braces body ++ more) rest

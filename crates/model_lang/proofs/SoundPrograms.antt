@@ -1,12 +1,12 @@
 -- Whatever the reader reads is spelled by the grammar: methods, classes and whole programs.
-use Rattle.std.proofs.Common.{◌≡◌, ⊎_elim, ℕ, zero, suc, ◌<◌, List, [], ◌∷◌, ◌++◌, length, map, Option, Some, None, refl, sym, ap, ◌∙◌, subst, arith, append_assoc, append-nil}
+use Rattle.std.proofs.Common.{◌≡◌, ⊎_elim, ℕ, zero, suc, List, [], ◌∷◌, ◌++◌, length, map, Option, Some, refl, sym, ap, ◌∙◌, subst, arith, append_assoc, append-nil}
 use Rattle.model_tokens.specs.declared.token.Token.{Token}
 use Rattle.model_tokens.specs.declared.token.Token.TheVariants.{Name as name, ClassName as class_name, Word as word, Symbol as symbol}
 use Rattle.model_tokens.specs.declared.token.Word.TheVariants as w
 use Rattle.model_tokens.specs.declared.token.Symbol.TheVariants as s
 use Rattle.model_lang.specs.Tree.{Name, Statement, Statements, statements_of, MethodTree, ClassTree}
-use Rattle.model_lang.specs.Grammar.{Block, BlockStands, MethodForm, ClassForm, MethodsStand, ClassesStand, spelled_block, spelled_further, spelled_params, spelled_method, spelled_methods, spelled_fields, spelled_class, spelled_classes, trees_of_block, tree_of_method, tree_of_class, Derives}
-use Rattle.model_lang.specs.Reader.{Read, reading, behind, either_way, after_word, after_symbol, name_at, class_name_at, read_block, read_further, read_params, read_body, read_method, read_fields, read_methods, read_members, read_class, read_classes, read_program}
+use Rattle.model_lang.specs.Grammar.{BlockStands, MethodForm, ClassForm, MethodsStand, ClassesStand, spelled_block, spelled_further, spelled_params, spelled_method, spelled_methods, spelled_fields, spelled_class, spelled_classes, tree_of_method, tree_of_class, Derives}
+use Rattle.model_lang.specs.Reader.{Read, reading, behind, after_symbol, name_at, class_name_at, read_block, read_further, read_params, read_body, read_method, read_fields, read_methods, read_members, read_class, read_classes, read_program}
 use Rattle.model_lang.proofs.Fronts.{parts, apart, class_name_front, word_then, symbol_then, name_then, word_or, symbol_or, both_spelled}
 use Rattle.model_lang.proofs.CompleteStatements.{list_of_block, block-list}
 use Rattle.model_lang.proofs.CompletePrograms.{params_then, members_then}

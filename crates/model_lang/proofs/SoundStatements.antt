@@ -1,15 +1,15 @@
 -- Whatever the reader reads is spelled by the grammar: statements and blocks.
-use Rattle.std.proofs.Common.{◌≡◌, ⊎_elim, ℕ, zero, suc, List, [], ◌∷◌, ◌++◌, length, Option, Some, None, refl, sym, ap, ◌∙◌, append_assoc, append-nil}
+use Rattle.std.proofs.Common.{◌≡◌, ⊎_elim, ℕ, zero, suc, List, [], ◌∷◌, ◌++◌, length, Option, Some, sym, ap, ◌∙◌, append_assoc, append-nil}
 use Rattle.model_tokens.specs.declared.token.Token.{Token}
 use Rattle.model_tokens.specs.declared.token.Token.TheVariants.{Name as name, Word as word, Symbol as symbol}
 use Rattle.model_tokens.specs.declared.token.Word.TheVariants as w
 use Rattle.model_tokens.specs.declared.token.Symbol.TheVariants as s
 use Rattle.model_lang.specs.Tree.{Name, Expression, Statement, declare, assign, set_field, when, while, give, do_, statements_of, no_else, else_block}
 use Rattle.model_lang.specs.Grammar.{Phrase, Stands, spelled, tree_of, Action, declaring, assigning, setting, choice, choice_else, looping, giving, doing, Block, closed, first, ActionStands, BlockStands, in_round, spelled_end, spelled_action, spelled_block, tree_of_action, trees_of_block}
-use Rattle.model_lang.specs.Reader.{Read, reading, behind, either_way, on_found, after_word, after_symbol, name_at, assigned_at, set_at, read_expression, read_ended, read_end, read_let, read_simple, read_test, read_else, read_if, read_while, read_action, read_actions, read_block}
+use Rattle.model_lang.specs.Reader.{Read, reading, behind, either_way, on_found, after_word, after_symbol, assigned_at, set_at, read_expression, read_ended, read_end, read_let, read_simple, read_test, read_else, read_if, read_while, read_action, read_actions, read_block}
 use Rattle.model_lang.proofs.Fronts.{parts, apart, word_then, symbol_then, name_then, word_or, symbol_or, both_spelled, found_or}
 use Rattle.model_lang.proofs.SoundExpressions.{expression_at_front}
-use Rattle.model_lang.proofs.CompleteStatements.{BlockReader, block_then, else_then, list_of_block, block-list}
+use Rattle.model_lang.proofs.CompleteStatements.{BlockReader, guarded, block_then, else_then, list_of_block, block-list}
 
 -- ---- what was at the front
 
@@ -102,53 +102,67 @@ simple_sound ts t rest h =
     (λ k. set_sound ts t rest k.1)
     (found_or (assigned_at ts) (λ x. read_end (assign x)) (on_found (set_at ts) (λ x. read_end (set_field x)) (read_end do_ ts)) (Some (t, rest)) h)
 
-choice_sound : (a : Phrase) (block : Block) (t : Statement) (after rest all : List Token) → Stands a → BlockStands block → ◌≡◌ {A = Read Statement} (Some (when (tree_of a) (statements_of (list_of_block block)) no_else, after)) (Some (t, rest)) → word w.If ∷ (in_round (spelled a) ++ symbol s.OpenBrace ∷ (spelled_block block ++ symbol s.CloseBrace ∷ after)) ≡ all → ActionFound all t rest
+-- a test and a block were at the front
+guarded_front : {B : Type 0} (reader : BlockReader) → IsBlockReader reader → (ts : List Token) (next : Expression → List Statement → List Token → Option B) (y : B) → reading (read_test ts) (λ test ts. reading (reader ts) (next test)) ≡ Some y → (a : Phrase) × Stands a × (block : Block) × BlockStands block × (rest : List Token) × (guarded (spelled a) (spelled_block block) rest ≡ ts) × (next (tree_of a) (list_of_block block) rest ≡ Some y)
+guarded_front reader sound ts next y h =
+    let f = test_front ts (λ test ts. reading (reader ts) (next test)) y h in
+    let b = block_front reader sound f.2 (next (tree_of f.0)) y f.4 in
+    let at : guarded (spelled f.0) (spelled_block b.0) b.2 ≡ ts = cc (f.3, b.3) in
+    (f.0, f.1, b.0, b.1, b.2, at, b.4)
+
+choice_sound : (a : Phrase) (block : Block) (t : Statement) (after rest all : List Token) → Stands a → BlockStands block → ◌≡◌ {A = Read Statement} (Some (when (tree_of a) (statements_of (list_of_block block)) no_else, after)) (Some (t, rest)) → word w.If ∷ guarded (spelled a) (spelled_block block) after ≡ all → ActionFound all t rest
 choice_sound a block t after rest all stands also h p =
-    let made : List Statement → Statement = λ found. when (tree_of a) (statements_of found) no_else in
-    let each = apart (made (list_of_block block)) t after rest h in (
+    let each = apart (when (tree_of a) (statements_of (list_of_block block)) no_else) t after rest h in (
       choice a block,
       (stands, also),
-      ap (λ r. word w.If ∷ r) (block_then (spelled a) (spelled_block block) rest) ∙ ap (λ r. word w.If ∷ (in_round (spelled a) ++ symbol s.OpenBrace ∷ (spelled_block block ++ symbol s.CloseBrace ∷ r))) (sym each.1) ∙ p,
+      ap (λ r. word w.If ∷ r) (block_then (spelled a) (spelled_block block) rest) ∙ ap (λ r. word w.If ∷ guarded (spelled a) (spelled_block block) r) (sym each.1) ∙ p,
       ap (λ ss. when (tree_of a) ss no_else) (sym (block-list block)) ∙ each.0,
     )
 
-else_sound : (reader : BlockReader) → IsBlockReader reader → (a : Phrase) (block : Block) (t : Statement) (ts rest all : List Token) → Stands a → BlockStands block → read_else reader (tree_of a) (list_of_block block) ts ≡ Some (t, rest) → word w.If ∷ (in_round (spelled a) ++ symbol s.OpenBrace ∷ (spelled_block block ++ symbol s.CloseBrace ∷ word w.Else ∷ ts)) ≡ all → ActionFound all t rest
+else_found : (a : Phrase) (block other : Block) (t : Statement) (ts after rest all : List Token) → Stands a → BlockStands block → BlockStands other → symbol s.OpenBrace ∷ (spelled_block other ++ symbol s.CloseBrace ∷ after) ≡ ts → ◌≡◌ {A = Read Statement} (Some (when (tree_of a) (statements_of (list_of_block block)) (else_block (statements_of (list_of_block other))), after)) (Some (t, rest)) → word w.If ∷ guarded (spelled a) (spelled_block block) (word w.Else ∷ ts) ≡ all → ActionFound all t rest
+else_found a block other t ts after rest all stands also last q h p =
+    let found : List Statement → Statement = λ ss. when (tree_of a) (statements_of (list_of_block block)) (else_block (statements_of ss)) in
+    let each = apart (found (list_of_block other)) t after rest h in
+    let more : symbol s.OpenBrace ∷ (spelled_block other ++ symbol s.CloseBrace ∷ rest) ≡ ts = cc (q, each.1) in (
+      choice_else a block other,
+      (stands, also, last),
+      ap (λ r. word w.If ∷ r) (else_then (spelled a) (spelled_block block) (spelled_block other) rest) ∙ ap (λ r. word w.If ∷ guarded (spelled a) (spelled_block block) (word w.Else ∷ r)) more ∙ p,
+      ap (λ ss. when (tree_of a) ss (else_block (trees_of_block other))) (sym (block-list block)) ∙ ap (λ ss. when (tree_of a) (statements_of (list_of_block block)) (else_block ss)) (sym (block-list other)) ∙ each.0,
+    )
+
+else_sound : (reader : BlockReader) → IsBlockReader reader → (a : Phrase) (block : Block) (t : Statement) (ts rest all : List Token) → Stands a → BlockStands block → read_else reader (tree_of a) (list_of_block block) ts ≡ Some (t, rest) → word w.If ∷ guarded (spelled a) (spelled_block block) (word w.Else ∷ ts) ≡ all → ActionFound all t rest
 else_sound reader sound a block t ts rest all stands also h p =
-    let made : List Statement → Statement = λ found. when (tree_of a) (statements_of (list_of_block block)) (else_block (statements_of found)) in
-    let next : List Statement → List Token → Read Statement = λ found ts. Some (made found, ts) in
+    let next : List Statement → List Token → Read Statement = λ found ts. Some (when (tree_of a) (statements_of (list_of_block block)) (else_block (statements_of found)), ts) in
     let b = symbol_then s.OpenBrace ts (λ ts. reading (reader ts) next) (t, rest) h in
     let o = block_front reader sound b.0 next (t, rest) b.2 in
-    let each = apart (made (list_of_block o.0)) t o.2 rest o.4 in
-    let more : symbol s.OpenBrace ∷ (spelled_block o.0 ++ symbol s.CloseBrace ∷ rest) ≡ ts = cc (b.1, o.3, each.1) in (
-      choice_else a block o.0,
-      (stands, also, o.1),
-      ap (λ r. word w.If ∷ r) (else_then (spelled a) (spelled_block block) (spelled_block o.0) rest) ∙ ap (λ r. word w.If ∷ (in_round (spelled a) ++ symbol s.OpenBrace ∷ (spelled_block block ++ symbol s.CloseBrace ∷ word w.Else ∷ r))) more ∙ p,
-      ap (λ ss. when (tree_of a) ss (else_block (trees_of_block o.0))) (sym (block-list block)) ∙ ap (λ ss. when (tree_of a) (statements_of (list_of_block block)) (else_block ss)) (sym (block-list o.0)) ∙ each.0,
-    )
+    else_found a block o.0 t ts o.2 rest all stands also o.1 (cc (b.1, o.3)) o.4 p
+
+if_found : (reader : BlockReader) → IsBlockReader reader → (a : Phrase) (block : Block) (t : Statement) (after rest all : List Token) → Stands a → BlockStands block → either_way (after_word w.Else after) (read_else reader (tree_of a) (list_of_block block)) (Some (when (tree_of a) (statements_of (list_of_block block)) no_else, after)) ≡ Some (t, rest) → word w.If ∷ guarded (spelled a) (spelled_block block) after ≡ all → ActionFound all t rest
+if_found reader sound a block t after rest all stands also h p =
+    ⊎_elim
+    (λ e. else_sound reader sound a block t e.0 rest all stands also e.2 (ap (λ r. word w.If ∷ guarded (spelled a) (spelled_block block) r) e.1 ∙ p))
+    (λ k. choice_sound a block t after rest all stands also k p)
+    (word_or w.Else after (read_else reader (tree_of a) (list_of_block block)) (Some (when (tree_of a) (statements_of (list_of_block block)) no_else, after)) (Some (t, rest)) h)
 
 if_sound : (reader : BlockReader) → IsBlockReader reader → (ts : List Token) (t : Statement) (rest all : List Token) → read_if reader ts ≡ Some (t, rest) → word w.If ∷ ts ≡ all → ActionFound all t rest
 if_sound reader sound ts t rest all h p =
     let next : Expression → List Statement → List Token → Read Statement = λ test found ts. either_way (after_word w.Else ts) (read_else reader test found) (Some (when test (statements_of found) no_else, ts)) in
-    let f = test_front ts (λ test ts. reading (reader ts) (next test)) (t, rest) h in
-    let b = block_front reader sound f.2 (next (tree_of f.0)) (t, rest) f.4 in
-    let at : word w.If ∷ (in_round (spelled f.0) ++ symbol s.OpenBrace ∷ (spelled_block b.0 ++ symbol s.CloseBrace ∷ b.2)) ≡ all = ap (λ r. word w.If ∷ (in_round (spelled f.0) ++ symbol s.OpenBrace ∷ r)) b.3 ∙ ap (λ r. word w.If ∷ r) f.3 ∙ p in
-    ⊎_elim
-    (λ e. else_sound reader sound f.0 b.0 t e.0 rest all f.1 b.1 e.2 (ap (λ r. word w.If ∷ (in_round (spelled f.0) ++ symbol s.OpenBrace ∷ (spelled_block b.0 ++ symbol s.CloseBrace ∷ r))) e.1 ∙ at))
-    (λ k. choice_sound f.0 b.0 t b.2 rest all f.1 b.1 k at)
-    (word_or w.Else b.2 (read_else reader (tree_of f.0) (list_of_block b.0)) (Some (when (tree_of f.0) (statements_of (list_of_block b.0)) no_else, b.2)) (Some (t, rest)) b.4)
+    let g = guarded_front reader sound ts next (t, rest) h in
+    if_found reader sound g.0 g.2 t g.4 rest all g.1 g.3 g.6 (cc (g.5, p))
+
+while_found : (a : Phrase) (block : Block) (t : Statement) (after rest all : List Token) → Stands a → BlockStands block → ◌≡◌ {A = Read Statement} (Some (while (tree_of a) (statements_of (list_of_block block)), after)) (Some (t, rest)) → word w.While ∷ guarded (spelled a) (spelled_block block) after ≡ all → ActionFound all t rest
+while_found a block t after rest all stands also h p =
+    let each = apart (while (tree_of a) (statements_of (list_of_block block))) t after rest h in (
+      looping a block,
+      (stands, also),
+      ap (λ r. word w.While ∷ r) (block_then (spelled a) (spelled_block block) rest) ∙ ap (λ r. word w.While ∷ guarded (spelled a) (spelled_block block) r) (sym each.1) ∙ p,
+      ap (λ ss. while (tree_of a) ss) (sym (block-list block)) ∙ each.0,
+    )
 
 while_sound : (reader : BlockReader) → IsBlockReader reader → (ts : List Token) (t : Statement) (rest all : List Token) → read_while reader ts ≡ Some (t, rest) → word w.While ∷ ts ≡ all → ActionFound all t rest
 while_sound reader sound ts t rest all h p =
-    let next : Expression → List Statement → List Token → Read Statement = λ test body ts. Some (while test (statements_of body), ts) in
-    let f = test_front ts (λ test ts. reading (reader ts) (next test)) (t, rest) h in
-    let b = block_front reader sound f.2 (next (tree_of f.0)) (t, rest) f.4 in
-    let each = apart (while (tree_of f.0) (statements_of (list_of_block b.0))) t b.2 rest b.4 in
-    let inside : spelled_block b.0 ++ symbol s.CloseBrace ∷ rest ≡ f.2 = cc (b.3, each.1) in (
-      looping f.0 b.0,
-      (f.1, b.1),
-      ap (λ r. word w.While ∷ r) (block_then (spelled f.0) (spelled_block b.0) rest) ∙ ap (λ r. word w.While ∷ (in_round (spelled f.0) ++ symbol s.OpenBrace ∷ r)) inside ∙ ap (λ r. word w.While ∷ r) f.3 ∙ p,
-      ap (λ ss. while (tree_of f.0) ss) (sym (block-list b.0)) ∙ each.0,
-    )
+    let g = guarded_front reader sound ts (λ test body ts. Some (while test (statements_of body), ts)) (t, rest) h in
+    while_found g.0 g.2 t g.4 rest all g.1 g.3 g.6 (cc (g.5, p))
 
 action_sound : (reader : BlockReader) → IsBlockReader reader → (ts : List Token) (t : Statement) (rest : List Token) → read_action reader ts ≡ Some (t, rest) → ActionFound ts t rest
 action_sound reader sound ts t rest h =

@@ -8,7 +8,7 @@ use Rattle.model_lang.specs.declared.fault.LangFault.{LangFault}
 use Rattle.model_lang.specs.declared.fault.LangFault.TheVariants.{Syntax, TooLarge, WantOfMemory}
 use Rattle.model_lang.specs.Tree.{ProgramTree}
 use Rattle.model_lang.specs.Grammar.{Derives}
-use Rattle.model_lang.specs.Bounds.{most_bytes, most_nested, greatest, brackets_after, operators_after, passed}
+use Rattle.model_lang.specs.Bounds.{most_bytes, passed}
 use Rattle.model_lang.specs.Program.{FewBrackets, FewOperators, IsSpelled, IsRead, ArePast, IsTooLarge, AreNoProgram, IsNoProgram}
 use Rattle.model_lang.specs.Reader.{read_program}
 use Rattle.model_lang.specs.Answer.{ParsesTokens, Parses}
@@ -17,7 +17,7 @@ use Rattle.model_lang.proofs.SoundPrograms.{program_sound}
 
 -- ---- tokens
 
-pub derived-read : (ts : List Token) (tree : ProgramTree) → Derives ts tree → read_program ts ≡ Some tree
+derived-read : (ts : List Token) (tree : ProgramTree) → Derives ts tree → read_program ts ≡ Some tree
 derived-read ts tree d = ap read_program (sym d.3) ∙ program_read d.0 d.1 d.2 ∙ ap Some d.4
 
 -- the grammar is unambiguous
@@ -26,7 +26,7 @@ one_derived ts tree other d e =
     let p : ◌≡◌ {A = Option ProgramTree} (Some tree) (Some other) = sym (derived-read ts tree d) ∙ derived-read ts other e in
     cc
 
-pub underived : (ts : List Token) → read_program ts ≡ None → (tree : ProgramTree) → ¬ Derives ts tree
+underived : (ts : List Token) → read_program ts ≡ None → (tree : ProgramTree) → ¬ Derives ts tree
 underived ts none tree d =
     let p : ◌≡◌ {A = Option ProgramTree} (Some tree) None = sym (derived-read ts tree d) ∙ none in
     cc
@@ -36,12 +36,6 @@ are_spelled ts tree brackets operators read none = record { brackets = brackets;
 
 pub are_no_program : (ts : List Token) → FewBrackets ts → FewOperators ts → read_program ts ≡ None → AreNoProgram ts
 are_no_program ts brackets operators none = record { brackets = brackets; operators = operators; underived = underived ts none }
-
-pub many_brackets : (ts : List Token) → ¬ FewBrackets ts → ArePast bound.Brackets 33 ts
-many_brackets ts many = inl (omega (arith, many), refl, refl)
-
-pub many_operators : (ts : List Token) → FewBrackets ts → ¬ FewOperators ts → ArePast bound.Operators 33 ts
-many_operators ts brackets many = inr (inl (brackets, omega (arith, many), refl, refl))
 
 pub many_members : (ts : List Token) (tree : ProgramTree) (what : Bound) (count : ℕ) → FewBrackets ts → FewOperators ts → Derives ts tree → passed tree ≡ Some (what, count) → ArePast what count ts
 many_members ts tree what count brackets operators d over = inr (inr (brackets, operators, (tree, d, over)))

@@ -1,5 +1,5 @@
 -- What the reading of a program answers.
-use Rattle.std.specs.Prelude.{◌≡◌, ℕ, List, [], ◌∷◌, Option, Some, None, Result, Ok, Err, Vec}
+use Rattle.std.specs.Prelude.{◌≡◌, ◌≤◌, ℕ, List, Option, Some, None, Result, Ok, Err, Vec}
 use Rattle.std.specs.Borrow.{Bor}
 use Rattle.std.specs.declared.alloc.Global.{Global}
 use Rattle.std.specs.declared.alloc.AllocError.{AllocError}
@@ -11,7 +11,7 @@ use Rattle.model_lang.specs.declared.fault.LangFault.{LangFault}
 use Rattle.model_lang.specs.declared.fault.LangFault.TheVariants.{Syntax, TooLarge, WantOfMemory}
 use Rattle.model_lang.specs.declared.fault.Stop.{Stop}
 use Rattle.model_lang.specs.declared.fault.Stop.TheVariants as stop
-use Rattle.model_lang.specs.Tree.{Name, ClassTree, ProgramTree, binary}
+use Rattle.model_lang.specs.Tree.{Name, ClassTree, binary}
 use Rattle.model_lang.specs.TreeView.{program_tree, expression_tree}
 use Rattle.model_lang.specs.Program.{IsSpelled, IsRead, ArePast, IsTooLarge, AreNoProgram, IsNoProgram}
 use Rattle.model_lang.specs.Reader.{Read}
@@ -22,6 +22,11 @@ Parses (Ok classes) text = IsRead text (program_tree classes)
 Parses (Err (TooLarge what count)) text = IsTooLarge what count text
 Parses (Err (Syntax at)) text = IsNoProgram text
 Parses (Err WantOfMemory) text = Unit {0}
+
+-- the place of a refusal is one in a text of this length, or its end
+abbrev pub IsPlaced : {A : Type 0} → Result A LangFault → ℕ → Type 0
+IsPlaced (Err (Syntax at)) most = at ≤ most
+IsPlaced _ most = Unit {0}
 
 -- the tree that the tokens are read as, or the refusal that they meet
 abbrev pub ParsesTokens : Result (Vec Class Global) LangFault → List Token → Type 0

@@ -1,5 +1,5 @@
 -- What it is that a text is read as a program, and what it is that it is refused.
-use Rattle.std.specs.Prelude.{◌≡◌, ◌⊎◌, ℕ, ◌≤◌, ◌<◌, List, length, Option, Some, None}
+use Rattle.std.specs.Prelude.{◌≡◌, ◌⊎◌, ℕ, ◌≤◌, ◌<◌, List, length, Some, None}
 use Rattle.model_tokens.specs.declared.token.Token.{Token}
 use Rattle.model_tokens.specs.Division.{Divides}
 use Rattle.model_lang.specs.declared.fault.Bound.{Bound}

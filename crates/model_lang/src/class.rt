@@ -28,7 +28,10 @@ pub fn program(alloc: Global, tokens: &[Token]) -> Result<Vec<Class>, Stop>
         found.push(next)?;
         rest = behind;
     }
-    if rest.is_empty() { Ok(found) } else { Err(Stop::at(rest)) }
+    if !rest.is_empty() {
+        return Err(Stop::at(rest));
+    }
+    Ok(found)
 }
 
 // Reads `class = "class" CName "{" ("field" name ";")* method* "}"`.

@@ -15,6 +15,6 @@ mod tests;
 mod tree;
 
 pub use fault::{Bound, LangFault};
-pub use parsing::{one_reading, one_tree, parse};
+pub use parsing::{one_derivation, one_reading, one_tree, parse};
 pub use program::Program;
 pub use tree::{BinaryOp, Class, Expr, Method, Stmt, UnaryOp};

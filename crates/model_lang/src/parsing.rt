@@ -1,8 +1,10 @@
 //! A text, read as a program.
-ghost use Rattle.std.specs.Prelude.{◌≡◌, ℕ, List};
+ghost use Rattle.std.specs.Prelude.{◌≡◌, ℕ, List, length};
+ghost use Rattle.model_tokens.specs.declared.token.Token.{Token as Held};
 ghost use Rattle.model_lang.specs.Tree.{ProgramTree};
+ghost use Rattle.model_lang.specs.Grammar.{Derives};
 ghost use Rattle.model_lang.specs.Program.{IsRead, Reading, IsReading};
-ghost use Rattle.model_lang.specs.Answer.{Parses, ParsesTokens};
+ghost use Rattle.model_lang.specs.Answer.{Parses, ParsesTokens, IsPlaced};
 
 use crate::bounds::{Counted, MOST_BYTES, passed, stays_low};
 use crate::class::program;
@@ -24,7 +26,8 @@ const ONE_TOO_MANY: u64 = 33;
 /// program; more than 256 classes; a class with more than 256 fields; one with more than 256 methods; more than 16
 /// parameters of a method or arguments of a call or a future.
 pub fn parse(alloc: Global, text: &[u8]) -> Result<Program, LangFault>
-    ensures { Parses result text.now }
+    ensures reading { Parses result text.now }
+    ensures place { IsPlaced result (length text.now) }
 {
     if text.len() > MOST_BYTES {
         return Err(LangFault::TooLarge {
@@ -48,7 +51,8 @@ pub fn parse(alloc: Global, text: &[u8]) -> Result<Program, LangFault>
 
 // The classes that all the tokens of this text spell.
 fn whole(alloc: Global, text: &[u8], tokens: &[Token]) -> Result<Vec<Class>, LangFault>
-    ensures { ParsesTokens result tokens.now }
+    ensures reading { ParsesTokens result tokens.now }
+    ensures place { IsPlaced result (length text.now) }
 {
     if !stays_low(tokens, Counted::Brackets) {
         return Err(LangFault::TooLarge {
@@ -76,6 +80,11 @@ fn whole(alloc: Global, text: &[u8], tokens: &[Token]) -> Result<Vec<Class>, Lan
         None => Ok(classes),
     }
 }
+
+/// The grammar is unambiguous: tokens stand for one program, or for none.
+pub fn one_derivation()
+    ensures { (tokens : List Held) (tree other : ProgramTree) → Derives tokens tree → Derives tokens other → tree ≡ other }
+{}
 
 /// A text is read as one tree, or as none.
 pub fn one_tree()

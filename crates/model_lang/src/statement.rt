@@ -16,11 +16,7 @@ use tea_base::Text;
 /// another.
 #[cycle(block)]
 #[tactic(auto, using(crate::proofs::Turns::by_room))]
-pub fn block(
-    alloc: Global,
-    room: usize,
-    tokens: &[Token],
-) -> Result<(Vec<Stmt>, &[Token]), Stop>
+pub fn block(alloc: Global, room: usize, tokens: &[Token]) -> Result<(Vec<Stmt>, &[Token]), Stop>
     ensures { Reads (λ found. map statement_tree found.items) result (read_block room tokens.now) }
 {
     if room == 0 {
@@ -31,11 +27,7 @@ pub fn block(
 
 #[cycle(block)]
 #[tactic(auto, using(crate::proofs::Turns::by_turn))]
-fn statements(
-    alloc: Global,
-    room: usize,
-    tokens: &[Token],
-) -> Result<(Vec<Stmt>, &[Token]), Stop>
+fn statements(alloc: Global, room: usize, tokens: &[Token]) -> Result<(Vec<Stmt>, &[Token]), Stop>
     ensures { Reads (λ found. map statement_tree found.items) result (read_actions (read_block room) (length tokens.now) [] tokens.now) }
 {
     let mut found = Vec::new(alloc);

@@ -1,4 +1,5 @@
 //! Places in a text, in bytes from its start. That they are the right ones is tested.
+ghost use Rattle.std.specs.Prelude.{◌≤◌, length};
 
 use crate::bytes::{Kind, begins, digits_length, name_length};
 use crate::literals::spelled_byte;
@@ -8,7 +9,9 @@ use crate::symbols::other;
 use std::str;
 
 /// Where the token of this number, from 0, begins; the length of the text where it has fewer.
-pub fn place_of_token(text: &[u8], number: usize) -> u32 {
+pub fn place_of_token(text: &[u8], number: usize) -> u32
+    ensures { result ≤ length text.now }
+{
     let mut place = 0;
     let mut before: usize = 0;
     for _piece in 0..text.len() {
@@ -21,29 +24,34 @@ pub fn place_of_token(text: &[u8], number: usize) -> u32 {
         }
         place = piece_length(rest).saturating_add(place);
     }
-    in_bytes(place)
+    within(text, place)
 }
 
 /// Where a text goes wrong that is divided into no tokens: the first byte that no token can begin or go on with, or the
 /// start of a number that is too large or of a name that is too long.
-pub fn place_of_fault(text: &[u8]) -> u32 {
+pub fn place_of_fault(text: &[u8]) -> u32
+    ensures { result ≤ length text.now }
+{
     let mut place = 0;
     for _piece in 0..text.len() {
         let rest = from(text, place);
         if let Some(inside) = piece_fault(rest) {
-            return in_bytes(inside.saturating_add(place));
+            return within(text, inside.saturating_add(place));
         }
         place = piece_length(rest).saturating_add(place);
     }
-    in_bytes(text.len())
+    within(text, text.len())
 }
 
 fn from(text: &[u8], place: usize) -> &[u8] {
     text.get(place..).unwrap_or_default()
 }
 
-fn in_bytes(place: usize) -> u32 {
-    u32::try_from(place).unwrap_or(u32::MAX)
+// A place as a number, or the end where it would lie behind the text.
+fn within(text: &[u8], place: usize) -> u32
+    ensures { result ≤ length text.now }
+{
+    u32::try_from(place.min(text.len())).unwrap_or(0)
 }
 
 fn begins_token(text: &[u8]) -> bool {

@@ -6,13 +6,14 @@ use Rattle.model_value.specs.Valid.{Valid}
 use Rattle.model_lang.specs.Tree.{ProgramTree}
 use Rattle.model_lang.specs.Program.{IsProgram}
 use Rattle.model_lang.proofs.Names.{program-names}
+use Rattle.model_lang.proofs.Fitting.{program-fits as passed-fits}
 use Rattle.world.specs.Worlds.{Scene, with_world, begun, moved, due, ran, handled, enough, on_due, advance, field_counts}
 use Rattle.world.proofs.Running.{Fits}
 use Rattle.world.proofs.Moving.{due-some}
 use Rattle.world.proofs.Advancing.{handled-valid, enough-falls, advance-step}
 
 pub program-fits : (program : ProgramTree) → IsProgram program → Fits program
-program-fits program p = record { classes = p.1.spelled.fits.1; names = program-names program p }
+program-fits program p = record { classes = (passed-fits program p.1.spelled.fits).1; names = program-names program p }
 
 -- the scene that a turn leaves
 pub turned : (program : ProgramTree) (m : PlainMessage) (rest : List PlainMessage) (s after : Scene) (w : WorldRecord) → w ≡ record (s.world) { pending = rest } → after ≡ ran program m.object m.method m.args (with_world s (begun (moved m.time w))) → after ≡ handled program m rest s

@@ -5,20 +5,20 @@ use Rattle.model_lang.proofs.SoundPrograms.{program_sound}
 use Rattle.model_lang.proofs.Whole.{are_spelled, are_no_program, many_members}
 use Rattle.model_lang.proofs.parsing.whole.Goals as goal
 
-pub returns-in-Err-NoProgram : goal.returns-in-Err-NoProgram
-returns-in-Err-NoProgram c =
+pub returns-in-Err-NoProgram-clause-reading : goal.returns-in-Err-NoProgram-clause-reading
+returns-in-Err-NoProgram-clause-reading c =
     let none = rw c.in-Err-NoProgram.field-0-is at c.in-Err-NoProgram.ensures in
     are_no_program c.args.tokens.now (c.stays_low.ensures.0 c.if-not-stays_low.false) (c.stays_low-2.ensures.0 c.if-not-stays_low-2.false) none
 
-pub returns-in-Some : goal.returns-in-Some
-returns-in-Some c =
+pub returns-in-Some-clause-reading : goal.returns-in-Some-clause-reading
+returns-in-Some-clause-reading c =
     let ts = c.args.tokens.now in
     let tree = program_tree c.in-Ok.classes.items in
     let over : passed tree ≡ Some (c.in-Some.what, c.in-Some.count) = ap (λ cs. passed (program_tree cs)) (sym c.deref.ensures.value) ∙ sym c.passed.ensures ∙ c.in-Some.is in
     many_members ts tree c.in-Some.what c.in-Some.count (c.stays_low.ensures.0 c.if-not-stays_low.false) (c.stays_low-2.ensures.0 c.if-not-stays_low-2.false) (program_sound ts tree c.in-Ok.ensures) over
 
-pub returns-in-None : goal.returns-in-None
-returns-in-None c =
+pub returns-in-None-clause-reading : goal.returns-in-None-clause-reading
+returns-in-None-clause-reading c =
     let tree = program_tree c.in-Ok.classes.items in
     let none : passed tree ≡ None = ap (λ cs. passed (program_tree cs)) (sym c.deref.ensures.value) ∙ sym c.passed.ensures ∙ c.in-None.is in
     are_spelled c.args.tokens.now tree (c.stays_low.ensures.0 c.if-not-stays_low.false) (c.stays_low-2.ensures.0 c.if-not-stays_low-2.false) c.in-Ok.ensures none
