@@ -94,7 +94,12 @@ fn post(alloc: Global, room: usize, tokens: &[Token]) -> Result<(Expr, &[Token])
 
 // Behind the `.` of a call or a future.
 #[cycle(line)]
-fn suffix(alloc: Global, room: usize, object: Expr, tokens: &[Token]) -> Result<(Expr, &[Token]), Stop>
+fn suffix(
+    alloc: Global,
+    room: usize,
+    object: Expr,
+    tokens: &[Token],
+) -> Result<(Expr, &[Token]), Stop>
     ensures { Reads expression_tree result (read_suffix (read_line (read_unary room) 6) (expression_tree object) tokens.now) }
 {
     match word(tokens, Word::Future) {
@@ -104,7 +109,12 @@ fn suffix(alloc: Global, room: usize, object: Expr, tokens: &[Token]) -> Result<
 }
 
 #[cycle(line)]
-fn call(alloc: Global, room: usize, object: Expr, tokens: &[Token]) -> Result<(Expr, &[Token]), Stop>
+fn call(
+    alloc: Global,
+    room: usize,
+    object: Expr,
+    tokens: &[Token],
+) -> Result<(Expr, &[Token]), Stop>
     ensures { Reads expression_tree result (read_call (read_line (read_unary room) 6) (expression_tree object) tokens.now) }
 {
     let (name, rest) = name(tokens)?;
@@ -116,7 +126,12 @@ fn call(alloc: Global, room: usize, object: Expr, tokens: &[Token]) -> Result<(E
 
 // Behind `.future`.
 #[cycle(line)]
-fn future(alloc: Global, room: usize, object: Expr, tokens: &[Token]) -> Result<(Expr, &[Token]), Stop>
+fn future(
+    alloc: Global,
+    room: usize,
+    object: Expr,
+    tokens: &[Token],
+) -> Result<(Expr, &[Token]), Stop>
     ensures { Reads expression_tree result (read_future (read_line (read_unary room) 6) (expression_tree object) tokens.now) }
 {
     let rest = expect_symbol(tokens, Symbol::OpenRound)?;
@@ -127,7 +142,13 @@ fn future(alloc: Global, room: usize, object: Expr, tokens: &[Token]) -> Result<
 
 // Behind the delay of a future.
 #[cycle(line)]
-fn message(alloc: Global, room: usize, object: Expr, delay: Expr, tokens: &[Token]) -> Result<(Expr, &[Token]), Stop>
+fn message(
+    alloc: Global,
+    room: usize,
+    object: Expr,
+    delay: Expr,
+    tokens: &[Token],
+) -> Result<(Expr, &[Token]), Stop>
     ensures { Reads expression_tree result (read_message (read_line (read_unary room) 6) (expression_tree object) (expression_tree delay) tokens.now) }
 {
     let rest = expect_symbol(tokens, Symbol::Dot)?;
@@ -136,7 +157,15 @@ fn message(alloc: Global, room: usize, object: Expr, delay: Expr, tokens: &[Toke
     let (args, rest) = arguments(alloc, room, Symbol::CloseRound, rest)?;
     let object = Box::new(alloc, object)?;
     let delay = Box::new(alloc, delay)?;
-    Ok((Expr::Future { object, delay, name, args }, rest))
+    Ok((
+        Expr::Future {
+            object,
+            delay,
+            name,
+            args,
+        },
+        rest,
+    ))
 }
 
 #[cycle(line)]
@@ -155,7 +184,12 @@ fn prim(alloc: Global, room: usize, tokens: &[Token]) -> Result<(Expr, &[Token])
 
 // Behind a name: the arguments of a builtin, or nothing.
 #[cycle(line)]
-fn builtin_or_local(alloc: Global, room: usize, name: Text, tokens: &[Token]) -> Result<(Expr, &[Token]), Stop>
+fn builtin_or_local(
+    alloc: Global,
+    room: usize,
+    name: Text,
+    tokens: &[Token],
+) -> Result<(Expr, &[Token]), Stop>
     ensures { Reads expression_tree result (read_named (read_line (read_unary room) 6) name tokens.now) }
 {
     let Some(rest) = symbol(tokens, Symbol::OpenRound) else {
@@ -167,7 +201,12 @@ fn builtin_or_local(alloc: Global, room: usize, name: Text, tokens: &[Token]) ->
 
 // Behind a word.
 #[cycle(line)]
-fn worded(alloc: Global, room: usize, word: Word, tokens: &[Token]) -> Result<(Expr, &[Token]), Stop>
+fn worded(
+    alloc: Global,
+    room: usize,
+    word: Word,
+    tokens: &[Token],
+) -> Result<(Expr, &[Token]), Stop>
     ensures { Reads expression_tree result (read_word (read_line (read_unary room) 6) word tokens.now) }
 {
     match word {
@@ -187,7 +226,12 @@ fn this(tokens: &[Token]) -> Result<(Expr, &[Token]), Stop>
     let Some((name, rest)) = field_at(tokens) else {
         return Ok((Expr::This, tokens));
     };
-    Ok((Expr::Field { name: name.clone()? }, rest))
+    Ok((
+        Expr::Field {
+            name: name.clone()?,
+        },
+        rest,
+    ))
 }
 
 // `.` and a name that no `(` follows.
@@ -217,7 +261,12 @@ fn create(alloc: Global, room: usize, tokens: &[Token]) -> Result<(Expr, &[Token
 
 // Behind a symbol that opens an expression in brackets or a list.
 #[cycle(line)]
-fn opened(alloc: Global, room: usize, bracket: Symbol, tokens: &[Token]) -> Result<(Expr, &[Token]), Stop>
+fn opened(
+    alloc: Global,
+    room: usize,
+    bracket: Symbol,
+    tokens: &[Token],
+) -> Result<(Expr, &[Token]), Stop>
     ensures { Reads expression_tree result (read_opened (read_line (read_unary room) 6) bracket tokens.now) }
 {
     match bracket {
@@ -236,7 +285,12 @@ fn opened(alloc: Global, room: usize, bracket: Symbol, tokens: &[Token]) -> Resu
 
 // args = [expr ("," expr)*]?, and the closing bracket
 #[cycle(line)]
-fn arguments(alloc: Global, room: usize, close: Symbol, tokens: &[Token]) -> Result<(Vec<Expr>, &[Token]), Stop>
+fn arguments(
+    alloc: Global,
+    room: usize,
+    close: Symbol,
+    tokens: &[Token],
+) -> Result<(Vec<Expr>, &[Token]), Stop>
     ensures { Reads (λ args. map expression_tree args.items) result (read_args close (read_line (read_unary room) 6) tokens.now) }
 {
     let mut found = Vec::new(alloc);
@@ -250,7 +304,14 @@ fn arguments(alloc: Global, room: usize, close: Symbol, tokens: &[Token]) -> Res
 
 #[cycle(line)]
 #[tactic(auto, using(crate::proofs::Turns::by_turn))]
-fn further(alloc: Global, room: usize, close: Symbol, turns: usize, mut found: Vec<Expr>, tokens: &[Token]) -> Result<(Vec<Expr>, &[Token]), Stop>
+fn further(
+    alloc: Global,
+    room: usize,
+    close: Symbol,
+    turns: usize,
+    mut found: Vec<Expr>,
+    tokens: &[Token],
+) -> Result<(Vec<Expr>, &[Token]), Stop>
     ensures { Reads (λ args. map expression_tree args.items) result (read_more close (read_line (read_unary room) 6) turns (map expression_tree found.items) tokens.now) }
 {
     let mut rest = tokens;
