@@ -1,20 +1,17 @@
 -- What stands in brackets is read, as soon as its expressions are.
-use Rattle.std.proofs.Common.{◌≡◌, ℕ, zero, suc, ◌+◌, ◌<◌, ◌≤◌, List, [], ◌∷◌, ◌++◌, length, Option, Some, None, refl, sym, ap, ◌∙◌, arith, append_assoc, append-nil, length-append}
+use Rattle.std.proofs.Common.{◌≡◌, ℕ, zero, suc, ◌+◌, ◌<◌, Bool, true, false, List, [], ◌∷◌, ◌++◌, length, Option, Some, None, refl, sym, ap, ◌∙◌, arith, append_assoc, append-nil, length-append}
 use Rattle.model_tokens.specs.declared.token.Token.{Token}
-use Rattle.model_tokens.specs.declared.token.Token.TheVariants.{Symbol as symbol}
+use Rattle.model_tokens.specs.declared.token.Token.TheVariants.{Name as name, Word as word, Symbol as symbol}
+use Rattle.model_tokens.specs.declared.token.Word.TheVariants as w
 use Rattle.model_tokens.specs.declared.token.Symbol.{Symbol}
 use Rattle.model_tokens.specs.declared.token.Symbol.TheVariants as s
 use Rattle.model_lang.specs.declared.tree.UnaryOp.{UnaryOp}
 use Rattle.model_lang.specs.declared.tree.UnaryOp.TheVariants as sign
-use Rattle.model_lang.specs.Tree.{Name, Expression, expressions_of}
-use Rattle.model_lang.specs.Grammar.{Phrase, a_number, a_text, a_nil, a_bool, a_this, a_field, a_local, a_builtin, a_create, a_list, brackets, a_call, a_future, signed, joined, Phrases, no_phrases, phrase, in_round, word_of, sign_symbol, op_symbol, spelled, spelled_args, spelled_more, tree_of, trees_of}
-use Rattle.model_lang.specs.Grammar.{in_square}
-use Rattle.model_tokens.specs.declared.token.Token.TheVariants.{Name as name, Word as word}
-use Rattle.model_tokens.specs.declared.token.Word.TheVariants as w
-use Rattle.std.proofs.Common.{Bool, true, false}
+use Rattle.model_lang.specs.Tree.{Expression}
+use Rattle.model_lang.specs.Grammar.{Phrase, a_bool, a_list, brackets, a_call, a_future, signed, joined, Phrases, no_phrases, phrase, in_round, word_of, sign_symbol, op_symbol, spelled, spelled_args, spelled_more, tree_of}
 use Rattle.model_lang.specs.Reader.{Read, Reader, reading, behind, either_way, after_symbol, read_more, read_args}
 use Rattle.model_lang.proofs.GoesOn.{front_line}
-use Rattle.model_lang.proofs.Phrases.{list_of, list_of-trees, phrase_long}
+use Rattle.model_lang.proofs.Phrases.{list_of}
 
 -- what the grammar spells by this phrase is read, wherever nothing of so tight a line goes on with it
 abbrev pub IsReadBy : Reader → ℕ → Phrase → Type 0

@@ -1,8 +1,9 @@
 -- The reader reads whatever expression the grammar spells.
 use Rattle.std.proofs.Common.{◌≡◌, ℕ, zero, suc, ◌+◌, ◌-◌, ◌<◌, ◌≤◌, Bool, true, false, List, [], ◌∷◌, ◌++◌, length, Option, Some, None, nat_eq, if◌then◌else◌, refl, sym, ap, ◌∙◌, subst, arith, append_assoc, length-append}
+use Rattle.std.proofs.lemmas.Bool.{ne_eqb}
 use Rattle.std.proofs.lemmas.Bool.Decides.{nat_tests}
 use Rattle.model_tokens.specs.declared.token.Token.{Token}
-use Rattle.model_tokens.specs.declared.token.Token.TheVariants.{Name as name, ClassName as class_name, Word as word, Symbol as symbol}
+use Rattle.model_tokens.specs.declared.token.Token.TheVariants.{Name as name, Word as word, Symbol as symbol}
 use Rattle.model_tokens.specs.declared.token.Word.TheVariants as w
 use Rattle.model_tokens.specs.declared.token.Symbol.TheVariants as s
 use Rattle.model_lang.specs.declared.tree.UnaryOp.{UnaryOp}
@@ -13,7 +14,6 @@ use Rattle.model_lang.specs.Reader.{Read, Reader, reading, on_found, sign_at, re
 use Rattle.model_lang.proofs.GoesOn.{front_line, sign_found, line_of-two, line_of-le, left_of-le, left_of-relation}
 use Rattle.model_lang.proofs.Turns.{read_line-one}
 use Rattle.model_lang.proofs.Phrases.{phrase_long}
-use Rattle.model_lang.proofs.Fronts.{not_same}
 use Rattle.model_lang.proofs.Arguments.{IsReadBy, AreReadBy}
 use Rattle.model_lang.proofs.Posts.{spine, IsPost, post_read, number_post, text_post, nil_post, bool_post, this_post, field_post, local_post, builtin_post, create_post, list_post, brackets_post, call_post, future_post}
 use Rattle.model_lang.proofs.LineTurns.{IsLine, side_line, joined_line, line_read, climb}
@@ -32,14 +32,11 @@ spine-le (joined o a b) =
     omega (arith, if-le (nat_eq (line a) (line_of o)) (spine a) (length (spelled a)) (spine-le a), length-append (spelled a) (symbol (op_symbol o) ∷ spelled b))
 spine-le _ = omega arith
 
-unequal : (m n : ℕ) → m < n → nat_eq m n ≡ false
-unequal m n h = grind (arith, nat_tests)
-
 -- relations do not group
 spine_of_relation : (p : Phrase) → Stands p → line p ≡ 4 → spine p ≤ 1
 spine_of_relation (joined o a b) st h =
     let left : left_of o ≡ 3 = left_of-relation o h in
-    let apart : nat_eq (line a) (line_of o) ≡ false = unequal (line a) (line_of o) (omega (arith, st.1)) in
+    let apart : nat_eq (line a) (line_of o) ≡ false = ne_eqb (line a) (line_of o) (omega (arith, st.1)) in
     rw apart (omega arith)
 spine_of_relation (a_call object x args) st h = absurd (omega arith)
 spine_of_relation (a_future object delay x args) st h = absurd (omega arith)

@@ -1,5 +1,5 @@
 -- What stands at the front of tokens, told from what was read of them.
-use Rattle.std.proofs.Common.{◌≡◌, ◌<◌, ◌⊎◌, inl, inr, ℕ, Bool, true, false, List, [], ◌∷◌, ◌++◌, get_or, Option, Some, None, nat_eq, refl, sym, ap, ◌∙◌, arith, append_assoc}
+use Rattle.std.proofs.Common.{◌≡◌, ◌⊎◌, inl, inr, ℕ, Bool, true, false, List, [], ◌∷◌, ◌++◌, get_or, Option, Some, None, nat_eq, refl, sym, ap, ◌∙◌, arith, append_assoc}
 use Rattle.std.proofs.lemmas.Bool.Decides.{nat_tests}
 use Rattle.model_tokens.specs.declared.token.Token.{Token}
 use Rattle.model_tokens.specs.declared.token.Token.TheVariants as token
@@ -90,9 +90,6 @@ symbol_at-number s.Or = refl
 
 pub same_number : (m n : ℕ) → nat_eq m n ≡ true → m ≡ n
 same_number m n h = grind (arith, nat_tests)
-
-pub not_same : (m n : ℕ) → n < m → nat_eq m n ≡ false
-not_same m n h = grind (arith, nat_tests)
 
 pub where_true : (b : Bool) (ts rest : List Token) → only_where b ts ≡ Some rest → (b ≡ true) × (ts ≡ rest)
 where_true true ts rest h = (refl, cc)

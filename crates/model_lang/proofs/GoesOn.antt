@@ -1,6 +1,7 @@
 -- With which line the token at the front would go on with an expression, and what is not there where it is too loose.
-use Rattle.std.proofs.Common.{◌≡◌, ℕ, suc, ◌-◌, ◌<◌, ◌≤◌, Bool, true, false, List, [], ◌∷◌, Option, Some, None, nat_eq, if◌then◌else◌, refl, sym, ap, ◌∙◌, arith}
+use Rattle.std.proofs.Common.{◌≡◌, ℕ, suc, ◌-◌, ◌<◌, ◌≤◌, Bool, true, false, List, ◌∷◌, Option, Some, None, nat_eq, if◌then◌else◌, refl, sym, ap, ◌∙◌, arith}
 use Rattle.std.proofs.lemmas.Bool.Decides.{nat_tests}
+use Rattle.std.proofs.lemmas.Bool.{ne_eqb}
 use Rattle.model_tokens.specs.declared.token.Token.{Token}
 use Rattle.model_tokens.specs.declared.token.Token.TheVariants as token
 use Rattle.model_tokens.specs.declared.token.Token.TheVariants.{Symbol as symbol}
@@ -11,8 +12,7 @@ use Rattle.model_lang.specs.declared.tree.UnaryOp.TheVariants as sign
 use Rattle.model_lang.specs.declared.tree.BinaryOp.{BinaryOp}
 use Rattle.model_lang.specs.declared.tree.BinaryOp.TheVariants as op
 use Rattle.model_lang.specs.Grammar.{line_of, left_of, sign_symbol, op_symbol}
-use Rattle.model_lang.specs.Reader.{Read, reading, behind, either_way, only_where, symbol_number, after_symbol, name_at, field_at, sign_of, operator_of, with_rest, sign_at, of_line, operator_at}
-use Rattle.model_lang.proofs.Fronts.{not_same}
+use Rattle.model_lang.specs.Reader.{reading, behind, either_way, only_where, symbol_number, after_symbol, name_at, field_at, sign_of, operator_of, with_rest, sign_at, of_line, operator_at}
 
 abbrev pub line_if : Option BinaryOp → ℕ
 line_if None = 7
@@ -38,7 +38,7 @@ symbol_line-le _ = omega arith
 of_line-none : (o : Option BinaryOp) (k j : ℕ) → j ≤ k → k < line_if o → of_line j o ≡ None
 of_line-none None k j le lt = refl
 of_line-none (Some o) k j le lt =
-    ap (λ b. if b then Some o else None) (not_same (line_of o) j (omega arith))
+    ap (λ b. if b then Some o else None) (ne_eqb (line_of o) j (omega arith))
 
 pub no_operator : (k j : ℕ) (ts : List Token) → j ≤ k → k < front_line ts → operator_at j ts ≡ None
 no_operator k j (token.Symbol x ∷ ts) le lt =

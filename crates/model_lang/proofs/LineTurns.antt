@@ -1,11 +1,11 @@
 -- A line of operators is read, as soon as its sides are.
-use Rattle.std.proofs.Common.{◌≡◌, ◌⊎◌, inl, inr, ⊎_elim, ℕ, zero, suc, ◌+◌, ◌-◌, ◌<◌, ◌≤◌, Bool, true, false, List, [], ◌∷◌, ◌++◌, length, Option, Some, None, nat_eq, if◌then◌else◌, refl, sym, ap, ◌∙◌, subst, arith, append_assoc, length-append}
+use Rattle.std.proofs.Common.{◌≡◌, ◌⊎◌, ⊎_elim, ℕ, zero, suc, ◌+◌, ◌-◌, ◌<◌, ◌≤◌, Bool, true, false, List, ◌∷◌, ◌++◌, length, Some, None, nat_eq, if◌then◌else◌, refl, sym, ap, ◌∙◌, subst, arith, append_assoc, length-append}
 use Rattle.std.proofs.lemmas.Bool.Decides.{nat_tests}
 use Rattle.model_tokens.specs.declared.token.Token.{Token}
 use Rattle.model_tokens.specs.declared.token.Token.TheVariants.{Symbol as symbol}
 use Rattle.model_lang.specs.declared.tree.BinaryOp.{BinaryOp}
 use Rattle.model_lang.specs.Tree.{Expression, binary}
-use Rattle.model_lang.specs.Grammar.{Phrase, joined, line, line_of, left_of, Stands, op_symbol, spelled, tree_of}
+use Rattle.model_lang.specs.Grammar.{Phrase, joined, line_of, op_symbol, spelled, tree_of}
 use Rattle.model_lang.specs.Reader.{Read, Reader, reading, on_found, operator_at, more_of, turns_of, read_line}
 use Rattle.model_lang.proofs.GoesOn.{front_line, no_operator, operator_found, operator-front_line}
 use Rattle.model_lang.proofs.Arguments.{IsReadBy}

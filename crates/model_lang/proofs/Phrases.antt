@@ -1,5 +1,6 @@
 -- The tokens that expressions are spelled by: how many they are, which begins them, and which are never among them.
-use Rattle.std.proofs.Common.{◌≡◌, ℕ, ◌+◌, ◌<◌, ◌≤◌, Bool, true, false, List, [], ◌∷◌, ◌++◌, length, Option, Some, None, nat_eq, refl, ap, arith, length-append}
+use Rattle.std.proofs.Common.{◌≡◌, ◌+◌, ◌<◌, ◌≤◌, Bool, true, false, List, [], ◌∷◌, ◌++◌, length, Option, Some, None, nat_eq, refl, ap, arith, length-append}
+use Rattle.std.proofs.lemmas.Bool.{ne_eqb}
 use Rattle.model_tokens.specs.declared.token.Token.{Token}
 use Rattle.model_tokens.specs.declared.token.Token.TheVariants as token
 use Rattle.model_tokens.specs.declared.token.Token.TheVariants.{Name as name, ClassName as class_name, Word as word, Symbol as symbol}
@@ -14,7 +15,6 @@ use Rattle.model_lang.specs.declared.tree.BinaryOp.TheVariants as op
 use Rattle.model_lang.specs.Tree.{Expression, expressions_of, expression}
 use Rattle.model_lang.specs.Grammar.{Phrase, a_number, a_text, a_nil, a_bool, a_this, a_field, a_local, a_builtin, a_create, a_list, brackets, a_call, a_future, signed, joined, Phrases, no_phrases, phrase, in_round, in_square, sign_symbol, op_symbol, word_of, spelled, spelled_args, spelled_more, tree_of, trees_of}
 use Rattle.model_lang.specs.Reader.{behind, only_where, word_number, symbol_number, after_word, after_symbol, assigned_at, set_at}
-use Rattle.model_lang.proofs.Fronts.{not_same}
 
 -- ---- the trees of arguments, as a list
 
@@ -143,7 +143,7 @@ word_inside-le _ h = omega arith
 inside_no_word : (x : Word) → word_number x < 7 → (xs rest : List Token) → AllInside xs → 1 ≤ length xs → after_word x (xs ++ rest) ≡ None
 inside_no_word x h [] rest all long = absurd (omega arith)
 inside_no_word x h (token.Word y ∷ xs) rest all long =
-    ap (λ b. only_where b (xs ++ rest)) (not_same (word_number y) (word_number x) (omega (arith, word_inside-le y all.0)))
+    ap (λ b. only_where b (xs ++ rest)) (ne_eqb (word_number y) (word_number x) (omega (arith, word_inside-le y all.0)))
 inside_no_word x h (_ ∷ xs) rest all long = refl
 
 -- a word below `this` in the order of words

@@ -1,16 +1,14 @@
 -- The tightest line of expressions is read, as soon as the expressions in its brackets are.
-use Rattle.std.proofs.Common.{◌≡◌, ℕ, zero, suc, ◌+◌, ◌-◌, ◌<◌, ◌≤◌, ℤ, Bool, true, false, List, [], ◌∷◌, ◌++◌, length, Option, Some, None, nat_eq, if◌then◌else◌, refl, sym, ap, ◌∙◌, arith, append_assoc, length-append}
+use Rattle.std.proofs.Common.{◌≡◌, ℕ, zero, suc, ◌+◌, ◌-◌, ◌≤◌, ℤ, Bool, true, false, List, [], ◌∷◌, ◌++◌, length, Some, None, nat_eq, if◌then◌else◌, refl, sym, ap, ◌∙◌, arith, append_assoc, length-append}
 use Rattle.model_tokens.specs.declared.token.Token.{Token}
-use Rattle.model_tokens.specs.declared.token.Token.TheVariants.{Name as name, ClassName as class_name, Word as word, Symbol as symbol}
+use Rattle.model_tokens.specs.declared.token.Token.TheVariants.{Name as name, Word as word, Symbol as symbol}
 use Rattle.model_tokens.specs.declared.token.Word.TheVariants as w
 use Rattle.model_tokens.specs.declared.token.Symbol.TheVariants as s
-use Rattle.model_lang.specs.declared.tree.UnaryOp.{UnaryOp}
-use Rattle.model_lang.specs.declared.tree.UnaryOp.TheVariants as sign
-use Rattle.model_lang.specs.Tree.{Name, Expression, nil, bool, this, local, field, list, builtin, call, future, create, Expressions, expressions_of}
-use Rattle.model_lang.specs.Grammar.{Phrase, a_number, a_text, a_nil, a_bool, a_this, a_field, a_local, a_builtin, a_create, a_list, brackets, a_call, a_future, signed, joined, Phrases, line, line_of, Stands, in_round, spelled, spelled_args, tree_of, trees_of, word_of, op_symbol, sign_symbol}
+use Rattle.model_lang.specs.Tree.{Name, Expression, this, field, list, builtin, call, future, create, expressions_of}
+use Rattle.model_lang.specs.Grammar.{Phrase, a_number, a_text, a_nil, a_bool, a_this, a_field, a_local, a_builtin, a_create, a_list, brackets, a_call, a_future, signed, joined, Phrases, line, line_of, Stands, in_round, spelled, spelled_args, tree_of, trees_of}
 use Rattle.model_lang.specs.Reader.{Read, Reader, reading, behind, either_way, on_found, after_symbol, field_at, sign_at, read_prim, read_suffix, read_message, suffixes_of, read_post}
-use Rattle.model_lang.proofs.GoesOn.{front_line, no_dot, no_round, no_field, line_of-two}
-use Rattle.model_lang.proofs.Phrases.{list_of, list_of-trees}
+use Rattle.model_lang.proofs.GoesOn.{no_dot, no_round, no_field, line_of-two}
+use Rattle.model_lang.proofs.Phrases.{list_of-trees}
 use Rattle.model_lang.proofs.Arguments.{IsReadBy, AreReadBy, round, square, args_then}
 
 -- how many calls and futures, or how many operators of one line, stand one behind the other at the end of a phrase

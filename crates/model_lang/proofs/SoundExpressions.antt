@@ -1,12 +1,12 @@
 -- Whatever expression the reader reads is spelled by the grammar.
-use Rattle.std.proofs.Common.{◌≡◌, ⊎_elim, ℕ, zero, suc, ◌+◌, ◌<◌, ◌≤◌, List, [], ◌∷◌, ◌++◌, length, Option, Some, refl, sym, ap, ◌∙◌, arith}
+use Rattle.std.proofs.Common.{◌≡◌, ⊎_elim, ℕ, zero, suc, ◌+◌, ◌≤◌, List, ◌∷◌, ◌++◌, length, Option, Some, refl, sym, ap, ◌∙◌, arith}
 use Rattle.model_tokens.specs.declared.token.Token.{Token}
 use Rattle.model_tokens.specs.declared.token.Token.TheVariants.{Symbol as symbol}
 use Rattle.model_lang.specs.declared.tree.UnaryOp.{UnaryOp}
 use Rattle.model_lang.specs.declared.tree.BinaryOp.{BinaryOp}
 use Rattle.model_lang.specs.Tree.{Expression, unary, binary}
-use Rattle.model_lang.specs.Grammar.{Phrase, signed, joined, Stands, line, line_of, sign_symbol, op_symbol, spelled, tree_of}
-use Rattle.model_lang.specs.Reader.{Read, Reader, reading, on_found, sign_at, operator_at, more_of, turns_of, read_line, read_unary, read_post, read_expression}
+use Rattle.model_lang.specs.Grammar.{Phrase, signed, joined, Stands, line, sign_symbol, op_symbol, spelled, tree_of}
+use Rattle.model_lang.specs.Reader.{Read, Reader, reading, sign_at, operator_at, more_of, turns_of, read_line, read_unary, read_post, read_expression}
 use Rattle.model_lang.proofs.Fronts.{parts, apart, found_or, both_spelled}
 use Rattle.model_lang.proofs.GoesOn.{operator_front, sign_front, left_of-fits}
 use Rattle.model_lang.proofs.Turns.{read_line-one, read_line-next}

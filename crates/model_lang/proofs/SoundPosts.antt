@@ -1,5 +1,5 @@
 -- What is read on the tightest line is spelled by the grammar, as soon as the expressions in its brackets are.
-use Rattle.std.proofs.Common.{◌≡◌, ⊎_elim, ℕ, zero, suc, ◌≤◌, Bool, true, false, List, [], ◌∷◌, ◌++◌, length, Option, Some, None, refl, sym, ap, ◌∙◌, subst, arith, append_assoc}
+use Rattle.std.proofs.Common.{◌≡◌, ⊎_elim, ℕ, zero, suc, ◌≤◌, true, false, List, [], ◌∷◌, ◌++◌, length, Option, Some, None, refl, sym, ap, ◌∙◌, arith, append_assoc}
 use Rattle.model_tokens.specs.declared.token.Token.{Token}
 use Rattle.model_tokens.specs.declared.token.Token.TheVariants as token
 use Rattle.model_tokens.specs.declared.token.Token.TheVariants.{Name as name, ClassName as class_name, Word as word, Symbol as symbol}
@@ -8,8 +8,8 @@ use Rattle.model_tokens.specs.declared.token.Word.TheVariants as w
 use Rattle.model_tokens.specs.declared.token.Symbol.{Symbol}
 use Rattle.model_tokens.specs.declared.token.Symbol.TheVariants as s
 use Rattle.model_lang.specs.Tree.{Name, Expression, nil, bool, int, text, this, local, field, list, builtin, call, future, create, expressions_of}
-use Rattle.model_lang.specs.Grammar.{Phrase, a_number, a_text, a_nil, a_bool, a_this, a_field, a_local, a_builtin, a_create, a_list, brackets, a_call, a_future, Phrases, AllStand, Stands, line, in_round, spelled, spelled_args, tree_of, trees_of}
-use Rattle.model_lang.specs.Reader.{Read, Reader, reading, behind, either_way, on_found, after_word, after_symbol, name_at, class_name_at, field_at, read_args, read_named, read_this, read_create, read_word, read_opened, read_prim, read_call, read_message, read_future, read_suffix, suffixes_of, read_post}
+use Rattle.model_lang.specs.Grammar.{Phrase, a_number, a_text, a_nil, a_bool, a_this, a_field, a_local, a_builtin, a_create, a_list, brackets, a_call, a_future, Stands, line, in_round, spelled, spelled_args, tree_of}
+use Rattle.model_lang.specs.Reader.{Read, Reader, reading, behind, either_way, after_symbol, name_at, class_name_at, field_at, read_args, read_named, read_this, read_create, read_word, read_opened, read_prim, read_call, read_message, read_future, read_suffix, suffixes_of, read_post}
 use Rattle.model_lang.proofs.Fronts.{parts, apart, word_or, symbol_or, symbol_then, name_then, class_name_front, found_or, both_spelled}
 use Rattle.model_lang.proofs.Phrases.{list_of, list_of-trees}
 use Rattle.model_lang.proofs.SoundArguments.{Found, IsSound, sound_then, args_found, round_spelled}
