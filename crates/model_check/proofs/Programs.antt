@@ -26,4 +26,4 @@ solvable-program tree p f =
 pub checked-program : (tree : ProgramTree) (solved : List (List SolvedMethod)) → ProgramFits tree → IsFirstProgram tree → first_of (faults_of_program tree) ≡ None → solved ≡ solve_program tree → IsChecked tree 0 solved
 checked-program tree solved p f h e =
     let stands = solved-program tree (solvable-program tree p f) h in
-    record { faultless = h; root_is = (f.0, rw f.1 refl, f.2); stands = subst (λ (found : List (List SolvedMethod)). StandForProgram tree found) (sym e) stands }
+    record { first = f; faultless = h; root_is = (f.0, rw f.1 refl, f.2); stands = subst (λ (found : List (List SolvedMethod)). StandForProgram tree found) (sym e) stands }

@@ -2,6 +2,7 @@
 use Rattle.std.specs.Prelude.{◌≡◌, ℕ, List, length, find, bytes_eq, Option, Some, None, option_map, option_and_then, slice_get}
 use Rattle.std.specs.Borrow.{Bor}
 use Rattle.model_lang.specs.Tree.{Name, MethodTree, ClassTree, ProgramTree, root_name}
+use Rattle.model_check.specs.FirstForms.{IsFirstProgram}
 use Rattle.model_check.specs.Faults.{first_fault}
 use Rattle.model_check.specs.SolvedTree.{SolvedMethod}
 use Rattle.model_check.specs.SolvedView.{solved_method}
@@ -23,8 +24,9 @@ method_of tree n x = option_and_then (λ c. method_named x c.methods) (slice_get
 abbrev pub IsClass : ProgramTree → ℕ → Name → Type 0
 IsClass tree n x = (c : ClassTree) × (slice_get tree n ≡ Some c) × (c.name ≡ x)
 
--- a program without faults: the number of the class Root, and what stands for the methods of each class
+-- a program without faults whose forms are there: the number of the class Root, and what stands for the methods of each class
 pub record IsChecked (tree : ProgramTree) (root : ℕ) (solved : List (List SolvedMethod)) : Type 0 where
+  pub first : IsFirstProgram tree
   pub faultless : first_fault tree ≡ None
   pub root_is : IsClass tree root root_name
   pub stands : StandForProgram tree solved

@@ -98,9 +98,7 @@ fn is_first_expression(expression: &Expr) -> bool
             args,
             ..
         } => {
-            is_first_expression(object)
-                && is_first_expression(delay)
-                && are_first_expressions(args)
+            is_first_expression(object) && is_first_expression(delay) && are_first_expressions(args)
         }
         _ => false,
     }

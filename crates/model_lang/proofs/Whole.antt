@@ -1,5 +1,5 @@
 -- All the tokens of a text: what a reading of them answers.
-use Rattle.std.proofs.Common.{◌≡◌, inl, inr, ℕ, ◌<◌, ◌≤◌, List, length, Option, Some, None, Err, refl, sym, ap, ◌∙◌, subst, arith}
+use Rattle.std.proofs.Common.{◌≡◌, inl, inr, ℕ, ◌<◌, ◌≤◌, List, length, Option, Some, None, Err, refl, sym, ap, ◌∙◌, subst}
 use Rattle.model_tokens.specs.declared.token.Token.{Token}
 use Rattle.model_tokens.specs.Division.{Divides}
 use Rattle.model_lang.specs.declared.fault.Bound.{Bound}
