@@ -41,8 +41,8 @@ pub first_one : (c : ClassTree) (tree : ProgramTree) (first : Bool) → tree ≡
 first_one c tree first is decides = (
   λ yes. let both = decides.0 yes in (c, is, both.0, both.1),
   λ of_tree. (
-    let lists : ◌≡◌ {A = List ClassTree} (of_tree.0 ∷ []) (c ∷ []) = sym of_tree.1 ∙ is in
-    let same : of_tree.0 ≡ c = cc in
-    decides.1 (subst (λ (c : ClassTree). (c.name ≡ root_name) × AreFirstMethods c.methods) same (of_tree.2, of_tree.3))
-  ),
+      let lists : ◌≡◌ {A = List ClassTree} (of_tree.0 ∷ []) (c ∷ []) = sym of_tree.1 ∙ is in
+      let same : of_tree.0 ≡ c = cc in
+      decides.1 (subst (λ (c : ClassTree). (c.name ≡ root_name) × AreFirstMethods c.methods) same (of_tree.2, of_tree.3))
+      ),
 )
