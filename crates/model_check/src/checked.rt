@@ -3,6 +3,7 @@ ghost use Rattle.std.specs.Prelude.{◌≡◌, length, map, None};
 ghost use Rattle.model_lang.specs.TreeView.{class_tree, program_tree};
 ghost use Rattle.model_lang.specs.Tree.{root_name};
 ghost use Rattle.model_check.specs.Answer.{Checks};
+ghost use Rattle.model_check.specs.FirstForms.{IsFirstProgram};
 ghost use Rattle.model_check.specs.Faults.{first_fault};
 ghost use Rattle.model_check.specs.Methods.{field_count, IsClass, FindsMethodIn, FindsMethod};
 ghost use Rattle.model_check.specs.SolvedView.{solved_method};
@@ -65,6 +66,7 @@ impl Checked {
     /// The program itself.
     pub fn program(&self) -> &Program
         ensures program { result.now ≡ self.now }
+        ensures first { IsFirstProgram (program_tree self.now) }
         ensures faultless { first_fault (program_tree self.now) ≡ None }
     {
         &self.program
