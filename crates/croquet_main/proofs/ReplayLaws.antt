@@ -1,14 +1,12 @@
 -- What the parts of `replay` make together.
-use Rattle.std.proofs.Common.{◌≡◌, ◌⊎◌, inl, inr, ℕ, ◌++◌, ◌≤◌, ◌<◌, List, [], ◌∷◌, length, Option, Some, None, Result, Ok, Err, OnOk, IfErr, true, false, refl, sym, ap, subst, ◌∙◌, String, string_bytes, arith}
+use Rattle.std.proofs.Common.{◌≡◌, ◌⊎◌, inl, inr, ℕ, ◌≤◌, ◌<◌, List, [], ◌∷◌, length, Option, Some, None, Result, Ok, Err, OnOk, refl, sym, ap, subst, ◌∙◌, String, arith}
 use Rattle.tea_base.specs.declared.entry.Entry.{Entry}
-use Rattle.tea_base.specs.Legal.{IsLegal}
-use Rattle.session_log.specs.Spelling.{log_spelling}
 use Rattle.model_lang.specs.Tree.{ProgramTree}
 use Rattle.model_lang.specs.declared.fault.LangFault.{LangFault}
 use Rattle.model_lang.specs.declared.fault.LangFault.TheVariants as lang
 use Rattle.model_lang.specs.declared.tree.Class.{Class}
 use Rattle.model_lang.specs.Answer.{Parses, IsPlaced}
-use Rattle.model_lang.specs.Program.{Reading, a_program, no_program, too_large, IsReading}
+use Rattle.model_lang.specs.Program.{IsRead, Reading, a_program, no_program, too_large, IsReading}
 use Rattle.model_check.specs.FirstForms.{IsFirstProgram}
 use Rattle.model_check.specs.declared.fault.CheckFault.{CheckFault}
 use Rattle.model_check.specs.Faults.{first_fault}
@@ -16,16 +14,17 @@ use Rattle.tea_io.specs.Files.{Content, Untold, Absent, Known, MayBe}
 use Rattle.std.specs.Prelude.{⊤}
 use Rattle.std.specs.Result.{IsErrAnd}
 use Rattle.tea_io.specs.Told.{grown}
-use Rattle.tea_io.specs.Sink.{GrowsWithin}
 use Rattle.tea_io.specs.declared.files.FileCall.{FileCall}
 use Rattle.tea_io.specs.declared.files.FileCall.TheVariants as call
+use Rattle.croquet_main.specs.declared.words.Command.{Command}
+use Rattle.croquet_main.specs.declared.words.Command.TheVariants.{Replay}
 use Rattle.croquet_main.specs.declared.status.Fault.{Fault}
 use Rattle.croquet_main.specs.declared.status.Fault.TheVariants.{Usage, Program, Input, Read, Write, Sink, Memory}
 use Rattle.croquet_main.specs.declared.status.Input.{Input as InputName}
 use Rattle.croquet_main.specs.declared.status.Input.TheVariants as input
 use Rattle.croquet_main.specs.PrintedText.{check_line}
-use Rattle.croquet_main.specs.Verdict.{Verdict, Refusal, NoProgram, TooLarge, NotBuilt, Faulty, IsLineOf, IsRefused, IsRefusedFor, OfTree, OfReading, BadWords, Unreadable, BadProgram, BadInput, Unknown, Done, AreKept, HasGoodWords, IsInputLog, IsProgramLine, IsNotDone, LogComes, MayBeBad, MayBeDone, MayBeRead, MayBeRefused, OfCheck, OfLog, OfProgram, OfText, PutsFiles, ReplayComes, has_event, log_limit, program_limit, replay_text}
-use Rattle.croquet_main.specs.Ends.{AskedFor, AskedTo, IsDoneWith, IsLonger, IsReadingFault, IsReadLog, IsUnread, LogEnd, ProgramEnd, IsSinkFault, IsSoundProgram, LeavesBefore, MayEnd, ReadEnd, WorkEnd, WritesBefore}
+use Rattle.croquet_main.specs.Verdict.{Verdict, Refusal, NoProgram, TooLarge, NotBuilt, Faulty, IsLineOf, IsRefused, IsRefusedFor, OfTree, OfReading, BadWords, Unreadable, BadProgram, BadInput, Unknown, Done, AreKept, Comes, HasGoodWords, IsInputLog, IsProgramLine, LogComes, MayBeBad, MayBeDone, MayBeRead, MayBeRefused, OfCheck, OfLog, OfProgram, PutsFiles, ReplayComes, log_limit, program_limit, replay_text}
+use Rattle.croquet_main.specs.Ends.{AskedFor, AskedTo, IsDoneWith, IsLonger, IsReadLog, IsUnread, LogEnd, ProgramEnd, IsSoundProgram, MayEnd, ReadEnd, WorkEnd}
 use Rattle.croquet_main.proofs.StampLaws.{grown-append}
 
 -- one thing comes of a text: what `model_lang::one_reading` says
@@ -154,6 +153,10 @@ pub refused_unread : (bytes : List ℕ) (lang_fault : LangFault) (fault : Fault)
 refused_unread bytes (lang.Syntax at) fault none placed is = rw is (NoProgram (length bytes), (refl, none), (at, placed, refl))
 refused_unread bytes (lang.TooLarge what count) fault many placed is = rw is (TooLarge what count, many, refl)
 refused_unread bytes lang.WantOfMemory fault parsed placed is = rw is tt
+
+-- a program with a fault
+pub refused_faulty : (bytes line : List ℕ) (tree : ProgramTree) (fault : CheckFault) → IsRead bytes tree → IsFirstProgram tree × (first_fault tree ≡ Some fault) → line ≡ check_line fault → IsRefused bytes line
+refused_faulty bytes line tree fault read found told = (Faulty fault, (tree, read, found.0, found.1), told)
 
 pub refused_program : IsOneReading → (name : List ℕ) (time : ℕ) (content log : Content) (bytes line : List ℕ) (verdict : Verdict) → MayBe content bytes → length bytes ≤ program_limit → IsRefused bytes line → ReplayComes name time content log verdict → MayBeRefused line verdict
 refused_program one name time Untold log bytes line verdict held within refused comes = rw comes ((0, omega arith, refl), line_of_refused bytes line within refused)
@@ -331,6 +334,53 @@ MayEnd-work A Read verdict end = end
 MayEnd-work A Write verdict end = absurd end
 MayEnd-work A Sink verdict end = absurd end
 MayEnd-work A Memory verdict end = tt
+
+-- ---- no file is written
+
+abbrev pub HasNoFiles : Verdict → Type 0
+HasNoFiles (Done text files) = files ≡ []
+HasNoFiles _ = ⊤
+
+no_files_log : (log : Content) (text : List Entry → List ℕ) (verdict : Verdict) → LogComes log text verdict → HasNoFiles verdict
+no_files_log Untold text verdict comes = rw comes tt
+no_files_log Absent text verdict comes = rw comes tt
+no_files_log (Known bytes) text verdict (inl (log, is_log, is)) = rw is refl
+no_files_log (Known bytes) text verdict (inr (none, is)) = rw is tt
+
+no_files_check : (found : Option CheckFault) (log : Content) (text : List Entry → List ℕ) (verdict : Verdict) → OfCheck found (LogComes log text verdict) verdict → HasNoFiles verdict
+no_files_check None log text verdict comes = no_files_log log text verdict comes
+no_files_check (Some fault) log text verdict comes = rw comes tt
+
+no_files_tree : (tree : ProgramTree) (log : Content) (text : List Entry → List ℕ) (verdict : Verdict) → OfTree tree (LogComes log text verdict) verdict → HasNoFiles verdict
+no_files_tree tree log text verdict (inl (not, is)) = rw is tt
+no_files_tree tree log text verdict (inr (first, checked)) = no_files_check (first_fault tree) log text verdict checked
+
+no_files_reading : (most : ℕ) (reading : Reading) (name : List ℕ) (time : ℕ) (log : Content) (bytes : List ℕ) (verdict : Verdict) → OfReading most reading (λ tree. LogComes log (replay_text name time bytes tree) verdict) verdict → HasNoFiles verdict
+no_files_reading most (a_program tree) name time log bytes verdict comes = no_files_tree tree log (replay_text name time bytes tree) verdict comes
+no_files_reading most no_program name time log bytes verdict comes = rw comes tt
+no_files_reading most (too_large what count) name time log bytes verdict comes = rw comes tt
+
+no_files : (name : List ℕ) (time : ℕ) (content log : Content) (verdict : Verdict) → ReplayComes name time content log verdict → HasNoFiles verdict
+no_files name time Untold log verdict comes = rw comes tt
+no_files name time Absent log verdict comes = rw comes tt
+no_files name time (Known bytes) log verdict (inl (long, is)) = rw is tt
+no_files name time (Known bytes) log verdict (inr (short, (reading, read, comes))) = no_files_reading (length bytes) reading name time log bytes verdict comes
+
+PutsFiles-kept : (verdict : Verdict) (old new : List ℕ → Content) → MayBeDone verdict → HasNoFiles verdict → AreKept old new → PutsFiles verdict old new
+PutsFiles-kept BadWords old new done none kept = absurd done
+PutsFiles-kept (Unreadable absent) old new done none kept = absurd done
+PutsFiles-kept (BadProgram line) old new done none kept = absurd done
+PutsFiles-kept (BadInput bad) old new done none kept = absurd done
+PutsFiles-kept (Unknown inputs) old new done none kept = tt
+PutsFiles-kept (Done text files) old new done none kept = rw none kept
+
+pub put_replay : (command : Option Command) (result : Result (Unit {0}) Fault) (program name log : List ℕ) (time : ℕ) (old new : List ℕ → Content) → command ≡ Some (Replay program name log time) → ((verdict : Verdict) → ReplayComes name time (old program) (old log) verdict → MayEnd result verdict) → AreKept old new → OnOk result ((verdict : Verdict) → Comes command old verdict → PutsFiles verdict old new)
+put_replay command (Ok done) program name log time old new is end kept =
+    λ verdict comes. (
+    let replay_comes : ReplayComes name time (old program) (old log) verdict = subst (λ (c : Option Command). Comes c old verdict) is comes in
+    PutsFiles-kept verdict old new (end verdict replay_comes) (no_files name time (old program) (old log) verdict replay_comes) kept
+    )
+put_replay command (Err fault) program name log time old new is end kept = tt
 
 -- the text was not written whole, and no file is to be put
 pub PutsFiles-none : (text : List ℕ) (verdict : Verdict) (old new : List ℕ → Content) → IsDoneWith text verdict → AreKept old new → PutsFiles verdict old new

@@ -11,7 +11,7 @@ use Rattle.reflector_core.specs.declared.request.Reply.{Reply}
 use Rattle.croquet_main.specs.declared.status.Fault.{Fault}
 use Rattle.croquet_main.specs.declared.status.Fault.TheVariants.{Usage, Program, Input, Read, Write, Sink, Memory}
 use Rattle.croquet_main.specs.Script.{script_of}
-use Rattle.croquet_main.specs.Verdict.{Verdict, BadWords, Unreadable, BadInput, Unknown, Done, AreKept, ArePut, IsNotDone, IsPut, MayBeDone, PutsFiles, optional_put, replied, requests_in, script_limit, stamp_verdict}
+use Rattle.croquet_main.specs.Verdict.{Verdict, ArePut, IsPut, PutsFiles, optional_put, replied, requests_in, script_limit, stamp_verdict}
 use Rattle.croquet_main.specs.Ends.{Answers, AskedTo, IsSinkFault, LeavesBefore}
 
 -- ---- the calls of files

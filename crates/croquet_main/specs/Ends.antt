@@ -27,7 +27,7 @@ use Rattle.croquet_main.specs.declared.status.Status.{Status}
 use Rattle.croquet_main.specs.declared.status.Status.TheVariants.{WriteFault, WantOfMemory}
 use Rattle.croquet_main.specs.declared.status.Status.TheVariants as status
 use Rattle.croquet_main.specs.declared.status.Input.TheVariants as input_name
-use Rattle.croquet_main.specs.Verdict.{Verdict, IsRefused, BadWords, Unreadable, BadProgram, BadInput, Unknown, Done, Comes, MayBeRefused, MayBeRead, IsInputLog, has_event, reads_in, reads_to, MayBeDone, MayBeBad, HasBadWords, HasGoodWords, AreKept, IsNonEmpty, IsNotDone, OfText, PutsFiles, usage_line, input_line, read_line, write_line, memory_line}
+use Rattle.croquet_main.specs.Verdict.{Verdict, IsRefused, BadWords, Unreadable, BadProgram, BadInput, Unknown, Done, MayBeRefused, MayBeRead, IsInputLog, has_event, reads_in, reads_to, MayBeDone, MayBeBad, HasBadWords, HasGoodWords, AreKept, IsNonEmpty, IsNotDone, OfText, PutsFiles, usage_line, input_line, read_line, write_line, memory_line}
 
 -- what stands there is longer
 abbrev pub IsLonger : Content → ℕ → Type 0

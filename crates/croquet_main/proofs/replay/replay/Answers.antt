@@ -1,4 +1,3 @@
-use Rattle.std.proofs.Common.{Err}
 use Rattle.croquet_main.specs.declared.status.Fault.{Fault}
 use Rattle.croquet_main.proofs.VerdictLaws.{IfErr-all, WritesBefore-nothing}
 use Rattle.croquet_main.proofs.replay.replay.Goals as goal

@@ -4,12 +4,12 @@ use Rattle.sha2.specs.Sha256.{sha256}
 use Rattle.model_value.specs.Spelling.{text_field}
 use Rattle.model_lang.specs.TreeView.{program_tree}
 use Rattle.world.specs.Worlds.{replay}
-use Rattle.tea_io.specs.Files.{Content, MayBe}
+use Rattle.tea_io.specs.Files.{Content}
 use Rattle.croquet_main.specs.declared.status.Fault.TheVariants.{Memory}
 use Rattle.croquet_main.specs.declared.status.Input.TheVariants as input
 use Rattle.croquet_main.specs.PrintedText.{world_line}
 use Rattle.croquet_main.specs.Verdict.{log_limit, replay_text}
-use Rattle.croquet_main.specs.Ends.{AskedFor, IsDoneWith, ReadEnd, WorkEnd}
+use Rattle.croquet_main.specs.Ends.{AskedFor, IsDoneWith, ReadEnd}
 use Rattle.croquet_main.proofs.ReplayLaws.{asked_bad_log, asked_both, asked_log, by_fault, done_log, end_bad_log, end_log, end_program, log_read, some_verdict, to_log}
 use Rattle.croquet_main.proofs.replay.work.Goals as goal
 
