@@ -1,0 +1,9 @@
+pub mod Written
+pub mod Shedding
+pub mod ShedCounts
+pub mod Neighbours
+pub mod Spaced
+pub mod Shortest
+pub mod Canonical
+pub mod Printed
+pub mod PrintedForms

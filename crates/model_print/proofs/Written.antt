@@ -1,0 +1,174 @@
+-- The canonical form stands in the grammar, and its tree is the tree.
+use Rattle.std.proofs.Common.{◌≡◌, ℕ, ◌-◌, ◌<◌, ◌≤◌, Bool, true, false, cond, List, [], ◌∷◌, length, map, refl, sym, ap, ◌∙◌, subst, arith}
+use Rattle.std.specs.Prelude.{nat_le}
+use Rattle.std.proofs.lemmas.Bool.Decides.{nat_tests}
+use Rattle.model_lang.specs.declared.tree.BinaryOp.{BinaryOp}
+use Rattle.model_lang.specs.declared.tree.BinaryOp.TheVariants as op
+use Rattle.model_lang.specs.Tree.{Expression, nil, bool, int, text, this, local, field, list, unary, binary, builtin, call, future, create, Expressions, no_expressions, expression, Statement, declare, assign, set_field, when, while, give, do_, Statements, no_statements, statement, no_else, else_block, MethodTree, ClassTree, ProgramTree}
+use Rattle.model_lang.specs.Grammar.{Phrase, brackets, joined, line_of, line, left_of, Stands, AllStand, tree_of, trees_of, ActionStands, BlockStands, MethodsStand, ClassesStand, tree_of_action, trees_of_block, tree_of_method, tree_of_class}
+use Rattle.model_print.specs.Canonical.{at, written, all_written, written_action, written_block, written_method, written_class}
+
+-- ---- a phrase where one of a line may stand
+
+pub either : (P : Phrase → Type 0) (b : Bool) (p q : Phrase) → P p → P q → P (cond b p q)
+either P true p q h k = h
+either P false p q h k = k
+
+line_if : (wanted : ℕ) (p : Phrase) (b : Bool) → nat_le (line p) wanted ≡ b → line (cond b p (brackets p)) ≤ wanted
+line_if wanted p true h = grind (arith, nat_tests)
+line_if wanted p false h = omega arith
+
+line_at : (wanted : ℕ) (p : Phrase) → line (at wanted p) ≤ wanted
+line_at wanted p = line_if wanted p (nat_le (line p) wanted) refl
+
+stands_at : (wanted : ℕ) (p : Phrase) → Stands p → Stands (at wanted p)
+stands_at wanted p h = either Stands (nat_le (line p) wanted) p (brackets p) h h
+
+tree_at : (wanted : ℕ) (p : Phrase) → tree_of (at wanted p) ≡ tree_of p
+tree_at wanted p = either (λ q. tree_of q ≡ tree_of p) (nat_le (line p) wanted) p (brackets p) refl refl
+
+-- one of that line or of a tighter one gets no brackets
+pub stays : (wanted : ℕ) (p : Phrase) → line p ≤ wanted → at wanted p ≡ p
+stays wanted p h =
+    let test : nat_le (line p) wanted ≡ true = grind (arith, nat_tests) in
+    ap (λ b. cond b p (brackets p)) test
+
+line_of_within : (o : BinaryOp) → (0 < line_of o) × (line_of o ≤ 6)
+line_of_within op.Or = (omega arith, omega arith)
+line_of_within op.And = (omega arith, omega arith)
+line_of_within op.Same = (omega arith, omega arith)
+line_of_within op.Differs = (omega arith, omega arith)
+line_of_within op.Less = (omega arith, omega arith)
+line_of_within op.AtMost = (omega arith, omega arith)
+line_of_within op.Greater = (omega arith, omega arith)
+line_of_within op.AtLeast = (omega arith, omega arith)
+line_of_within op.Plus = (omega arith, omega arith)
+line_of_within op.Minus = (omega arith, omega arith)
+line_of_within op.Times = (omega arith, omega arith)
+line_of_within op.Divide = (omega arith, omega arith)
+line_of_within op.Rest = (omega arith, omega arith)
+
+-- line 6 is the loosest
+pub loosest : (p : Phrase) → line p ≤ 6
+loosest (joined o a b) = (line_of_within o).1
+loosest p = omega arith
+
+pub right_of : (o : BinaryOp) (n : ℕ) → n < line_of o → n ≤ line_of o - 1
+right_of o n h = omega arith
+
+tighter : (o : BinaryOp) (p : Phrase) → line (at (line_of o - 1) p) < line_of o
+tighter o p = omega (arith, line_at (line_of o - 1) p, (line_of_within o).0)
+
+-- ---- expressions
+
+mutual
+  pub written-stands : (e : Expression) → Stands (written e)
+  written-stands nil = tt
+  written-stands (bool b) = tt
+  written-stands (int n) = tt
+  written-stands (text t) = tt
+  written-stands this = tt
+  written-stands (local x) = tt
+  written-stands (field x) = tt
+  written-stands (list items) = all_written-stand items
+  written-stands (unary o a) = (stands_at 1 (written a) (written-stands a), line_at 1 (written a))
+  written-stands (binary o a b) = (
+    stands_at (left_of o) (written a) (written-stands a),
+    line_at (left_of o) (written a),
+    stands_at (line_of o - 1) (written b) (written-stands b),
+    tighter o (written b),
+  )
+  written-stands (builtin x args) = all_written-stand args
+  written-stands (call object x args) = (stands_at 0 (written object) (written-stands object), line_at 0 (written object), all_written-stand args)
+  written-stands (future object delay x args) =
+      (stands_at 0 (written object) (written-stands object), line_at 0 (written object), written-stands delay, all_written-stand args)
+  written-stands (create x options) = written-stands options
+
+  all_written-stand : (es : Expressions) → AllStand (all_written es)
+  all_written-stand no_expressions = tt
+  all_written-stand (expression a more) = (written-stands a, all_written-stand more)
+
+mutual
+  pub tree-written : (e : Expression) → tree_of (written e) ≡ e
+  tree-written nil = refl
+  tree-written (bool b) = refl
+  tree-written (int n) = refl
+  tree-written (text t) = refl
+  tree-written this = refl
+  tree-written (local x) = refl
+  tree-written (field x) = refl
+  tree-written (list items) = ap list (trees-all_written items)
+  tree-written (unary o a) = ap (unary o) (tree_at 1 (written a) ∙ tree-written a)
+  tree-written (binary o a b) =
+      ap (λ x. binary o x (tree_of (at (line_of o - 1) (written b)))) (tree_at (left_of o) (written a) ∙ tree-written a)
+      ∙ ap (binary o a) (tree_at (line_of o - 1) (written b) ∙ tree-written b)
+  tree-written (builtin x args) = ap (builtin x) (trees-all_written args)
+  tree-written (call object x args) =
+      ap (λ y. call y x (trees_of (all_written args))) (tree_at 0 (written object) ∙ tree-written object) ∙ ap (call object x) (trees-all_written args)
+  tree-written (future object delay x args) =
+      ap (λ y. future y (tree_of (written delay)) x (trees_of (all_written args))) (tree_at 0 (written object) ∙ tree-written object)
+      ∙ ap (λ y. future object y x (trees_of (all_written args))) (tree-written delay)
+      ∙ ap (future object delay x) (trees-all_written args)
+  tree-written (create x options) = ap (create x) (tree-written options)
+
+  trees-all_written : (es : Expressions) → trees_of (all_written es) ≡ es
+  trees-all_written no_expressions = refl
+  trees-all_written (expression a more) = ap (λ y. expression y (trees_of (all_written more))) (tree-written a) ∙ ap (expression a) (trees-all_written more)
+
+-- ---- statements
+
+mutual
+  action-stands : (s : Statement) → ActionStands (written_action s)
+  action-stands (declare x a) = written-stands a
+  action-stands (assign x a) = written-stands a
+  action-stands (set_field x a) = written-stands a
+  action-stands (when a block no_else) = (written-stands a, block-stands block)
+  action-stands (when a block (else_block other)) = (written-stands a, block-stands block, block-stands other)
+  action-stands (while a block) = (written-stands a, block-stands block)
+  action-stands (give a) = written-stands a
+  action-stands (do_ a) = written-stands a
+
+  block-stands : (ss : Statements) → BlockStands (written_block ss)
+  block-stands no_statements = tt
+  block-stands (statement a more) = (action-stands a, block-stands more)
+
+mutual
+  tree-action : (s : Statement) → tree_of_action (written_action s) ≡ s
+  tree-action (declare x a) = ap (declare x) (tree-written a)
+  tree-action (assign x a) = ap (assign x) (tree-written a)
+  tree-action (set_field x a) = ap (set_field x) (tree-written a)
+  tree-action (when a block no_else) =
+      ap (λ y. when y (trees_of_block (written_block block)) no_else) (tree-written a) ∙ ap (λ y. when a y no_else) (trees-block block)
+  tree-action (when a block (else_block other)) =
+      ap (λ y. when y (trees_of_block (written_block block)) (else_block (trees_of_block (written_block other)))) (tree-written a)
+      ∙ ap (λ y. when a y (else_block (trees_of_block (written_block other)))) (trees-block block)
+      ∙ ap (λ y. when a block (else_block y)) (trees-block other)
+  tree-action (while a block) = ap (λ y. while y (trees_of_block (written_block block))) (tree-written a) ∙ ap (while a) (trees-block block)
+  tree-action (give a) = ap give (tree-written a)
+  tree-action (do_ a) = ap do_ (tree-written a)
+
+  trees-block : (ss : Statements) → trees_of_block (written_block ss) ≡ ss
+  trees-block no_statements = refl
+  trees-block (statement a more) = ap (λ y. statement y (trees_of_block (written_block more))) (tree-action a) ∙ ap (statement a) (trees-block more)
+
+-- ---- classes
+
+methods-stand : (ms : List MethodTree) → MethodsStand (map written_method ms)
+methods-stand [] = tt
+methods-stand (m ∷ ms) = (block-stands m.body, methods-stand ms)
+
+pub classes-stand : (cs : ProgramTree) → ClassesStand (map written_class cs)
+classes-stand [] = tt
+classes-stand (c ∷ cs) = (methods-stand c.methods, classes-stand cs)
+
+trees-methods : (ms : List MethodTree) → map tree_of_method (map written_method ms) ≡ ms
+trees-methods [] = refl
+trees-methods (m ∷ ms) =
+    let same : tree_of_method (written_method m) ≡ m = ap (λ b. record m { body = b }) (trees-block m.body) in
+    ap (λ y. y ∷ map tree_of_method (map written_method ms)) same ∙ ap (λ ys. m ∷ ys) (trees-methods ms)
+
+pub trees-classes : (cs : ProgramTree) → map tree_of_class (map written_class cs) ≡ cs
+trees-classes [] = refl
+trees-classes (c ∷ cs) =
+    let same : tree_of_class (written_class c) ≡ c = ap (λ ms. record c { methods = ms }) (trees-methods c.methods) in
+    ap (λ y. y ∷ map tree_of_class (map written_class cs)) same ∙ ap (λ ys. c ∷ ys) (trees-classes cs)

@@ -1,0 +1,55 @@
+-- A text as it is printed, token by token: its bytes so far, and whether its last token is worded.
+use Rattle.std.specs.Prelude.{◌≡◌, ℕ, Bool, List, [], ◌∷◌, ◌++◌, Result, Ok, Err, encode_utf8_all}
+use Rattle.std.specs.Str.{chars}
+use Rattle.model_tokens.specs.declared.token.Token.{Token}
+use Rattle.model_tokens.specs.declared.token.Token.TheVariants as token
+use Rattle.model_tokens.specs.Spelling.{spelled_text, spelled}
+use Rattle.model_print.specs.declared.printing.Level.{Level}
+use Rattle.model_print.specs.declared.printing.Level.TheVariants as level
+use Rattle.model_lang.specs.declared.tree.Class.{Class}
+use Rattle.model_lang.specs.declared.fault.LangFault.{LangFault}
+use Rattle.model_lang.specs.declared.fault.LangFault.TheVariants.{Syntax, TooLarge, WantOfMemory}
+use Rattle.model_lang.specs.Tree.{ProgramTree}
+use Rattle.model_lang.specs.TreeView.{program_tree}
+use Rattle.model_print.specs.Canonical.{is_worded, between}
+
+abbrev pub Printed : Type 0
+Printed = List ℕ × Bool
+
+-- with the spelling of one token more, which is worded or not
+abbrev pub spaced : Printed → Bool → List ℕ → Printed
+spaced p worded bytes = (p.0 ++ (between p.1 worded ++ bytes), worded)
+
+-- what is printed of a token: names and texts are held as UTF-8
+abbrev pub printed : Token → List ℕ
+printed (token.Name x) = encode_utf8_all x
+printed (token.ClassName x) = encode_utf8_all x
+printed (token.Number n) = spelled (token.Number n)
+printed (token.Text x) = spelled_text (chars (encode_utf8_all x))
+printed (token.Word w) = spelled (token.Word w)
+printed (token.Symbol s) = spelled (token.Symbol s)
+
+unfoldable pub with_token : Printed → Token → Printed
+with_token p t = spaced p (is_worded t) (printed t)
+
+-- with tokens more, one behind the other
+abbrev pub with_tokens : Printed → List Token → Printed
+with_tokens p [] = p
+with_tokens p (t ∷ ts) = with_tokens (with_token p t) ts
+
+-- the lines of the grammar by number
+abbrev pub level_number : Level → ℕ
+level_number level.Post = 0
+level_number level.Unary = 1
+level_number level.Term = 2
+level_number level.Sum = 3
+level_number level.Relation = 4
+level_number level.And = 5
+level_number level.Or = 6
+
+-- what reading the canonical text of a program answers: the program again, where memory lasts
+abbrev pub GivesAgain : ProgramTree → Result (List Class) LangFault → Type 0
+GivesAgain tree (Ok classes) = program_tree classes ≡ tree
+GivesAgain tree (Err (TooLarge what count)) = ⊥
+GivesAgain tree (Err (Syntax at)) = ⊥
+GivesAgain tree (Err WantOfMemory) = Unit {0}

@@ -1,0 +1,694 @@
+//! The canonical text of a program.
+#![tactic(auto, using(crate::proofs::Printed::by_append))]
+
+ghost use Rattle.std.specs.Prelude.{◌≡◌, ◌∷◌, [], ◌++◌, ◌-◌, ◌/◌, ◌%◌, ◌<◌, true, false, map, if◌then◌else◌, flat_map, encode_utf8, encode_utf8_all, IfOk, OnOk, string_bytes, List, Result, ℕ, length, ◌≤◌};
+ghost use Rattle.std.specs.Str.{chars};
+ghost use Rattle.model_tokens.specs.declared.token.Token.TheVariants as token;
+ghost use Rattle.model_tokens.specs.declared.token.Word.TheVariants as word;
+ghost use Rattle.model_tokens.specs.declared.token.Symbol.TheVariants as symbol;
+ghost use Rattle.model_tokens.specs.Spelling.{spelled_symbol as meant_symbol, spelled_word as meant_word, hex_digit as meant_digit, spelled_character};
+ghost use Rattle.model_tokens.specs.Bytes.{is_control as is_control_code};
+ghost use Rattle.model_lang.specs.Tree.{ProgramTree};
+ghost use Rattle.model_lang.specs.declared.tree.Class.{Class as Held};
+ghost use Rattle.model_lang.specs.declared.fault.LangFault.{LangFault};
+ghost use Rattle.model_lang.specs.TreeView.{expression_tree, expression_trees, statement_tree, statement_trees, method_tree, class_tree, program_tree};
+ghost use Rattle.model_lang.specs.Grammar.{line, line_of as number_of, left_of as number_left_of, op_symbol as meant_op, sign_symbol as meant_sign, in_round, in_square, in_braces, spelled, spelled_args, spelled_end, spelled_action, spelled_block, spelled_further, spelled_params, spelled_method, spelled_methods, spelled_fields, spelled_class, spelled_classes};
+ghost use Rattle.model_lang.specs.Program.{IsRead, IsProgram};
+ghost use Rattle.model_lang.specs.Answer.{Parses};
+ghost use Rattle.model_print.specs.Canonical.{at, written, all_written, written_action, written_block, written_method, written_class, canonical_tokens, canonical_text};
+ghost use Rattle.model_print.specs.Printing.{spaced, with_token, with_tokens, level_number, GivesAgain};
+
+use model_lang::{BinaryOp, Class, Expr, Method, Program, Stmt, UnaryOp, one_reading};
+use model_tokens::{Symbol, Word};
+use std::alloc::{AllocError, Global};
+use std::marker::Model;
+use tea_base::{Blob, Text, WantOfMemory};
+
+/// The canonical text of a program: its tokens in order, with round brackets exactly round each part that would be grouped
+/// otherwise, and one space exactly between two names, words or numbers.
+#[tactic(auto, using(crate::proofs::PrintedForms::by_whole))]
+pub fn print(alloc: Global, program: &Program) -> Result<Blob, WantOfMemory>
+    ensures text { IfOk result (λ blob. blob ≡ canonical_text (program_tree program.now)) }
+    ensures read { IfOk result (λ blob. IsRead blob (program_tree program.now)) }
+{
+    let mut printer = Printer::new(alloc);
+    printer.program(program.classes())?;
+    Ok(printer.into_blob())
+}
+
+/// `parse` of the canonical text of a program gives the program again, where memory lasts.
+pub fn parses_again()
+    ensures { (tree : ProgramTree) (read : Result (List Held) LangFault) → IsProgram tree → Parses read (canonical_text tree) → GivesAgain tree read }
+{
+    one_reading();
+}
+
+/// No text of a program is shorter than the canonical one.
+pub fn is_shortest()
+    ensures { (text : List ℕ) (tree : ProgramTree) → IsRead text tree → length (canonical_text tree) ≤ length text }
+{}
+
+/// A line of the grammar for expressions, from the tightest.
+#[derive(Clone, Copy, Debug, PartialEq, Eq)]
+enum Level {
+    Post,
+    Unary,
+    Term,
+    Sum,
+    Relation,
+    And,
+    Or,
+}
+
+impl Level {
+    /// Its number, from the tightest.
+    fn number(self) -> u8
+        ensures { result ≡ level_number self }
+    {
+        match self {
+            Level::Post => 0,
+            Level::Unary => 1,
+            Level::Term => 2,
+            Level::Sum => 3,
+            Level::Relation => 4,
+            Level::And => 5,
+            Level::Or => 6,
+        }
+    }
+}
+
+/// The line on which an operator stands.
+fn line_of(op: BinaryOp) -> Level
+    ensures { level_number result ≡ number_of op }
+{
+    match op {
+        BinaryOp::Or => Level::Or,
+        BinaryOp::And => Level::And,
+        BinaryOp::Same
+        | BinaryOp::Differs
+        | BinaryOp::Less
+        | BinaryOp::AtMost
+        | BinaryOp::Greater
+        | BinaryOp::AtLeast => Level::Relation,
+        BinaryOp::Plus | BinaryOp::Minus => Level::Sum,
+        BinaryOp::Times | BinaryOp::Divide | BinaryOp::Rest => Level::Term,
+    }
+}
+
+/// The loosest line that stands on the left of an operator without brackets.
+fn left_of(op: BinaryOp) -> Level
+    ensures { level_number result ≡ number_left_of op }
+{
+    match op {
+        BinaryOp::Or => Level::Or,
+        BinaryOp::And => Level::And,
+        BinaryOp::Same
+        | BinaryOp::Differs
+        | BinaryOp::Less
+        | BinaryOp::AtMost
+        | BinaryOp::Greater
+        | BinaryOp::AtLeast
+        | BinaryOp::Plus
+        | BinaryOp::Minus => Level::Sum,
+        BinaryOp::Times | BinaryOp::Divide | BinaryOp::Rest => Level::Term,
+    }
+}
+
+/// The loosest line that stands on the right of an operator without brackets.
+fn right_of(op: BinaryOp) -> Level
+    ensures { level_number result ≡ number_of op - 1 }
+{
+    match op {
+        BinaryOp::Or => Level::And,
+        BinaryOp::And => Level::Relation,
+        BinaryOp::Same
+        | BinaryOp::Differs
+        | BinaryOp::Less
+        | BinaryOp::AtMost
+        | BinaryOp::Greater
+        | BinaryOp::AtLeast => Level::Sum,
+        BinaryOp::Plus | BinaryOp::Minus => Level::Term,
+        BinaryOp::Times | BinaryOp::Divide | BinaryOp::Rest => Level::Unary,
+    }
+}
+
+fn level_of(expr: &Expr) -> Level
+    ensures { level_number result ≡ line (written (expression_tree expr.now)) }
+{
+    match expr {
+        Expr::Unary { .. } => Level::Unary,
+        Expr::Binary { op, .. } => line_of(*op),
+        Expr::Nil
+        | Expr::Bool(_)
+        | Expr::Int(_)
+        | Expr::Text(_)
+        | Expr::This
+        | Expr::Local { .. }
+        | Expr::Field { .. }
+        | Expr::List { .. }
+        | Expr::Builtin { .. }
+        | Expr::Call { .. }
+        | Expr::Future { .. }
+        | Expr::Create { .. } => Level::Post,
+    }
+}
+
+fn op_symbol(op: BinaryOp) -> Symbol
+    ensures { result ≡ meant_op op }
+{
+    match op {
+        BinaryOp::Or => Symbol::Or,
+        BinaryOp::And => Symbol::And,
+        BinaryOp::Same => Symbol::Same,
+        BinaryOp::Differs => Symbol::Differs,
+        BinaryOp::Less => Symbol::Less,
+        BinaryOp::AtMost => Symbol::AtMost,
+        BinaryOp::Greater => Symbol::Greater,
+        BinaryOp::AtLeast => Symbol::AtLeast,
+        BinaryOp::Plus => Symbol::Plus,
+        BinaryOp::Minus => Symbol::Minus,
+        BinaryOp::Times => Symbol::Times,
+        BinaryOp::Divide => Symbol::Divide,
+        BinaryOp::Rest => Symbol::Rest,
+    }
+}
+
+fn sign_symbol(op: UnaryOp) -> Symbol
+    ensures { result ≡ meant_sign op }
+{
+    match op {
+        UnaryOp::Minus => Symbol::Minus,
+        UnaryOp::Not => Symbol::Not,
+    }
+}
+
+fn symbol_text(symbol: Symbol) -> &'static str
+    ensures { result.now ≡ meant_symbol symbol }
+{
+    match symbol {
+        Symbol::OpenBrace => "{",
+        Symbol::CloseBrace => "}",
+        Symbol::OpenRound => "(",
+        Symbol::CloseRound => ")",
+        Symbol::OpenSquare => "[",
+        Symbol::CloseSquare => "]",
+        Symbol::Comma => ",",
+        Symbol::Semicolon => ";",
+        Symbol::Dot => ".",
+        Symbol::Assign => "=",
+        Symbol::Same => "==",
+        Symbol::Differs => "!=",
+        Symbol::Less => "<",
+        Symbol::AtMost => "<=",
+        Symbol::Greater => ">",
+        Symbol::AtLeast => ">=",
+        Symbol::Plus => "+",
+        Symbol::Minus => "-",
+        Symbol::Times => "*",
+        Symbol::Divide => "/",
+        Symbol::Rest => "%",
+        Symbol::Not => "!",
+        Symbol::And => "&&",
+        Symbol::Or => "||",
+    }
+}
+
+fn word_text(word: Word) -> &'static str
+    ensures { result.now ≡ meant_word word }
+{
+    match word {
+        Word::Class => "class",
+        Word::Field => "field",
+        Word::Let => "let",
+        Word::If => "if",
+        Word::Else => "else",
+        Word::While => "while",
+        Word::Return => "return",
+        Word::This => "this",
+        Word::Nil => "nil",
+        Word::True => "true",
+        Word::False => "false",
+        Word::Create => "create",
+        Word::Future => "future",
+    }
+}
+
+fn is_control(code: u32) -> bool
+    ensures { result ≡ is_control_code code }
+{
+    code < 32 || code == 127
+}
+
+/// A hexadecimal digit from 0 to 15, in lower case.
+fn hex_digit(digit: u32) -> char
+    requires { digit < 16 }
+    ensures digit { result ≡ meant_digit digit }
+    ensures ascii { result < 128 }
+{
+    char::from_digit(digit, 16).unwrap_or('0')
+}
+
+/// Appends the escape of a control, other than an LF.
+fn push_control(out: &mut String, code: u32) -> Result<(), AllocError>
+    requires { code < 256 }
+    ensures { OnOk result (string_bytes out.new ≡ string_bytes out.old ++ 92 ∷ 120 ∷ meant_digit (code / 16) ∷ meant_digit (code % 16) ∷ []) }
+{
+    out.push_str("\\x")?;
+    out.push(hex_digit(code / 16))?;
+    out.push(hex_digit(code % 16))
+}
+
+/// Appends the spelling of a character that is no quote, backslash or LF.
+fn push_other(out: &mut String, character: char) -> Result<(), AllocError>
+    ensures { OnOk result (string_bytes out.new ≡ string_bytes out.old ++ (if is_control_code character then 92 ∷ 120 ∷ meant_digit (character / 16) ∷ meant_digit (character % 16) ∷ [] else encode_utf8 character)) }
+{
+    let code = u32::from(character);
+    if is_control(code) {
+        push_control(out, code)
+    } else {
+        out.push(character)
+    }
+}
+
+/// Appends the spelling of a character in a text literal.
+fn push_character(out: &mut String, character: char) -> Result<(), AllocError>
+    ensures { OnOk result (string_bytes out.new ≡ string_bytes out.old ++ spelled_character character) }
+{
+    match character {
+        '"' => out.push_str("\\\""),
+        '\\' => out.push_str("\\\\"),
+        '\n' => out.push_str("\\n"),
+        _ => push_other(out, character),
+    }
+}
+
+/// Appends the spelling of each character of a text literal.
+fn push_characters(out: &mut String, text: &str) -> Result<(), AllocError>
+    ensures { OnOk result (string_bytes out.new ≡ string_bytes out.old ++ flat_map spelled_character (chars text.now)) }
+{
+    for character in text.chars() {
+        push_character(out, character)?;
+    }
+    Ok(())
+}
+
+/// A text that is printed token by token. Contracts see its bytes, and whether its last token is a name, a word or a number.
+#[derive(Drop)]
+struct Printer {
+    alloc: Global,
+    text: String,
+    worded: bool,
+}
+
+impl Model for Printer {
+    ghost use Rattle.std.specs.Prelude.{List, ℕ, Bool, string_bytes};
+
+    ghost Value = { List ℕ × Bool };
+
+    ghost view = { λ printer. (string_bytes printer.text, printer.worded) };
+}
+
+impl Printer {
+    fn new(alloc: Global) -> Printer
+        ensures { result ≡ ([], false) }
+    {
+        Printer {
+            alloc,
+            text: String::new(alloc),
+            worded: false,
+        }
+    }
+
+    fn into_blob(self) -> Blob
+        ensures { result ≡ self.0 }
+    {
+        Blob::from_vec(self.text.into_bytes())
+    }
+
+    // ---- tokens
+
+    /// A name, a word or a number, behind a space where another stands before it.
+    fn worded(&mut self, bytes: &str) -> Result<(), WantOfMemory>
+        ensures { OnOk result (self.new ≡ spaced self.old true bytes.now) }
+    {
+        if self.worded {
+            self.text.push_str(" ")?;
+        }
+        self.text.push_str(bytes)?;
+        self.worded = true;
+        Ok(())
+    }
+
+    #[tactic(auto, unfolding(crate::specs::Printing::with_token))]
+    fn name(&mut self, name: &Text) -> Result<(), WantOfMemory>
+        ensures { OnOk result (self.new ≡ with_token self.old (token.Name name.now)) }
+    {
+        self.worded(name.as_str())
+    }
+
+    #[tactic(auto, unfolding(crate::specs::Printing::with_token))]
+    fn class_name(&mut self, name: &Text) -> Result<(), WantOfMemory>
+        ensures { OnOk result (self.new ≡ with_token self.old (token.ClassName name.now)) }
+    {
+        self.worded(name.as_str())
+    }
+
+    #[tactic(auto, unfolding(crate::specs::Printing::with_token))]
+    fn number(&mut self, number: i64) -> Result<(), WantOfMemory>
+        ensures { OnOk result (self.new ≡ with_token self.old (token.Number number)) }
+    {
+        let digits = number.to_string(self.alloc)?;
+        self.worded(digits.as_str())
+    }
+
+    #[tactic(auto, unfolding(crate::specs::Printing::with_token))]
+    fn word(&mut self, word: Word) -> Result<(), WantOfMemory>
+        ensures { OnOk result (self.new ≡ with_token self.old (token.Word word)) }
+    {
+        self.worded(word_text(word))
+    }
+
+    #[tactic(auto, unfolding(crate::specs::Printing::with_token))]
+    fn symbol(&mut self, symbol: Symbol) -> Result<(), WantOfMemory>
+        ensures { OnOk result (self.new ≡ with_token self.old (token.Symbol symbol)) }
+    {
+        self.text.push_str(symbol_text(symbol))?;
+        self.worded = false;
+        Ok(())
+    }
+
+    #[tactic(auto, unfolding(crate::specs::Printing::with_token))]
+    fn literal(&mut self, text: &Text) -> Result<(), WantOfMemory>
+        ensures { OnOk result (self.new ≡ with_token self.old (token.Text text.now)) }
+    {
+        self.text.push_str("\"")?;
+        push_characters(&mut self.text, text.as_str())?;
+        self.text.push_str("\"")?;
+        self.worded = false;
+        Ok(())
+    }
+
+    // ---- expressions
+
+    /// An expression, in brackets where none of its line may stand.
+    #[cycle(print)]
+    fn placed(&mut self, wanted: Level, expr: &Expr) -> Result<(), WantOfMemory>
+        ensures { OnOk result (self.new ≡ with_tokens self.old (spelled (at (level_number wanted) (written (expression_tree expr.now))))) }
+    {
+        if level_of(expr).number() <= wanted.number() {
+            self.phrase(expr)
+        } else {
+            self.bracketed(expr)
+        }
+    }
+
+    /// An expression in round brackets.
+    #[cycle(print)]
+    fn bracketed(&mut self, expr: &Expr) -> Result<(), WantOfMemory>
+        ensures { OnOk result (self.new ≡ with_tokens self.old (in_round (spelled (written (expression_tree expr.now))))) }
+    {
+        self.symbol(Symbol::OpenRound)?;
+        self.phrase(expr)?;
+        self.symbol(Symbol::CloseRound)
+    }
+
+    #[cycle(print)]
+    fn phrase(&mut self, expr: &Expr) -> Result<(), WantOfMemory>
+        ensures { OnOk result (self.new ≡ with_tokens self.old (spelled (written (expression_tree expr.now)))) }
+    {
+        match expr {
+            Expr::Nil => self.word(Word::Nil),
+            Expr::Bool(true) => self.word(Word::True),
+            Expr::Bool(false) => self.word(Word::False),
+            Expr::Int(number) => self.number(*number),
+            Expr::Text(text) => self.literal(text),
+            Expr::This => self.word(Word::This),
+            Expr::Local { name } => self.name(name),
+            Expr::Field { name } => self.field(name),
+            Expr::List { items } => self.listed(items),
+            Expr::Unary { op, of } => {
+                self.symbol(sign_symbol(*op))?;
+                self.placed(Level::Unary, of)
+            }
+            Expr::Binary { op, left, right } => {
+                self.placed(left_of(*op), left)?;
+                self.symbol(op_symbol(*op))?;
+                self.placed(right_of(*op), right)
+            }
+            Expr::Builtin { name, args } => self.called(name, args),
+            Expr::Call { object, name, args } => {
+                self.placed(Level::Post, object)?;
+                self.symbol(Symbol::Dot)?;
+                self.called(name, args)
+            }
+            Expr::Future {
+                object,
+                delay,
+                name,
+                args,
+            } => {
+                self.placed(Level::Post, object)?;
+                self.delayed(delay)?;
+                self.called(name, args)
+            }
+            Expr::Create { class, options } => {
+                self.creating(class)?;
+                self.phrase(options)?;
+                self.symbol(Symbol::CloseRound)
+            }
+        }
+    }
+
+    /// `this.name`
+    fn field(&mut self, name: &Text) -> Result<(), WantOfMemory>
+        ensures { OnOk result (self.new ≡ with_tokens self.old (token.Word word.This ∷ token.Symbol symbol.Dot ∷ token.Name name.now ∷ [])) }
+    {
+        self.word(Word::This)?;
+        self.symbol(Symbol::Dot)?;
+        self.name(name)
+    }
+
+    /// `create(class,`
+    fn creating(&mut self, class: &Text) -> Result<(), WantOfMemory>
+        ensures { OnOk result (self.new ≡ with_tokens self.old (token.Word word.Create ∷ token.Symbol symbol.OpenRound ∷ token.ClassName class.now ∷ token.Symbol symbol.Comma ∷ [])) }
+    {
+        self.word(Word::Create)?;
+        self.symbol(Symbol::OpenRound)?;
+        self.class_name(class)?;
+        self.symbol(Symbol::Comma)
+    }
+
+    /// `.future(delay).`
+    #[cycle(print)]
+    fn delayed(&mut self, delay: &Expr) -> Result<(), WantOfMemory>
+        ensures { OnOk result (self.new ≡ with_tokens self.old (token.Symbol symbol.Dot ∷ token.Word word.Future ∷ (in_round (spelled (written (expression_tree delay.now))) ++ token.Symbol symbol.Dot ∷ []))) }
+    {
+        self.symbol(Symbol::Dot)?;
+        self.word(Word::Future)?;
+        self.bracketed(delay)?;
+        self.symbol(Symbol::Dot)
+    }
+
+    /// `name(args)`
+    #[cycle(print)]
+    fn called(&mut self, name: &Text, args: &[Expr]) -> Result<(), WantOfMemory>
+        ensures { OnOk result (self.new ≡ with_tokens self.old (token.Name name.now ∷ in_round (spelled_args (all_written (expression_trees args.now))))) }
+    {
+        self.name(name)?;
+        self.symbol(Symbol::OpenRound)?;
+        self.phrases(args)?;
+        self.symbol(Symbol::CloseRound)
+    }
+
+    /// `[items]`
+    #[cycle(print)]
+    fn listed(&mut self, items: &[Expr]) -> Result<(), WantOfMemory>
+        ensures { OnOk result (self.new ≡ with_tokens self.old (in_square (spelled_args (all_written (expression_trees items.now))))) }
+    {
+        self.symbol(Symbol::OpenSquare)?;
+        self.phrases(items)?;
+        self.symbol(Symbol::CloseSquare)
+    }
+
+    /// Expressions with commas between them.
+    #[cycle(print)]
+    fn phrases(&mut self, exprs: &[Expr]) -> Result<(), WantOfMemory>
+        ensures { OnOk result (self.new ≡ with_tokens self.old (spelled_args (all_written (expression_trees exprs.now)))) }
+    {
+        let Some((first, further)) = exprs.split_first() else {
+            return Ok(());
+        };
+        self.phrase(first)?;
+        for expr in further {
+            self.symbol(Symbol::Comma)?;
+            self.phrase(expr)?;
+        }
+        Ok(())
+    }
+
+    // ---- statements
+
+    /// `value;`
+    fn ended(&mut self, value: &Expr) -> Result<(), WantOfMemory>
+        ensures { OnOk result (self.new ≡ with_tokens self.old (spelled_end (written (expression_tree value.now)))) }
+    {
+        self.phrase(value)?;
+        self.symbol(Symbol::Semicolon)
+    }
+
+    /// `name=value;`
+    fn assigned(&mut self, name: &Text, value: &Expr) -> Result<(), WantOfMemory>
+        ensures { OnOk result (self.new ≡ with_tokens self.old (token.Name name.now ∷ token.Symbol symbol.Assign ∷ spelled_end (written (expression_tree value.now)))) }
+    {
+        self.name(name)?;
+        self.symbol(Symbol::Assign)?;
+        self.ended(value)
+    }
+
+    /// `word(test)`
+    fn tested(&mut self, word: Word, test: &Expr) -> Result<(), WantOfMemory>
+        ensures { OnOk result (self.new ≡ with_tokens self.old (token.Word word ∷ in_round (spelled (written (expression_tree test.now))))) }
+    {
+        self.word(word)?;
+        self.bracketed(test)
+    }
+
+    #[cycle(statements)]
+    fn statement(&mut self, statement: &Stmt) -> Result<(), WantOfMemory>
+        ensures { OnOk result (self.new ≡ with_tokens self.old (spelled_action (written_action (statement_tree statement.now)))) }
+    {
+        match statement {
+            Stmt::Let { name, value } => {
+                self.word(Word::Let)?;
+                self.assigned(name, value)
+            }
+            Stmt::Assign { name, value } => self.assigned(name, value),
+            Stmt::SetField { name, value } => {
+                self.word(Word::This)?;
+                self.symbol(Symbol::Dot)?;
+                self.assigned(name, value)
+            }
+            Stmt::If {
+                test,
+                yes,
+                no: None,
+            } => {
+                self.tested(Word::If, test)?;
+                self.block(yes)
+            }
+            Stmt::If {
+                test,
+                yes,
+                no: Some(no),
+            } => {
+                self.tested(Word::If, test)?;
+                self.block(yes)?;
+                self.word(Word::Else)?;
+                self.block(no)
+            }
+            Stmt::While { test, body } => {
+                self.tested(Word::While, test)?;
+                self.block(body)
+            }
+            Stmt::Return { value } => {
+                self.word(Word::Return)?;
+                self.ended(value)
+            }
+            Stmt::Do { value } => self.ended(value),
+        }
+    }
+
+    /// Statements in braces.
+    #[cycle(statements)]
+    fn block(&mut self, statements: &[Stmt]) -> Result<(), WantOfMemory>
+        ensures { OnOk result (self.new ≡ with_tokens self.old (in_braces (spelled_block (written_block (statement_trees statements.now))))) }
+    {
+        self.symbol(Symbol::OpenBrace)?;
+        self.statements(statements)?;
+        self.symbol(Symbol::CloseBrace)
+    }
+
+    #[cycle(statements)]
+    fn statements(&mut self, statements: &[Stmt]) -> Result<(), WantOfMemory>
+        ensures { OnOk result (self.new ≡ with_tokens self.old (spelled_block (written_block (statement_trees statements.now)))) }
+    {
+        for statement in statements {
+            self.statement(statement)?;
+        }
+        Ok(())
+    }
+
+    // ---- classes
+
+    /// `,name` of each.
+    fn further(&mut self, names: &[Text]) -> Result<(), WantOfMemory>
+        ensures { OnOk result (self.new ≡ with_tokens self.old (spelled_further names.now)) }
+    {
+        for name in names {
+            self.symbol(Symbol::Comma)?;
+            self.name(name)?;
+        }
+        Ok(())
+    }
+
+    fn params(&mut self, names: &[Text]) -> Result<(), WantOfMemory>
+        ensures { OnOk result (self.new ≡ with_tokens self.old (spelled_params names.now)) }
+    {
+        let Some((first, further)) = names.split_first() else {
+            return Ok(());
+        };
+        self.name(first)?;
+        self.further(further)
+    }
+
+    fn method(&mut self, method: &Method) -> Result<(), WantOfMemory>
+        ensures { OnOk result (self.new ≡ with_tokens self.old (spelled_method (written_method (method_tree method.now)))) }
+    {
+        self.name(&method.name)?;
+        self.symbol(Symbol::OpenRound)?;
+        self.params(&method.params)?;
+        self.symbol(Symbol::CloseRound)?;
+        self.block(&method.body)
+    }
+
+    fn methods(&mut self, methods: &[Method]) -> Result<(), WantOfMemory>
+        ensures { OnOk result (self.new ≡ with_tokens self.old (spelled_methods (map written_method (map method_tree methods.now)))) }
+    {
+        for method in methods {
+            self.method(method)?;
+        }
+        Ok(())
+    }
+
+    /// `field name;` of each.
+    fn fields(&mut self, names: &[Text]) -> Result<(), WantOfMemory>
+        ensures { OnOk result (self.new ≡ with_tokens self.old (spelled_fields names.now)) }
+    {
+        for name in names {
+            self.word(Word::Field)?;
+            self.name(name)?;
+            self.symbol(Symbol::Semicolon)?;
+        }
+        Ok(())
+    }
+
+    fn class(&mut self, class: &Class) -> Result<(), WantOfMemory>
+        ensures { OnOk result (self.new ≡ with_tokens self.old (spelled_class (written_class (class_tree class.now)))) }
+    {
+        self.word(Word::Class)?;
+        self.class_name(&class.name)?;
+        self.symbol(Symbol::OpenBrace)?;
+        self.fields(&class.fields)?;
+        self.methods(&class.methods)?;
+        self.symbol(Symbol::CloseBrace)
+    }
+
+    fn program(&mut self, classes: &[Class]) -> Result<(), WantOfMemory>
+        ensures { OnOk result (self.new ≡ with_tokens self.old (canonical_tokens (program_tree classes.now))) }
+    {
+        for class in classes {
+            self.class(class)?;
+        }
+        Ok(())
+    }
+}
