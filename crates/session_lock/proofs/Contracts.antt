@@ -132,7 +132,7 @@ given_new z z' v m p n view table is some_number enough unused =
     subst (λ (t : Standing × (TableId × M)). Given t.0 n (stand t.1.0 t.1.1.0)) (λ i. (view i, (sym table i, sym is i))) (record { same = refl; own = unused (first_number (take_numbers n v.spare)) (first_is_spare n v some_number enough) })
 
 pub given_count : (z z' : TableId) (v : Knowledge) (m m' : M) (p : Standing) (n : ℕ) → stand z v ≡ p → m ≡ (split_right n v, []) → m'.0 ≡ split_left n v → 0 < n → n ≤ count_of v.spare
-    → (numbers_held (stand z' m.0) ≡ n) × (numbers_held (stand z m'.0) + n ≡ numbers_held p) × (count_of m'.0.spare + n ≡ count_of p.spare)
+    → ((numbers_held (stand z' m.0) ≡ n) × (count_of m.0.spare + 1 ≡ n)) × ((numbers_held (stand z m'.0) + n ≡ numbers_held p) × (count_of m'.0.spare + n ≡ count_of p.spare))
 given_count z z' v m m' p n view right left some_number enough =
     let a = ap (λ (k : M). numbers_held (stand z' k.0)) right in
     let b = right_size n v some_number enough in
@@ -142,8 +142,8 @@ given_count z z' v m m' p n view right left some_number enough =
     let f = ap (λ (k : Standing). count_of k.spare) view in
     let h = ap (λ (k : Knowledge). count_of k.spare) left in
     let i = cut_count n v.spare in
-    let j = taken_count n v.spare enough in (
-      omega (arith, a, b),
-      omega (arith, c, d, e),
-      omega (arith, f, h, i, j),
+    let j = taken_count n v.spare enough in
+    let l = ap (λ (k : M). count_of k.0.spare) right in (
+      (omega (arith, a, b), omega (arith, b, l)),
+      (omega (arith, c, d, e), omega (arith, f, h, i, j)),
     )

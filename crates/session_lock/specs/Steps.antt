@@ -33,8 +33,8 @@ Draws st m found m' = (found ≡ st.first → m' ≡ (with_ticket m.0 found, m.1
 abbrev pub Looks : (PlainSession → Type 0) → Step PlainSession → M → ℕ → M → Type 0
 Looks Trusted st m found m' =
     (m.0.ticket ≡ Some found
-      → (history : List Item) × (length history ≡ found) × Saw m.0.callers m.0.seen history
-      × (m' ≡ (in_turn m.0 history, (0, play history) ∷ [])) × Trusted (play history))
+    → (history : List Item) × (length history ≡ found) × Saw m.0.callers m.0.seen history
+    × (m' ≡ (in_turn m.0 history, (0, play history) ∷ [])) × Trusted (play history))
     × (m.0.ticket ≢ Some found → m' ≡ m)
 
 -- finish: the item stands behind all that was seen, and the session is given back

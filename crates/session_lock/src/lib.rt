@@ -5,6 +5,8 @@ mod held;
 pub mod knowledge;
 mod lock;
 mod rule;
+#[cfg(test)]
+mod tests;
 mod trust;
 
 pub use lock::{Pass, SharedSession, Unmade};

@@ -131,7 +131,7 @@ impl<T: Trust> SharedSession<T> {
             (λ reply. Replied (IsTrusted T.allows self.now.trust self.now.id) pass.old pass.new request.now reply)
             (λ _. Voided pass.old pass.new request.now) }
     {
-        self.make::<Brand, R>(rt, &mut pass.seat, request)
+        self.ask(rt, pass, request)
     }
 
     /// Offers a snapshot that the trust allows for the session that the pass has seen. Else it is as `call`.
@@ -149,7 +149,7 @@ impl<T: Trust> SharedSession<T> {
             (λ reply. Replied (IsTrusted T.allows self.now.trust self.now.id) pass.old pass.new request.now reply)
             (λ _. Voided pass.old pass.new request.now) }
     {
-        self.make::<Brand, R>(rt, &mut pass.seat, request)
+        self.ask(rt, pass, request)
     }
 
     /// The length of the history, which the pass has seen from then on. It waits for nobody, and takes no memory.
@@ -169,7 +169,7 @@ impl<T: Trust> SharedSession<T> {
         ensures made { IsOk result }
         ensures kept { pass.new ≡ record pass.old { spare = drop_numbers (spare + 1) pass.old.spare } }
         ensures given { IfOk result (λ new. Given pass.old (spare + 1) new) }
-        ensures numbers { IfOk result (λ new. numbers_held new ≡ spare + 1) }
+        ensures numbers { IfOk result (λ new. (numbers_held new ≡ spare + 1) × (count_of new.spare ≡ spare)) }
         ensures left { (numbers_held pass.new + (spare + 1) ≡ numbers_held pass.old) × (count_of pass.new.spare + (spare + 1) ≡ count_of pass.old.spare) }
     {
         let seat = self.cut::<Brand>(&mut pass.seat, spare);
@@ -203,6 +203,23 @@ impl<T: Trust> SharedSession<T> {
         let held = closed.take(0);
         closed.free();
         held.into_session()
+    }
+
+    // Makes a call for the pass.
+    fn ask<R: Wait>(
+        &self,
+        rt: &R,
+        pass: &mut Pass,
+        request: &Request,
+    ) -> Result<Reply, WantOfMemory>
+        requires session { pass.old.session ≡ self.now.session }
+        requires allowed { MayBeAsked T.allows self.now.trust self.now.id (play pass.old.seen) request.now }
+        ensures kept { pass.new ≡ record pass.old { seen = pass.new.seen } }
+        ensures call { MatchResult result
+            (λ reply. Replied (IsTrusted T.allows self.now.trust self.now.id) pass.old pass.new request.now reply)
+            (λ _. Voided pass.old pass.new request.now) }
+    {
+        self.make::<Brand, R>(rt, &mut pass.seat, request)
     }
 
     // Makes a call with what is asked, which the proof names by `J`.

@@ -12,11 +12,11 @@ returns-clause-given g c =
 
 pub returns-clause-numbers : goal.returns-clause-numbers
 returns-clause-numbers g c =
-    (given_count c.pass.inside.seat.table_id c.cut-seat.result.table_id c.pass.inside.seat.me.0 c.cut-seat.result.me c.cut-seat.new.seat.me c.args.pass.now (c.args.spare + 1) c.pass.view_is c.cut-seat.ensures.given (ap (λ (m : M). m.0) c.cut-seat.ensures.kept)
-    (omega arith) (omega (arith, c.requires.enough, ap (λ (p : Standing). count_of p.spare) c.pass.view_is))).0
+    let t = (given_count c.pass.inside.seat.table_id c.cut-seat.result.table_id c.pass.inside.seat.me.0 c.cut-seat.result.me c.cut-seat.new.seat.me c.args.pass.now (c.args.spare + 1) c.pass.view_is c.cut-seat.ensures.given (ap (λ (m : M). m.0) c.cut-seat.ensures.kept)
+    (omega arith) (omega (arith, c.requires.enough, ap (λ (p : Standing). count_of p.spare) c.pass.view_is))).0 in
+    (t.0, omega (arith, t.1))
 
 pub returns-clause-left : goal.returns-clause-left
 returns-clause-left g c =
-    let t = given_count c.pass.inside.seat.table_id c.cut-seat.result.table_id c.pass.inside.seat.me.0 c.cut-seat.result.me c.cut-seat.new.seat.me c.args.pass.now (c.args.spare + 1) c.pass.view_is c.cut-seat.ensures.given (ap (λ (m : M). m.0) c.cut-seat.ensures.kept)
-    (omega arith) (omega (arith, c.requires.enough, ap (λ (p : Standing). count_of p.spare) c.pass.view_is)) in
-    (t.1, t.2)
+    (given_count c.pass.inside.seat.table_id c.cut-seat.result.table_id c.pass.inside.seat.me.0 c.cut-seat.result.me c.cut-seat.new.seat.me c.args.pass.now (c.args.spare + 1) c.pass.view_is c.cut-seat.ensures.given (ap (λ (m : M). m.0) c.cut-seat.ensures.kept)
+    (omega arith) (omega (arith, c.requires.enough, ap (λ (p : Standing). count_of p.spare) c.pass.view_is))).1

@@ -1,5 +1,5 @@
 use Rattle.session_lock.specs.Trusts.{IsTrusted}
-use Rattle.session_lock.proofs.lock.SharedSession.call.Given as goal
+use Rattle.session_lock.proofs.lock.SharedSession.ask.Given as goal
 
 -- what the caller asks, and what the trust allows
 abbrev pub ghosts-make : goal.ghosts-make

@@ -1,7 +1,7 @@
 use Rattle.session_lock.specs.Trusts.{IsTrusted}
 use Rattle.session_lock.specs.Passes.{stand}
 use Rattle.session_lock.proofs.Contracts.{told_call, call_kept}
-use Rattle.session_lock.proofs.lock.SharedSession.call.Goals as goal
+use Rattle.session_lock.proofs.lock.SharedSession.ask.Goals as goal
 
 pub returns-clause-call : goal.returns-clause-call
 returns-clause-call g c =
