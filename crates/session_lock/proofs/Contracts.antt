@@ -131,19 +131,21 @@ pub given_new : (z z' : TableId) (v : Knowledge) (m : M) (p : Standing) (n : ℕ
 given_new z z' v m p n view table is some_number enough unused =
     subst (λ (t : Standing × (TableId × M)). Given t.0 n (stand t.1.0 t.1.1.0)) (λ i. (view i, (sym table i, sym is i))) (record { same = refl; own = unused (first_number (take_numbers n v.spare)) (first_is_spare n v some_number enough) })
 
-pub given_count : (z z' : TableId) (v : Knowledge) (m m' : M) (p : Standing) (n : ℕ) → stand z v ≡ p → m ≡ (split_right n v, []) → m'.0 ≡ split_left n v → 0 < n → n ≤ count_of v.spare
-    → ((numbers_held (stand z' m.0) ≡ n) × (count_of m.0.spare + 1 ≡ n)) × ((numbers_held (stand z m'.0) + n ≡ numbers_held p) × (count_of m'.0.spare + n ≡ count_of p.spare))
-given_count z z' v m m' p n view right left some_number enough =
-    let a = ap (λ (k : M). numbers_held (stand z' k.0)) right in
-    let b = right_size n v some_number enough in
+-- the numbers of the new pass, and those that are left
+pub given_count : (z : TableId) (v : Knowledge) (m : M) (n : ℕ) → m ≡ (split_right (n + 1) v, []) → n < count_of v.spare → (numbers_held (stand z m.0) ≡ n + 1) × (count_of m.0.spare ≡ n)
+given_count z v m n is enough =
+    let a = ap (λ (k : M). numbers_held (stand z k.0)) is in
+    let b = right_size (n + 1) v (omega arith) (omega (arith, enough)) in
+    let c = ap (λ (k : M). count_of k.0.spare) is in
+    (omega (arith, a, b), omega (arith, b, c))
+
+pub left_count : (z z' : TableId) (v w : Knowledge) (p : Standing) (n : ℕ) → stand z v ≡ p → w ≡ split_left (n + 1) v → n < count_of v.spare → (numbers_held (stand z' w) + (n + 1) ≡ numbers_held p) × (count_of w.spare + (n + 1) ≡ count_of p.spare)
+left_count z z' v w p n view is enough =
+    let a = ap (λ (k : Knowledge). numbers_held (stand z' k)) is in
+    let b = left_size (n + 1) v (omega arith) (omega (arith, enough)) in
     let c = ap numbers_held view in
-    let d = left_size n v some_number enough in
-    let e = ap (λ (k : Knowledge). numbers_held (stand z k)) left in
-    let f = ap (λ (k : Standing). count_of k.spare) view in
-    let h = ap (λ (k : Knowledge). count_of k.spare) left in
-    let i = cut_count n v.spare in
-    let j = taken_count n v.spare enough in
-    let l = ap (λ (k : M). count_of k.0.spare) right in (
-      (omega (arith, a, b), omega (arith, b, l)),
-      (omega (arith, c, d, e), omega (arith, f, h, i, j)),
-    )
+    let d = ap (λ (k : Knowledge). count_of k.spare) is in
+    let e = cut_count (n + 1) v.spare in
+    let f = taken_count (n + 1) v.spare (omega (arith, enough)) in
+    let h = ap (λ (k : Standing). count_of k.spare) view in
+    (omega (arith, a, b, c), omega (arith, d, e, f, h))

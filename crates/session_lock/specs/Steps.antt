@@ -1,8 +1,9 @@
 -- What each step on the lock's table tells the pass that makes it.
-use Rattle.std.specs.Prelude.{◌≡◌, ◌≢◌, ℕ, ◌+◌, ◌<◌, true, false, List, [], ◌∷◌, ◌++◌, length, Some, None}
+use Rattle.std.specs.Prelude.{◌≡◌, ◌≢◌, ℕ, ◌+◌, ◌<◌, true, false, List, [], ◌∷◌, ◌++◌, length, Some, None, Result, MatchResult}
 use Rattle.atomic_table.specs.Table.{Me, Step}
+use Rattle.tea_base.specs.declared.want.WantOfMemory.{WantOfMemory}
 use Rattle.reflector_core.specs.PlainSession.{PlainSession}
-use Rattle.reflector_core.specs.Answer.{MayWantMemory}
+use Rattle.reflector_core.specs.Answer.{answer, with_reply, MayWantMemory}
 use Rattle.reflector_core.specs.declared.request.Request.{Request}
 use Rattle.reflector_core.specs.declared.request.Reply.{Reply}
 use Rattle.session_lock.specs.declared.knowledge.Item.{Item}
@@ -29,13 +30,28 @@ done v item = record v { seen = v.seen ++ item ∷ []; ticket = None; holding = 
 abbrev pub Draws : Step PlainSession → M → ℕ → M → Type 0
 Draws st m found m' = (found ≡ st.first → m' ≡ (with_ticket m.0 found, m.1)) × (found ≢ st.first → m' ≡ m)
 
--- look: it is this pass's turn, the whole history was seen, and the session taken, which is its play; or nothing changed
+-- the pass has this ticket and nothing in hand
+abbrev pub Waits : M → ℕ → Type 0
+Waits m ticket = (m.1 ≡ []) × (m.0.ticket ≡ Some ticket) × (m.0.holding ≡ false) × (0 < length m.0.callers)
+
+-- it is the pass's turn: the whole history was seen, and the session taken, which is its play
+abbrev pub HasTurn : (PlainSession → Type 0) → M → ℕ → M → Type 0
+HasTurn Trusted m ticket m' =
+    (history : List Item) × (length history ≡ ticket) × Saw m.0.callers m.0.seen history
+    × (m' ≡ (in_turn m.0 history, (0, play history) ∷ [])) × Trusted (play history)
+
+-- look: it is the pass's turn, or nothing changed
 abbrev pub Looks : (PlainSession → Type 0) → Step PlainSession → M → ℕ → M → Type 0
 Looks Trusted st m found m' =
-    (m.0.ticket ≡ Some found
-    → (history : List Item) × (length history ≡ found) × Saw m.0.callers m.0.seen history
-    × (m' ≡ (in_turn m.0 history, (0, play history) ∷ [])) × Trusted (play history))
-    × (m.0.ticket ≢ Some found → m' ≡ m)
+    (m.0.ticket ≡ Some found → HasTurn Trusted m found m') × (m.0.ticket ≢ Some found → m' ≡ m)
+
+-- the session in hand was asked
+abbrev pub Works : M → Request → Result Reply WantOfMemory → M → Type 0
+Works m request result m' =
+    (session : PlainSession) × (after : PlainSession) × (m.1 ≡ (0, session) ∷ []) × (m' ≡ (m.0, (0, after) ∷ []))
+    × MatchResult result
+    (λ reply. with_reply after reply ≡ answer session request)
+    (λ _. (after ≡ session) × MayWantMemory (answer session request).reply)
 
 -- finish: the item stands behind all that was seen, and the session is given back
 abbrev pub Finishes : (ℕ → Item) → Step PlainSession → M → ℕ → M → Type 0

@@ -1,16 +1,14 @@
 //! The lock round the session, and its passes.
-ghost use Rattle.std.specs.Prelude.{◌≡◌, ℕ, ◌<◌, ◌+◌, [], ◌∷◌, List, length, true, false, Some, None, IfOk, IfErr, IsOk, MatchResult};
+ghost use Rattle.std.specs.Prelude.{◌≡◌, ℕ, ◌<◌, ◌+◌, [], ◌∷◌, length, true, false, None, IfOk, IfErr, IsOk, MatchResult};
 ghost use Rattle.tea_base.specs.declared.entry.SessionId.{SessionId};
 ghost use Rattle.reflector_core.specs.PlainSession.{PlainSession};
 ghost use Rattle.reflector_core.specs.Play.{first as first_session};
-ghost use Rattle.reflector_core.specs.Answer.{answer, with_reply, MayWantMemory};
 ghost use Rattle.session_lock.specs.Trusts.{IsTrusted, MayBeAsked, is_offer};
-ghost use Rattle.session_lock.specs.History.{play, calls_of, Saw};
+ghost use Rattle.session_lock.specs.History.{play, calls_of};
 ghost use Rattle.session_lock.specs.Rules.{all_numbers};
-ghost use Rattle.session_lock.specs.Steps.{with_ticket, in_turn, IsIdle, Answers, Fails, split_left, split_right};
+ghost use Rattle.session_lock.specs.Steps.{with_ticket, Waits, HasTurn, Works, IsIdle, Answers, Fails, split_left, split_right};
 ghost use Rattle.session_lock.specs.Numbers.{count_of, in_ranges, drop_numbers};
 ghost use Rattle.session_lock.specs.Passes.{Replied, Voided, Caught, Given, Merged, first_pass, numbers_held, own_calls};
-ghost use Rattle.session_lock.specs.declared.knowledge.Item.{Item};
 
 use crate::held::Held;
 use crate::knowledge::Knowledge;
@@ -170,7 +168,8 @@ impl<T: Trust> SharedSession<T> {
         ensures kept { pass.new ≡ record pass.old { spare = drop_numbers (spare + 1) pass.old.spare } }
         ensures given { IfOk result (λ new. Given pass.old (spare + 1) new) }
         ensures numbers { IfOk result (λ new. (numbers_held new ≡ spare + 1) × (count_of new.spare ≡ spare)) }
-        ensures left { (numbers_held pass.new + (spare + 1) ≡ numbers_held pass.old) × (count_of pass.new.spare + (spare + 1) ≡ count_of pass.old.spare) }
+        ensures numbers_left { numbers_held pass.new + (spare + 1) ≡ numbers_held pass.old }
+        ensures spare_left { count_of pass.new.spare + (spare + 1) ≡ count_of pass.old.spare }
     {
         let seat = self.cut::<Brand>(&mut pass.seat, spare);
         Ok(Pass { seat })
@@ -282,9 +281,9 @@ impl<T: Trust> SharedSession<T> {
     fn take_turn<J: Asking, R: Wait>(&self, rt: &R, seat: &mut Place, ticket: u64)
         requires table { seat.old.table_id ≡ self.now.session }
         requires trusted { (s : PlainSession) → IsTrusted T.allows self.now.trust self.now.id s → J.trusted s }
-        requires drawn { (seat.old.me.1 ≡ []) × (seat.old.me.0.ticket ≡ Some ticket) × (seat.old.me.0.holding ≡ false) × (0 < length seat.old.me.0.callers) }
+        requires drawn { Waits seat.old.me ticket }
         ensures table { seat.new.table_id ≡ self.now.session }
-        ensures turn { (history : List Item) × (length history ≡ ticket) × Saw seat.old.me.0.callers seat.old.me.0.seen history × (seat.new.me ≡ (in_turn seat.old.me.0 history, (0, play history) ∷ [])) × J.trusted (play history) }
+        ensures turn { HasTurn J.trusted seat.old.me ticket seat.new.me }
     {
         for _ in rt.forever() {
             let found = self.table.shared.load::<Look<J>>(seat, SERVING);
@@ -301,11 +300,9 @@ impl<T: Trust> SharedSession<T> {
     // Calls the session in hand.
     fn work(&self, seat: &mut Place, request: &Request) -> Result<Reply, WantOfMemory>
         requires table { seat.old.table_id ≡ self.now.session }
-        requires hand { (session : _) × (seat.old.me.1 ≡ (0, session) ∷ []) }
+        requires hand { (session : PlainSession) × (seat.old.me.1 ≡ (0, session) ∷ []) }
         ensures table { seat.new.table_id ≡ self.now.session }
-        ensures reply { (session : _) × (after : _) × (seat.old.me.1 ≡ (0, session) ∷ []) × (seat.new.me ≡ (seat.old.me.0, (0, after) ∷ [])) × MatchResult result
-            (λ reply. with_reply after reply ≡ answer session request.now)
-            (λ _. (after ≡ session) × MayWantMemory (answer session request.now).reply) }
+        ensures reply { Works seat.old.me request.now result seat.new.me }
     {
         let held = seat.slot_mut(&self.table.shared, 0);
         held.call(request)
