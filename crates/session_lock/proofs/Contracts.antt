@@ -13,7 +13,7 @@ use Rattle.reflector_core.specs.Play.{first as first_session}
 use Rattle.session_lock.specs.declared.knowledge.Item.{Item}
 use Rattle.session_lock.specs.declared.knowledge.Item.TheVariants.{Did, Void}
 use Rattle.session_lock.specs.declared.knowledge.Knowledge.{Knowledge}
-use Rattle.session_lock.specs.History.{caller_of, after, play, reply_after, has, calls_of, Saw}
+use Rattle.session_lock.specs.History.{caller_of, after, play, has, calls_of, Saw}
 use Rattle.session_lock.specs.Rules.{Locks, knows, no_part, longer}
 use Rattle.session_lock.specs.Steps.{M, Finishes, Answers, Fails, with_ticket, in_turn, merged, split_left, split_right}
 use Rattle.session_lock.specs.Passes.{SharedState, state_of, Standing, stand, Grew, Replied, Voided, Caught, Given, Merged, numbers_held}

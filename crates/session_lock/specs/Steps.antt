@@ -1,5 +1,5 @@
 -- What each step on the lock's table tells the pass that makes it.
-use Rattle.std.specs.Prelude.{◌≡◌, ◌≢◌, ℕ, ◌+◌, ◌<◌, true, false, List, [], ◌∷◌, ◌++◌, length, Some, None, Result, MatchResult}
+use Rattle.std.specs.Prelude.{◌≡◌, ◌≢◌, ℕ, ◌<◌, true, false, List, [], ◌∷◌, ◌++◌, length, Some, None, Result, MatchResult}
 use Rattle.atomic_table.specs.Table.{Me, Step}
 use Rattle.tea_base.specs.declared.want.WantOfMemory.{WantOfMemory}
 use Rattle.reflector_core.specs.PlainSession.{PlainSession}

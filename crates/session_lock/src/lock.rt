@@ -33,9 +33,9 @@ const SERVING: usize = 1;
 
 type Place = Seat<Held, Knowledge>;
 
-/// A caller's token for one shared session. It has no bytes. Contracts see its callers' numbers, its spare numbers and
-/// the history that it has seen. A number is held by one pass at most; a spare one was never used. A pass that is let
-/// go takes its numbers with it, and the session can then not be closed.
+/// A caller's token for one shared session. It has no bytes. Contracts see its callers' numbers, its own caller's first,
+/// its spare numbers and the history that it has seen. A number is held by one pass at most; a spare one was never used.
+/// A pass that is let go takes its numbers with it, and the session can then not be closed.
 #[derive(Drop)]
 pub struct Pass {
     seat: Place,
@@ -79,7 +79,7 @@ pub struct Unmade<T: Trust> {
 
 impl<T: Trust> SharedSession<T> {
     /// Shares a first session. The pass is caller 0, has seen nothing, and holds all other numbers below 2^32 as spare
-    /// ones. `id` and `trust` stand for what is kept, in proofs alone.
+    /// ones. The trust says which snapshots may be kept under this id. Both serve proofs alone, so the trust is let go.
     pub fn new(
         alloc: Global,
         id: SessionId,
