@@ -13,7 +13,7 @@ use Rattle.session_lock.specs.declared.knowledge.Item.{Item}
 use Rattle.session_lock.specs.declared.knowledge.Part.{Part}
 use Rattle.session_lock.specs.declared.knowledge.Knowledge.{Knowledge}
 use Rattle.session_lock.specs.History.{caller_of, after, play, has, calls_of, Saw}
-use Rattle.session_lock.specs.Numbers.{times, in_ranges, between}
+use Rattle.session_lock.specs.Numbers.{times, in_ranges, count_of, between}
 use Rattle.session_lock.specs.Rules.{all_numbers, total, is_ticket, has_ticket, weight, is_holding, calls_as, holds_number, size_of, Every, HoldsInTurn, PartFits, PartsFit, IsTold, IsInOrder, Locks, no_part}
 use Rattle.session_lock.specs.Steps.{Unused, Settles, M, with_ticket, in_turn, done, Draws, Looks, Finishes, Counts}
 use Rattle.session_lock.proofs.Totals.{total_set, total_same, total_has, total_two, every_set, every_set_else}
@@ -76,6 +76,15 @@ module _ (Trusted : PlainSession → Type 0) where
   unmoved s i n id c v at words k =
       subst (λ (z : List ℕ × List Knowledge). Locks Trusted (record { words = z.0; homes = s.homes; views = z.1 })) (λ j. (sym words j, sym (set_again s.views id v at) j)) k
 
+  -- a word that is read stays
+  read_word : (history : List Item) (s : St) → IsInOrder Trusted history s → (i : ℕ) → i < 2 → set s.words i (get_or s.words i 0) ≡ s.words
+  read_word history s k i within = subst (λ (l : List ℕ). set l i (get_or l i 0) ≡ l) (sym k.words) (read i within)
+    where
+      read : (i : ℕ) → i < 2 → set (k.next ∷ length history ∷ []) i (get_or (k.next ∷ length history ∷ []) i 0) ≡ k.next ∷ length history ∷ []
+      read zero lt = refl
+      read (suc zero) lt = refl
+      read (suc (suc i)) lt = absurd (omega arith)
+
   pub draws : (slots id : ℕ) (me : M) (old : ℕ) → me.0.ticket ≡ None → me.0.holding ≡ false → old < 18446744073709551615
       → Allows (Locks Trusted) slots id me 0 (λ n. either (eqb n old) (old + 1) n) (Draws (step slots 0 old (old + 1) none) me)
   draws slots id me old idle free fits s (history, k) wide at small = let x : ℕ = get_or s.words 0 0 in let is : x ≡ k.next = ap (λ (l : List ℕ). get_or l 0 0) k.words in dite (ℕ_discrete x old)
@@ -116,7 +125,7 @@ module _ (Trusted : PlainSession → Type 0) where
         keeps,
         tt,
         unmoved s 0 (either (eqb x old) (old + 1) x) id me.1 me.0 at
-            (subst (λ b. set s.words 0 (either b (old + 1) x) ≡ s.words) (sym (ne_eqb x old miss)) (subst (λ (l : List ℕ). set l 0 (get_or l 0 0) ≡ l) (sym k.words) refl)) (history, k),
+            (subst (λ b. set s.words 0 (either b (old + 1) x) ≡ s.words) (sym (ne_eqb x old miss)) (read_word history s k 0 (omega arith))) (history, k),
         ((λ hit. absurd (miss hit)), λ _. refl),
       ))
 
@@ -147,7 +156,7 @@ module _ (Trusted : PlainSession → Type 0) where
 
   pub looks : (Told : PlainSession → Type 0) → ((s : PlainSession) → Trusted s → Told s) → (slots id : ℕ) (v : Knowledge) (t : ℕ) → v.ticket ≡ Some t → v.holding ≡ false → 0 < length v.callers → Allows (Locks Trusted) slots id (v, []) 1 (λ n. n) (Looks Told (step slots 1 0 0 none) (v, []))
   looks Told tells slots id v t has_it free caller_is s (history, k) wide at small = let x : ℕ = get_or s.words 1 0 in let is : x ≡ length history = ap (λ (l : List ℕ). get_or l 1 0) k.words in
-      let same_words : set s.words 1 x ≡ s.words = subst (λ (l : List ℕ). set l 1 (get_or l 1 0) ≡ l) (sym k.words) refl in
+      let same_words : set s.words 1 x ≡ s.words = read_word history s k 1 (omega arith) in
       dite (ℕ_discrete x t)
       (λ hit. let w : Knowledge = in_turn v history in let served : v.ticket ≡ Some (length history) = has_it ∙ ap (λ (n : ℕ). Some n) (sym hit ∙ is) in
       let home : s.homes ≡ some (play history) ∷ [] = k.home (nobody_holds history s k id v at served free) in (
@@ -252,31 +261,34 @@ module _ (Trusted : PlainSession → Type 0) where
         (c, others, mine, refl),
       )
 
+  -- a view that knows more, of the same callers, numbers and ticket
+  renewed : (history : List Item) (s : St) → IsInOrder Trusted history s → (i id : ℕ) (c : List (ℕ × PlainSession)) (v w : Knowledge) → get_elem? s.views id ≡ some v → set s.words i (get_or s.words i 0) ≡ s.words
+      → w.callers ≡ v.callers → w.spare ≡ v.spare → w.ticket ≡ v.ticket → w.holding ≡ v.holding → Saw w.callers w.seen history → PartsFit history w → (v.seen ≡ history → w.seen ≡ history)
+      → IsInOrder Trusted history (stepped s i (get_or s.words i 0) id c w keeps)
+  renewed history s k i id c v w at same_words callers spare ticket holding saw fits told = record {
+    next = k.next;
+    words = same_words ∙ k.words;
+    room = k.room;
+    order = k.order;
+    tickets = λ t. total_same (has_ticket t) s.views id v w at (ap (is_ticket t) ticket) ∙ k.tickets t;
+    numbers = λ n. total_same (holds_number n) s.views id v w at (λ i. times n (callers i) + in_ranges n (spare i)) ∙ k.numbers n;
+    whole = total_same size_of s.views id v w at (λ i. length (callers i) + count_of (spare i)) ∙ k.whole;
+    seen = every_set (λ u. Saw u.callers u.seen history) s.views id w k.seen saw;
+    parts = every_set (PartsFit history) s.views id w k.parts fits;
+    told = told_set history s.views id v w at callers told k.told;
+    called = λ n none_of. k.called n (sym (total_same (calls_as n) s.views id v w at (ap (times n) callers)) ∙ none_of);
+    turn = every_set (HoldsInTurn (length history)) s.views id w k.turn (λ holds. let t = k.turn id v at (sym holding ∙ holds) in (ticket ∙ t.0, subst (λ (l : List ℕ). 0 < length l) (sym callers) t.1));
+    trusted = k.trusted;
+    home = λ nobody. k.home (sym (total_same is_holding s.views id v w at (ap weight holding)) ∙ nobody);
+  }
+
   pub counts : (slots id : ℕ) (v : Knowledge) (carried : List (ℕ × PlainSession)) → Allows (Locks Trusted) slots id (v, carried) 1 (λ n. n) (Counts (step slots 1 0 0 none) (v, carried))
-  counts slots id v carried s (history, k) wide at small = let x : ℕ = get_or s.words 1 0 in let is : x ≡ length history = ap (λ (l : List ℕ). get_or l 1 0) k.words in let w : Knowledge = record v { seen = history } in (
+  counts slots id v carried s (history, k) wide at small = let w : Knowledge = record v { seen = history } in (
     w,
     keeps,
     tt,
-    (
-      history,
-      record {
-        next = k.next;
-        words = subst (λ (l : List ℕ). set l 1 (get_or l 1 0) ≡ l) (sym k.words) refl ∙ k.words;
-        room = k.room;
-        order = k.order;
-        tickets = λ n. total_same (has_ticket n) s.views id v w at refl ∙ k.tickets n;
-        numbers = λ n. total_same (holds_number n) s.views id v w at refl ∙ k.numbers n;
-        whole = total_same size_of s.views id v w at refl ∙ k.whole;
-        seen = every_set (λ u. Saw u.callers u.seen history) s.views id w k.seen (saw_all v.callers history);
-        parts = every_set (PartsFit history) s.views id w k.parts (parts_seen history v (k.parts id v at));
-        told = told_set history s.views id v w at refl (λ e. refl) k.told;
-        called = λ n none_of. k.called n (sym (total_same (calls_as n) s.views id v w at refl) ∙ none_of);
-        turn = every_set (HoldsInTurn (length history)) s.views id w k.turn (k.turn id v at);
-        trusted = k.trusted;
-        home = λ nobody. k.home (sym (total_same is_holding s.views id v w at refl) ∙ nobody);
-      },
-    ),
-    (history, sym is, k.seen id v at, refl),
+    (history, renewed history s k 1 id carried v w at (read_word history s k 1 (omega arith)) refl refl refl refl (saw_all v.callers history) (parts_seen history v (k.parts id v at)) (λ e. refl)),
+    (history, sym (ap (λ (l : List ℕ). get_or l 1 0) k.words), k.seen id v at, refl),
   )
 
   pub looks_me : (Told : PlainSession → Type 0) → ((s : PlainSession) → Trusted s → Told s) → (slots id : ℕ) (me : M) (t : ℕ) → me.1 ≡ [] → me.0.ticket ≡ Some t → me.0.holding ≡ false → 0 < length me.0.callers → Allows (Locks Trusted) slots id me 1 (λ n. n) (Looks Told (step slots 1 0 0 none) me)
@@ -309,7 +321,7 @@ module _ (Trusted : PlainSession → Type 0) where
     me.0,
     keeps,
     tt,
-    unmoved s 0 (get_or s.words 0 0) id me.1 me.0 at (subst (λ (l : List ℕ). set l 0 (get_or l 0 0) ≡ l) (sym k.words) refl) (history, k),
+    unmoved s 0 (get_or s.words 0 0) id me.1 me.0 at (read_word history s k 0 (omega arith)) (history, k),
     (
       refl,
       λ n is_spare. let saw = k.seen id me.0 at in nothing_first (calls_of (n ∷ []) me.0.seen) (calls_of (n ∷ []) saw.0)
@@ -322,25 +334,7 @@ module _ (Trusted : PlainSession → Type 0) where
     w,
     keeps,
     tt,
-    (
-      history,
-      record {
-        next = k.next;
-        words = subst (λ (l : List ℕ). set l 0 (get_or l 0 0) ≡ l) (sym k.words) refl ∙ k.words;
-        room = k.room;
-        order = k.order;
-        tickets = λ n. total_same (has_ticket n) s.views id v w at refl ∙ k.tickets n;
-        numbers = λ n. total_same (holds_number n) s.views id v w at refl ∙ k.numbers n;
-        whole = total_same size_of s.views id v w at refl ∙ k.whole;
-        seen = every_set (λ u. Saw u.callers u.seen history) s.views id w k.seen (k.seen id v at);
-        parts = every_set (PartsFit history) s.views id w k.parts (part_none history w no_part refl, part_none history w no_part refl);
-        told = told_set history s.views id v w at refl (λ e. e) k.told;
-        called = λ n none_of. k.called n (sym (total_same (calls_as n) s.views id v w at refl) ∙ none_of);
-        turn = every_set (HoldsInTurn (length history)) s.views id w k.turn (k.turn id v at);
-        trusted = k.trusted;
-        home = λ nobody. k.home (sym (total_same is_holding s.views id v w at refl) ∙ nobody);
-      },
-    ),
+    (history, renewed history s k 0 id c v w at (read_word history s k 0 (omega arith)) refl refl refl refl (k.seen id v at) (part_none history w no_part refl, part_none history w no_part refl) (λ e. e)),
     (
       refl,
       saw_between v.kept.callers v.callers v.kept.seen v.seen history fits.0.0 (k.seen id v at) fits.0.1,
