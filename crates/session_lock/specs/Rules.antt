@@ -20,6 +20,7 @@ abbrev pub total : (Knowledge → ℕ) → List Knowledge → ℕ
 total f [] = 0
 total f (v ∷ vs) = f v + total f vs
 
+-- 1 where this is the ticket, and else 0
 abbrev pub is_ticket : ℕ → Option ℕ → ℕ
 is_ticket t None = 0
 is_ticket t (Some k) = if eqb t k then 1 else 0
@@ -34,6 +35,7 @@ weight false = 0
 abbrev pub is_holding : Knowledge → ℕ
 is_holding v = weight v.holding
 
+-- how often the number is that of one of the view's callers
 abbrev pub calls_as : ℕ → Knowledge → ℕ
 calls_as n v = times n v.callers
 
@@ -45,6 +47,7 @@ holds_number n v = times n v.callers + in_ranges n v.spare
 abbrev pub size_of : Knowledge → ℕ
 size_of v = length v.callers + count_of v.spare
 
+-- P holds of each view
 abbrev pub Every : (Knowledge → Type 0) → List Knowledge → Type 0
 Every P views = (i : ℕ) (v : Knowledge) → get_elem? views i ≡ some v → P v
 
@@ -114,5 +117,6 @@ knows callers spare seen = record {
 abbrev pub first_knowledge : Knowledge
 first_knowledge = knows (0 ∷ []) (record { first = 1; count = 4294967295 } ∷ []) []
 
+-- the longer of two histories; of two as long as each other, the second
 abbrev pub longer : List Item → List Item → List Item
 longer xs ys = if leb (length xs) (length ys) then ys else xs
