@@ -1,0 +1,115 @@
+-- A pass that holds all numbers, where the lock is closed.
+use Rattle.std.proofs.Common.{◌≡◌, ℕ, zero, suc, ◌+◌, ◌≢◌, Bool, true, false, ◌||◌, eqb, List, [], ◌∷◌, length, if◌then◌else◌, sym, refl, ap, ◌∙◌, subst, arith}
+use Rattle.std.proofs.lemmas.Bool.Decides.{nat_tests}
+use mathlib.Core.Logic.{dite}
+use mathlib.Core.Option.{some, some-injective}
+use native.Mathlib.Decide.{ℕ_discrete}
+use lib.ListN.{get_elem?}
+use Rattle.atomic_table.specs.Table.{State, Seen, Final, opening}
+use Rattle.reflector_core.specs.PlainSession.{PlainSession}
+use Rattle.reflector_core.specs.Play.{first as first_session}
+use Rattle.session_lock.specs.declared.knowledge.Item.{Item}
+use Rattle.session_lock.specs.declared.knowledge.Knowledge.{Knowledge}
+use Rattle.session_lock.specs.History.{has, caller_of, calls_of, Saw, play}
+use Rattle.session_lock.specs.Numbers.{times, between}
+use Rattle.session_lock.specs.Rules.{all_numbers, total, has_ticket, weight, is_holding, calls_as, holds_number, size_of, Every, PartsFit, HoldsInTurn, IsInOrder, Locks, first_knowledge, no_part}
+use Rattle.session_lock.proofs.Totals.{total_two}
+use Rattle.session_lock.proofs.Histories.{has_own}
+use Rattle.session_lock.proofs.StepLaws.{total_none, not_holding, part_none}
+
+no_calls : (l : List ℕ) → length l ≡ 0 → (n : ℕ) → times n l ≡ 0
+no_calls [] e n = refl
+no_calls (x ∷ xs) e n = absurd (omega arith)
+
+times_has : (n : ℕ) (cs : List ℕ) → has n cs ≡ false → times n cs ≡ 0
+times_has n [] e = refl
+times_has n (m ∷ ms) e = times_step (eqb n m) (has n ms) (times n ms) e (times_has n ms)
+  where
+    times_step : (b h : Bool) (t : ℕ) → (b || h) ≡ false → (h ≡ false → t ≡ 0) → (if b then 1 else 0) + t ≡ 0
+    times_step true h t e go = absurd (cc (e))
+    times_step false h t e go = let r = go e in omega (arith, r)
+
+-- where who made no call has none in the history, the calls are the whole history
+keep_tail : (b : Bool) (x : Item) (xs : List Item) → (if b then x ∷ xs else xs) ≡ [] → xs ≡ []
+keep_tail true x xs e = absurd (cc (e))
+keep_tail false x xs e = e
+
+all_calls : (cs : List ℕ) (history : List Item) → ((n : ℕ) → times n cs ≡ 0 → calls_of (n ∷ []) history ≡ []) → calls_of cs history ≡ history
+all_calls cs [] h = refl
+all_calls cs (x ∷ xs) h =
+    let rec : calls_of cs xs ≡ xs = all_calls cs xs (λ n none_of. keep_tail (has (caller_of x) (n ∷ [])) x (calls_of (n ∷ []) xs) (h n none_of)) in
+    all_step (has (caller_of x) cs) refl rec
+  where
+    all_step : (b : Bool) → has (caller_of x) cs ≡ b → calls_of cs xs ≡ xs → (if b then x ∷ calls_of cs xs else calls_of cs xs) ≡ x ∷ xs
+    all_step true is rec = ap (λ (l : List Item). x ∷ l) rec
+    all_step false is rec =
+        let own : has (caller_of x) (caller_of x ∷ []) ≡ true = has_own (caller_of x) [] in
+        let e : (if true then x ∷ calls_of (caller_of x ∷ []) xs else calls_of (caller_of x ∷ []) xs) ≡ [] = ap (λ (b : Bool). if b then x ∷ calls_of (caller_of x ∷ []) xs else calls_of (caller_of x ∷ []) xs) (sym own) ∙ h (caller_of x) (times_has (caller_of x) cs is) in
+        absurd (cc (e))
+
+module _ (Trusted : PlainSession → Type 0) (history : List Item) (s : State PlainSession Knowledge) (k : IsInOrder Trusted history s) (id : ℕ) (v : Knowledge) (at : get_elem? s.views id ≡ some v) (whole : size_of v ≡ all_numbers) (free : v.holding ≡ false) where
+  others_none : (j : ℕ) (u : Knowledge) → get_elem? s.views j ≡ some u → j ≢ id → size_of u ≡ 0
+  others_none j u atj ne = let both = total_two size_of s.views j id u v atj at ne in let all = k.whole in omega (arith, both, all, whole)
+
+  same_view : (j : ℕ) (u : Knowledge) → get_elem? s.views j ≡ some u → j ≡ id → u ≡ v
+  same_view j u atj is = some-injective u v (sym atj ∙ (ap (λ (n : ℕ). get_elem? s.views n) is ∙ at))
+
+  pub all_seen : v.seen ≡ history
+  all_seen = let t = k.told in dite (ℕ_discrete t.0 id)
+      (λ is. ap (λ (u : Knowledge). u.seen) (sym (same_view t.0 t.1 t.2 is)) ∙ t.3)
+      (λ ne. let none_held = others_none t.0 t.1 t.2 ne in let some_held = t.4 in absurd (omega (arith, none_held, some_held)))
+
+  pub at_home : s.homes ≡ some (play history) ∷ []
+  at_home = k.home (total_none Trusted is_holding s.views (λ j u e. dite (ℕ_discrete j id)
+      (λ is. ap (λ (z : Knowledge). weight z.holding) (same_view j u e is) ∙ ap weight free)
+      (λ ne. not_holding Trusted u.holding (λ holds. let none_held = others_none j u e ne in let some_held = (k.turn j u e holds).1 in absurd (omega (arith, none_held, some_held))))))
+
+  pub all_own : calls_of v.callers history ≡ history
+  all_own = all_calls v.callers history (λ n none_of. k.called n (total_none Trusted (calls_as n) s.views (λ j u e. dite (ℕ_discrete j id)
+      (λ is. ap (calls_as n) (same_view j u e is) ∙ none_of)
+      (λ ne. let none_held = others_none j u e ne in no_calls u.callers (omega (arith, none_held)) n))))
+
+pub closed : (Trusted : PlainSession → Type 0) (id : ℕ) (v : Knowledge) (words : List ℕ) (slots : List PlainSession) (x : PlainSession) → Final (Seen (Locks Trusted) id v) words slots → size_of v ≡ all_numbers → v.holding ≡ false → get_elem? slots 0 ≡ some x
+    → (x ≡ play v.seen) × (calls_of v.callers v.seen ≡ v.seen) × Trusted (play v.seen)
+closed Trusted id v words slots x f whole free is =
+    let s = f.0 in
+    let history : List Item = f.1.0.0 in
+    let k : IsInOrder Trusted history s = f.1.0.1 in
+    let at : get_elem? s.views id ≡ some v = f.1.1 in
+    let seen : v.seen ≡ history = all_seen Trusted history s k id v at whole free in
+    let there : get_elem? slots 0 ≡ some (play history) = f.4 0 (play history) (ap (λ (l : List (mathlib.Core.Option.Option PlainSession)). get_elem? l 0) (at_home Trusted history s k id v at whole free)) in (
+      some-injective x (play history) (sym is ∙ there) ∙ ap play (sym seen),
+      ap (calls_of v.callers) seen ∙ (all_own Trusted history s k id v at whole free ∙ sym seen),
+      subst (λ (l : List Item). Trusted (play l)) (sym seen) k.trusted,
+    )
+
+every_one : (P : Knowledge → Type 0) (v : Knowledge) → P v → Every P (v ∷ [])
+every_one P v p zero u e = subst P (some-injective v u e) p
+every_one P v p (suc j) u e = absurd (mathlib.Core.Option.some-ne-none u (sym e))
+
+first_numbers : (n : ℕ) → total (holds_number n) (first_knowledge ∷ []) ≡ between 0 all_numbers n
+first_numbers n = grind (arith, nat_tests)
+
+no_tickets : (t : ℕ) → total (has_ticket t) (first_knowledge ∷ []) ≡ between 0 0 t
+no_tickets t = grind (arith, nat_tests)
+
+pub opens : (Trusted : PlainSession → Type 0) (slots : List PlainSession) → slots ≡ first_session ∷ [] → Trusted first_session → Locks Trusted (opening (0 ∷ 0 ∷ []) slots first_knowledge)
+opens Trusted slots e at_first = subst (λ (l : List PlainSession). Locks Trusted (opening (0 ∷ 0 ∷ []) l first_knowledge)) (sym e) (
+  [],
+  record {
+    next = 0;
+    words = refl;
+    room = omega arith;
+    order = omega arith;
+    tickets = no_tickets;
+    numbers = first_numbers;
+    whole = omega arith;
+    seen = every_one (λ u. Saw u.callers u.seen []) first_knowledge ([], refl, refl);
+    parts = every_one (PartsFit []) first_knowledge (part_none [] first_knowledge no_part refl, part_none [] first_knowledge no_part refl);
+    told = (0, first_knowledge, refl, refl, omega arith);
+    called = λ n none_of. refl;
+    turn = every_one (HoldsInTurn 0) first_knowledge (λ h. absurd (cc (h)));
+    trusted = at_first;
+    home = λ nobody. refl;
+  },
+)

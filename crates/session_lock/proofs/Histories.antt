@@ -1,0 +1,121 @@
+-- Histories that grow.
+use Rattle.std.proofs.Common.{◌≡◌, ℕ, ◌+◌, ◌≤◌, Bool, true, false, ◌||◌, eqb, List, [], ◌∷◌, ◌++◌, length, if◌then◌else◌, sym, refl, ap, ◌∙◌, arith, append_assoc, length-append, eq-eqb}
+use Rattle.std.proofs.lemmas.List.{append-nil}
+use Rattle.session_lock.specs.declared.knowledge.Item.{Item}
+use Rattle.reflector_core.specs.PlainSession.{PlainSession}
+use Rattle.reflector_core.specs.Play.{first as first_session}
+use Rattle.session_lock.specs.Numbers.{times}
+use Rattle.session_lock.specs.History.{caller_of, after, play, play_from, has, calls_of, Saw}
+
+pub play_from_append : (s : PlainSession) (xs ys : List Item) → play_from s (xs ++ ys) ≡ play_from (play_from s xs) ys
+play_from_append s [] ys = refl
+play_from_append s (x ∷ xs) ys = play_from_append (after s x) xs ys
+
+pub play_snoc : (history : List Item) (x : Item) → play (history ++ x ∷ []) ≡ after (play history) x
+play_snoc history x = play_from_append first_session history (x ∷ [])
+
+calls_cons : (b : Bool) (x : Item) (xs ys : List Item) → (if b then x ∷ (xs ++ ys) else (xs ++ ys)) ≡ (if b then x ∷ xs else xs) ++ ys
+calls_cons true x xs ys = refl
+calls_cons false x xs ys = refl
+
+pub calls_append : (cs : List ℕ) (xs ys : List Item) → calls_of cs (xs ++ ys) ≡ calls_of cs xs ++ calls_of cs ys
+calls_append cs [] ys = refl
+calls_append cs (x ∷ xs) ys =
+    ap (λ (l : List Item). if has (caller_of x) cs then x ∷ l else l) (calls_append cs xs ys) ∙ calls_cons (has (caller_of x) cs) x (calls_of cs xs) (calls_of cs ys)
+
+-- all of it was seen
+pub saw_all : (cs : List ℕ) (history : List Item) → Saw cs history history
+saw_all cs history = ([], append-nil history, refl)
+
+pub saw_trans : (cs : List ℕ) (xs ys zs : List Item) → Saw cs xs ys → Saw cs ys zs → Saw cs xs zs
+saw_trans cs xs ys zs p q = (
+  p.0 ++ q.0,
+  sym (append_assoc xs p.0 q.0) ∙ (ap (λ w. w ++ q.0) p.1 ∙ q.1),
+  calls_append cs p.0 q.0 ∙ (ap (λ w. w ++ calls_of cs q.0) p.2 ∙ q.2),
+)
+
+-- an item of another caller
+pub saw_more : (cs : List ℕ) (seen history : List Item) (x : Item) → Saw cs seen history → has (caller_of x) cs ≡ false → Saw cs seen (history ++ x ∷ [])
+saw_more cs seen history x p other = saw_trans cs seen history (history ++ x ∷ []) p (x ∷ [], refl, ap (λ (b : Bool). if b then x ∷ [] else []) other)
+
+pub saw_length : (cs : List ℕ) (seen history : List Item) → Saw cs seen history → length seen ≤ length history
+saw_length cs seen history p = omega (arith, sym (ap length p.1) ∙ length-append seen p.0)
+
+-- what is as long as the whole is the whole
+nothing_after : (xs ys zs : List Item) → xs ++ ys ≡ zs → length zs ≤ length xs → xs ≡ zs
+nothing_after xs [] zs e le = sym (append-nil xs) ∙ e
+nothing_after xs (y ∷ ys) zs e le = absurd (omega (arith, sym (ap length e) ∙ length-append xs (y ∷ ys)))
+
+pub saw_whole : (cs : List ℕ) (seen history : List Item) → Saw cs seen history → length history ≤ length seen → seen ≡ history
+saw_whole cs seen history p le = nothing_after seen p.0 history p.1 le
+
+has_times_step : (b : Bool) (h : Bool) (t : ℕ) → (if b then 1 else 0) + t ≡ 0 → (t ≡ 0 → h ≡ false) → (b || h) ≡ false
+has_times_step true h t e go = absurd (omega arith)
+has_times_step false h t e go = go (omega arith)
+
+pub has_times : (n : ℕ) (cs : List ℕ) → times n cs ≡ 0 → has n cs ≡ false
+has_times n [] e = refl
+has_times n (m ∷ ms) e = has_times_step (eqb n m) (has n ms) (times n ms) e (has_times n ms)
+
+-- the callers' own calls are those that were seen
+pub saw_own : (cs : List ℕ) (seen history : List Item) → Saw cs seen history → calls_of cs history ≡ calls_of cs seen
+saw_own cs seen history p = ap (calls_of cs) (sym p.1) ∙ (calls_append cs seen p.0 ∙ (ap (λ (l : List Item). calls_of cs seen ++ l) p.2 ∙ append-nil (calls_of cs seen)))
+
+pub has_own : (n : ℕ) (others : List ℕ) → has n (n ∷ others) ≡ true
+has_own n others = rw (eq-eqb n n refl) refl
+
+-- one more call of theirs
+pub saw_call : (cs : List ℕ) (seen history : List Item) (x : Item) → Saw cs seen history → has (caller_of x) cs ≡ true → calls_of cs (history ++ x ∷ []) ≡ calls_of cs seen ++ x ∷ []
+saw_call cs seen history x p mine = calls_append cs history (x ∷ []) ∙ (ap (λ (b : Bool). calls_of cs history ++ (if b then x ∷ [] else [])) mine ∙ ap (λ (l : List Item). l ++ x ∷ []) (saw_own cs seen history p))
+
+calls_none : (xs : List Item) → calls_of [] xs ≡ []
+calls_none [] = refl
+calls_none (x ∷ xs) = calls_none xs
+
+pub saw_nothing : (history : List Item) → Saw [] [] history
+saw_nothing history = (history, refl, calls_none history)
+
+pub nothing_first : (xs ys : List Item) → xs ++ ys ≡ [] → xs ≡ []
+nothing_first [] ys e = refl
+nothing_first (x ∷ xs) ys e = absurd (cc (e))
+
+pub nothing_left : (xs ys : List Item) → xs ++ ys ≡ [] → ys ≡ []
+nothing_left [] ys e = e
+nothing_left (x ∷ xs) ys e = absurd (cc (e))
+
+-- of two beginnings of one list the shorter begins the longer
+pub suffix : (xs r ys q : List Item) → xs ++ r ≡ ys ++ q → length xs ≤ length ys → (mid : List Item) × (xs ++ mid ≡ ys) × (r ≡ mid ++ q)
+suffix [] r ys q e le = (ys, refl, e)
+suffix (x ∷ xs) r [] q e le = absurd (omega arith)
+suffix (x ∷ xs) r (y ∷ ys) q e le =
+    let heads : x ≡ y = cc (e) in
+    let rest = suffix xs r ys q (let t : xs ++ r ≡ ys ++ q = cc (e) in t) (omega arith) in
+    (rest.0, cc (heads, rest.1), rest.2)
+
+pub saw_between : (cs ds : List ℕ) (xs ys history : List Item) → Saw cs xs history → Saw ds ys history → length xs ≤ length ys → Saw cs xs ys
+saw_between cs ds xs ys history p q le =
+    let m = suffix xs p.0 ys q.0 (p.1 ∙ sym q.1) le in
+    (m.0, m.1, nothing_first (calls_of cs m.0) (calls_of cs q.0) (sym (calls_append cs m.0 q.0) ∙ (ap (calls_of cs) (sym m.2) ∙ p.2)))
+
+-- they made no call in the rest that is left
+pub saw_rest : (cs ds : List ℕ) (xs ys history : List Item) → (p : Saw cs xs history) → (q : Saw ds ys history) → length xs ≤ length ys → calls_of cs q.0 ≡ []
+saw_rest cs ds xs ys history p q le =
+    let m = suffix xs p.0 ys q.0 (p.1 ∙ sym q.1) le in nothing_left (calls_of cs m.0) (calls_of cs q.0) (sym (calls_append cs m.0 q.0) ∙ (ap (calls_of cs) (sym m.2) ∙ p.2))
+
+has_append : (n : ℕ) (cs ds : List ℕ) → has n (cs ++ ds) ≡ (has n cs || has n ds)
+has_append n [] ds = refl
+has_append n (c ∷ cs) ds = or_step (eqb n c) (has n (cs ++ ds)) (has n cs) (has n ds) (has_append n cs ds)
+  where
+    or_step : (a b c d : Bool) → b ≡ (c || d) → (a || b) ≡ ((a || c) || d)
+    or_step true b c d e = refl
+    or_step false b c d e = e
+
+neither_step : (a b c : Bool) (x : Item) (l m n : List Item) → c ≡ (a || b) → (if a then x ∷ l else l) ≡ [] → (if b then x ∷ m else m) ≡ [] → (l ≡ [] → m ≡ [] → n ≡ []) → (if c then x ∷ n else n) ≡ []
+neither_step true b c x l m n is e f rec = absurd (cc (e))
+neither_step false true c x l m n is e f rec = absurd (cc (f))
+neither_step false false c x l m n is e f rec = ap (λ (t : Bool). if t then x ∷ n else n) is ∙ rec e f
+
+pub neither : (cs ds : List ℕ) (xs : List Item) → calls_of cs xs ≡ [] → calls_of ds xs ≡ [] → calls_of (cs ++ ds) xs ≡ []
+neither cs ds [] e f = refl
+neither cs ds (x ∷ xs) e f =
+    neither_step (has (caller_of x) cs) (has (caller_of x) ds) (has (caller_of x) (cs ++ ds)) x (calls_of cs xs) (calls_of ds xs) (calls_of (cs ++ ds) xs) (has_append (caller_of x) cs ds) e f (neither cs ds xs)

@@ -1,0 +1,43 @@
+-- Histories: what callers did to a session, in one order.
+use Rattle.std.specs.Prelude.{◌≡◌, ℕ, Bool, false, ◌||◌, eqb, List, [], ◌∷◌, ◌++◌, if◌then◌else◌}
+use Rattle.reflector_core.specs.PlainSession.{PlainSession}
+use Rattle.reflector_core.specs.Answer.{answer}
+use Rattle.reflector_core.specs.Play.{first as first_session}
+use Rattle.reflector_core.specs.declared.request.Request.{Request}
+use Rattle.reflector_core.specs.declared.request.Reply.{Reply}
+use Rattle.session_lock.specs.declared.knowledge.Item.{Item}
+use Rattle.session_lock.specs.declared.knowledge.Item.TheVariants.{Did, Void}
+
+abbrev pub caller_of : Item → ℕ
+caller_of (Did caller request) = caller
+caller_of (Void caller) = caller
+
+-- the session after one item
+abbrev pub after : PlainSession → Item → PlainSession
+after session (Did caller request) = (answer session request).session
+after session (Void caller) = session
+
+abbrev pub play_from : PlainSession → List Item → PlainSession
+play_from session [] = session
+play_from session (x ∷ xs) = play_from (after session x) xs
+
+-- the session after all items, from the first session on
+abbrev pub play : List Item → PlainSession
+play history = play_from first_session history
+
+-- what is answered to the request after the history
+abbrev pub reply_after : List Item → Request → Reply
+reply_after history request = (answer (play history) request).reply
+
+abbrev pub has : ℕ → List ℕ → Bool
+has n [] = false
+has n (m ∷ ms) = eqb n m || has n ms
+
+-- the items of these callers, in order
+abbrev pub calls_of : List ℕ → List Item → List Item
+calls_of callers [] = []
+calls_of callers (x ∷ xs) = if has (caller_of x) callers then x ∷ calls_of callers xs else calls_of callers xs
+
+-- the history begins with what was seen, and then has no item of these callers
+abbrev pub Saw : List ℕ → List Item → List Item → Type 0
+Saw callers seen history = (rest : List Item) × (seen ++ rest ≡ history) × (calls_of callers rest ≡ [])

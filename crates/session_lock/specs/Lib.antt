@@ -1,0 +1,6 @@
+pub mod Trusts
+pub mod History
+pub mod Numbers
+pub mod Rules
+pub mod Steps
+pub mod Passes

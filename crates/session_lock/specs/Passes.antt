@@ -1,0 +1,110 @@
+-- What contracts see of a shared session and of a pass, and how a call leaves a pass.
+use Rattle.std.specs.Prelude.{◌≡◌, ℕ, ◌+◌, true, List, [], ◌∷◌, ◌++◌, length, slice_index}
+use Rattle.atomic_table.specs.Seated.{TableId}
+use Rattle.tea_base.specs.declared.entry.SessionId.{SessionId}
+use Rattle.reflector_core.specs.PlainSession.{PlainSession}
+use Rattle.reflector_core.specs.Answer.{MayWantMemory}
+use Rattle.reflector_core.specs.declared.request.Request.{Request}
+use Rattle.reflector_core.specs.declared.request.Reply.{Reply}
+use Rattle.session_lock.specs.declared.knowledge.Item.{Item}
+use Rattle.session_lock.specs.declared.knowledge.Item.TheVariants.{Did, Void}
+use Rattle.session_lock.specs.declared.knowledge.Range.{Range}
+use Rattle.session_lock.specs.declared.knowledge.Knowledge.{Knowledge}
+use Rattle.session_lock.specs.History.{play, reply_after, has, calls_of, Saw}
+use Rattle.session_lock.specs.Numbers.{count_of, take_numbers, drop_numbers, first_number}
+use Rattle.session_lock.specs.Rules.{longer}
+
+-- what no other shared session has, its session's id, and the trust that it was made with
+pub record SharedState (T : Type 0) : Type 0 where
+  pub session : TableId
+  pub id : SessionId
+  pub trust : T
+
+abbrev pub state_of : {T : Type 0} → TableId → SessionId × T → SharedState T
+state_of session key = record { session = session; id = key.0; trust = key.1 }
+
+-- of which shared session it is a pass, its callers' numbers, its own caller's first, its spare numbers, and the
+-- history that it has seen
+pub record Standing : Type 0 where
+  pub session : TableId
+  pub callers : List ℕ
+  pub spare : List Range
+  pub seen : List Item
+
+-- its own caller's number
+abbrev pub caller : Standing → ℕ
+caller p = slice_index p.callers 0
+
+-- its callers' own calls in the history that it has seen
+abbrev pub own_calls : Standing → List Item
+own_calls p = calls_of p.callers p.seen
+
+-- how many numbers it holds
+abbrev pub numbers_held : Standing → ℕ
+numbers_held p = length p.callers + count_of p.spare
+
+-- what a contract sees of a seat with this knowledge
+abbrev pub stand : TableId → Knowledge → Standing
+stand session v = record { session = session; callers = v.callers; spare = v.spare; seen = v.seen }
+
+-- The pass after a call. There is a history that begins with all that it had seen, without another item of its
+-- callers; the pass has then seen this history and the item behind it, and its own calls have grown by just this item.
+pub record Grew (before after : Standing) (history : List Item) (item : Item) : Type 0 where
+  pub saw : Saw before.callers before.seen history
+  pub same : after ≡ record before { seen = history ++ item ∷ [] }
+  pub own : own_calls after ≡ own_calls before ++ item ∷ []
+  pub mine : has (caller before) before.callers ≡ true
+
+-- the reply is the one due at that place of the history, where what was kept was trusted
+pub record Replied (IsTrusted : PlainSession → Type 0) (before after : Standing) (request : Request) (reply : Reply) : Type 0 where
+  pub history : List Item
+  pub grew : Grew before after history (Did (caller before) request)
+  pub replies : reply ≡ reply_after history request
+  pub trusted : IsTrusted (play history)
+
+-- the call found no memory, and the reply due at that place may want some
+pub record Voided (before after : Standing) (request : Request) : Type 0 where
+  pub history : List Item
+  pub grew : Grew before after history (Void (caller before))
+  pub due : MayWantMemory (reply_after history request)
+
+-- the pass has seen a history that begins with all that it had seen, and has made no call
+pub record Caught (before after : Standing) : Type 0 where
+  pub saw : Saw before.callers before.seen after.seen
+  pub same : after ≡ record before { seen = after.seen }
+  pub own : own_calls after ≡ own_calls before
+
+-- The new pass gets the first of the spare numbers: one as its caller's, the others as its own spare ones. It has seen
+-- the same, and has no calls.
+pub record Given (before : Standing) (numbers : ℕ) (new : Standing) : Type 0 where
+  pub same :
+      new
+      ≡ record before {
+        callers = first_number (take_numbers numbers before.spare) ∷ [];
+        spare = drop_numbers 1 (take_numbers numbers before.spare);
+      }
+  pub own : own_calls new ≡ []
+
+-- The pass after another was merged into it. It has seen the longer of the two histories, of which the shorter is a
+-- beginning, holds the numbers of both, and the calls of both stand in what it has seen.
+pub record Merged (before other after : Standing) : Type 0 where
+  pub same :
+      after
+      ≡ record before {
+        callers = before.callers ++ other.callers;
+        spare = before.spare ++ other.spare;
+        seen = longer before.seen other.seen;
+      }
+  pub saw : Saw before.callers before.seen after.seen
+  pub saw_other : Saw other.callers other.seen after.seen
+  pub own : calls_of before.callers after.seen ≡ own_calls before
+  pub own_other : calls_of other.callers after.seen ≡ own_calls other
+
+-- the first pass is caller 0, holds all other numbers as spare ones, and has seen nothing
+abbrev pub first_pass : TableId → Standing
+first_pass session = record {
+  session = session;
+  callers = 0 ∷ [];
+  spare = record { first = 1; count = 4294967295 } ∷ [];
+  seen = [];
+}

@@ -1,0 +1,122 @@
+-- The rule of the lock: what holds of its two words, its slot and all passes between any two steps.
+use Rattle.std.specs.Prelude.{◌≡◌, ℕ, ◌+◌, ◌<◌, ◌≤◌, ◌^◌, Bool, true, false, eqb, leb, List, [], ◌∷◌, length, if◌then◌else◌, Option, Some, None}
+use mathlib.Core.Option.{some}
+use lib.ListN.{get_elem?}
+use Rattle.atomic_table.specs.Table.{State}
+use Rattle.reflector_core.specs.PlainSession.{PlainSession}
+use Rattle.session_lock.specs.declared.knowledge.Item.{Item}
+use Rattle.session_lock.specs.declared.knowledge.Range.{Range}
+use Rattle.session_lock.specs.declared.knowledge.Part.{Part}
+use Rattle.session_lock.specs.declared.knowledge.Knowledge.{Knowledge}
+use Rattle.session_lock.specs.History.{play, calls_of, Saw}
+use Rattle.session_lock.specs.Numbers.{times, in_ranges, count_of, between}
+
+-- how many numbers there are
+abbrev pub all_numbers : ℕ
+all_numbers = 4294967296
+
+-- f of each view, added up
+abbrev pub total : (Knowledge → ℕ) → List Knowledge → ℕ
+total f [] = 0
+total f (v ∷ vs) = f v + total f vs
+
+-- 1 where this is the ticket, and else 0
+abbrev pub is_ticket : ℕ → Option ℕ → ℕ
+is_ticket t None = 0
+is_ticket t (Some k) = if eqb t k then 1 else 0
+
+abbrev pub has_ticket : ℕ → Knowledge → ℕ
+has_ticket t v = is_ticket t v.ticket
+
+abbrev pub weight : Bool → ℕ
+weight true = 1
+weight false = 0
+
+abbrev pub is_holding : Knowledge → ℕ
+is_holding v = weight v.holding
+
+-- how often the number is that of one of the view's callers
+abbrev pub calls_as : ℕ → Knowledge → ℕ
+calls_as n v = times n v.callers
+
+-- how often the view holds the number, as one of its callers' or as a spare one
+abbrev pub holds_number : ℕ → Knowledge → ℕ
+holds_number n v = times n v.callers + in_ranges n v.spare
+
+-- how many numbers the view holds
+abbrev pub size_of : Knowledge → ℕ
+size_of v = length v.callers + count_of v.spare
+
+-- P holds of each view
+abbrev pub Every : (Knowledge → Type 0) → List Knowledge → Type 0
+Every P views = (i : ℕ) (v : Knowledge) → get_elem? views i ≡ some v → P v
+
+-- who holds the session has the ticket that is served, and has a caller
+abbrev pub HoldsInTurn : ℕ → Knowledge → Type 0
+HoldsInTurn serving v = v.holding ≡ true → (v.ticket ≡ Some serving) × (0 < length v.callers)
+
+-- what was known before a merge begins the history too, and its callers are among the view's
+abbrev pub PartFits : List Item → Knowledge → Part → Type 0
+PartFits history v p =
+    Saw p.callers p.seen history × (length p.seen ≤ length v.seen)
+    × ((n : ℕ) → times n v.callers ≡ 0 → times n p.callers ≡ 0)
+
+abbrev pub PartsFit : List Item → Knowledge → Type 0
+PartsFit history v = PartFits history v v.kept × PartFits history v v.other
+
+-- some view that has a caller has seen the whole history
+abbrev pub IsTold : List Item → List Knowledge → Type 0
+IsTold history views = (i : ℕ) × (v : Knowledge) × (get_elem? views i ≡ some v) × (v.seen ≡ history) × (0 < length v.callers)
+
+-- What holds of a history, of the table and of the trust. A view with no caller is that of a pass which was merged.
+pub record IsInOrder (Trusted : PlainSession → Type 0) (history : List Item) (s : State PlainSession Knowledge) : Type 0 where
+  -- the first word is the number of tickets drawn, the second the length of the history
+  pub next : ℕ
+  pub words : s.words ≡ next ∷ length history ∷ []
+  pub room : next < 2 ^ 64
+  pub order : length history ≤ next
+  -- each ticket from the one that is served on is out with one view, and no other ticket is
+  pub tickets : (t : ℕ) → total (has_ticket t) s.views ≡ between (length history) next t
+  -- each number is held once
+  pub numbers : (n : ℕ) → total (holds_number n) s.views ≡ between 0 all_numbers n
+  pub whole : total size_of s.views ≡ all_numbers
+  -- each view has seen a beginning of the history, after which its callers made no call
+  pub seen : Every (λ v. Saw v.callers v.seen history) s.views
+  pub parts : Every (PartsFit history) s.views
+  pub told : IsTold history s.views
+  -- only callers made calls
+  pub called : (n : ℕ) → total (calls_as n) s.views ≡ 0 → calls_of (n ∷ []) history ≡ []
+  pub turn : Every (HoldsInTurn (length history)) s.views
+  pub trusted : Trusted (play history)
+  -- where no view holds it, the session lies in the slot, and is the play of the history
+  pub home : total is_holding s.views ≡ 0 → s.homes ≡ some (play history) ∷ []
+
+-- there is one history that holds of the table
+abbrev pub Locks : (PlainSession → Type 0) → State PlainSession Knowledge → Type 0
+Locks Trusted s = (history : List Item) × IsInOrder Trusted history s
+
+abbrev pub part : List ℕ → List Item → Part
+part callers seen = record { callers = callers; seen = seen }
+
+abbrev pub no_part : Part
+no_part = part [] []
+
+-- what a pass knows that rests
+abbrev pub knows : List ℕ → List Range → List Item → Knowledge
+knows callers spare seen = record {
+  callers = callers;
+  spare = spare;
+  seen = seen;
+  ticket = None;
+  holding = false;
+  kept = no_part;
+  other = no_part;
+}
+
+-- the first pass is caller 0, and holds all other numbers as spare ones
+abbrev pub first_knowledge : Knowledge
+first_knowledge = knows (0 ∷ []) (record { first = 1; count = 4294967295 } ∷ []) []
+
+-- the longer of two histories; of two as long as each other, the second
+abbrev pub longer : List Item → List Item → List Item
+longer xs ys = if leb (length xs) (length ys) then ys else xs

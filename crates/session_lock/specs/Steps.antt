@@ -1,0 +1,111 @@
+-- What each step on the lock's table tells the pass that makes it.
+use Rattle.std.specs.Prelude.{◌≡◌, ◌≢◌, ℕ, ◌<◌, true, false, List, [], ◌∷◌, ◌++◌, length, Some, None, Result, MatchResult}
+use Rattle.atomic_table.specs.Table.{Me, Step}
+use Rattle.tea_base.specs.declared.want.WantOfMemory.{WantOfMemory}
+use Rattle.reflector_core.specs.PlainSession.{PlainSession}
+use Rattle.reflector_core.specs.Answer.{answer, with_reply, MayWantMemory}
+use Rattle.reflector_core.specs.declared.request.Request.{Request}
+use Rattle.reflector_core.specs.declared.request.Reply.{Reply}
+use Rattle.session_lock.specs.declared.knowledge.Item.{Item}
+use Rattle.session_lock.specs.declared.knowledge.Item.TheVariants.{Did, Void}
+use Rattle.session_lock.specs.declared.knowledge.Knowledge.{Knowledge}
+use Rattle.session_lock.specs.History.{play, reply_after, calls_of, Saw}
+use Rattle.session_lock.specs.Numbers.{in_ranges, take_numbers, drop_numbers, first_number}
+use Rattle.session_lock.specs.Rules.{knows, part, no_part, longer}
+
+-- a pass's view, and the session where the pass has it in hand
+abbrev pub M : Type 0
+M = Me PlainSession Knowledge
+
+abbrev pub with_ticket : Knowledge → ℕ → Knowledge
+with_ticket v t = record v { ticket = Some t }
+
+abbrev pub in_turn : Knowledge → List Item → Knowledge
+in_turn v history = record v { seen = history; holding = true }
+
+abbrev pub done : Knowledge → Item → Knowledge
+done v item = record v { seen = v.seen ++ item ∷ []; ticket = None; holding = false }
+
+-- draw: the ticket was drawn, or nothing changed
+abbrev pub Draws : Step PlainSession → M → ℕ → M → Type 0
+Draws st m found m' = (found ≡ st.first → m' ≡ (with_ticket m.0 found, m.1)) × (found ≢ st.first → m' ≡ m)
+
+-- the pass has this ticket and nothing in hand
+abbrev pub Waits : M → ℕ → Type 0
+Waits m ticket = (m.1 ≡ []) × (m.0.ticket ≡ Some ticket) × (m.0.holding ≡ false) × (0 < length m.0.callers)
+
+-- it is the pass's turn: the whole history was seen, and the session taken, which is its play
+abbrev pub HasTurn : (PlainSession → Type 0) → M → ℕ → M → Type 0
+HasTurn Trusted m ticket m' =
+    (history : List Item) × (length history ≡ ticket) × Saw m.0.callers m.0.seen history
+    × (m' ≡ (in_turn m.0 history, (0, play history) ∷ [])) × Trusted (play history)
+
+-- look: it is the pass's turn, or nothing changed
+abbrev pub Looks : (PlainSession → Type 0) → Step PlainSession → M → ℕ → M → Type 0
+Looks Trusted st m found m' =
+    (m.0.ticket ≡ Some found → HasTurn Trusted m found m') × (m.0.ticket ≢ Some found → m' ≡ m)
+
+-- the session in hand was asked
+abbrev pub Works : M → Request → Result Reply WantOfMemory → M → Type 0
+Works m request result m' =
+    (session : PlainSession) × (after : PlainSession) × (m.1 ≡ (0, session) ∷ []) × (m' ≡ (m.0, (0, after) ∷ []))
+    × MatchResult result
+    (λ reply. with_reply after reply ≡ answer session request)
+    (λ _. (after ≡ session) × MayWantMemory (answer session request).reply)
+
+-- finish: the item stands behind all that was seen, and the session is given back
+abbrev pub Finishes : (ℕ → Item) → Step PlainSession → M → ℕ → M → Type 0
+Finishes item st m found m' = (caller : ℕ) × (others : List ℕ) × (m.0.callers ≡ caller ∷ others) × (m' ≡ (done m.0 (item caller), []))
+
+-- count: the whole history was seen, and its length found
+abbrev pub Counts : Step PlainSession → M → ℕ → M → Type 0
+Counts st m found m' = (history : List Item) × (length history ≡ found) × Saw m.0.callers m.0.seen history × (m' ≡ (record m.0 { seen = history }, m.1))
+
+-- unused: no item has a spare number
+abbrev pub Unused : Step PlainSession → M → ℕ → M → Type 0
+Unused st m found m' = (m' ≡ m) × ((n : ℕ) → 0 < in_ranges n m.0.spare → calls_of (n ∷ []) m.0.seen ≡ [])
+
+-- split: the first of the n numbers that are taken becomes the new caller's
+abbrev pub split_right : ℕ → Knowledge → Knowledge
+split_right n v = let taken = take_numbers n v.spare in knows (first_number taken ∷ []) (drop_numbers 1 taken) v.seen
+
+abbrev pub split_left : ℕ → Knowledge → Knowledge
+split_left n v = record v { spare = drop_numbers n v.spare }
+
+-- join: both views in one, and what is left of the other
+abbrev pub merged : Knowledge → Knowledge → Knowledge
+merged v w = record v {
+  callers = v.callers ++ w.callers;
+  spare = v.spare ++ w.spare;
+  seen = longer v.seen w.seen;
+  kept = part v.callers v.seen;
+  other = part w.callers w.seen;
+}
+
+abbrev pub spent : Knowledge
+spent = knows [] [] []
+
+-- settle: what was known before the merge begins what is known now, and its callers made no call since
+abbrev pub Settles : Step PlainSession → M → ℕ → M → Type 0
+Settles st m found m' =
+    (m' ≡ (record m.0 { kept = no_part; other = no_part }, m.1))
+    × Saw m.0.kept.callers m.0.kept.seen m.0.seen × Saw m.0.other.callers m.0.other.seen m.0.seen
+
+-- the pass rests: it has a caller and no ticket, holds nothing, and is in no merge
+abbrev pub IsIdle : M → Type 0
+IsIdle m =
+    (m.1 ≡ []) × (m.0.ticket ≡ None) × (m.0.holding ≡ false) × (m.0.kept ≡ no_part) × (m.0.other ≡ no_part)
+    × ((first : ℕ) × (others : List ℕ) × (m.0.callers ≡ first ∷ others))
+
+-- all that was seen begins a history to which the call was added, and the reply is the one due there
+abbrev pub Answers : (PlainSession → Type 0) → Knowledge → M → Request → Reply → Type 0
+Answers Trusted v m request reply =
+    (history : List Item) × (caller : ℕ) × (others : List ℕ) × (v.callers ≡ caller ∷ others) × Saw v.callers v.seen history
+    × (m ≡ (knows v.callers v.spare (history ++ Did caller request ∷ []), [])) × (reply ≡ reply_after history request)
+    × Trusted (play history)
+
+-- the same where the call found no memory
+abbrev pub Fails : Knowledge → M → Request → Type 0
+Fails v m request =
+    (history : List Item) × (caller : ℕ) × (others : List ℕ) × (v.callers ≡ caller ∷ others) × Saw v.callers v.seen history
+    × (m ≡ (knows v.callers v.spare (history ++ Void caller ∷ []), [])) × MayWantMemory (reply_after history request)

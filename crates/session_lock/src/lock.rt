@@ -1,0 +1,324 @@
+//! The lock round the session, and its passes.
+ghost use Rattle.std.specs.Prelude.{◌≡◌, ℕ, ◌<◌, ◌+◌, [], ◌∷◌, length, true, false, None, IfOk, IfErr, IsOk, MatchResult};
+ghost use Rattle.tea_base.specs.declared.entry.SessionId.{SessionId};
+ghost use Rattle.reflector_core.specs.PlainSession.{PlainSession};
+ghost use Rattle.reflector_core.specs.Play.{first as first_session};
+ghost use Rattle.session_lock.specs.Trusts.{IsTrusted, MayBeAsked, is_offer};
+ghost use Rattle.session_lock.specs.History.{play, calls_of};
+ghost use Rattle.session_lock.specs.Rules.{all_numbers};
+ghost use Rattle.session_lock.specs.Steps.{with_ticket, Waits, HasTurn, Works, IsIdle, Answers, Fails, split_left, split_right};
+ghost use Rattle.session_lock.specs.Numbers.{count_of, in_ranges, drop_numbers};
+ghost use Rattle.session_lock.specs.Passes.{Replied, Voided, Caught, Given, Merged, first_pass, numbers_held, own_calls};
+
+use crate::held::Held;
+use crate::knowledge::Knowledge;
+use crate::rule::{
+    Asking, CountAll, Cut, Draw, FinishDid, FinishVoid, Glue, Law, Look, LookUnused, Settle,
+    Sharing,
+};
+use crate::trust::Trust;
+use atomic_table::{Refused, Seat, Table};
+use reflector_core::{Reply, Request, Session};
+use std::alloc::{AllocFailed, Global};
+use std::marker::{Brand, Model};
+use std::sync::Wait;
+use std::thread;
+use tea_base::{SessionId, WantOfMemory};
+
+/// The word with the number of tickets that were drawn.
+const NEXT: usize = 0;
+
+/// The word with the ticket that is served, which is the length of the history.
+const SERVING: usize = 1;
+
+type Place = Seat<Held, Knowledge>;
+
+/// A caller's token for one shared session. It has no bytes. Contracts see its callers' numbers, its own caller's first,
+/// its spare numbers and the history that it has seen. A number is held by one pass at most; a spare one was never used.
+/// A pass that is let go takes its numbers with it, and the session can then not be closed.
+#[derive(Drop)]
+pub struct Pass {
+    seat: Place,
+}
+
+impl Model for Pass {
+    ghost use Rattle.std.specs.Prelude.{◌≡◌, ◌<◌, length};
+    ghost use Rattle.session_lock.specs.Passes.{Standing, stand};
+    ghost use Rattle.session_lock.specs.Steps.{IsIdle};
+
+    ghost Value = { Standing };
+
+    ghost view = { λ pass. stand pass.seat.table_id pass.seat.me.0 };
+
+    ghost invariant = { λ pass. IsIdle pass.seat.me };
+}
+
+/// A session that threads share by `&`. However they call it, there is one history, and the session is its play.
+#[derive(Drop)]
+pub struct SharedSession<T: Trust> {
+    table: Table<Held, Knowledge, (SessionId, T), Law<T>, Global>,
+}
+
+impl<T: Trust> Model for SharedSession<T> {
+    ghost use Rattle.std.specs.Prelude.{◌≡◌};
+    ghost use Rattle.session_lock.specs.Passes.{SharedState, state_of};
+
+    ghost Value = { SharedState T };
+
+    ghost view = { λ shared. state_of shared.table.shared.table_id shared.table.shared.key };
+
+    ghost invariant = { λ shared. (shared.table.shared.table_id.words ≡ 2) × (shared.table.shared.table_id.slots ≡ 1) };
+}
+
+/// There was no memory for the lock. The session and the trust come back.
+#[derive(Drop)]
+pub struct Unmade<T: Trust> {
+    pub session: Session,
+    pub trust: T,
+}
+
+impl<T: Trust> SharedSession<T> {
+    /// Shares a first session. The pass is caller 0, has seen nothing, and holds all other numbers below 2^32 as spare
+    /// ones. The trust says which snapshots may be kept under this id. Both serve proofs alone, so the trust is let go.
+    pub fn new(
+        alloc: Global,
+        id: SessionId,
+        session: Session,
+        trust: T,
+    ) -> Result<(SharedSession<T>, Pass), Unmade<T>>
+        requires { session.plain ≡ first_session }
+        ensures pass { IfOk result (λ made. made.1 ≡ first_pass made.0.session) }
+        ensures trust { IfOk result (λ made. (made.0.id ≡ id) × (made.0.trust ≡ trust)) }
+        ensures unmade { IfErr result (λ unmade. (unmade.session.plain ≡ session.plain) × (unmade.trust ≡ trust)) }
+    {
+        let key = (id, trust);
+        let mut slots = Vec::new(alloc);
+        if let Err(AllocFailed { value: held }) = slots.push(Held::of(session)) {
+            return Err(Unmade {
+                session: held.into_session(),
+                trust: key.1,
+            });
+        }
+        match Table::new(alloc, &[0, 0], slots, &key) {
+            Ok((table, seat)) => Ok((SharedSession { table }, Pass { seat })),
+            Err(Refused { mut slots }) => {
+                let Some(held) = slots.pop() else {
+                    unreachable!()
+                };
+                Err(Unmade {
+                    session: held.into_session(),
+                    trust: key.1,
+                })
+            }
+        }
+    }
+
+    /// Makes a call that is no offer, in its turn, which it waits for. It adds one item to the history: what was asked,
+    /// or, without memory, a Void. The reply is the session's at that place of the history. Where 2^64 - 1 calls were
+    /// made it adds nothing and waits for good.
+    pub fn call<R: Wait>(
+        &self,
+        rt: &R,
+        pass: &mut Pass,
+        request: &Request,
+    ) -> Result<Reply, WantOfMemory>
+        requires session { pass.old.session ≡ self.now.session }
+        requires kind { is_offer request.now ≡ false }
+        ensures kept { pass.new ≡ record pass.old { seen = pass.new.seen } }
+        ensures call { MatchResult result
+            (λ reply. Replied (IsTrusted T.allows self.now.trust self.now.id) pass.old pass.new request.now reply)
+            (λ _. Voided pass.old pass.new request.now) }
+    {
+        self.ask(rt, pass, request)
+    }
+
+    /// Offers a snapshot that the trust allows for the session that the pass has seen. Else it is as `call`.
+    pub fn offer<R: Wait>(
+        &self,
+        rt: &R,
+        pass: &mut Pass,
+        request: &Request,
+    ) -> Result<Reply, WantOfMemory>
+        requires session { pass.old.session ≡ self.now.session }
+        requires kind { is_offer request.now ≡ true }
+        requires allowed { MayBeAsked T.allows self.now.trust self.now.id (play pass.old.seen) request.now }
+        ensures kept { pass.new ≡ record pass.old { seen = pass.new.seen } }
+        ensures call { MatchResult result
+            (λ reply. Replied (IsTrusted T.allows self.now.trust self.now.id) pass.old pass.new request.now reply)
+            (λ _. Voided pass.old pass.new request.now) }
+    {
+        self.ask(rt, pass, request)
+    }
+
+    /// The length of the history, which the pass has seen from then on. It waits for nobody, and takes no memory.
+    pub fn calls_done(&self, pass: &mut Pass) -> u64
+        requires { pass.old.session ≡ self.now.session }
+        ensures length { result ≡ length pass.new.seen }
+        ensures seen { Caught pass.old pass.new }
+    {
+        self.table.shared.load::<CountAll>(&mut pass.seat, SERVING)
+    }
+
+    /// A pass for a new caller, which has seen the same and has no calls. It takes `spare + 1` of the spare numbers: one
+    /// for its caller, and the others as spare ones of its own. The answer is Ok, since this takes no memory.
+    pub fn split(&self, pass: &mut Pass, spare: u32) -> Result<Pass, WantOfMemory>
+        requires session { pass.old.session ≡ self.now.session }
+        requires enough { spare < count_of pass.old.spare }
+        ensures made { IsOk result }
+        ensures kept { pass.new ≡ record pass.old { spare = drop_numbers (spare + 1) pass.old.spare } }
+        ensures given { IfOk result (λ new. Given pass.old (spare + 1) new) }
+        ensures numbers { IfOk result (λ new. (numbers_held new ≡ spare + 1) × (count_of new.spare ≡ spare)) }
+        ensures numbers_left { numbers_held pass.new + (spare + 1) ≡ numbers_held pass.old }
+        ensures spare_left { count_of pass.new.spare + (spare + 1) ≡ count_of pass.old.spare }
+    {
+        let seat = self.cut::<Brand>(&mut pass.seat, spare);
+        Ok(Pass { seat })
+    }
+
+    /// Puts another pass into the one that is kept, which stays its own caller's. Takes no memory.
+    pub fn merge(&self, keep: &mut Pass, other: Pass)
+        requires keep_session { keep.old.session ≡ self.now.session }
+        requires other_session { other.session ≡ self.now.session }
+        ensures merged { Merged keep.old other keep.new }
+        ensures numbers { numbers_held keep.new ≡ numbers_held keep.old + numbers_held other }
+    {
+        let Pass { seat } = other;
+        self.table.shared.join_seat::<Glue>(&mut keep.seat, seat);
+        self.table.shared.load::<Settle>(&mut keep.seat, NEXT);
+    }
+
+    /// The session in the end. The pass holds all numbers: every other one was merged into it, and no call is under way.
+    /// All that was ever called is among its calls.
+    pub fn close(self, pass: Pass) -> Session
+        requires session { pass.session ≡ self.session }
+        requires whole { numbers_held pass ≡ all_numbers }
+        ensures play { result.plain ≡ play pass.seen }
+        ensures calls { own_calls pass ≡ pass.seen }
+        ensures trusted { IsTrusted T.allows self.trust self.id result.plain }
+    {
+        let SharedSession { table } = self;
+        let Pass { seat } = pass;
+        let mut closed = table.close_with(seat);
+        let held = closed.take(0);
+        closed.free();
+        held.into_session()
+    }
+
+    // Makes a call for the pass.
+    fn ask<R: Wait>(
+        &self,
+        rt: &R,
+        pass: &mut Pass,
+        request: &Request,
+    ) -> Result<Reply, WantOfMemory>
+        requires session { pass.old.session ≡ self.now.session }
+        requires allowed { MayBeAsked T.allows self.now.trust self.now.id (play pass.old.seen) request.now }
+        ensures kept { pass.new ≡ record pass.old { seen = pass.new.seen } }
+        ensures call { MatchResult result
+            (λ reply. Replied (IsTrusted T.allows self.now.trust self.now.id) pass.old pass.new request.now reply)
+            (λ _. Voided pass.old pass.new request.now) }
+    {
+        self.make::<Brand, R>(rt, &mut pass.seat, request)
+    }
+
+    // Makes a call with what is asked, which the proof names by `J`.
+    fn make<J: Asking, R: Wait>(
+        &self,
+        rt: &R,
+        seat: &mut Place,
+        request: &Request,
+    ) -> Result<Reply, WantOfMemory>
+        requires table { seat.old.table_id ≡ self.now.session }
+        requires asked { request.now ≡ J.request }
+        requires trusted { (s : PlainSession) → IsTrusted T.allows self.now.trust self.now.id s → J.trusted s }
+        requires allowed { MayBeAsked T.allows self.now.trust self.now.id (play seat.old.me.0.seen) request.now }
+        requires idle { IsIdle seat.old.me }
+        ensures table { seat.new.table_id ≡ self.now.session }
+        ensures made { MatchResult result
+            (λ reply. Answers J.trusted seat.old.me.0 seat.new.me request.now reply)
+            (λ _. Fails seat.old.me.0 seat.new.me request.now) }
+    {
+        let ticket = self.draw(rt, seat);
+        self.take_turn::<J, R>(rt, seat, ticket);
+        match self.work(seat, request) {
+            Ok(reply) => {
+                self.table
+                    .shared
+                    .fetch_add::<FinishDid<J>>(seat, SERVING, 1);
+                self.table.shared.wake_all(SERVING);
+                Ok(reply)
+            }
+            Err(want) => {
+                self.table.shared.fetch_add::<FinishVoid>(seat, SERVING, 1);
+                self.table.shared.wake_all(SERVING);
+                Err(want)
+            }
+        }
+    }
+
+    // Draws a ticket. Once 2^64 - 1 were drawn it waits for good.
+    fn draw<R: Wait>(&self, rt: &R, seat: &mut Place) -> u64
+        requires table { seat.old.table_id ≡ self.now.session }
+        requires idle { (seat.old.me.0.ticket ≡ None) × (seat.old.me.0.holding ≡ false) }
+        ensures table { seat.new.table_id ≡ self.now.session }
+        ensures drawn { seat.new.me ≡ (with_ticket seat.old.me.0 result, seat.old.me.1) }
+    {
+        let shared = &self.table.shared;
+        for _ in rt.forever() {
+            let next = shared.peek(NEXT);
+            if next < u64::MAX {
+                let found = shared.compare_exchange::<Draw>(seat, NEXT, next, next + 1);
+                if found == next {
+                    return found;
+                }
+            }
+            thread::yield_now();
+        }
+        unreachable!()
+    }
+
+    // Waits until the ticket is served, and takes the session. Between two looks it sleeps until a call has ended.
+    fn take_turn<J: Asking, R: Wait>(&self, rt: &R, seat: &mut Place, ticket: u64)
+        requires table { seat.old.table_id ≡ self.now.session }
+        requires trusted { (s : PlainSession) → IsTrusted T.allows self.now.trust self.now.id s → J.trusted s }
+        requires drawn { Waits seat.old.me ticket }
+        ensures table { seat.new.table_id ≡ self.now.session }
+        ensures turn { HasTurn J.trusted seat.old.me ticket seat.new.me }
+    {
+        for _ in rt.forever() {
+            let found = self.table.shared.load::<Look<J>>(seat, SERVING);
+            if found == ticket {
+                return;
+            }
+            self.table
+                .shared
+                .park(rt, SERVING, (found & 0xffff_ffff) as u32);
+        }
+        unreachable!()
+    }
+
+    // Calls the session in hand.
+    fn work(&self, seat: &mut Place, request: &Request) -> Result<Reply, WantOfMemory>
+        requires table { seat.old.table_id ≡ self.now.session }
+        requires hand { (session : PlainSession) × (seat.old.me.1 ≡ (0, session) ∷ []) }
+        ensures table { seat.new.table_id ≡ self.now.session }
+        ensures reply { Works seat.old.me request.now result seat.new.me }
+    {
+        let held = seat.slot_mut(&self.table.shared, 0);
+        held.call(request)
+    }
+
+    // The seat of a new pass, with the first number that is taken as its caller's.
+    fn cut<J: Sharing>(&self, seat: &mut Place, spare: u32) -> Place
+        requires table { seat.old.table_id ≡ self.now.session }
+        requires asked { spare ≡ J.spare }
+        requires enough { spare < count_of seat.old.me.0.spare }
+        ensures table { (seat.new.table_id ≡ self.now.session) × (result.table_id ≡ self.now.session) }
+        ensures kept { seat.new.me ≡ (split_left (spare + 1) seat.old.me.0, seat.old.me.1) }
+        ensures given { result.me ≡ (split_right (spare + 1) seat.old.me.0, []) }
+        ensures unused { (n : ℕ) → 0 < in_ranges n seat.old.me.0.spare → calls_of (n ∷ []) seat.old.me.0.seen ≡ [] }
+    {
+        self.table.shared.load::<LookUnused>(seat, NEXT);
+        self.table.shared.split_seat::<Cut<J>>(seat)
+    }
+}
