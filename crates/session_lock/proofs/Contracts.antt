@@ -14,13 +14,13 @@ use Rattle.session_lock.specs.declared.knowledge.Item.{Item}
 use Rattle.session_lock.specs.declared.knowledge.Item.TheVariants.{Did, Void}
 use Rattle.session_lock.specs.declared.knowledge.Knowledge.{Knowledge}
 use Rattle.session_lock.specs.History.{caller_of, after, play, has, calls_of, Saw}
-use Rattle.session_lock.specs.Rules.{Locks, knows, no_part, longer}
+use Rattle.session_lock.specs.Rules.{Locks, HoldsOnce, holds_number, knows, no_part, longer}
 use Rattle.session_lock.specs.Steps.{M, Finishes, Answers, Fails, with_ticket, in_turn, merged, split_left, split_right}
-use Rattle.session_lock.specs.Passes.{SharedState, state_of, Standing, stand, Grew, Replied, Voided, Caught, Given, Merged, numbers_held}
+use Rattle.session_lock.specs.Passes.{SharedState, state_of, Standing, stand, Grew, Replied, Voided, Caught, Given, Merged, HeldOnce, UsedNoSpare, times_held, caller, numbers_held}
 use Rattle.session_lock.proofs.Histories.{saw_own, saw_call, has_own}
 use Rattle.session_lock.specs.Numbers.{in_ranges, count_of, take_numbers, first_number}
-use Rattle.session_lock.proofs.Ranges.{cut_count, taken_count, count_append}
-use Rattle.session_lock.proofs.Shares.{first_is_spare, left_size, right_size}
+use Rattle.session_lock.proofs.Ranges.{cut_count, taken_count, count_append, times_append, in_ranges_append}
+use Rattle.session_lock.proofs.Shares.{same_numbers, first_is_spare, left_size, right_size}
 use Rattle.session_lock.proofs.StepLaws.{finishes_me}
 
 -- a pass of a shared session has a seat of its table
@@ -94,11 +94,11 @@ module _ (Trusted : PlainSession → Type 0) (slots id : ℕ) (m₀ m₁ m₂ m�
   ends_void is = ends (λ caller. Void caller) refl (is ∙ the_session) (λ h. h)
 
 abbrev Settled : M → M → Type 0
-Settled m m' = (m' ≡ (record m.0 { kept = no_part; other = no_part }, m.1)) × Saw m.0.kept.callers m.0.kept.seen m.0.seen × Saw m.0.other.callers m.0.other.seen m.0.seen
+Settled m m' = (m' ≡ (record m.0 { kept = no_part; other = no_part }, m.1)) × Saw m.0.kept.callers m.0.kept.seen m.0.seen × Saw m.0.other.callers m.0.other.seen m.0.seen × HoldsOnce m.0
 
 -- what is known once the two views were put together and looked at
 pub put_together : (m₀ m₁ m₂ : M) (w : Knowledge) → m₁ ≡ (merged m₀.0 w, m₀.1) → Settled m₁ m₂
-    → (m₂ ≡ (record (merged m₀.0 w) { kept = no_part; other = no_part }, m₀.1)) × Saw m₀.0.callers m₀.0.seen (longer m₀.0.seen w.seen) × Saw w.callers w.seen (longer m₀.0.seen w.seen)
+    → (m₂ ≡ (record (merged m₀.0 w) { kept = no_part; other = no_part }, m₀.1)) × Saw m₀.0.callers m₀.0.seen (longer m₀.0.seen w.seen) × Saw w.callers w.seen (longer m₀.0.seen w.seen) × HoldsOnce (merged m₀.0 w)
 put_together m₀ m₁ m₂ w e settled = subst (λ (m : M). Settled m m₂) e settled
 
 pub merged_told : (z z₁ z₂ : TableId) (m₀ m₁ m₂ : M) (w : Knowledge) (p q : Standing) → stand z m₀.0 ≡ p → stand z₁ w ≡ q → z₂ ≡ z → m₁ ≡ (merged m₀.0 w, m₀.1) → Settled m₁ m₂ → Merged p q (stand z₂ m₂.0)
@@ -126,10 +126,38 @@ merged_count z z₁ z₂ m₀ m₁ m₂ w p q view view' e settled =
     let f = count_append m₀.0.spare w.spare in
     omega (arith, a, b, c, d, f)
 
+-- the numbers of the two are distinct, and the pass stays its own caller's
+pub merged_apart : (z z₁ : TableId) (m₀ m₁ m₂ : M) (w : Knowledge) (p q : Standing) → stand z m₀.0 ≡ p → stand z₁ w ≡ q → m₁ ≡ (merged m₀.0 w, m₀.1) → Settled m₁ m₂ → HeldOnce p q
+merged_apart z z₁ m₀ m₁ m₂ w p q view view' e settled n =
+    let once = (put_together m₀ m₁ m₂ w e settled).3 n in
+    let a = ap (times_held n) view in
+    let b = ap (times_held n) view' in
+    let c = times_append n m₀.0.callers w.callers in
+    let d = in_ranges_append n m₀.0.spare w.spare in
+    omega (arith, once, a, b, c, d)
+
+pub merged_caller : (z : TableId) (v : Knowledge) (p q r : Standing) (c : ℕ) (others : List ℕ) → stand z v ≡ p → v.callers ≡ c ∷ others → Merged p q r → (0 < length p.callers) × (caller r ≡ caller p)
+merged_caller z v p q r c others view mine merged =
+    let is : p.callers ≡ c ∷ others = sym (ap (λ (s : Standing). s.callers) view) ∙ mine in
+    let both : r.callers ≡ c ∷ (others ++ q.callers) = ap (λ (s : Standing). s.callers) merged.same ∙ ap (λ (l : List ℕ). l ++ q.callers) is in
+    (subst (λ (l : List ℕ). 0 < length l) (sym is) (omega arith), ap (λ (l : List ℕ). slice_index l 0) both ∙ sym (ap (λ (l : List ℕ). slice_index l 0) is))
+
 pub given_new : (z z' : TableId) (v : Knowledge) (m : M) (p : Standing) (n : ℕ) → stand z v ≡ p → z' ≡ z → m ≡ (split_right n v, []) → 0 < n → n ≤ count_of v.spare → ((x : ℕ) → 0 < in_ranges x v.spare → calls_of (x ∷ []) v.seen ≡ [])
     → Given p n (stand z' m.0)
 given_new z z' v m p n view table is some_number enough unused =
     subst (λ (t : Standing × (TableId × M)). Given t.0 n (stand t.1.0 t.1.1.0)) (λ i. (view i, (sym table i, sym is i))) (record { same = refl; own = unused (first_number (take_numbers n v.spare)) (first_is_spare n v some_number enough) })
+
+-- no number is with both
+pub given_apart : (z z' : TableId) (v left right : Knowledge) (n : ℕ) → left ≡ split_left n v → right ≡ split_right n v → 0 < n → n ≤ count_of v.spare → HoldsOnce v → HeldOnce (stand z left) (stand z' right)
+given_apart z z' v left right n left_is right_is some_number enough once x =
+    let a = ap (holds_number x) left_is in
+    let b = ap (holds_number x) right_is in
+    let c = same_numbers n v some_number enough x in
+    let d = once x in
+    omega (arith, a, b, c, d)
+
+pub spare_unused : (z : TableId) (v : Knowledge) (p : Standing) → stand z v ≡ p → ((n : ℕ) → 0 < in_ranges n v.spare → calls_of (n ∷ []) v.seen ≡ []) → UsedNoSpare p
+spare_unused z v p view unused = subst UsedNoSpare view unused
 
 -- the numbers of the new pass, and those that are left
 pub given_count : (z : TableId) (v : Knowledge) (m : M) (n : ℕ) → m ≡ (split_right (n + 1) v, []) → n < count_of v.spare → (numbers_held (stand z m.0) ≡ n + 1) × (count_of m.0.spare ≡ n)

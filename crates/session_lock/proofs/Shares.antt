@@ -31,7 +31,7 @@ module _ (n : ℕ) (v : Knowledge) (n_some : 0 < n) (enough : n ≤ count_of v.s
   taken_some : 0 < count_of the_taken
   taken_some = let c = taken_count n v.spare enough in omega (arith, c)
 
-  same_numbers : (x : ℕ) → holds_number x (split_left n v) + holds_number x (split_right n v) ≡ holds_number x v
+  pub same_numbers : (x : ℕ) → holds_number x (split_left n v) + holds_number x (split_right n v) ≡ holds_number x v
   same_numbers x = let two = cut x n v.spare in let out = first_out x the_taken taken_some in omega (arith, two, out)
 
   pub first_is_spare : 0 < in_ranges (first_number the_taken) v.spare

@@ -14,9 +14,9 @@ use Rattle.session_lock.specs.declared.knowledge.Part.{Part}
 use Rattle.session_lock.specs.declared.knowledge.Knowledge.{Knowledge}
 use Rattle.session_lock.specs.History.{caller_of, after, play, has, calls_of, Saw}
 use Rattle.session_lock.specs.Numbers.{times, in_ranges, count_of, between}
-use Rattle.session_lock.specs.Rules.{all_numbers, total, is_ticket, has_ticket, weight, is_holding, calls_as, holds_number, size_of, Every, HoldsInTurn, PartFits, PartsFit, IsTold, IsInOrder, Locks, no_part}
+use Rattle.session_lock.specs.Rules.{all_numbers, total, is_ticket, has_ticket, weight, is_holding, calls_as, holds_number, size_of, HoldsOnce, Every, HoldsInTurn, PartFits, PartsFit, IsTold, IsInOrder, Locks, no_part}
 use Rattle.session_lock.specs.Steps.{Unused, Settles, M, with_ticket, in_turn, done, Draws, Looks, Finishes, Counts}
-use Rattle.session_lock.proofs.Totals.{total_set, total_same, total_has, total_two, every_set, every_set_else}
+use Rattle.session_lock.proofs.Totals.{total_set, total_same, total_has, total_two, total_none, every_set, every_set_else}
 use Rattle.session_lock.proofs.Histories.{play_snoc, calls_append, saw_all, saw_more, saw_whole, saw_length, saw_nothing, saw_between, nothing_first, has_times}
 
 abbrev St : Type 0
@@ -139,10 +139,6 @@ module _ (Trusted : PlainSession → Type 0) where
       let most = between_most (length history) k.next t in
       let are = k.tickets t in
       omega (arith, both, one, two, most, are)
-
-  pub total_none : (f : Knowledge → ℕ) (views : List Knowledge) → Every (λ v. f v ≡ 0) views → total f views ≡ 0
-  total_none f [] h = refl
-  total_none f (x ∷ xs) h = let first = h 0 x refl in let others = total_none f xs (λ i v e. h (suc i) v e) in omega arith
 
   pub not_holding : (b : Bool) → (b ≡ true → ⊥) → weight b ≡ 0
   not_holding true h = absurd (h refl)
@@ -308,6 +304,10 @@ module _ (Trusted : PlainSession → Type 0) where
   total_add f g h [] e = refl
   total_add f g h (v ∷ vs) e = let r = total_add f g h vs e in let is = e v in omega (arith, r, is)
 
+  -- no view holds a number twice
+  pub holds_once : (history : List Item) (s : St) (k : IsInOrder Trusted history s) (id : ℕ) (v : Knowledge) → get_elem? s.views id ≡ some v → HoldsOnce v
+  holds_once history s k id v at n = let a = total_has (holds_number n) s.views id v at in let b = k.numbers n in omega (arith, a, b)
+
   abbrev pub spare_as : ℕ → Knowledge → ℕ
   spare_as n v = in_ranges n v.spare
 
@@ -326,6 +326,7 @@ module _ (Trusted : PlainSession → Type 0) where
       refl,
       λ n is_spare. let saw = k.seen id me.0 at in nothing_first (calls_of (n ∷ []) me.0.seen) (calls_of (n ∷ []) saw.0)
           (sym (calls_append (n ∷ []) me.0.seen saw.0) ∙ (ap (calls_of (n ∷ [])) saw.1 ∙ k.called n (no_caller history s k id me.0 n at is_spare))),
+      holds_once history s k id me.0 at,
     ),
   )
 
@@ -339,6 +340,7 @@ module _ (Trusted : PlainSession → Type 0) where
       refl,
       saw_between v.kept.callers v.callers v.kept.seen v.seen history fits.0.0 (k.seen id v at) fits.0.1,
       saw_between v.other.callers v.callers v.other.seen v.seen history fits.1.0 (k.seen id v at) fits.1.1,
+      holds_once history s k id v at,
     ),
   )
 

@@ -1,5 +1,5 @@
 -- What contracts see of a shared session and of a pass, and how a call leaves a pass.
-use Rattle.std.specs.Prelude.{◌≡◌, ℕ, ◌+◌, true, List, [], ◌∷◌, ◌++◌, length, slice_index}
+use Rattle.std.specs.Prelude.{◌≡◌, ℕ, ◌+◌, ◌<◌, ◌≤◌, true, List, [], ◌∷◌, ◌++◌, length, slice_index}
 use Rattle.atomic_table.specs.Seated.{TableId}
 use Rattle.tea_base.specs.declared.entry.SessionId.{SessionId}
 use Rattle.reflector_core.specs.PlainSession.{PlainSession}
@@ -11,8 +11,8 @@ use Rattle.session_lock.specs.declared.knowledge.Item.TheVariants.{Did, Void}
 use Rattle.session_lock.specs.declared.knowledge.Range.{Range}
 use Rattle.session_lock.specs.declared.knowledge.Knowledge.{Knowledge}
 use Rattle.session_lock.specs.History.{play, reply_after, has, calls_of, Saw}
-use Rattle.session_lock.specs.Numbers.{count_of, take_numbers, drop_numbers, first_number}
-use Rattle.session_lock.specs.Rules.{longer}
+use Rattle.session_lock.specs.Numbers.{times, in_ranges, between, count_of, take_numbers, drop_numbers, first_number}
+use Rattle.session_lock.specs.Rules.{all_numbers, longer}
 
 -- what no other shared session has, its session's id, and the trust that it was made with
 pub record SharedState (T : Type 0) : Type 0 where
@@ -42,6 +42,22 @@ own_calls p = calls_of p.callers p.seen
 -- how many numbers it holds
 abbrev pub numbers_held : Standing → ℕ
 numbers_held p = length p.callers + count_of p.spare
+
+-- how often it holds the number, as one of its callers' or as a spare one
+abbrev pub times_held : ℕ → Standing → ℕ
+times_held n p = times n p.callers + in_ranges n p.spare
+
+-- the two passes together hold no number twice, and none from 2^32 on
+abbrev pub HeldOnce : Standing → Standing → Type 0
+HeldOnce p q = (n : ℕ) → times_held n p + times_held n q ≤ between 0 all_numbers n
+
+-- it holds each number below 2^32 once, and no other
+abbrev pub HoldsEach : Standing → Type 0
+HoldsEach p = (n : ℕ) → times_held n p ≡ between 0 all_numbers n
+
+-- no item of what it has seen has one of its spare numbers
+abbrev pub UsedNoSpare : Standing → Type 0
+UsedNoSpare p = (n : ℕ) → 0 < in_ranges n p.spare → calls_of (n ∷ []) p.seen ≡ []
 
 -- what a contract sees of a seat with this knowledge
 abbrev pub stand : TableId → Knowledge → Standing

@@ -43,6 +43,10 @@ calls_as n v = times n v.callers
 abbrev pub holds_number : ℕ → Knowledge → ℕ
 holds_number n v = times n v.callers + in_ranges n v.spare
 
+-- the view holds no number twice, and none from 2^32 on
+abbrev pub HoldsOnce : Knowledge → Type 0
+HoldsOnce v = (n : ℕ) → holds_number n v ≤ between 0 all_numbers n
+
 -- how many numbers the view holds
 abbrev pub size_of : Knowledge → ℕ
 size_of v = length v.callers + count_of v.spare

@@ -11,7 +11,7 @@ use Rattle.session_lock.specs.declared.knowledge.Item.TheVariants.{Did, Void}
 use Rattle.session_lock.specs.declared.knowledge.Knowledge.{Knowledge}
 use Rattle.session_lock.specs.History.{play, reply_after, calls_of, Saw}
 use Rattle.session_lock.specs.Numbers.{in_ranges, take_numbers, drop_numbers, first_number}
-use Rattle.session_lock.specs.Rules.{knows, part, no_part, longer}
+use Rattle.session_lock.specs.Rules.{HoldsOnce, knows, part, no_part, longer}
 
 -- a pass's view, and the session where the pass has it in hand
 abbrev pub M : Type 0
@@ -61,9 +61,10 @@ Finishes item st m found m' = (caller : ℕ) × (others : List ℕ) × (m.0.call
 abbrev pub Counts : Step PlainSession → M → ℕ → M → Type 0
 Counts st m found m' = (history : List Item) × (length history ≡ found) × Saw m.0.callers m.0.seen history × (m' ≡ (record m.0 { seen = history }, m.1))
 
--- unused: no item has a spare number
+-- unused: no item has a spare number, and no number is held twice
 abbrev pub Unused : Step PlainSession → M → ℕ → M → Type 0
-Unused st m found m' = (m' ≡ m) × ((n : ℕ) → 0 < in_ranges n m.0.spare → calls_of (n ∷ []) m.0.seen ≡ [])
+Unused st m found m' =
+    (m' ≡ m) × ((n : ℕ) → 0 < in_ranges n m.0.spare → calls_of (n ∷ []) m.0.seen ≡ []) × HoldsOnce m.0
 
 -- split: the first of the n numbers that are taken becomes the new caller's
 abbrev pub split_right : ℕ → Knowledge → Knowledge
@@ -85,11 +86,13 @@ merged v w = record v {
 abbrev pub spent : Knowledge
 spent = knows [] [] []
 
--- settle: what was known before the merge begins what is known now, and its callers made no call since
+-- settle: what was known before the merge begins what is known now, and its callers made no call since; and no number
+-- is held twice
 abbrev pub Settles : Step PlainSession → M → ℕ → M → Type 0
 Settles st m found m' =
     (m' ≡ (record m.0 { kept = no_part; other = no_part }, m.1))
     × Saw m.0.kept.callers m.0.kept.seen m.0.seen × Saw m.0.other.callers m.0.other.seen m.0.seen
+    × HoldsOnce m.0
 
 -- the pass rests: it has a caller and no ticket, holds nothing, and is in no merge
 abbrev pub IsIdle : M → Type 0

@@ -5,10 +5,10 @@ ghost use Rattle.reflector_core.specs.PlainSession.{PlainSession};
 ghost use Rattle.reflector_core.specs.Play.{first as first_session};
 ghost use Rattle.session_lock.specs.Trusts.{IsTrusted, MayBeAsked, is_offer};
 ghost use Rattle.session_lock.specs.History.{play, calls_of};
-ghost use Rattle.session_lock.specs.Rules.{all_numbers};
+ghost use Rattle.session_lock.specs.Rules.{all_numbers, HoldsOnce};
 ghost use Rattle.session_lock.specs.Steps.{with_ticket, Waits, HasTurn, Works, IsIdle, Answers, Fails, split_left, split_right};
 ghost use Rattle.session_lock.specs.Numbers.{count_of, in_ranges, drop_numbers};
-ghost use Rattle.session_lock.specs.Passes.{Replied, Voided, Caught, Given, Merged, first_pass, numbers_held, own_calls};
+ghost use Rattle.session_lock.specs.Passes.{Replied, Voided, Caught, Given, Merged, HeldOnce, HoldsEach, UsedNoSpare, first_pass, caller, numbers_held, own_calls};
 
 use crate::held::Held;
 use crate::knowledge::Knowledge;
@@ -170,6 +170,8 @@ impl<T: Trust> SharedSession<T> {
         ensures numbers { IfOk result (λ new. (numbers_held new ≡ spare + 1) × (count_of new.spare ≡ spare)) }
         ensures numbers_left { numbers_held pass.new + (spare + 1) ≡ numbers_held pass.old }
         ensures spare_left { count_of pass.new.spare + (spare + 1) ≡ count_of pass.old.spare }
+        ensures apart { IfOk result (λ new. HeldOnce pass.new new) }
+        ensures unused { UsedNoSpare pass.old }
     {
         let seat = self.cut::<Brand>(&mut pass.seat, spare);
         Ok(Pass { seat })
@@ -181,6 +183,8 @@ impl<T: Trust> SharedSession<T> {
         requires other_session { other.session ≡ self.now.session }
         ensures merged { Merged keep.old other keep.new }
         ensures numbers { numbers_held keep.new ≡ numbers_held keep.old + numbers_held other }
+        ensures distinct { HeldOnce keep.old other }
+        ensures caller { (0 < length keep.old.callers) × (caller keep.new ≡ caller keep.old) }
     {
         let Pass { seat } = other;
         self.table.shared.join_seat::<Glue>(&mut keep.seat, seat);
@@ -194,6 +198,7 @@ impl<T: Trust> SharedSession<T> {
         requires whole { numbers_held pass ≡ all_numbers }
         ensures play { result.plain ≡ play pass.seen }
         ensures calls { own_calls pass ≡ pass.seen }
+        ensures numbers { HoldsEach pass }
         ensures trusted { IsTrusted T.allows self.trust self.id result.plain }
     {
         let SharedSession { table } = self;
@@ -317,6 +322,7 @@ impl<T: Trust> SharedSession<T> {
         ensures kept { seat.new.me ≡ (split_left (spare + 1) seat.old.me.0, seat.old.me.1) }
         ensures given { result.me ≡ (split_right (spare + 1) seat.old.me.0, []) }
         ensures unused { (n : ℕ) → 0 < in_ranges n seat.old.me.0.spare → calls_of (n ∷ []) seat.old.me.0.seen ≡ [] }
+        ensures once { HoldsOnce seat.old.me.0 }
     {
         self.table.shared.load::<LookUnused>(seat, NEXT);
         self.table.shared.split_seat::<Cut<J>>(seat)
