@@ -7,6 +7,7 @@ use native.Mathlib.Decide.{ℕ_discrete}
 use lib.ListN.{get_elem?}
 use Rattle.atomic_table.specs.Table.{State, Seen, Final, opening}
 use Rattle.reflector_core.specs.PlainSession.{PlainSession}
+use Rattle.reflector_core.proofs.SoundLaws.{IsSound-first}
 use Rattle.reflector_core.specs.Play.{first as first_session}
 use Rattle.session_lock.specs.declared.knowledge.Item.{Item}
 use Rattle.session_lock.specs.declared.knowledge.Knowledge.{Knowledge}
@@ -119,6 +120,7 @@ opens Trusted slots e at_first = subst (λ (l : List PlainSession). Locks Truste
     called = λ n none_of. refl;
     turn = every_one (HoldsInTurn 0) first_knowledge (λ h. absurd (cc (h)));
     trusted = at_first;
+    sound = IsSound-first;
     home = λ nobody. refl;
   },
 )

@@ -69,6 +69,7 @@ module _ (n : ℕ) (v : Knowledge) (n_some : 0 < n) (enough : n ≤ count_of v.s
           called = λ x none_of. k.called x (let a = both (calls_as x) in omega (arith, a, none_of));
           turn = every_snoc (HoldsInTurn (length history)) (set s.views id l) r (every_set (HoldsInTurn (length history)) s.views id l k.turn (k.turn id v at)) (λ f. cc);
           trusted = k.trusted;
+          sound = k.sound;
           home = λ nobody. k.home (let a = both is_holding in omega (arith, a, nobody));
         },
       )
@@ -146,6 +147,7 @@ merges Trusted id other v w idle free idle' free' caller_is s (history, k) at ne
         called = λ n none_of. k.called n (sym (join (calls_as n) (let a = times_append n v.callers w.callers in omega (arith, a))) ∙ none_of);
         turn = every (HoldsInTurn (length history)) k.turn (λ h. absurd (let e : true ≡ false = sym h ∙ free in cc (e))) (λ h. absurd (cc (h)));
         trusted = k.trusted;
+        sound = k.sound;
         home = λ nobody. k.home (sym (join is_holding (let a : is_holding w ≡ 0 = ap weight free' in omega (arith, a))) ∙ nobody);
       },
     )

@@ -71,24 +71,27 @@ pub record Grew (before after : Standing) (history : List Item) (item : Item) : 
   pub own : own_calls after ≡ own_calls before ++ item ∷ []
   pub mine : has (caller before) before.callers ≡ true
 
--- the reply is the one due at that place of the history, where what was kept was trusted
+-- the reply is the one due at that place of the history, and what is kept was trusted there and is so after the call
 pub record Replied (IsTrusted : PlainSession → Type 0) (before after : Standing) (request : Request) (reply : Reply) : Type 0 where
   pub history : List Item
   pub grew : Grew before after history (Did (caller before) request)
   pub replies : reply ≡ reply_after history request
   pub trusted : IsTrusted (play history)
+  pub trusted_after : IsTrusted (play after.seen)
 
--- the call found no memory, and the reply due at that place may want some
-pub record Voided (before after : Standing) (request : Request) : Type 0 where
+-- the call found no memory, the reply due at that place may want some, and what is kept is trusted
+pub record Voided (IsTrusted : PlainSession → Type 0) (before after : Standing) (request : Request) : Type 0 where
   pub history : List Item
   pub grew : Grew before after history (Void (caller before))
   pub due : MayWantMemory (reply_after history request)
+  pub trusted_after : IsTrusted (play after.seen)
 
--- the pass has seen a history that begins with all that it had seen, and has made no call
-pub record Caught (before after : Standing) : Type 0 where
+-- the pass has seen a history that begins with all that it had seen, and has made no call; what is kept is trusted
+pub record Caught (IsTrusted : PlainSession → Type 0) (before after : Standing) : Type 0 where
   pub saw : Saw before.callers before.seen after.seen
   pub same : after ≡ record before { seen = after.seen }
   pub own : own_calls after ≡ own_calls before
+  pub trusted_after : IsTrusted (play after.seen)
 
 -- The new pass gets the first of the spare numbers: one as its caller's, the others as its own spare ones. It has seen
 -- the same, and has no calls.

@@ -3,12 +3,13 @@ use Rattle.std.specs.Prelude.{◌≡◌, ℕ, ◌+◌, ◌<◌, ◌≤◌, ◌^�
 use mathlib.Core.Option.{some}
 use lib.ListN.{get_elem?}
 use Rattle.atomic_table.specs.Table.{State}
-use Rattle.reflector_core.specs.PlainSession.{PlainSession}
+use Rattle.reflector_core.specs.PlainSession.{PlainSession, IsSound}
 use Rattle.session_lock.specs.declared.knowledge.Item.{Item}
 use Rattle.session_lock.specs.declared.knowledge.Range.{Range}
 use Rattle.session_lock.specs.declared.knowledge.Part.{Part}
 use Rattle.session_lock.specs.declared.knowledge.Knowledge.{Knowledge}
-use Rattle.session_lock.specs.History.{play, calls_of, Saw}
+use Rattle.reflector_core.specs.Play.{first as first_session}
+use Rattle.session_lock.specs.History.{play, calls_of, Saw, IsSoundThrough}
 use Rattle.session_lock.specs.Numbers.{times, in_ranges, count_of, between}
 
 -- how many numbers there are
@@ -92,8 +93,14 @@ pub record IsInOrder (Trusted : PlainSession → Type 0) (history : List Item) (
   pub called : (n : ℕ) → total (calls_as n) s.views ≡ 0 → calls_of (n ∷ []) history ≡ []
   pub turn : Every (HoldsInTurn (length history)) s.views
   pub trusted : Trusted (play history)
+  -- the session is sound from the first on
+  pub sound : IsSoundThrough first_session history
   -- where no view holds it, the session lies in the slot, and is the play of the history
   pub home : total is_holding s.views ≡ 0 → s.homes ≡ some (play history) ∷ []
+
+-- the play of the history is trusted and sound
+abbrev pub PlaysWell : (PlainSession → Type 0) → List Item → Type 0
+PlaysWell Trusted history = Trusted (play history) × IsSound (play history)
 
 -- there is one history that holds of the table
 abbrev pub Locks : (PlainSession → Type 0) → State PlainSession Knowledge → Type 0

@@ -2,16 +2,17 @@
 use Rattle.std.specs.Prelude.{◌≡◌, ◌≢◌, ℕ, ◌<◌, true, false, List, [], ◌∷◌, ◌++◌, length, Some, None, Result, MatchResult}
 use Rattle.atomic_table.specs.Table.{Me, Step}
 use Rattle.tea_base.specs.declared.want.WantOfMemory.{WantOfMemory}
-use Rattle.reflector_core.specs.PlainSession.{PlainSession}
+use Rattle.reflector_core.specs.PlainSession.{PlainSession, IsSound}
 use Rattle.reflector_core.specs.Answer.{answer, with_reply, MayWantMemory}
 use Rattle.reflector_core.specs.declared.request.Request.{Request}
 use Rattle.reflector_core.specs.declared.request.Reply.{Reply}
+use Rattle.reflector_core.specs.Play.{first as first_session}
 use Rattle.session_lock.specs.declared.knowledge.Item.{Item}
 use Rattle.session_lock.specs.declared.knowledge.Item.TheVariants.{Did, Void}
 use Rattle.session_lock.specs.declared.knowledge.Knowledge.{Knowledge}
-use Rattle.session_lock.specs.History.{play, reply_after, calls_of, Saw}
+use Rattle.session_lock.specs.History.{play, reply_after, calls_of, Saw, IsSoundThrough}
 use Rattle.session_lock.specs.Numbers.{in_ranges, take_numbers, drop_numbers, first_number}
-use Rattle.session_lock.specs.Rules.{HoldsOnce, knows, part, no_part, longer}
+use Rattle.session_lock.specs.Rules.{HoldsOnce, PlaysWell, knows, part, no_part, longer}
 
 -- a pass's view, and the session where the pass has it in hand
 abbrev pub M : Type 0
@@ -39,6 +40,7 @@ abbrev pub HasTurn : (PlainSession → Type 0) → M → ℕ → M → Type 0
 HasTurn Trusted m ticket m' =
     (history : List Item) × (length history ≡ ticket) × Saw m.0.callers m.0.seen history
     × (m' ≡ (in_turn m.0 history, (0, play history) ∷ [])) × Trusted (play history)
+    × IsSoundThrough first_session history
 
 -- look: it is the pass's turn, or nothing changed
 abbrev pub Looks : (PlainSession → Type 0) → Step PlainSession → M → ℕ → M → Type 0
@@ -52,14 +54,23 @@ Works m request result m' =
     × MatchResult result
     (λ reply. with_reply after reply ≡ answer session request)
     (λ _. (after ≡ session) × MayWantMemory (answer session request).reply)
+    × IsSound after
 
 -- finish: the item stands behind all that was seen, and the session is given back
-abbrev pub Finishes : (ℕ → Item) → Step PlainSession → M → ℕ → M → Type 0
-Finishes item st m found m' = (caller : ℕ) × (others : List ℕ) × (m.0.callers ≡ caller ∷ others) × (m' ≡ (done m.0 (item caller), []))
+abbrev pub Finishes : (PlainSession → Type 0) → (ℕ → Item) → Step PlainSession → M → ℕ → M → Type 0
+Finishes Trusted item st m found m' =
+    (caller : ℕ) × (others : List ℕ) × (m.0.callers ≡ caller ∷ others) × (m' ≡ (done m.0 (item caller), []))
+    × PlaysWell Trusted m'.0.seen
+
+-- the whole history was seen, which is so long
+abbrev pub HasCounted : (PlainSession → Type 0) → M → ℕ → M → Type 0
+HasCounted Trusted m found m' =
+    (history : List Item) × (length history ≡ found) × Saw m.0.callers m.0.seen history
+    × (m' ≡ (record m.0 { seen = history }, m.1)) × PlaysWell Trusted history
 
 -- count: the whole history was seen, and its length found
-abbrev pub Counts : Step PlainSession → M → ℕ → M → Type 0
-Counts st m found m' = (history : List Item) × (length history ≡ found) × Saw m.0.callers m.0.seen history × (m' ≡ (record m.0 { seen = history }, m.1))
+abbrev pub Counts : (PlainSession → Type 0) → Step PlainSession → M → ℕ → M → Type 0
+Counts Trusted st m found m' = HasCounted Trusted m found m'
 
 -- unused: no item has a spare number, and no number is held twice
 abbrev pub Unused : Step PlainSession → M → ℕ → M → Type 0

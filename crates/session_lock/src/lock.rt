@@ -1,12 +1,12 @@
 //! The lock round the session, and its passes.
 ghost use Rattle.std.specs.Prelude.{◌≡◌, ℕ, ◌<◌, ◌+◌, [], ◌∷◌, length, true, false, None, IfOk, IfErr, IsOk, MatchResult};
 ghost use Rattle.tea_base.specs.declared.entry.SessionId.{SessionId};
-ghost use Rattle.reflector_core.specs.PlainSession.{PlainSession};
+ghost use Rattle.reflector_core.specs.PlainSession.{PlainSession, IsSound};
 ghost use Rattle.reflector_core.specs.Play.{first as first_session};
 ghost use Rattle.session_lock.specs.Trusts.{IsTrusted, MayBeAsked, is_offer};
 ghost use Rattle.session_lock.specs.History.{play, calls_of};
-ghost use Rattle.session_lock.specs.Rules.{all_numbers, HoldsOnce};
-ghost use Rattle.session_lock.specs.Steps.{with_ticket, Waits, HasTurn, Works, IsIdle, Answers, Fails, split_left, split_right};
+ghost use Rattle.session_lock.specs.Rules.{all_numbers, HoldsOnce, PlaysWell};
+ghost use Rattle.session_lock.specs.Steps.{with_ticket, Waits, HasTurn, HasCounted, Works, IsIdle, Answers, Fails, split_left, split_right};
 ghost use Rattle.session_lock.specs.Numbers.{count_of, in_ranges, drop_numbers};
 ghost use Rattle.session_lock.specs.Passes.{Replied, Voided, Caught, Given, Merged, HeldOnce, HoldsEach, UsedNoSpare, first_pass, caller, numbers_held, own_calls};
 
@@ -14,7 +14,7 @@ use crate::held::Held;
 use crate::knowledge::Knowledge;
 use crate::rule::{
     Asking, CountAll, Cut, Draw, FinishDid, FinishVoid, Glue, Law, Look, LookUnused, Settle,
-    Sharing,
+    Sharing, Trusting,
 };
 use crate::trust::Trust;
 use atomic_table::{Refused, Seat, Table};
@@ -127,7 +127,8 @@ impl<T: Trust> SharedSession<T> {
         ensures kept { pass.new ≡ record pass.old { seen = pass.new.seen } }
         ensures call { MatchResult result
             (λ reply. Replied (IsTrusted T.allows self.now.trust self.now.id) pass.old pass.new request.now reply)
-            (λ _. Voided pass.old pass.new request.now) }
+            (λ _. Voided (IsTrusted T.allows self.now.trust self.now.id) pass.old pass.new request.now) }
+        ensures sound { IsSound (play pass.new.seen) }
     {
         self.ask(rt, pass, request)
     }
@@ -145,7 +146,8 @@ impl<T: Trust> SharedSession<T> {
         ensures kept { pass.new ≡ record pass.old { seen = pass.new.seen } }
         ensures call { MatchResult result
             (λ reply. Replied (IsTrusted T.allows self.now.trust self.now.id) pass.old pass.new request.now reply)
-            (λ _. Voided pass.old pass.new request.now) }
+            (λ _. Voided (IsTrusted T.allows self.now.trust self.now.id) pass.old pass.new request.now) }
+        ensures sound { IsSound (play pass.new.seen) }
     {
         self.ask(rt, pass, request)
     }
@@ -154,9 +156,10 @@ impl<T: Trust> SharedSession<T> {
     pub fn calls_done(&self, pass: &mut Pass) -> u64
         requires { pass.old.session ≡ self.now.session }
         ensures length { result ≡ length pass.new.seen }
-        ensures seen { Caught pass.old pass.new }
+        ensures seen { Caught (IsTrusted T.allows self.now.trust self.now.id) pass.old pass.new }
+        ensures sound { IsSound (play pass.new.seen) }
     {
-        self.table.shared.load::<CountAll>(&mut pass.seat, SERVING)
+        self.count::<Brand>(&mut pass.seat)
     }
 
     /// A pass for a new caller, which has seen the same and has no calls. It takes `spare + 1` of the spare numbers: one
@@ -209,6 +212,16 @@ impl<T: Trust> SharedSession<T> {
         held.into_session()
     }
 
+    // Looks at the whole history, and gives its length.
+    fn count<J: Trusting>(&self, seat: &mut Place) -> u64
+        requires table { seat.old.table_id ≡ self.now.session }
+        requires trusted { (s : PlainSession) → IsTrusted T.allows self.now.trust self.now.id s → J.trusted s }
+        ensures table { seat.new.table_id ≡ self.now.session }
+        ensures counted { HasCounted J.trusted seat.old.me result seat.new.me }
+    {
+        self.table.shared.load::<CountAll<J>>(seat, SERVING)
+    }
+
     // Makes a call for the pass.
     fn ask<R: Wait>(
         &self,
@@ -221,13 +234,14 @@ impl<T: Trust> SharedSession<T> {
         ensures kept { pass.new ≡ record pass.old { seen = pass.new.seen } }
         ensures call { MatchResult result
             (λ reply. Replied (IsTrusted T.allows self.now.trust self.now.id) pass.old pass.new request.now reply)
-            (λ _. Voided pass.old pass.new request.now) }
+            (λ _. Voided (IsTrusted T.allows self.now.trust self.now.id) pass.old pass.new request.now) }
+        ensures sound { IsSound (play pass.new.seen) }
     {
         self.make::<Brand, R>(rt, &mut pass.seat, request)
     }
 
     // Makes a call with what is asked, which the proof names by `J`.
-    fn make<J: Asking, R: Wait>(
+    fn make<J: Asking + Trusting, R: Wait>(
         &self,
         rt: &R,
         seat: &mut Place,
@@ -242,6 +256,7 @@ impl<T: Trust> SharedSession<T> {
         ensures made { MatchResult result
             (λ reply. Answers J.trusted seat.old.me.0 seat.new.me request.now reply)
             (λ _. Fails seat.old.me.0 seat.new.me request.now) }
+        ensures plays { PlaysWell J.trusted seat.new.me.0.seen }
     {
         let ticket = self.draw(rt, seat);
         self.take_turn::<J, R>(rt, seat, ticket);
@@ -254,7 +269,9 @@ impl<T: Trust> SharedSession<T> {
                 Ok(reply)
             }
             Err(want) => {
-                self.table.shared.fetch_add::<FinishVoid>(seat, SERVING, 1);
+                self.table
+                    .shared
+                    .fetch_add::<FinishVoid<J>>(seat, SERVING, 1);
                 self.table.shared.wake_all(SERVING);
                 Err(want)
             }
@@ -283,7 +300,7 @@ impl<T: Trust> SharedSession<T> {
     }
 
     // Waits until the ticket is served, and takes the session. Between two looks it sleeps until a call has ended.
-    fn take_turn<J: Asking, R: Wait>(&self, rt: &R, seat: &mut Place, ticket: u64)
+    fn take_turn<J: Trusting, R: Wait>(&self, rt: &R, seat: &mut Place, ticket: u64)
         requires table { seat.old.table_id ≡ self.now.session }
         requires trusted { (s : PlainSession) → IsTrusted T.allows self.now.trust self.now.id s → J.trusted s }
         requires drawn { Waits seat.old.me ticket }
