@@ -13,11 +13,11 @@ use Rattle.session_lock.specs.declared.knowledge.Item.{Item}
 use Rattle.session_lock.specs.declared.knowledge.Knowledge.{Knowledge}
 use Rattle.session_lock.specs.History.{has, caller_of, calls_of, Saw, play}
 use Rattle.session_lock.specs.Numbers.{times, between}
-use Rattle.session_lock.specs.Rules.{all_numbers, total, has_ticket, weight, is_holding, calls_as, holds_number, size_of, Every, PartsFit, HoldsInTurn, IsInOrder, Locks, first_knowledge, no_part}
+use Rattle.session_lock.specs.Rules.{all_numbers, total, has_ticket, weight, is_holding, calls_as, holds_number, size_of, Every, PartsFit, HoldsInTurn, SpentHoldsNothing, IsInOrder, Locks, first_knowledge, no_part}
 use Rattle.session_lock.proofs.Totals.{total_two, total_none, total_only}
 use Rattle.session_lock.proofs.Ranges.{none_in}
 use Rattle.session_lock.proofs.Histories.{has_own}
-use Rattle.session_lock.proofs.StepLaws.{not_holding, part_none}
+use Rattle.session_lock.proofs.StepLaws.{not_holding, part_none, has_callers}
 
 no_calls : (l : List ℕ) → length l ≡ 0 → (n : ℕ) → times n l ≡ 0
 no_calls [] e n = refl
@@ -119,8 +119,10 @@ opens Trusted slots e at_first = subst (λ (l : List PlainSession). Locks Truste
     told = (0, first_knowledge, refl, refl, omega arith);
     called = λ n none_of. refl;
     turn = every_one (HoldsInTurn 0) first_knowledge (λ h. absurd (cc (h)));
+    spent = every_one SpentHoldsNothing first_knowledge (has_callers first_knowledge (omega arith));
     trusted = at_first;
     sound = IsSound-first;
     home = λ nobody. refl;
+    away = λ one. absurd (omega (arith, one));
   },
 )

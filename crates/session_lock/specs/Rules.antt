@@ -1,6 +1,6 @@
 -- The rule of the lock: what holds of its two words, its slot and all passes between any two steps.
 use Rattle.std.specs.Prelude.{◌≡◌, ℕ, ◌+◌, ◌<◌, ◌≤◌, ◌^◌, Bool, true, false, eqb, leb, List, [], ◌∷◌, length, if◌then◌else◌, Option, Some, None}
-use mathlib.Core.Option.{some}
+use mathlib.Core.Option.{some, none}
 use lib.ListN.{get_elem?}
 use Rattle.atomic_table.specs.Table.{State}
 use Rattle.reflector_core.specs.PlainSession.{PlainSession, IsSound}
@@ -60,6 +60,10 @@ Every P views = (i : ℕ) (v : Knowledge) → get_elem? views i ≡ some v → P
 abbrev pub HoldsInTurn : ℕ → Knowledge → Type 0
 HoldsInTurn serving v = v.holding ≡ true → (v.ticket ≡ Some serving) × (0 < length v.callers)
 
+-- a view with no caller holds no number and no ticket, and does not hold the session
+abbrev pub SpentHoldsNothing : Knowledge → Type 0
+SpentHoldsNothing v = v.callers ≡ [] → (v.spare ≡ []) × (v.ticket ≡ None) × (v.holding ≡ false)
+
 -- what was known before a merge begins the history too, and its callers are among the view's
 abbrev pub PartFits : List Item → Knowledge → Part → Type 0
 PartFits history v p =
@@ -92,11 +96,14 @@ pub record IsInOrder (Trusted : PlainSession → Type 0) (history : List Item) (
   -- only callers made calls
   pub called : (n : ℕ) → total (calls_as n) s.views ≡ 0 → calls_of (n ∷ []) history ≡ []
   pub turn : Every (HoldsInTurn (length history)) s.views
+  pub spent : Every SpentHoldsNothing s.views
   pub trusted : Trusted (play history)
   -- the session is sound from the first on
   pub sound : IsSoundThrough first_session history
   -- where no view holds it, the session lies in the slot, and is the play of the history
   pub home : total is_holding s.views ≡ 0 → s.homes ≡ some (play history) ∷ []
+  -- where a view holds it, the slot is empty
+  pub away : total is_holding s.views ≡ 1 → s.homes ≡ none ∷ []
 
 -- the play of the history is trusted and sound
 abbrev pub PlaysWell : (PlainSession → Type 0) → List Item → Type 0

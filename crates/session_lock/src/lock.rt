@@ -282,6 +282,7 @@ impl<T: Trust> SharedSession<T> {
     fn draw<R: Wait>(&self, rt: &R, seat: &mut Place) -> u64
         requires table { seat.old.table_id ≡ self.now.session }
         requires idle { (seat.old.me.0.ticket ≡ None) × (seat.old.me.0.holding ≡ false) }
+        requires caller { 0 < length seat.old.me.0.callers }
         ensures table { seat.new.table_id ≡ self.now.session }
         ensures drawn { seat.new.me ≡ (with_ticket seat.old.me.0 result, seat.old.me.1) }
     {
