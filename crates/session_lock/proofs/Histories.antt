@@ -3,9 +3,11 @@ use Rattle.std.proofs.Common.{◌≡◌, ℕ, ◌+◌, ◌≤◌, Bool, true, fa
 use Rattle.std.proofs.lemmas.List.{append-nil}
 use Rattle.session_lock.specs.declared.knowledge.Item.{Item}
 use Rattle.reflector_core.specs.PlainSession.{PlainSession, IsSound}
-use Rattle.reflector_core.specs.Play.{first as first_session}
+use Rattle.session_lock.specs.declared.knowledge.Item.TheVariants.{Did, Void}
+use Rattle.reflector_core.specs.Answer.{answer}
+use Rattle.reflector_core.specs.Play.{first as first_session, after_all}
 use Rattle.session_lock.specs.Numbers.{times}
-use Rattle.session_lock.specs.History.{caller_of, after, play, play_from, has, calls_of, Saw, IsSoundThrough}
+use Rattle.session_lock.specs.History.{caller_of, after, play, play_from, has, calls_of, Saw, requests_of, IsSoundThrough}
 
 pub play_from_append : (s : PlainSession) (xs ys : List Item) → play_from s (xs ++ ys) ≡ play_from (play_from s xs) ys
 play_from_append s [] ys = refl
@@ -13,6 +15,12 @@ play_from_append s (x ∷ xs) ys = play_from_append (after s x) xs ys
 
 pub play_snoc : (history : List Item) (x : Item) → play (history ++ x ∷ []) ≡ after (play history) x
 play_snoc history x = play_from_append first_session history (x ∷ [])
+
+-- a Void changes nothing
+pub play_requests : (s : PlainSession) (xs : List Item) → play_from s xs ≡ after_all s (requests_of xs)
+play_requests s [] = refl
+play_requests s (Did caller request ∷ xs) = play_requests (answer s request).session xs
+play_requests s (Void caller ∷ xs) = play_requests s xs
 
 -- soundness from the first session on: one item more, its end, and what is left behind a beginning
 pub sound_more : (s : PlainSession) (xs : List Item) (x : Item) → IsSoundThrough s xs → IsSound (after (play_from s xs) x) → IsSoundThrough s (xs ++ x ∷ [])

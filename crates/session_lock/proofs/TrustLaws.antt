@@ -92,7 +92,7 @@ module _ {T : Type 0} (allows : Allowing T) (stays : Stays allows) (trust : T) (
   asked_later cs seen history (Tick now) sound saw ok = ok
   asked_later cs seen history (Leave view joined now) sound saw ok = ok
   asked_later cs seen history (Offer view joined time snapshot) sound saw ok =
-      subst (λ (s : PlainSession). Allows allows trust id s time snapshot) (sym (play_from_append first_session seen saw.0) ∙ ap play saw.1) 
+      subst (λ (s : PlainSession). Allows allows trust id s time snapshot) (sym (play_from_append first_session seen saw.0) ∙ ap play saw.1)
       (later (play seen) saw.0 time snapshot (sound_rest first_session seen saw.0 (subst (IsSoundThrough first_session) (sym saw.1) sound)) ok)
   asked_later cs seen history (Pull after limit) sound saw ok = ok
 

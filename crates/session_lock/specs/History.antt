@@ -25,6 +25,12 @@ play_from session (x ∷ xs) = play_from (after session x) xs
 abbrev pub play : List Item → PlainSession
 play history = play_from first_session history
 
+-- the requests of the history, in order
+abbrev pub requests_of : List Item → List Request
+requests_of [] = []
+requests_of (Did caller request ∷ xs) = request ∷ requests_of xs
+requests_of (Void caller ∷ xs) = requests_of xs
+
 -- the session is sound, and so it is after each of the items
 abbrev pub IsSoundThrough : PlainSession → List Item → Type 0
 IsSoundThrough session [] = IsSound session

@@ -2,9 +2,9 @@
 ghost use Rattle.std.specs.Prelude.{◌≡◌, ℕ, ◌<◌, ◌+◌, [], ◌∷◌, length, true, false, None, IfOk, IfErr, IsOk, MatchResult};
 ghost use Rattle.tea_base.specs.declared.entry.SessionId.{SessionId};
 ghost use Rattle.reflector_core.specs.PlainSession.{PlainSession, IsSound};
-ghost use Rattle.reflector_core.specs.Play.{first as first_session};
+ghost use Rattle.reflector_core.specs.Play.{first as first_session, replies_from, TellsItsEvents};
 ghost use Rattle.session_lock.specs.Trusts.{IsTrusted, MayBeAsked, is_offer};
-ghost use Rattle.session_lock.specs.History.{play, calls_of};
+ghost use Rattle.session_lock.specs.History.{play, calls_of, requests_of};
 ghost use Rattle.session_lock.specs.Rules.{all_numbers, HoldsOnce, PlaysWell};
 ghost use Rattle.session_lock.specs.Steps.{with_ticket, Waits, HasTurn, HasCounted, Works, IsIdle, Answers, Fails, split_left, split_right};
 ghost use Rattle.session_lock.specs.Numbers.{count_of, in_ranges, drop_numbers};
@@ -203,6 +203,7 @@ impl<T: Trust> SharedSession<T> {
         ensures calls { own_calls pass ≡ pass.seen }
         ensures numbers { HoldsEach pass }
         ensures trusted { IsTrusted T.allows self.trust self.id result.plain }
+        ensures events { TellsItsEvents (requests_of pass.seen) (replies_from first_session (requests_of pass.seen)) result.plain.log }
     {
         let SharedSession { table } = self;
         let Pass { seat } = pass;
