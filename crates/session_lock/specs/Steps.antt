@@ -3,10 +3,10 @@ use Rattle.std.specs.Prelude.{◌≡◌, ◌≢◌, ℕ, ◌<◌, true, false, L
 use Rattle.atomic_table.specs.Table.{Me, Step}
 use Rattle.tea_base.specs.declared.want.WantOfMemory.{WantOfMemory}
 use Rattle.reflector_core.specs.PlainSession.{PlainSession, IsSound}
+use Rattle.reflector_core.specs.Play.{first as first_session}
 use Rattle.reflector_core.specs.Answer.{answer, with_reply, MayWantMemory}
 use Rattle.reflector_core.specs.declared.request.Request.{Request}
 use Rattle.reflector_core.specs.declared.request.Reply.{Reply}
-use Rattle.reflector_core.specs.Play.{first as first_session}
 use Rattle.session_lock.specs.declared.knowledge.Item.{Item}
 use Rattle.session_lock.specs.declared.knowledge.Item.TheVariants.{Did, Void}
 use Rattle.session_lock.specs.declared.knowledge.Knowledge.{Knowledge}
@@ -35,7 +35,8 @@ Draws st m found m' = (found ≡ st.first → m' ≡ (with_ticket m.0 found, m.1
 abbrev pub Waits : M → ℕ → Type 0
 Waits m ticket = (m.1 ≡ []) × (m.0.ticket ≡ Some ticket) × (m.0.holding ≡ false) × (0 < length m.0.callers)
 
--- it is the pass's turn: the whole history was seen, and the session taken, which is its play
+-- it is the pass's turn: the whole history was seen, and the session taken, which is its play; what it keeps is
+-- trusted, and it was sound all the way
 abbrev pub HasTurn : (PlainSession → Type 0) → M → ℕ → M → Type 0
 HasTurn Trusted m ticket m' =
     (history : List Item) × (length history ≡ ticket) × Saw m.0.callers m.0.seen history
@@ -47,7 +48,7 @@ abbrev pub Looks : (PlainSession → Type 0) → Step PlainSession → M → ℕ
 Looks Trusted st m found m' =
     (m.0.ticket ≡ Some found → HasTurn Trusted m found m') × (m.0.ticket ≢ Some found → m' ≡ m)
 
--- the session in hand was asked
+-- the session in hand was asked, and is sound
 abbrev pub Works : M → Request → Result Reply WantOfMemory → M → Type 0
 Works m request result m' =
     (session : PlainSession) × (after : PlainSession) × (m.1 ≡ (0, session) ∷ []) × (m' ≡ (m.0, (0, after) ∷ []))
@@ -56,13 +57,14 @@ Works m request result m' =
     (λ _. (after ≡ session) × MayWantMemory (answer session request).reply)
     × IsSound after
 
--- finish: the item stands behind all that was seen, and the session is given back
+-- finish: the item stands behind all that was seen, and the session is given back; the play of this is trusted and
+-- sound
 abbrev pub Finishes : (PlainSession → Type 0) → (ℕ → Item) → Step PlainSession → M → ℕ → M → Type 0
 Finishes Trusted item st m found m' =
     (caller : ℕ) × (others : List ℕ) × (m.0.callers ≡ caller ∷ others) × (m' ≡ (done m.0 (item caller), []))
     × PlaysWell Trusted m'.0.seen
 
--- the whole history was seen, which is so long
+-- the whole history was seen, which is so long, and whose play is trusted and sound
 abbrev pub HasCounted : (PlainSession → Type 0) → M → ℕ → M → Type 0
 HasCounted Trusted m found m' =
     (history : List Item) × (length history ≡ found) × Saw m.0.callers m.0.seen history

@@ -114,8 +114,8 @@ impl<T: Trust> SharedSession<T> {
     }
 
     /// Makes a call that is no offer, in its turn, which it waits for. It adds one item to the history: what was asked,
-    /// or, without memory, a Void. The reply is the session's at that place of the history. Where 2^64 - 1 calls were
-    /// made it adds nothing and waits for good.
+    /// or, without memory, a Void. The reply is the session's at that place of the history. Once 2^64 - 1 tickets were
+    /// drawn, by calls that need not all have ended, it draws none, adds nothing and waits for good.
     pub fn call<R: Wait>(
         &self,
         rt: &R,
@@ -195,7 +195,7 @@ impl<T: Trust> SharedSession<T> {
     }
 
     /// The session in the end. The pass holds all numbers: every other one was merged into it, and no call is under way.
-    /// All that was ever called is among its calls.
+    /// All that was ever called is among its calls. The log has just the events that were answered Stamped.
     pub fn close(self, pass: Pass) -> Session
         requires session { pass.session ≡ self.session }
         requires whole { numbers_held pass ≡ all_numbers }
@@ -203,7 +203,8 @@ impl<T: Trust> SharedSession<T> {
         ensures calls { own_calls pass ≡ pass.seen }
         ensures numbers { HoldsEach pass }
         ensures trusted { IsTrusted T.allows self.trust self.id result.plain }
-        ensures events { TellsItsEvents (requests_of pass.seen) (replies_from first_session (requests_of pass.seen)) result.plain.log }
+        ensures events { TellsItsEvents (requests_of pass.seen)
+            (replies_from first_session (requests_of pass.seen)) result.plain.log }
     {
         let SharedSession { table } = self;
         let Pass { seat } = pass;

@@ -2,8 +2,8 @@
 
 /// Which snapshots a shared session keeps. The meaning `allows` says so of a session, by its id, its log and its
 /// horizon, and of a snapshot, by its time and its bytes. By the law `stays` what is allowed for a sound session is
-/// allowed after any further request that leaves it sound. At run time a trust does nothing: it is the caller of `offer` who knows that a snapshot
-/// is allowed.
+/// allowed after any further request that leaves it sound. At run time a trust does nothing: it is the caller of
+/// `offer` who knows that a snapshot is allowed.
 pub trait Trust: Drop {
     ghost use Rattle.std.specs.Prelude.{ℕ, List};
     ghost use Rattle.tea_base.specs.declared.entry.Entry.{Entry};
