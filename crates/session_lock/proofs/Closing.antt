@@ -6,16 +6,20 @@ use mathlib.Core.Option.{some, some-injective}
 use native.Mathlib.Decide.{ℕ_discrete}
 use lib.ListN.{get_elem?}
 use Rattle.atomic_table.specs.Table.{State, Seen, Final, opening}
-use Rattle.reflector_core.specs.PlainSession.{PlainSession}
-use Rattle.reflector_core.specs.Play.{first as first_session}
+use Rattle.reflector_core.specs.PlainSession.{PlainSession, IsSound}
+use Rattle.reflector_core.proofs.SoundLaws.{IsSound-first}
+use Rattle.reflector_core.proofs.PlayLaws.{TellsItsEvents-all}
+use Rattle.reflector_core.specs.Play.{first as first_session, replies_from, TellsItsEvents}
+use Rattle.reflector_core.specs.declared.request.Request.{Request}
 use Rattle.session_lock.specs.declared.knowledge.Item.{Item}
 use Rattle.session_lock.specs.declared.knowledge.Knowledge.{Knowledge}
-use Rattle.session_lock.specs.History.{has, caller_of, calls_of, Saw, play}
+use Rattle.session_lock.specs.History.{has, caller_of, calls_of, Saw, play, requests_of}
 use Rattle.session_lock.specs.Numbers.{times, between}
-use Rattle.session_lock.specs.Rules.{all_numbers, total, has_ticket, weight, is_holding, calls_as, holds_number, size_of, Every, PartsFit, HoldsInTurn, IsInOrder, Locks, first_knowledge, no_part}
-use Rattle.session_lock.proofs.Totals.{total_two}
-use Rattle.session_lock.proofs.Histories.{has_own}
-use Rattle.session_lock.proofs.StepLaws.{total_none, not_holding, part_none}
+use Rattle.session_lock.specs.Rules.{all_numbers, total, has_ticket, weight, is_holding, calls_as, holds_number, size_of, Every, PartsFit, HoldsInTurn, SpentHoldsNothing, PlaysWell, IsInOrder, Locks, first_knowledge, no_part}
+use Rattle.session_lock.proofs.Totals.{total_two, total_none, total_only}
+use Rattle.session_lock.proofs.Ranges.{none_in}
+use Rattle.session_lock.proofs.Histories.{has_own, sound_end, play_requests}
+use Rattle.session_lock.proofs.StepLaws.{not_holding, part_none, has_callers}
 
 no_calls : (l : List ℕ) → length l ≡ 0 → (n : ℕ) → times n l ≡ 0
 no_calls [] e n = refl
@@ -28,6 +32,9 @@ times_has n (m ∷ ms) e = times_step (eqb n m) (has n ms) (times n ms) e (times
     times_step : (b h : Bool) (t : ℕ) → (b || h) ≡ false → (h ≡ false → t ≡ 0) → (if b then 1 else 0) + t ≡ 0
     times_step true h t e go = absurd (cc (e))
     times_step false h t e go = let r = go e in omega (arith, r)
+
+no_numbers : (n : ℕ) (u : Knowledge) → size_of u ≡ 0 → holds_number n u ≡ 0
+no_numbers n u e = let a = no_calls u.callers (omega (arith, e)) n in let b = none_in n u.spare (omega (arith, e)) in omega (arith, a, b)
 
 -- where who made no call has none in the history, the calls are the whole history
 keep_tail : (b : Bool) (x : Item) (xs : List Item) → (if b then x ∷ xs else xs) ≡ [] → xs ≡ []
@@ -60,17 +67,21 @@ module _ (Trusted : PlainSession → Type 0) (history : List Item) (s : State Pl
       (λ ne. let none_held = others_none t.0 t.1 t.2 ne in let some_held = t.4 in absurd (omega (arith, none_held, some_held)))
 
   pub at_home : s.homes ≡ some (play history) ∷ []
-  at_home = k.home (total_none Trusted is_holding s.views (λ j u e. dite (ℕ_discrete j id)
+  at_home = k.home (total_none is_holding s.views (λ j u e. dite (ℕ_discrete j id)
       (λ is. ap (λ (z : Knowledge). weight z.holding) (same_view j u e is) ∙ ap weight free)
       (λ ne. not_holding Trusted u.holding (λ holds. let none_held = others_none j u e ne in let some_held = (k.turn j u e holds).1 in absurd (omega (arith, none_held, some_held))))))
 
   pub all_own : calls_of v.callers history ≡ history
-  all_own = all_calls v.callers history (λ n none_of. k.called n (total_none Trusted (calls_as n) s.views (λ j u e. dite (ℕ_discrete j id)
+  all_own = all_calls v.callers history (λ n none_of. k.called n (total_none (calls_as n) s.views (λ j u e. dite (ℕ_discrete j id)
       (λ is. ap (calls_as n) (same_view j u e is) ∙ none_of)
       (λ ne. let none_held = others_none j u e ne in no_calls u.callers (omega (arith, none_held)) n))))
 
+  -- it holds each number
+  pub holds_each : (n : ℕ) → holds_number n v ≡ between 0 all_numbers n
+  holds_each n = sym (total_only (holds_number n) s.views id v at (λ j u atj ne. no_numbers n u (others_none j u atj ne))) ∙ k.numbers n
+
 pub closed : (Trusted : PlainSession → Type 0) (id : ℕ) (v : Knowledge) (words : List ℕ) (slots : List PlainSession) (x : PlainSession) → Final (Seen (Locks Trusted) id v) words slots → size_of v ≡ all_numbers → v.holding ≡ false → get_elem? slots 0 ≡ some x
-    → (x ≡ play v.seen) × (calls_of v.callers v.seen ≡ v.seen) × Trusted (play v.seen)
+    → (x ≡ play v.seen) × (calls_of v.callers v.seen ≡ v.seen) × PlaysWell Trusted v.seen × ((n : ℕ) → holds_number n v ≡ between 0 all_numbers n)
 closed Trusted id v words slots x f whole free is =
     let s = f.0 in
     let history : List Item = f.1.0.0 in
@@ -80,8 +91,15 @@ closed Trusted id v words slots x f whole free is =
     let there : get_elem? slots 0 ≡ some (play history) = f.4 0 (play history) (ap (λ (l : List (mathlib.Core.Option.Option PlainSession)). get_elem? l 0) (at_home Trusted history s k id v at whole free)) in (
       some-injective x (play history) (sym is ∙ there) ∙ ap play (sym seen),
       ap (calls_of v.callers) seen ∙ (all_own Trusted history s k id v at whole free ∙ sym seen),
-      subst (λ (l : List Item). Trusted (play l)) (sym seen) k.trusted,
+      subst (PlaysWell Trusted) (sym seen) (k.trusted, sound_end first_session history k.sound),
+      holds_each Trusted history s k id v at whole free,
     )
+
+-- what the log of a session that is a play has of its events
+pub plays_events : (s : PlainSession) (history : List Item) → s ≡ play history → IsSound (play history) → TellsItsEvents (requests_of history) (replies_from first_session (requests_of history)) s.log
+plays_events s history is sound =
+    let requests : List Request = requests_of history in
+    TellsItsEvents-all s requests (replies_from first_session requests) (subst IsSound (sym is) sound) refl (is ∙ play_requests first_session history)
 
 every_one : (P : Knowledge → Type 0) (v : Knowledge) → P v → Every P (v ∷ [])
 every_one P v p zero u e = subst P (some-injective v u e) p
@@ -109,7 +127,10 @@ opens Trusted slots e at_first = subst (λ (l : List PlainSession). Locks Truste
     told = (0, first_knowledge, refl, refl, omega arith);
     called = λ n none_of. refl;
     turn = every_one (HoldsInTurn 0) first_knowledge (λ h. absurd (cc (h)));
+    spent = every_one SpentHoldsNothing first_knowledge (has_callers first_knowledge (omega arith));
     trusted = at_first;
+    sound = IsSound-first;
     home = λ nobody. refl;
+    away = λ one. absurd (omega (arith, one));
   },
 )

@@ -8,29 +8,33 @@ use Rattle.reflector_core.specs.declared.request.Request.{Request}
 use Rattle.reflector_core.specs.declared.request.Reply.{Reply}
 use Rattle.tea_base.specs.declared.want.WantOfMemory.{WantOfMemory}
 use Rattle.reflector_core.specs.Answer.{Outcome, answer, with_reply}
-use Rattle.reflector_core.specs.PlainSession.{PlainSession}
+use Rattle.reflector_core.specs.PlainSession.{PlainSession, IsSound}
 use Rattle.reflector_core.specs.Play.{first as first_session}
 use Rattle.session_lock.specs.declared.knowledge.Item.{Item}
 use Rattle.session_lock.specs.declared.knowledge.Item.TheVariants.{Did, Void}
 use Rattle.session_lock.specs.declared.knowledge.Knowledge.{Knowledge}
 use Rattle.session_lock.specs.History.{caller_of, after, play, has, calls_of, Saw}
-use Rattle.session_lock.specs.Rules.{Locks, knows, no_part, longer}
-use Rattle.session_lock.specs.Steps.{M, Finishes, Answers, Fails, with_ticket, in_turn, merged, split_left, split_right}
-use Rattle.session_lock.specs.Passes.{SharedState, state_of, Standing, stand, Grew, Replied, Voided, Caught, Given, Merged, numbers_held}
+use Rattle.session_lock.specs.Rules.{Locks, PlaysWell, HoldsOnce, holds_number, knows, no_part, longer}
+use Rattle.session_lock.specs.Steps.{M, HasCounted, Finishes, Answers, Fails, with_ticket, in_turn, merged, split_left, split_right}
+use Rattle.session_lock.specs.Passes.{SharedState, state_of, Standing, stand, Grew, Replied, Voided, Caught, Given, Merged, HeldOnce, UsedNoSpare, times_held, caller, numbers_held}
 use Rattle.session_lock.proofs.Histories.{saw_own, saw_call, has_own}
 use Rattle.session_lock.specs.Numbers.{in_ranges, count_of, take_numbers, first_number}
-use Rattle.session_lock.proofs.Ranges.{cut_count, taken_count, count_append}
-use Rattle.session_lock.proofs.Shares.{first_is_spare, left_size, right_size}
+use Rattle.session_lock.proofs.Ranges.{cut_count, taken_count, count_append, times_append, in_ranges_append}
+use Rattle.session_lock.proofs.Shares.{same_numbers, first_is_spare, left_size, right_size}
 use Rattle.session_lock.proofs.StepLaws.{finishes_me}
 
 -- a pass of a shared session has a seat of its table
 pub fits : {T : Type 0} (z y : TableId) (v : Knowledge) (key : SessionId × T) (p : Standing) (shared : SharedState T) → stand z v ≡ p → p.session ≡ shared.session → state_of y key ≡ shared → z ≡ y
 fits {T} z y v key p shared is same looks = ap (λ (q : Standing). q.session) is ∙ (same ∙ sym (ap (λ (s : SharedState T). s.session) looks))
 
-pub caught : (z z' : TableId) (m m' : M) (p : Standing) (found : ℕ) → stand z m.0 ≡ p → z' ≡ z
-    → (history : List Item) × (length history ≡ found) × Saw m.0.callers m.0.seen history × (m' ≡ (record m.0 { seen = history }, m.1)) → Caught p (stand z' m'.0)
-caught z z' m m' p found view table (history, len, saw, is) =
-    subst (λ (t : Standing × (TableId × M)). Caught t.0 (stand t.1.0 t.1.1.0)) (λ i. (view i, (sym table i, sym is i))) (record { saw = saw; same = refl; own = saw_own m.0.callers m.0.seen history saw })
+pub caught : (Trusted : PlainSession → Type 0) (z z' : TableId) (m m' : M) (p : Standing) (found : ℕ) → stand z m.0 ≡ p → z' ≡ z → HasCounted Trusted m found m' → Caught Trusted p (stand z' m'.0)
+caught Trusted z z' m m' p found view table (history, len, saw, is, well) =
+    subst (λ (t : Standing × (TableId × M)). Caught Trusted t.0 (stand t.1.0 t.1.1.0)) (λ i. (view i, (sym table i, sym is i))) (record { saw = saw; same = refl; own = saw_own m.0.callers m.0.seen history saw; trusted_after = well.0 })
+
+pub counted : (Trusted : PlainSession → Type 0) (m m' : M) (found : ℕ) → HasCounted Trusted m found m' → (found ≡ length m'.0.seen) × IsSound (play m'.0.seen)
+counted Trusted m m' found (history, len, saw, is, well) =
+    let seen : m'.0.seen ≡ history = ap (λ (k : M). k.0.seen) is in
+    (sym (ap length seen ∙ len), subst (λ (l : List Item). IsSound (play l)) (sym seen) well.1)
 
 -- the call of a view's own caller
 grew : (z : TableId) (v : Knowledge) (history : List Item) (item : ℕ → Item) (c : ℕ) (others : List ℕ) → v.callers ≡ c ∷ others → Saw v.callers v.seen history → ((n : ℕ) → caller_of (item n) ≡ n)
@@ -48,26 +52,26 @@ grew z v history item c others mine saw by =
     in
     subst (λ (n : ℕ). Grew (stand z v) (stand z (knows v.callers v.spare (history ++ item c ∷ []))) history (item n)) first told
 
-pub replied : (Trusted : PlainSession → Type 0) (z : TableId) (v : Knowledge) (m : M) (request : Request) (reply : Reply) → Answers Trusted v m request reply → Replied Trusted (stand z v) (stand z m.0) request reply
-replied Trusted z v m request reply (history, c, others, mine, saw, is, gives, trusted) =
+pub replied : (Trusted : PlainSession → Type 0) (z : TableId) (v : Knowledge) (m : M) (request : Request) (reply : Reply) → Answers Trusted v m request reply → Trusted (play m.0.seen) → Replied Trusted (stand z v) (stand z m.0) request reply
+replied Trusted z v m request reply (history, c, others, mine, saw, is, gives, trusted) after_it =
     let told : Replied Trusted (stand z v) (stand z (knows v.callers v.spare (history ++ Did c request ∷ []))) request reply =
-    record { history = history; grew = grew z v history (λ (n : ℕ). Did n request) c others mine saw (λ n. refl); replies = gives; trusted = trusted }
+    record { history = history; grew = grew z v history (λ (n : ℕ). Did n request) c others mine saw (λ n. refl); replies = gives; trusted = trusted; trusted_after = subst (λ (k : M). Trusted (play k.0.seen)) is after_it }
     in
     subst (λ (k : M). Replied Trusted (stand z v) (stand z k.0) request reply) (sym is) told
 
-pub voided : (z : TableId) (v : Knowledge) (m : M) (request : Request) → Fails v m request → Voided (stand z v) (stand z m.0) request
-voided z v m request (history, c, others, mine, saw, is, due) =
-    let told : Voided (stand z v) (stand z (knows v.callers v.spare (history ++ Void c ∷ []))) request =
-    record { history = history; grew = grew z v history (λ (n : ℕ). Void n) c others mine saw (λ n. refl); due = due }
+pub voided : (Trusted : PlainSession → Type 0) (z : TableId) (v : Knowledge) (m : M) (request : Request) → Fails v m request → Trusted (play m.0.seen) → Voided Trusted (stand z v) (stand z m.0) request
+voided Trusted z v m request (history, c, others, mine, saw, is, due) after_it =
+    let told : Voided Trusted (stand z v) (stand z (knows v.callers v.spare (history ++ Void c ∷ []))) request =
+    record { history = history; grew = grew z v history (λ (n : ℕ). Void n) c others mine saw (λ n. refl); due = due; trusted_after = subst (λ (k : M). Trusted (play k.0.seen)) is after_it }
     in
-    subst (λ (k : M). Voided (stand z v) (stand z k.0) request) (sym is) told
+    subst (λ (k : M). Voided Trusted (stand z v) (stand z k.0) request) (sym is) told
 
 pub told_call : (Trusted : PlainSession → Type 0) (r : Result Reply WantOfMemory) (z z' : TableId) (v : Knowledge) (m : M) (p : Standing) (request : Request) → stand z v ≡ p → z' ≡ z
-    → MatchResult r (λ reply. Answers Trusted v m request reply) (λ _. Fails v m request) → MatchResult r (λ reply. Replied Trusted p (stand z' m.0) request reply) (λ _. Voided p (stand z' m.0) request)
-told_call Trusted (Ok reply) z z' v m p request view table h = subst (λ (t : Standing × TableId). Replied Trusted t.0 (stand t.1 m.0) request reply) (λ i. (view i, sym table i)) (replied Trusted z v m request reply h)
-told_call Trusted (Err want) z z' v m p request view table h = subst (λ (t : Standing × TableId). Voided t.0 (stand t.1 m.0) request) (λ i. (view i, sym table i)) (voided z v m request h)
+    → MatchResult r (λ reply. Answers Trusted v m request reply) (λ _. Fails v m request) → PlaysWell Trusted m.0.seen → MatchResult r (λ reply. Replied Trusted p (stand z' m.0) request reply) (λ _. Voided Trusted p (stand z' m.0) request)
+told_call Trusted (Ok reply) z z' v m p request view table h well = subst (λ (t : Standing × TableId). Replied Trusted t.0 (stand t.1 m.0) request reply) (λ i. (view i, sym table i)) (replied Trusted z v m request reply h well.0)
+told_call Trusted (Err want) z z' v m p request view table h well = subst (λ (t : Standing × TableId). Voided Trusted t.0 (stand t.1 m.0) request) (λ i. (view i, sym table i)) (voided Trusted z v m request h well.0)
 
-pub call_kept : (Trusted : PlainSession → Type 0) (r : Result Reply WantOfMemory) (p q : Standing) (request : Request) → MatchResult r (λ reply. Replied Trusted p q request reply) (λ _. Voided p q request) → q ≡ record p { seen = q.seen }
+pub call_kept : (Trusted : PlainSession → Type 0) (r : Result Reply WantOfMemory) (p q : Standing) (request : Request) → MatchResult r (λ reply. Replied Trusted p q request reply) (λ _. Voided Trusted p q request) → q ≡ record p { seen = q.seen }
 call_kept Trusted (Ok reply) p q request h = let e = h.grew.same in e ∙ ap (λ (l : List Item). record p { seen = l }) (sym (ap (λ (s : Standing). s.seen) e))
 call_kept Trusted (Err want) p q request h = let e = h.grew.same in e ∙ ap (λ (l : List Item). record p { seen = l }) (sym (ap (λ (s : Standing). s.seen) e))
 
@@ -76,29 +80,29 @@ worked : (m₀ m₁ m₂ m₃ : M) (ticket : ℕ) (history : List Item) (y : Pla
     → m₃ ≡ (in_turn (with_ticket m₀.0 ticket) history, (0, y) ∷ [])
 worked m₀ m₁ m₂ m₃ ticket history y e₁ e₂ e₃ = e₃ ∙ ap (λ (v : Knowledge). (v, (0, y) ∷ [])) (ap (λ (m : M). m.0) e₂ ∙ ap (λ (m : M). in_turn m.0 history) e₁)
 
-module _ (Trusted : PlainSession → Type 0) (slots id : ℕ) (m₀ m₁ m₂ m₃ : M) (ticket : ℕ) (history : List Item) (session y : PlainSession) (request : Request) (c : ℕ) (others : List ℕ) (one : slots ≡ 1) (no_kept : m₀.0.kept ≡ no_part) (no_other : m₀.0.other ≡ no_part) (mine : m₀.0.callers ≡ c ∷ others)
-    (e₁ : m₁ ≡ (with_ticket m₀.0 ticket, m₀.1)) (len : length history ≡ ticket) (e₂ : m₂ ≡ (in_turn m₁.0 history, (0, play history) ∷ [])) (in_hand : m₂.1 ≡ (0, session) ∷ []) (e₃ : m₃ ≡ (m₂.0, (0, y) ∷ [])) where
+module _ (Trusted Told : PlainSession → Type 0) (tells : (s : PlainSession) → Trusted s → Told s) (slots id : ℕ) (m₀ m₁ m₂ m₃ : M) (ticket : ℕ) (history : List Item) (session y : PlainSession) (request : Request) (c : ℕ) (others : List ℕ) (one : slots ≡ 1) (no_kept : m₀.0.kept ≡ no_part) (no_other : m₀.0.other ≡ no_part) (mine : m₀.0.callers ≡ c ∷ others)
+    (e₁ : m₁ ≡ (with_ticket m₀.0 ticket, m₀.1)) (len : length history ≡ ticket) (e₂ : m₂ ≡ (in_turn m₁.0 history, (0, play history) ∷ [])) (in_hand : m₂.1 ≡ (0, session) ∷ []) (e₃ : m₃ ≡ (m₂.0, (0, y) ∷ [])) (y_sound : IsSound y) where
   abbrev pub the_session : session ≡ play history
   the_session = let e : (0, session) ∷ [] ≡ (0, play history) ∷ [] = sym in_hand ∙ ap (λ (m : M). m.1) e₂ in ap (λ (l : List (ℕ × PlainSession)). (Rattle.std.proofs.Common.get_or l 0 (0, first_session)).1) e
 
-  ends : (item : ℕ → Item) → caller_of (item c) ≡ c → y ≡ after (play history) (item c) → (Trusted (play history) → Trusted (after (play history) (item c)))
-      → Allows (Locks Trusted) slots id m₃ 1 (λ n. (n + 1) % 2 ^ 64) (Finishes item (step slots 1 1 0 none) m₃)
+  ends : (item : ℕ → Item) → caller_of (item c) ≡ c → y ≡ after (play history) (item c) → (IsSound (play history) → IsSound (after (play history) (item c)) → Trusted (play history) → Trusted (after (play history) (item c)))
+      → Allows (Locks Trusted) slots id m₃ 1 (λ n. (n + 1) % 2 ^ 64) (Finishes Told item (step slots 1 1 0 none) m₃)
   ends item by is stays = let told = worked m₀ m₁ m₂ m₃ ticket history y e₁ e₂ e₃ in
-      subst (λ (m : M). Allows (Locks Trusted) slots id m 1 (λ n. (n + 1) % 2 ^ 64) (Finishes item (step slots 1 1 0 none) m)) (sym told)
-      (finishes_me Trusted slots id (in_turn (with_ticket m₀.0 ticket) history, (0, y) ∷ []) y item c others one refl mine by refl (ap (λ (n : ℕ). Some n) (sym len)) no_kept no_other is stays)
+      subst (λ (m : M). Allows (Locks Trusted) slots id m 1 (λ n. (n + 1) % 2 ^ 64) (Finishes Told item (step slots 1 1 0 none) m)) (sym told)
+      (finishes_me Trusted Told tells slots id (in_turn (with_ticket m₀.0 ticket) history, (0, y) ∷ []) y item c others one refl mine by refl (ap (λ (n : ℕ). Some n) (sym len)) no_kept no_other is y_sound stays)
 
-  pub ends_did : (reply : Reply) → with_reply y reply ≡ answer session request → (Trusted (play history) → Trusted (answer (play history) request).session) → Allows (Locks Trusted) slots id m₃ 1 (λ n. (n + 1) % 2 ^ 64) (Finishes (λ caller. Did caller request) (step slots 1 1 0 none) m₃)
+  pub ends_did : (reply : Reply) → with_reply y reply ≡ answer session request → (IsSound (play history) → IsSound (answer (play history) request).session → Trusted (play history) → Trusted (answer (play history) request).session) → Allows (Locks Trusted) slots id m₃ 1 (λ n. (n + 1) % 2 ^ 64) (Finishes Told (λ caller. Did caller request) (step slots 1 1 0 none) m₃)
   ends_did reply is stays = ends (λ caller. Did caller request) refl (ap (λ (o : Outcome). o.session) is ∙ ap (λ (s : PlainSession). (answer s request).session) the_session) stays
 
-  pub ends_void : y ≡ session → Allows (Locks Trusted) slots id m₃ 1 (λ n. (n + 1) % 2 ^ 64) (Finishes (λ caller. Void caller) (step slots 1 1 0 none) m₃)
-  ends_void is = ends (λ caller. Void caller) refl (is ∙ the_session) (λ h. h)
+  pub ends_void : y ≡ session → Allows (Locks Trusted) slots id m₃ 1 (λ n. (n + 1) % 2 ^ 64) (Finishes Told (λ caller. Void caller) (step slots 1 1 0 none) m₃)
+  ends_void is = ends (λ caller. Void caller) refl (is ∙ the_session) (λ _ _ h. h)
 
 abbrev Settled : M → M → Type 0
-Settled m m' = (m' ≡ (record m.0 { kept = no_part; other = no_part }, m.1)) × Saw m.0.kept.callers m.0.kept.seen m.0.seen × Saw m.0.other.callers m.0.other.seen m.0.seen
+Settled m m' = (m' ≡ (record m.0 { kept = no_part; other = no_part }, m.1)) × Saw m.0.kept.callers m.0.kept.seen m.0.seen × Saw m.0.other.callers m.0.other.seen m.0.seen × HoldsOnce m.0
 
 -- what is known once the two views were put together and looked at
 pub put_together : (m₀ m₁ m₂ : M) (w : Knowledge) → m₁ ≡ (merged m₀.0 w, m₀.1) → Settled m₁ m₂
-    → (m₂ ≡ (record (merged m₀.0 w) { kept = no_part; other = no_part }, m₀.1)) × Saw m₀.0.callers m₀.0.seen (longer m₀.0.seen w.seen) × Saw w.callers w.seen (longer m₀.0.seen w.seen)
+    → (m₂ ≡ (record (merged m₀.0 w) { kept = no_part; other = no_part }, m₀.1)) × Saw m₀.0.callers m₀.0.seen (longer m₀.0.seen w.seen) × Saw w.callers w.seen (longer m₀.0.seen w.seen) × HoldsOnce (merged m₀.0 w)
 put_together m₀ m₁ m₂ w e settled = subst (λ (m : M). Settled m m₂) e settled
 
 pub merged_told : (z z₁ z₂ : TableId) (m₀ m₁ m₂ : M) (w : Knowledge) (p q : Standing) → stand z m₀.0 ≡ p → stand z₁ w ≡ q → z₂ ≡ z → m₁ ≡ (merged m₀.0 w, m₀.1) → Settled m₁ m₂ → Merged p q (stand z₂ m₂.0)
@@ -126,10 +130,38 @@ merged_count z z₁ z₂ m₀ m₁ m₂ w p q view view' e settled =
     let f = count_append m₀.0.spare w.spare in
     omega (arith, a, b, c, d, f)
 
+-- the numbers of the two are distinct, and the pass stays its own caller's
+pub merged_apart : (z z₁ : TableId) (m₀ m₁ m₂ : M) (w : Knowledge) (p q : Standing) → stand z m₀.0 ≡ p → stand z₁ w ≡ q → m₁ ≡ (merged m₀.0 w, m₀.1) → Settled m₁ m₂ → HeldOnce p q
+merged_apart z z₁ m₀ m₁ m₂ w p q view view' e settled n =
+    let once = (put_together m₀ m₁ m₂ w e settled).3 n in
+    let a = ap (times_held n) view in
+    let b = ap (times_held n) view' in
+    let c = times_append n m₀.0.callers w.callers in
+    let d = in_ranges_append n m₀.0.spare w.spare in
+    omega (arith, once, a, b, c, d)
+
+pub merged_caller : (z : TableId) (v : Knowledge) (p q r : Standing) (c : ℕ) (others : List ℕ) → stand z v ≡ p → v.callers ≡ c ∷ others → Merged p q r → (0 < length p.callers) × (caller r ≡ caller p)
+merged_caller z v p q r c others view mine merged =
+    let is : p.callers ≡ c ∷ others = sym (ap (λ (s : Standing). s.callers) view) ∙ mine in
+    let both : r.callers ≡ c ∷ (others ++ q.callers) = ap (λ (s : Standing). s.callers) merged.same ∙ ap (λ (l : List ℕ). l ++ q.callers) is in
+    (subst (λ (l : List ℕ). 0 < length l) (sym is) (omega arith), ap (λ (l : List ℕ). slice_index l 0) both ∙ sym (ap (λ (l : List ℕ). slice_index l 0) is))
+
 pub given_new : (z z' : TableId) (v : Knowledge) (m : M) (p : Standing) (n : ℕ) → stand z v ≡ p → z' ≡ z → m ≡ (split_right n v, []) → 0 < n → n ≤ count_of v.spare → ((x : ℕ) → 0 < in_ranges x v.spare → calls_of (x ∷ []) v.seen ≡ [])
     → Given p n (stand z' m.0)
 given_new z z' v m p n view table is some_number enough unused =
     subst (λ (t : Standing × (TableId × M)). Given t.0 n (stand t.1.0 t.1.1.0)) (λ i. (view i, (sym table i, sym is i))) (record { same = refl; own = unused (first_number (take_numbers n v.spare)) (first_is_spare n v some_number enough) })
+
+-- no number is with both
+pub given_apart : (z z' : TableId) (v left right : Knowledge) (n : ℕ) → left ≡ split_left n v → right ≡ split_right n v → 0 < n → n ≤ count_of v.spare → HoldsOnce v → HeldOnce (stand z left) (stand z' right)
+given_apart z z' v left right n left_is right_is some_number enough once x =
+    let a = ap (holds_number x) left_is in
+    let b = ap (holds_number x) right_is in
+    let c = same_numbers n v some_number enough x in
+    let d = once x in
+    omega (arith, a, b, c, d)
+
+pub spare_unused : (z : TableId) (v : Knowledge) (p : Standing) → stand z v ≡ p → ((n : ℕ) → 0 < in_ranges n v.spare → calls_of (n ∷ []) v.seen ≡ []) → UsedNoSpare p
+spare_unused z v p view unused = subst UsedNoSpare view unused
 
 -- the numbers of the new pass, and those that are left
 pub given_count : (z : TableId) (v : Knowledge) (m : M) (n : ℕ) → m ≡ (split_right (n + 1) v, []) → n < count_of v.spare → (numbers_held (stand z m.0) ≡ n + 1) × (count_of m.0.spare ≡ n)

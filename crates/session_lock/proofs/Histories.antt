@@ -2,10 +2,12 @@
 use Rattle.std.proofs.Common.{◌≡◌, ℕ, ◌+◌, ◌≤◌, Bool, true, false, ◌||◌, eqb, List, [], ◌∷◌, ◌++◌, length, if◌then◌else◌, sym, refl, ap, ◌∙◌, arith, append_assoc, length-append, eq-eqb}
 use Rattle.std.proofs.lemmas.List.{append-nil}
 use Rattle.session_lock.specs.declared.knowledge.Item.{Item}
-use Rattle.reflector_core.specs.PlainSession.{PlainSession}
-use Rattle.reflector_core.specs.Play.{first as first_session}
+use Rattle.reflector_core.specs.PlainSession.{PlainSession, IsSound}
+use Rattle.session_lock.specs.declared.knowledge.Item.TheVariants.{Did, Void}
+use Rattle.reflector_core.specs.Answer.{answer}
+use Rattle.reflector_core.specs.Play.{first as first_session, after_all}
 use Rattle.session_lock.specs.Numbers.{times}
-use Rattle.session_lock.specs.History.{caller_of, after, play, play_from, has, calls_of, Saw}
+use Rattle.session_lock.specs.History.{caller_of, after, play, play_from, has, calls_of, Saw, requests_of, IsSoundThrough}
 
 pub play_from_append : (s : PlainSession) (xs ys : List Item) → play_from s (xs ++ ys) ≡ play_from (play_from s xs) ys
 play_from_append s [] ys = refl
@@ -13,6 +15,29 @@ play_from_append s (x ∷ xs) ys = play_from_append (after s x) xs ys
 
 pub play_snoc : (history : List Item) (x : Item) → play (history ++ x ∷ []) ≡ after (play history) x
 play_snoc history x = play_from_append first_session history (x ∷ [])
+
+-- a Void changes nothing
+pub play_requests : (s : PlainSession) (xs : List Item) → play_from s xs ≡ after_all s (requests_of xs)
+play_requests s [] = refl
+play_requests s (Did caller request ∷ xs) = play_requests (answer s request).session xs
+play_requests s (Void caller ∷ xs) = play_requests s xs
+
+-- soundness from the first session on: one item more, its end, and what is left behind a beginning
+pub sound_more : (s : PlainSession) (xs : List Item) (x : Item) → IsSoundThrough s xs → IsSound (after (play_from s xs) x) → IsSoundThrough s (xs ++ x ∷ [])
+sound_more s [] x sound last = (sound, last)
+sound_more s (y ∷ ys) x sound last = (sound.0, sound_more (after s y) ys x sound.1 last)
+
+pub sound_start : (s : PlainSession) (xs : List Item) → IsSoundThrough s xs → IsSound s
+sound_start s [] sound = sound
+sound_start s (x ∷ xs) sound = sound.0
+
+pub sound_end : (s : PlainSession) (xs : List Item) → IsSoundThrough s xs → IsSound (play_from s xs)
+sound_end s [] sound = sound
+sound_end s (x ∷ xs) sound = sound_end (after s x) xs sound.1
+
+pub sound_rest : (s : PlainSession) (xs ys : List Item) → IsSoundThrough s (xs ++ ys) → IsSoundThrough (play_from s xs) ys
+sound_rest s [] ys sound = sound
+sound_rest s (x ∷ xs) ys sound = sound_rest (after s x) xs ys sound.1
 
 calls_cons : (b : Bool) (x : Item) (xs ys : List Item) → (if b then x ∷ (xs ++ ys) else (xs ++ ys)) ≡ (if b then x ∷ xs else xs) ++ ys
 calls_cons true x xs ys = refl

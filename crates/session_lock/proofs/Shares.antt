@@ -13,12 +13,12 @@ use Rattle.session_lock.specs.declared.knowledge.Range.{Range}
 use Rattle.session_lock.specs.declared.knowledge.Knowledge.{Knowledge}
 use Rattle.session_lock.specs.History.{calls_of, Saw}
 use Rattle.session_lock.specs.Numbers.{in_ranges, count_of, take_numbers, drop_numbers, first_number}
-use Rattle.session_lock.specs.Rules.{total, is_ticket, has_ticket, weight, is_holding, calls_as, holds_number, size_of, Every, HoldsInTurn, PartsFit, no_part, IsTold, Locks}
+use Rattle.session_lock.specs.Rules.{total, is_ticket, has_ticket, weight, is_holding, calls_as, holds_number, size_of, Every, HoldsInTurn, SpentHoldsNothing, PartsFit, no_part, IsTold, Locks}
 use Rattle.session_lock.specs.Steps.{split_left, split_right, merged, spent}
 use Rattle.session_lock.proofs.Totals.{total_set, total_snoc, every_set, every_snoc}
 use Rattle.session_lock.proofs.Ranges.{cut, cut_count, taken_count, first_out, in_ranges_append, count_append, times_append}
 use Rattle.session_lock.proofs.Histories.{calls_append, saw_length, saw_whole, saw_rest, nothing_left, neither, saw_nothing}
-use Rattle.session_lock.proofs.StepLaws.{set_at, set_other, told_set, no_caller, part_none}
+use Rattle.session_lock.proofs.StepLaws.{set_at, set_other, told_set, no_caller, part_none, has_callers}
 
 -- who made no call saw as much as all
 saw_new : (n : ℕ) (cs : List ℕ) (seen history : List Item) → Saw cs seen history → calls_of (n ∷ []) history ≡ [] → Saw (n ∷ []) seen history
@@ -31,7 +31,7 @@ module _ (n : ℕ) (v : Knowledge) (n_some : 0 < n) (enough : n ≤ count_of v.s
   taken_some : 0 < count_of the_taken
   taken_some = let c = taken_count n v.spare enough in omega (arith, c)
 
-  same_numbers : (x : ℕ) → holds_number x (split_left n v) + holds_number x (split_right n v) ≡ holds_number x v
+  pub same_numbers : (x : ℕ) → holds_number x (split_left n v) + holds_number x (split_right n v) ≡ holds_number x v
   same_numbers x = let two = cut x n v.spare in let out = first_out x the_taken taken_some in omega (arith, two, out)
 
   pub first_is_spare : 0 < in_ranges (first_number the_taken) v.spare
@@ -68,8 +68,12 @@ module _ (n : ℕ) (v : Knowledge) (n_some : 0 < n) (enough : n ≤ count_of v.s
           told = (let t = told_set history s.views id v l at refl (λ e. e) k.told in (t.0, t.1, at_longer (set s.views id l) (r ∷ []) t.0 t.1 t.2, t.3, t.4));
           called = λ x none_of. k.called x (let a = both (calls_as x) in omega (arith, a, none_of));
           turn = every_snoc (HoldsInTurn (length history)) (set s.views id l) r (every_set (HoldsInTurn (length history)) s.views id l k.turn (k.turn id v at)) (λ f. cc);
+          spent = every_snoc SpentHoldsNothing (set s.views id l) r (every_set SpentHoldsNothing s.views id l k.spent (λ e. (let t = k.spent id v at e in let gone : count_of v.spare ≡ 0 = ap count_of t.0 in absurd (omega (arith, gone, n_some, enough)))))
+              (has_callers r (omega arith));
           trusted = k.trusted;
+          sound = k.sound;
           home = λ nobody. k.home (let a = both is_holding in omega (arith, a, nobody));
+          away = λ one. k.away (let a = both is_holding in omega (arith, a, one));
         },
       )
 
@@ -126,6 +130,8 @@ merges Trusted id other v w idle free idle' free' caller_is s (history, k) at ne
     let left = longer_left (leb (length v.seen) (length w.seen)) v.seen w.seen refl in
     let right = longer_right (leb (length v.seen) (length w.seen)) v.seen w.seen refl in
     let join : (f : Knowledge → ℕ) → f m + f spent ≡ f v + f w → total f views ≡ total f s.views = λ f same. total_join f s.views id other v w m spent at also same in
+    let same_holding : total is_holding views ≡ total is_holding s.views = join is_holding (let a : is_holding w ≡ 0 = ap weight free' in omega (arith, a)) in
+    let some_caller : 0 < length m.callers = (let a = length-append v.callers w.callers in omega (arith, a, caller_is)) in
     let every : (P : Knowledge → Type 0) → Every P s.views → P m → P spent → Every P views = λ P h p q. every_set P (set s.views id m) other spent (every_set P s.views id m h p) q in (
       history,
       record {
@@ -145,7 +151,10 @@ merges Trusted id other v w idle free idle' free' caller_is s (history, k) at ne
         told = told_merge history s.views id other v w at atw ne saw saw' caller_is k.told;
         called = λ n none_of. k.called n (sym (join (calls_as n) (let a = times_append n v.callers w.callers in omega (arith, a))) ∙ none_of);
         turn = every (HoldsInTurn (length history)) k.turn (λ h. absurd (let e : true ≡ false = sym h ∙ free in cc (e))) (λ h. absurd (cc (h)));
+        spent = every SpentHoldsNothing k.spent (has_callers m some_caller) (λ _. (refl, refl, refl));
         trusted = k.trusted;
-        home = λ nobody. k.home (sym (join is_holding (let a : is_holding w ≡ 0 = ap weight free' in omega (arith, a))) ∙ nobody);
+        sound = k.sound;
+        home = λ nobody. k.home (sym same_holding ∙ nobody);
+        away = λ one. k.away (sym same_holding ∙ one);
       },
     )

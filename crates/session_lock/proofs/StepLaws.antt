@@ -8,16 +8,17 @@ use lib.ListN.{get_elem?}
 use prog.Atomic.{either}
 use Rattle.atomic_table.specs.Table.{State, step, keeps, takes, gives, stepped, Allows}
 use Rattle.atomic_table.proofs.Lists.{set_again}
-use Rattle.reflector_core.specs.PlainSession.{PlainSession}
+use Rattle.reflector_core.specs.PlainSession.{PlainSession, IsSound}
+use Rattle.reflector_core.specs.Play.{first as first_session}
 use Rattle.session_lock.specs.declared.knowledge.Item.{Item}
 use Rattle.session_lock.specs.declared.knowledge.Part.{Part}
 use Rattle.session_lock.specs.declared.knowledge.Knowledge.{Knowledge}
 use Rattle.session_lock.specs.History.{caller_of, after, play, has, calls_of, Saw}
 use Rattle.session_lock.specs.Numbers.{times, in_ranges, count_of, between}
-use Rattle.session_lock.specs.Rules.{all_numbers, total, is_ticket, has_ticket, weight, is_holding, calls_as, holds_number, size_of, Every, HoldsInTurn, PartFits, PartsFit, IsTold, IsInOrder, Locks, no_part}
+use Rattle.session_lock.specs.Rules.{all_numbers, total, is_ticket, has_ticket, weight, is_holding, calls_as, holds_number, size_of, HoldsOnce, HoldsInTurn, SpentHoldsNothing, PartFits, PartsFit, IsTold, IsInOrder, Locks, no_part}
 use Rattle.session_lock.specs.Steps.{Unused, Settles, M, with_ticket, in_turn, done, Draws, Looks, Finishes, Counts}
-use Rattle.session_lock.proofs.Totals.{total_set, total_same, total_has, total_two, every_set, every_set_else}
-use Rattle.session_lock.proofs.Histories.{play_snoc, calls_append, saw_all, saw_more, saw_whole, saw_length, saw_nothing, saw_between, nothing_first, has_times}
+use Rattle.session_lock.proofs.Totals.{total_set, total_same, total_has, total_two, total_none, total_only, every_set, every_set_else}
+use Rattle.session_lock.proofs.Histories.{play_snoc, sound_more, sound_end, calls_append, saw_all, saw_more, saw_whole, saw_length, saw_nothing, saw_between, nothing_first, has_times}
 
 abbrev St : Type 0
 St = State PlainSession Knowledge
@@ -70,6 +71,10 @@ part_more history x u p fits none_of = (saw_more p.callers p.seen history x fits
 pub part_none : (history : List Item) (w : Knowledge) (p : Part) → p ≡ no_part → PartFits history w p
 part_none history w p is = subst (λ (q : Part). PartFits history w q) (sym is) (saw_nothing history, omega arith, λ n e. refl)
 
+-- a view with a caller is not spent
+pub has_callers : (w : Knowledge) → 0 < length w.callers → SpentHoldsNothing w
+has_callers w caller_is e = let none_of : length w.callers ≡ 0 = ap length e in absurd (omega (arith, caller_is, none_of))
+
 module _ (Trusted : PlainSession → Type 0) where
   -- nothing changed
   unmoved : (s : St) (i n id : ℕ) (c : List (ℕ × PlainSession)) (v : Knowledge) → get_elem? s.views id ≡ some v → set s.words i n ≡ s.words → Locks Trusted s → Locks Trusted (stepped s i n id c v keeps)
@@ -85,9 +90,9 @@ module _ (Trusted : PlainSession → Type 0) where
       read (suc zero) lt = refl
       read (suc (suc i)) lt = absurd (omega arith)
 
-  pub draws : (slots id : ℕ) (me : M) (old : ℕ) → me.0.ticket ≡ None → me.0.holding ≡ false → old < 18446744073709551615
+  pub draws : (slots id : ℕ) (me : M) (old : ℕ) → me.0.ticket ≡ None → me.0.holding ≡ false → 0 < length me.0.callers → old < 18446744073709551615
       → Allows (Locks Trusted) slots id me 0 (λ n. either (eqb n old) (old + 1) n) (Draws (step slots 0 old (old + 1) none) me)
-  draws slots id me old idle free fits s (history, k) wide at small = let x : ℕ = get_or s.words 0 0 in let is : x ≡ k.next = ap (λ (l : List ℕ). get_or l 0 0) k.words in dite (ℕ_discrete x old)
+  draws slots id me old idle free caller_is fits s (history, k) wide at small = let x : ℕ = get_or s.words 0 0 in let is : x ≡ k.next = ap (λ (l : List ℕ). get_or l 0 0) k.words in dite (ℕ_discrete x old)
       (λ hit. let v : Knowledge = me.0 in let w : Knowledge = with_ticket v x in (
         w,
         keeps,
@@ -114,8 +119,11 @@ module _ (Trusted : PlainSession → Type 0) where
             told = told_set history s.views id v w at refl (λ e. e) k.told;
             called = λ n none_of. k.called n (sym (total_same (calls_as n) s.views id v w at refl) ∙ none_of);
             turn = every_set (HoldsInTurn (length history)) s.views id w k.turn (λ h. cc);
+            spent = every_set SpentHoldsNothing s.views id w k.spent (has_callers w caller_is);
             trusted = k.trusted;
+            sound = k.sound;
             home = λ nobody. k.home (sym (total_same is_holding s.views id v w at refl) ∙ nobody);
+            away = λ one. k.away (sym (total_same is_holding s.views id v w at refl) ∙ one);
           },
         ),
         ((λ _. refl), λ not. absurd (not hit)),
@@ -140,10 +148,6 @@ module _ (Trusted : PlainSession → Type 0) where
       let are = k.tickets t in
       omega (arith, both, one, two, most, are)
 
-  pub total_none : (f : Knowledge → ℕ) (views : List Knowledge) → Every (λ v. f v ≡ 0) views → total f views ≡ 0
-  total_none f [] h = refl
-  total_none f (x ∷ xs) h = let first = h 0 x refl in let others = total_none f xs (λ i v e. h (suc i) v e) in omega arith
-
   pub not_holding : (b : Bool) → (b ≡ true → ⊥) → weight b ≡ 0
   not_holding true h = absurd (h refl)
   not_holding false h = refl
@@ -153,6 +157,12 @@ module _ (Trusted : PlainSession → Type 0) where
   nobody_holds history s k id v at has_it free = total_none is_holding s.views (λ j u e. dite (ℕ_discrete j id)
       (λ here. let same : u ≡ v = some-injective u v (sym e ∙ (ap (λ (n : ℕ). get_elem? s.views n) here ∙ at)) in ap weight (ap (λ (z : Knowledge). z.holding) same ∙ free))
       (λ other. not_holding u.holding (λ holds. alone history s k id v (length history) at has_it j u e other (k.turn j u e holds).0)))
+
+  -- in its turn who holds the session is the only one
+  one_holds : (history : List Item) (s : St) (k : IsInOrder Trusted history s) (id : ℕ) (v : Knowledge) → get_elem? s.views id ≡ some v → v.ticket ≡ Some (length history) → v.holding ≡ true → (total is_holding s.views ≡ 1) × (is_holding v ≡ 1)
+  one_holds history s k id v at has_it holds =
+      let one : is_holding v ≡ 1 = ap weight holds in
+      (total_only is_holding s.views id v at (λ j u atj other. not_holding u.holding (λ also. alone history s k id v (length history) at has_it j u atj other (k.turn j u atj also).0)) ∙ one, one)
 
   pub looks : (Told : PlainSession → Type 0) → ((s : PlainSession) → Trusted s → Told s) → (slots id : ℕ) (v : Knowledge) (t : ℕ) → v.ticket ≡ Some t → v.holding ≡ false → 0 < length v.callers → Allows (Locks Trusted) slots id (v, []) 1 (λ n. n) (Looks Told (step slots 1 0 0 none) (v, []))
   looks Told tells slots id v t has_it free caller_is s (history, k) wide at small = let x : ℕ = get_or s.words 1 0 in let is : x ≡ length history = ap (λ (l : List ℕ). get_or l 1 0) k.words in
@@ -178,11 +188,14 @@ module _ (Trusted : PlainSession → Type 0) where
             told = told_set history s.views id v w at refl (λ e. refl) k.told;
             called = λ n none_of. k.called n (sym (total_same (calls_as n) s.views id v w at refl) ∙ none_of);
             turn = every_set (HoldsInTurn (length history)) s.views id w k.turn (λ _. (served, caller_is));
+            spent = every_set SpentHoldsNothing s.views id w k.spent (has_callers w caller_is);
             trusted = k.trusted;
+            sound = k.sound;
             home = λ nobody. let one = total_has is_holding (set s.views id w) id w (set_at s.views id v w at) in absurd (omega (arith, one, nobody));
+            away = λ _. ap (λ (l : List (mathlib.Core.Option.Option PlainSession)). set l 0 none) home;
           },
         ),
-        ((λ _. (history, sym is, k.seen id v at, refl, tells (play history) k.trusted)), λ not. absurd (not (has_it ∙ ap (λ (n : ℕ). Some n) (sym hit)))),
+        ((λ _. (history, sym is, k.seen id v at, refl, tells (play history) k.trusted, k.sound)), λ not. absurd (not (has_it ∙ ap (λ (n : ℕ). Some n) (sym hit)))),
       ))
       (λ miss. (
         v,
@@ -200,14 +213,18 @@ module _ (Trusted : PlainSession → Type 0) where
   only_home (h ∷ []) y e = refl
   only_home (h ∷ (g ∷ gs)) y e = absurd (omega arith)
 
-  pub finishes : (id : ℕ) (v : Knowledge) (y : PlainSession) (item : ℕ → Item) (c : ℕ) (others : List ℕ) → v.callers ≡ c ∷ others → caller_of (item c) ≡ c → v.holding ≡ true → v.ticket ≡ Some (length v.seen) → v.kept ≡ no_part → v.other ≡ no_part
-      → y ≡ after (play v.seen) (item c) → (Trusted (play v.seen) → Trusted (after (play v.seen) (item c))) → Allows (Locks Trusted) 1 id (v, (0, y) ∷ []) 1 (λ n. (n + 1) % 2 ^ 64) (Finishes item (step 1 1 1 0 none) (v, (0, y) ∷ []))
-  finishes id v y item c others mine by holding has_it no_kept no_other is_play stays s (history, k₀) wide at small =
+  pub finishes : (Told : PlainSession → Type 0) → ((s : PlainSession) → Trusted s → Told s) → (id : ℕ) (v : Knowledge) (y : PlainSession) (item : ℕ → Item) (c : ℕ) (others : List ℕ) → v.callers ≡ c ∷ others → caller_of (item c) ≡ c → v.holding ≡ true → v.ticket ≡ Some (length v.seen) → v.kept ≡ no_part → v.other ≡ no_part
+      → y ≡ after (play v.seen) (item c) → IsSound y → (IsSound (play v.seen) → IsSound (after (play v.seen) (item c)) → Trusted (play v.seen) → Trusted (after (play v.seen) (item c)))
+      → Allows (Locks Trusted) 1 id (v, (0, y) ∷ []) 1 (λ n. (n + 1) % 2 ^ 64) (Finishes Told item (step 1 1 1 0 none) (v, (0, y) ∷ []))
+  finishes Told tells id v y item c others mine by holding has_it no_kept no_other is_play y_sound stays s (history, k₀) wide at small =
       let same : v.seen ≡ history = saw_whole v.callers v.seen history (k₀.seen id v at) (let t : Some (length history) ≡ Some (length v.seen) = sym (k₀.turn id v at holding).0 ∙ has_it in let e : length history ≡ length v.seen = cc in omega arith) in
       let h : List Item = v.seen in
       let k : IsInOrder Trusted h s = subst (λ (l : List Item). IsInOrder Trusted l s) (sym same) k₀ in
       let x : Item = item c in
       let w : Knowledge = done v x in
+      let sound_now : IsSound (after (play h) x) = subst IsSound is_play y_sound in
+      let trusted_now : Trusted (play (h ++ x ∷ [])) = subst Trusted (sym (play_snoc h x)) (stays (sound_end first_session h k.sound) sound_now k.trusted) in
+      let some_caller : 0 < length v.callers = subst (λ (l : List ℕ). 0 < length l) (sym mine) (omega arith) in
       let mine_once : 0 < times c v.callers = subst (λ (l : List ℕ). 0 < times c l) (sym mine) (holds_own c others) in
       let long : length (h ++ x ∷ []) ≡ length h + 1 = length-append h (x ∷ []) in
       let own_ticket : has_ticket (length h) v ≡ 1 = ap (is_ticket (length h)) has_it ∙ its_ticket (length h) in
@@ -245,7 +262,7 @@ module _ (Trusted : PlainSession → Type 0) where
                   part_more h x u u.other fits.1 (away j u ne atj),
                 ))
                 k.parts (part_none (h ++ x ∷ []) w v.kept no_kept, part_none (h ++ x ∷ []) w v.other no_other);
-            told = (id, w, set_at s.views id v w at, refl, subst (λ (l : List ℕ). 0 < length l) (sym mine) (omega arith));
+            told = (id, w, set_at s.views id v w at, refl, some_caller);
             called = λ n none_of.
                 let all_none : total (calls_as n) s.views ≡ 0 = sym (total_same (calls_as n) s.views id v w at refl) ∙ none_of in
                 let mine_none = total_has (calls_as n) s.views id v at in
@@ -254,11 +271,14 @@ module _ (Trusted : PlainSession → Type 0) where
                 calls_append (n ∷ []) h (x ∷ []) ∙ (ap (λ (l : List Item). l ++ calls_of (n ∷ []) (x ∷ [])) (k.called n all_none) ∙ ap (λ (b : Bool). if b then x ∷ [] else []) other);
             turn = every_set_else (HoldsInTurn (length h)) (HoldsInTurn (length (h ++ x ∷ []))) s.views id w
                 (λ j u ne atj was holds. absurd (alone h s k id v (length h) at has_it j u atj ne (was holds).0)) k.turn (λ f. cc);
-            trusted = subst Trusted (sym (play_snoc h x)) (stays k.trusted);
+            spent = every_set SpentHoldsNothing s.views id w k.spent (has_callers w some_caller);
+            trusted = trusted_now;
+            sound = sound_more first_session h x k.sound sound_now;
             home = λ nobody. only_home s.homes y wide ∙ ap (λ (z : PlainSession). some z ∷ []) (is_play ∙ sym (play_snoc h x));
+            away = λ one. let was = total_set is_holding s.views id v w at in let only = one_holds h s k id v at has_it holding in absurd (omega (arith, one, was, only.0, only.1));
           },
         ),
-        (c, others, mine, refl),
+        (c, others, mine, refl, (tells (play (h ++ x ∷ [])) trusted_now, subst IsSound (sym (play_snoc h x)) sound_now)),
       )
 
   -- a view that knows more, of the same callers, numbers and ticket
@@ -278,35 +298,43 @@ module _ (Trusted : PlainSession → Type 0) where
     told = told_set history s.views id v w at callers told k.told;
     called = λ n none_of. k.called n (sym (total_same (calls_as n) s.views id v w at (ap (times n) callers)) ∙ none_of);
     turn = every_set (HoldsInTurn (length history)) s.views id w k.turn (λ holds. let t = k.turn id v at (sym holding ∙ holds) in (ticket ∙ t.0, subst (λ (l : List ℕ). 0 < length l) (sym callers) t.1));
+    spent = every_set SpentHoldsNothing s.views id w k.spent (λ e. let t = k.spent id v at (sym callers ∙ e) in (spare ∙ t.0, ticket ∙ t.1, holding ∙ t.2));
     trusted = k.trusted;
+    sound = k.sound;
     home = λ nobody. k.home (sym (total_same is_holding s.views id v w at (ap weight holding)) ∙ nobody);
+    away = λ one. k.away (sym (total_same is_holding s.views id v w at (ap weight holding)) ∙ one);
   }
 
-  pub counts : (slots id : ℕ) (v : Knowledge) (carried : List (ℕ × PlainSession)) → Allows (Locks Trusted) slots id (v, carried) 1 (λ n. n) (Counts (step slots 1 0 0 none) (v, carried))
-  counts slots id v carried s (history, k) wide at small = let w : Knowledge = record v { seen = history } in (
+  pub counts : (Told : PlainSession → Type 0) → ((s : PlainSession) → Trusted s → Told s) → (slots id : ℕ) (v : Knowledge) (carried : List (ℕ × PlainSession)) → Allows (Locks Trusted) slots id (v, carried) 1 (λ n. n) (Counts Told (step slots 1 0 0 none) (v, carried))
+  counts Told tells slots id v carried s (history, k) wide at small = let w : Knowledge = record v { seen = history } in (
     w,
     keeps,
     tt,
     (history, renewed history s k 1 id carried v w at (read_word history s k 1 (omega arith)) refl refl refl refl (saw_all v.callers history) (parts_seen history v (k.parts id v at)) (λ e. refl)),
-    (history, sym (ap (λ (l : List ℕ). get_or l 1 0) k.words), k.seen id v at, refl),
+    (history, sym (ap (λ (l : List ℕ). get_or l 1 0) k.words), k.seen id v at, refl, (tells (play history) k.trusted, sound_end first_session history k.sound)),
   )
 
   pub looks_me : (Told : PlainSession → Type 0) → ((s : PlainSession) → Trusted s → Told s) → (slots id : ℕ) (me : M) (t : ℕ) → me.1 ≡ [] → me.0.ticket ≡ Some t → me.0.holding ≡ false → 0 < length me.0.callers → Allows (Locks Trusted) slots id me 1 (λ n. n) (Looks Told (step slots 1 0 0 none) me)
   looks_me Told tells slots id me t empty has_it free caller_is =
       subst (λ (c : List (ℕ × PlainSession)). Allows (Locks Trusted) slots id (me.0, c) 1 (λ n. n) (Looks Told (step slots 1 0 0 none) (me.0, c))) (sym empty) (looks Told tells slots id me.0 t has_it free caller_is)
 
-  pub counts_me : (slots id : ℕ) (me : M) → Allows (Locks Trusted) slots id me 1 (λ n. n) (Counts (step slots 1 0 0 none) me)
-  counts_me slots id me = counts slots id me.0 me.1
+  pub counts_me : (Told : PlainSession → Type 0) → ((s : PlainSession) → Trusted s → Told s) → (slots id : ℕ) (me : M) → Allows (Locks Trusted) slots id me 1 (λ n. n) (Counts Told (step slots 1 0 0 none) me)
+  counts_me Told tells slots id me = counts Told tells slots id me.0 me.1
 
-  pub finishes_me : (slots id : ℕ) (me : M) (y : PlainSession) (item : ℕ → Item) (c : ℕ) (others : List ℕ) → slots ≡ 1 → me.1 ≡ (0, y) ∷ [] → me.0.callers ≡ c ∷ others → caller_of (item c) ≡ c → me.0.holding ≡ true → me.0.ticket ≡ Some (length me.0.seen) → me.0.kept ≡ no_part → me.0.other ≡ no_part
-      → y ≡ after (play me.0.seen) (item c) → (Trusted (play me.0.seen) → Trusted (after (play me.0.seen) (item c))) → Allows (Locks Trusted) slots id me 1 (λ n. (n + 1) % 2 ^ 64) (Finishes item (step slots 1 1 0 none) me)
-  finishes_me slots id me y item c others one carried mine by holding has_it no_kept no_other is_play stays =
-      subst (λ (z : ℕ × List (ℕ × PlainSession)). Allows (Locks Trusted) z.0 id (me.0, z.1) 1 (λ n. (n + 1) % 2 ^ 64) (Finishes item (step z.0 1 1 0 none) (me.0, z.1))) (λ i. (sym one i, sym carried i))
-      (finishes id me.0 y item c others mine by holding has_it no_kept no_other is_play stays)
+  pub finishes_me : (Told : PlainSession → Type 0) → ((s : PlainSession) → Trusted s → Told s) → (slots id : ℕ) (me : M) (y : PlainSession) (item : ℕ → Item) (c : ℕ) (others : List ℕ) → slots ≡ 1 → me.1 ≡ (0, y) ∷ [] → me.0.callers ≡ c ∷ others → caller_of (item c) ≡ c → me.0.holding ≡ true → me.0.ticket ≡ Some (length me.0.seen) → me.0.kept ≡ no_part → me.0.other ≡ no_part
+      → y ≡ after (play me.0.seen) (item c) → IsSound y → (IsSound (play me.0.seen) → IsSound (after (play me.0.seen) (item c)) → Trusted (play me.0.seen) → Trusted (after (play me.0.seen) (item c)))
+      → Allows (Locks Trusted) slots id me 1 (λ n. (n + 1) % 2 ^ 64) (Finishes Told item (step slots 1 1 0 none) me)
+  finishes_me Told tells slots id me y item c others one carried mine by holding has_it no_kept no_other is_play y_sound stays =
+      subst (λ (z : ℕ × List (ℕ × PlainSession)). Allows (Locks Trusted) z.0 id (me.0, z.1) 1 (λ n. (n + 1) % 2 ^ 64) (Finishes Told item (step z.0 1 1 0 none) (me.0, z.1))) (λ i. (sym one i, sym carried i))
+      (finishes Told tells id me.0 y item c others mine by holding has_it no_kept no_other is_play y_sound stays)
 
   total_add : (f g h : Knowledge → ℕ) (views : List Knowledge) → ((v : Knowledge) → h v ≡ f v + g v) → total h views ≡ total f views + total g views
   total_add f g h [] e = refl
   total_add f g h (v ∷ vs) e = let r = total_add f g h vs e in let is = e v in omega (arith, r, is)
+
+  -- no view holds a number twice
+  pub holds_once : (history : List Item) (s : St) (k : IsInOrder Trusted history s) (id : ℕ) (v : Knowledge) → get_elem? s.views id ≡ some v → HoldsOnce v
+  holds_once history s k id v at n = let a = total_has (holds_number n) s.views id v at in let b = k.numbers n in omega (arith, a, b)
 
   abbrev pub spare_as : ℕ → Knowledge → ℕ
   spare_as n v = in_ranges n v.spare
@@ -326,6 +354,7 @@ module _ (Trusted : PlainSession → Type 0) where
       refl,
       λ n is_spare. let saw = k.seen id me.0 at in nothing_first (calls_of (n ∷ []) me.0.seen) (calls_of (n ∷ []) saw.0)
           (sym (calls_append (n ∷ []) me.0.seen saw.0) ∙ (ap (calls_of (n ∷ [])) saw.1 ∙ k.called n (no_caller history s k id me.0 n at is_spare))),
+      holds_once history s k id me.0 at,
     ),
   )
 
@@ -339,6 +368,7 @@ module _ (Trusted : PlainSession → Type 0) where
       refl,
       saw_between v.kept.callers v.callers v.kept.seen v.seen history fits.0.0 (k.seen id v at) fits.0.1,
       saw_between v.other.callers v.callers v.other.seen v.seen history fits.1.0 (k.seen id v at) fits.1.1,
+      holds_once history s k id v at,
     ),
   )
 

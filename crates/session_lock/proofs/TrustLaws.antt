@@ -7,7 +7,7 @@ use Rattle.reflector_core.specs.declared.start.Base.{Base}
 use Rattle.reflector_core.specs.declared.start.Want.{Want}
 use Rattle.reflector_core.specs.declared.request.Request.{Request}
 use Rattle.reflector_core.specs.declared.request.Request.TheVariants.{Join, Send, Tick, Leave, Offer, Pull}
-use Rattle.reflector_core.specs.PlainSession.{PlainSession}
+use Rattle.reflector_core.specs.PlainSession.{PlainSession, IsSound}
 use Rattle.reflector_core.specs.Answer.{Outcome, answer, send, join, leave, offer, pull, is_stale, is_closed, is_ahead, is_older, most_snapshot, end_of_time}
 use Rattle.reflector_core.specs.Play.{first as first_session}
 use Rattle.session_lock.specs.declared.knowledge.Item.{Item}
@@ -15,8 +15,8 @@ use Rattle.session_lock.specs.declared.knowledge.Item.TheVariants.{Did, Void}
 use Rattle.atomic_table.specs.Seated.{TableId}
 use Rattle.session_lock.specs.Passes.{SharedState, state_of}
 use Rattle.session_lock.specs.Trusts.{Allowing, Allows, IsTrusted, Stays, MayBeAsked}
-use Rattle.session_lock.specs.History.{play, play_from, Saw}
-use Rattle.session_lock.proofs.Histories.{play_from_append}
+use Rattle.session_lock.specs.History.{play, play_from, Saw, IsSoundThrough}
+use Rattle.session_lock.proofs.Histories.{play_from_append, sound_start, sound_rest}
 
 either : (P : Outcome → Type 0) (test : Bool) {a b : Outcome} → P a → P b → P (if test then a else b)
 either P true p q = p
@@ -56,11 +56,11 @@ module _ {T : Type 0} (allows : Allowing T) (stays : Stays allows) (trust : T) (
   weaker s s' None more u = u
   weaker s s' (Some base) more a = more base.time base.bytes a
 
-  same_kept : (s : PlainSession) (request : Request) → Keeps s (answer s request) → IsTrusted allows trust id s → IsTrusted allows trust id (answer s request).session
-  same_kept s request same h =
+  same_kept : (s : PlainSession) (request : Request) → IsSound s → IsSound (answer s request).session → Keeps s (answer s request) → IsTrusted allows trust id s → IsTrusted allows trust id (answer s request).session
+  same_kept s request sound sound' same h =
       let s' : PlainSession = (answer s request).session in
       subst (λ (kept : Option Base). IfSome kept (λ base. Allows allows trust id s' base.time base.bytes)) (sym same)
-      (weaker s s' s.kept (λ time bytes a. stays trust id s request time bytes a) h)
+      (weaker s s' s.kept (λ time bytes a. stays trust id s request time bytes sound sound' a) h)
 
   offer_trusted : (s : PlainSession) (view joined time : ℕ) (snapshot : List ℕ) → Allows allows trust id s time snapshot → IsTrusted allows trust id s → IsTrusted allows trust id (offer s view joined time snapshot).session
   offer_trusted s view joined time snapshot ok h =
@@ -70,28 +70,31 @@ module _ {T : Type 0} (allows : Allowing T) (stays : Stays allows) (trust : T) (
       (either (λ o. IsTrusted allows trust id o.session) (is_older time s.kept) h ok)))
 
   -- after an answer to a request that may be asked
-  pub trusted_after : (s : PlainSession) (request : Request) → MayBeAsked allows trust id s request → IsTrusted allows trust id s → IsTrusted allows trust id (answer s request).session
-  trusted_after s (Join view now want) ok h = same_kept s (Join view now want) (join_keeps s view now want) h
-  trusted_after s (Send view joined number payload now) ok h = same_kept s (Send view joined number payload now) (send_keeps s view joined number payload now) h
-  trusted_after s (Tick now) ok h = same_kept s (Tick now) refl h
-  trusted_after s (Leave view joined now) ok h = same_kept s (Leave view joined now) (leave_keeps s view joined now) h
-  trusted_after s (Offer view joined time snapshot) ok h = offer_trusted s view joined time snapshot ok h
-  trusted_after s (Pull after limit) ok h = same_kept s (Pull after limit) (pull_keeps s after limit) h
+  pub trusted_after : (s : PlainSession) (request : Request) → IsSound s → IsSound (answer s request).session → MayBeAsked allows trust id s request → IsTrusted allows trust id s → IsTrusted allows trust id (answer s request).session
+  trusted_after s (Join view now want) sound sound' ok h = same_kept s (Join view now want) sound sound' (join_keeps s view now want) h
+  trusted_after s (Send view joined number payload now) sound sound' ok h = same_kept s (Send view joined number payload now) sound sound' (send_keeps s view joined number payload now) h
+  trusted_after s (Tick now) sound sound' ok h = same_kept s (Tick now) sound sound' refl h
+  trusted_after s (Leave view joined now) sound sound' ok h = same_kept s (Leave view joined now) sound sound' (leave_keeps s view joined now) h
+  trusted_after s (Offer view joined time snapshot) sound sound' ok h = offer_trusted s view joined time snapshot ok h
+  trusted_after s (Pull after limit) sound sound' ok h = same_kept s (Pull after limit) sound sound' (pull_keeps s after limit) h
 
-  later : (s : PlainSession) (xs : List Item) (time : ℕ) (bytes : List ℕ) → Allows allows trust id s time bytes → Allows allows trust id (play_from s xs) time bytes
-  later s [] time bytes a = a
-  later s (Did c request ∷ xs) time bytes a = later (answer s request).session xs time bytes (stays trust id s request time bytes a)
-  later s (Void c ∷ xs) time bytes a = later s xs time bytes a
+  later : (s : PlainSession) (xs : List Item) (time : ℕ) (bytes : List ℕ) → IsSoundThrough s xs → Allows allows trust id s time bytes → Allows allows trust id (play_from s xs) time bytes
+  later s [] time bytes sound a = a
+  later s (Did c request ∷ xs) time bytes sound a =
+      let s' : PlainSession = (answer s request).session in
+      later s' xs time bytes sound.1 (stays trust id s request time bytes sound.0 (sound_start s' xs sound.1) a)
+  later s (Void c ∷ xs) time bytes sound a = later s xs time bytes sound.1 a
 
   -- what may be asked of the session that was seen may be asked later
-  pub asked_later : (cs : List ℕ) (seen history : List Item) (request : Request) → Saw cs seen history → MayBeAsked allows trust id (play seen) request → MayBeAsked allows trust id (play history) request
-  asked_later cs seen history (Join view now want) saw ok = ok
-  asked_later cs seen history (Send view joined number payload now) saw ok = ok
-  asked_later cs seen history (Tick now) saw ok = ok
-  asked_later cs seen history (Leave view joined now) saw ok = ok
-  asked_later cs seen history (Offer view joined time snapshot) saw ok =
-      subst (λ (s : PlainSession). Allows allows trust id s time snapshot) (sym (play_from_append first_session seen saw.0) ∙ ap play saw.1) (later (play seen) saw.0 time snapshot ok)
-  asked_later cs seen history (Pull after limit) saw ok = ok
+  pub asked_later : (cs : List ℕ) (seen history : List Item) (request : Request) → IsSoundThrough first_session history → Saw cs seen history → MayBeAsked allows trust id (play seen) request → MayBeAsked allows trust id (play history) request
+  asked_later cs seen history (Join view now want) sound saw ok = ok
+  asked_later cs seen history (Send view joined number payload now) sound saw ok = ok
+  asked_later cs seen history (Tick now) sound saw ok = ok
+  asked_later cs seen history (Leave view joined now) sound saw ok = ok
+  asked_later cs seen history (Offer view joined time snapshot) sound saw ok =
+      subst (λ (s : PlainSession). Allows allows trust id s time snapshot) (sym (play_from_append first_session seen saw.0) ∙ ap play saw.1)
+      (later (play seen) saw.0 time snapshot (sound_rest first_session seen saw.0 (subst (IsSoundThrough first_session) (sym saw.1) sound)) ok)
+  asked_later cs seen history (Pull after limit) sound saw ok = ok
 
 -- what is trusted by what the table was told is trusted by what a contract sees of it, and what may be asked goes back
 pub trusted_outside : {T : Type 0} (allows : Allowing T) (session : TableId) (key : SessionId × T) (seen : SharedState T) → state_of session key ≡ seen → (s : PlainSession) → IsTrusted allows key.1 key.0 s → IsTrusted allows seen.trust seen.id s

@@ -1,6 +1,6 @@
 -- Histories: what callers did to a session, in one order.
 use Rattle.std.specs.Prelude.{◌≡◌, ℕ, Bool, false, ◌||◌, eqb, List, [], ◌∷◌, ◌++◌, if◌then◌else◌}
-use Rattle.reflector_core.specs.PlainSession.{PlainSession}
+use Rattle.reflector_core.specs.PlainSession.{PlainSession, IsSound}
 use Rattle.reflector_core.specs.Answer.{answer}
 use Rattle.reflector_core.specs.Play.{first as first_session}
 use Rattle.reflector_core.specs.declared.request.Request.{Request}
@@ -24,6 +24,17 @@ play_from session (x ∷ xs) = play_from (after session x) xs
 -- the session after all items, from the first session on
 abbrev pub play : List Item → PlainSession
 play history = play_from first_session history
+
+-- the requests of the history, in order
+abbrev pub requests_of : List Item → List Request
+requests_of [] = []
+requests_of (Did caller request ∷ xs) = request ∷ requests_of xs
+requests_of (Void caller ∷ xs) = requests_of xs
+
+-- the session is sound, and so it is after each of the items
+abbrev pub IsSoundThrough : PlainSession → List Item → Type 0
+IsSoundThrough session [] = IsSound session
+IsSoundThrough session (x ∷ xs) = IsSound session × IsSoundThrough (after session x) xs
 
 -- what is answered to the request after the history
 abbrev pub reply_after : List Item → Request → Reply

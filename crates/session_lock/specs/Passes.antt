@@ -1,5 +1,5 @@
 -- What contracts see of a shared session and of a pass, and how a call leaves a pass.
-use Rattle.std.specs.Prelude.{◌≡◌, ℕ, ◌+◌, true, List, [], ◌∷◌, ◌++◌, length, slice_index}
+use Rattle.std.specs.Prelude.{◌≡◌, ℕ, ◌+◌, ◌<◌, ◌≤◌, true, List, [], ◌∷◌, ◌++◌, length, slice_index}
 use Rattle.atomic_table.specs.Seated.{TableId}
 use Rattle.tea_base.specs.declared.entry.SessionId.{SessionId}
 use Rattle.reflector_core.specs.PlainSession.{PlainSession}
@@ -11,8 +11,8 @@ use Rattle.session_lock.specs.declared.knowledge.Item.TheVariants.{Did, Void}
 use Rattle.session_lock.specs.declared.knowledge.Range.{Range}
 use Rattle.session_lock.specs.declared.knowledge.Knowledge.{Knowledge}
 use Rattle.session_lock.specs.History.{play, reply_after, has, calls_of, Saw}
-use Rattle.session_lock.specs.Numbers.{count_of, take_numbers, drop_numbers, first_number}
-use Rattle.session_lock.specs.Rules.{longer}
+use Rattle.session_lock.specs.Numbers.{times, in_ranges, between, count_of, take_numbers, drop_numbers, first_number}
+use Rattle.session_lock.specs.Rules.{all_numbers, longer}
 
 -- what no other shared session has, its session's id, and the trust that it was made with
 pub record SharedState (T : Type 0) : Type 0 where
@@ -43,6 +43,22 @@ own_calls p = calls_of p.callers p.seen
 abbrev pub numbers_held : Standing → ℕ
 numbers_held p = length p.callers + count_of p.spare
 
+-- how often it holds the number, as one of its callers' or as a spare one
+abbrev pub times_held : ℕ → Standing → ℕ
+times_held n p = times n p.callers + in_ranges n p.spare
+
+-- the two passes together hold no number twice, and none from 2^32 on
+abbrev pub HeldOnce : Standing → Standing → Type 0
+HeldOnce p q = (n : ℕ) → times_held n p + times_held n q ≤ between 0 all_numbers n
+
+-- it holds each number below 2^32 once, and no other
+abbrev pub HoldsEach : Standing → Type 0
+HoldsEach p = (n : ℕ) → times_held n p ≡ between 0 all_numbers n
+
+-- no item of what it has seen has one of its spare numbers
+abbrev pub UsedNoSpare : Standing → Type 0
+UsedNoSpare p = (n : ℕ) → 0 < in_ranges n p.spare → calls_of (n ∷ []) p.seen ≡ []
+
 -- what a contract sees of a seat with this knowledge
 abbrev pub stand : TableId → Knowledge → Standing
 stand session v = record { session = session; callers = v.callers; spare = v.spare; seen = v.seen }
@@ -55,24 +71,27 @@ pub record Grew (before after : Standing) (history : List Item) (item : Item) : 
   pub own : own_calls after ≡ own_calls before ++ item ∷ []
   pub mine : has (caller before) before.callers ≡ true
 
--- the reply is the one due at that place of the history, where what was kept was trusted
+-- the reply is the one due at that place of the history, and what is kept was trusted there and is so after the call
 pub record Replied (IsTrusted : PlainSession → Type 0) (before after : Standing) (request : Request) (reply : Reply) : Type 0 where
   pub history : List Item
   pub grew : Grew before after history (Did (caller before) request)
   pub replies : reply ≡ reply_after history request
   pub trusted : IsTrusted (play history)
+  pub trusted_after : IsTrusted (play after.seen)
 
--- the call found no memory, and the reply due at that place may want some
-pub record Voided (before after : Standing) (request : Request) : Type 0 where
+-- the call found no memory, the reply due at that place may want some, and what is kept is trusted
+pub record Voided (IsTrusted : PlainSession → Type 0) (before after : Standing) (request : Request) : Type 0 where
   pub history : List Item
   pub grew : Grew before after history (Void (caller before))
   pub due : MayWantMemory (reply_after history request)
+  pub trusted_after : IsTrusted (play after.seen)
 
--- the pass has seen a history that begins with all that it had seen, and has made no call
-pub record Caught (before after : Standing) : Type 0 where
+-- the pass has seen a history that begins with all that it had seen, and has made no call; what is kept is trusted
+pub record Caught (IsTrusted : PlainSession → Type 0) (before after : Standing) : Type 0 where
   pub saw : Saw before.callers before.seen after.seen
   pub same : after ≡ record before { seen = after.seen }
   pub own : own_calls after ≡ own_calls before
+  pub trusted_after : IsTrusted (play after.seen)
 
 -- The new pass gets the first of the spare numbers: one as its caller's, the others as its own spare ones. It has seen
 -- the same, and has no calls.

@@ -1,14 +1,15 @@
 -- The rule of the lock: what holds of its two words, its slot and all passes between any two steps.
 use Rattle.std.specs.Prelude.{◌≡◌, ℕ, ◌+◌, ◌<◌, ◌≤◌, ◌^◌, Bool, true, false, eqb, leb, List, [], ◌∷◌, length, if◌then◌else◌, Option, Some, None}
-use mathlib.Core.Option.{some}
+use mathlib.Core.Option.{some, none}
 use lib.ListN.{get_elem?}
 use Rattle.atomic_table.specs.Table.{State}
-use Rattle.reflector_core.specs.PlainSession.{PlainSession}
+use Rattle.reflector_core.specs.PlainSession.{PlainSession, IsSound}
+use Rattle.reflector_core.specs.Play.{first as first_session}
 use Rattle.session_lock.specs.declared.knowledge.Item.{Item}
 use Rattle.session_lock.specs.declared.knowledge.Range.{Range}
 use Rattle.session_lock.specs.declared.knowledge.Part.{Part}
 use Rattle.session_lock.specs.declared.knowledge.Knowledge.{Knowledge}
-use Rattle.session_lock.specs.History.{play, calls_of, Saw}
+use Rattle.session_lock.specs.History.{play, calls_of, Saw, IsSoundThrough}
 use Rattle.session_lock.specs.Numbers.{times, in_ranges, count_of, between}
 
 -- how many numbers there are
@@ -43,6 +44,10 @@ calls_as n v = times n v.callers
 abbrev pub holds_number : ℕ → Knowledge → ℕ
 holds_number n v = times n v.callers + in_ranges n v.spare
 
+-- the view holds no number twice, and none from 2^32 on
+abbrev pub HoldsOnce : Knowledge → Type 0
+HoldsOnce v = (n : ℕ) → holds_number n v ≤ between 0 all_numbers n
+
 -- how many numbers the view holds
 abbrev pub size_of : Knowledge → ℕ
 size_of v = length v.callers + count_of v.spare
@@ -54,6 +59,10 @@ Every P views = (i : ℕ) (v : Knowledge) → get_elem? views i ≡ some v → P
 -- who holds the session has the ticket that is served, and has a caller
 abbrev pub HoldsInTurn : ℕ → Knowledge → Type 0
 HoldsInTurn serving v = v.holding ≡ true → (v.ticket ≡ Some serving) × (0 < length v.callers)
+
+-- a view with no caller holds no number and no ticket, and does not hold the session
+abbrev pub SpentHoldsNothing : Knowledge → Type 0
+SpentHoldsNothing v = v.callers ≡ [] → (v.spare ≡ []) × (v.ticket ≡ None) × (v.holding ≡ false)
 
 -- what was known before a merge begins the history too, and its callers are among the view's
 abbrev pub PartFits : List Item → Knowledge → Part → Type 0
@@ -87,9 +96,18 @@ pub record IsInOrder (Trusted : PlainSession → Type 0) (history : List Item) (
   -- only callers made calls
   pub called : (n : ℕ) → total (calls_as n) s.views ≡ 0 → calls_of (n ∷ []) history ≡ []
   pub turn : Every (HoldsInTurn (length history)) s.views
+  pub spent : Every SpentHoldsNothing s.views
   pub trusted : Trusted (play history)
+  -- the session is sound from the first on
+  pub sound : IsSoundThrough first_session history
   -- where no view holds it, the session lies in the slot, and is the play of the history
   pub home : total is_holding s.views ≡ 0 → s.homes ≡ some (play history) ∷ []
+  -- where a view holds it, the slot is empty
+  pub away : total is_holding s.views ≡ 1 → s.homes ≡ none ∷ []
+
+-- the play of the history is trusted and sound
+abbrev pub PlaysWell : (PlainSession → Type 0) → List Item → Type 0
+PlaysWell Trusted history = Trusted (play history) × IsSound (play history)
 
 -- there is one history that holds of the table
 abbrev pub Locks : (PlainSession → Type 0) → State PlainSession Knowledge → Type 0

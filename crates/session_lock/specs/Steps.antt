@@ -2,16 +2,17 @@
 use Rattle.std.specs.Prelude.{◌≡◌, ◌≢◌, ℕ, ◌<◌, true, false, List, [], ◌∷◌, ◌++◌, length, Some, None, Result, MatchResult}
 use Rattle.atomic_table.specs.Table.{Me, Step}
 use Rattle.tea_base.specs.declared.want.WantOfMemory.{WantOfMemory}
-use Rattle.reflector_core.specs.PlainSession.{PlainSession}
+use Rattle.reflector_core.specs.PlainSession.{PlainSession, IsSound}
+use Rattle.reflector_core.specs.Play.{first as first_session}
 use Rattle.reflector_core.specs.Answer.{answer, with_reply, MayWantMemory}
 use Rattle.reflector_core.specs.declared.request.Request.{Request}
 use Rattle.reflector_core.specs.declared.request.Reply.{Reply}
 use Rattle.session_lock.specs.declared.knowledge.Item.{Item}
 use Rattle.session_lock.specs.declared.knowledge.Item.TheVariants.{Did, Void}
 use Rattle.session_lock.specs.declared.knowledge.Knowledge.{Knowledge}
-use Rattle.session_lock.specs.History.{play, reply_after, calls_of, Saw}
+use Rattle.session_lock.specs.History.{play, reply_after, calls_of, Saw, IsSoundThrough}
 use Rattle.session_lock.specs.Numbers.{in_ranges, take_numbers, drop_numbers, first_number}
-use Rattle.session_lock.specs.Rules.{knows, part, no_part, longer}
+use Rattle.session_lock.specs.Rules.{HoldsOnce, PlaysWell, knows, part, no_part, longer}
 
 -- a pass's view, and the session where the pass has it in hand
 abbrev pub M : Type 0
@@ -34,36 +35,49 @@ Draws st m found m' = (found ≡ st.first → m' ≡ (with_ticket m.0 found, m.1
 abbrev pub Waits : M → ℕ → Type 0
 Waits m ticket = (m.1 ≡ []) × (m.0.ticket ≡ Some ticket) × (m.0.holding ≡ false) × (0 < length m.0.callers)
 
--- it is the pass's turn: the whole history was seen, and the session taken, which is its play
+-- it is the pass's turn: the whole history was seen, and the session taken, which is its play; what it keeps is
+-- trusted, and it was sound all the way
 abbrev pub HasTurn : (PlainSession → Type 0) → M → ℕ → M → Type 0
 HasTurn Trusted m ticket m' =
     (history : List Item) × (length history ≡ ticket) × Saw m.0.callers m.0.seen history
     × (m' ≡ (in_turn m.0 history, (0, play history) ∷ [])) × Trusted (play history)
+    × IsSoundThrough first_session history
 
 -- look: it is the pass's turn, or nothing changed
 abbrev pub Looks : (PlainSession → Type 0) → Step PlainSession → M → ℕ → M → Type 0
 Looks Trusted st m found m' =
     (m.0.ticket ≡ Some found → HasTurn Trusted m found m') × (m.0.ticket ≢ Some found → m' ≡ m)
 
--- the session in hand was asked
+-- the session in hand was asked, and is sound
 abbrev pub Works : M → Request → Result Reply WantOfMemory → M → Type 0
 Works m request result m' =
     (session : PlainSession) × (after : PlainSession) × (m.1 ≡ (0, session) ∷ []) × (m' ≡ (m.0, (0, after) ∷ []))
     × MatchResult result
     (λ reply. with_reply after reply ≡ answer session request)
     (λ _. (after ≡ session) × MayWantMemory (answer session request).reply)
+    × IsSound after
 
--- finish: the item stands behind all that was seen, and the session is given back
-abbrev pub Finishes : (ℕ → Item) → Step PlainSession → M → ℕ → M → Type 0
-Finishes item st m found m' = (caller : ℕ) × (others : List ℕ) × (m.0.callers ≡ caller ∷ others) × (m' ≡ (done m.0 (item caller), []))
+-- finish: the item stands behind all that was seen, and the session is given back; the play of this is trusted and
+-- sound
+abbrev pub Finishes : (PlainSession → Type 0) → (ℕ → Item) → Step PlainSession → M → ℕ → M → Type 0
+Finishes Trusted item st m found m' =
+    (caller : ℕ) × (others : List ℕ) × (m.0.callers ≡ caller ∷ others) × (m' ≡ (done m.0 (item caller), []))
+    × PlaysWell Trusted m'.0.seen
+
+-- the whole history was seen, which is so long, and whose play is trusted and sound
+abbrev pub HasCounted : (PlainSession → Type 0) → M → ℕ → M → Type 0
+HasCounted Trusted m found m' =
+    (history : List Item) × (length history ≡ found) × Saw m.0.callers m.0.seen history
+    × (m' ≡ (record m.0 { seen = history }, m.1)) × PlaysWell Trusted history
 
 -- count: the whole history was seen, and its length found
-abbrev pub Counts : Step PlainSession → M → ℕ → M → Type 0
-Counts st m found m' = (history : List Item) × (length history ≡ found) × Saw m.0.callers m.0.seen history × (m' ≡ (record m.0 { seen = history }, m.1))
+abbrev pub Counts : (PlainSession → Type 0) → Step PlainSession → M → ℕ → M → Type 0
+Counts Trusted st m found m' = HasCounted Trusted m found m'
 
--- unused: no item has a spare number
+-- unused: no item has a spare number, and no number is held twice
 abbrev pub Unused : Step PlainSession → M → ℕ → M → Type 0
-Unused st m found m' = (m' ≡ m) × ((n : ℕ) → 0 < in_ranges n m.0.spare → calls_of (n ∷ []) m.0.seen ≡ [])
+Unused st m found m' =
+    (m' ≡ m) × ((n : ℕ) → 0 < in_ranges n m.0.spare → calls_of (n ∷ []) m.0.seen ≡ []) × HoldsOnce m.0
 
 -- split: the first of the n numbers that are taken becomes the new caller's
 abbrev pub split_right : ℕ → Knowledge → Knowledge
@@ -85,11 +99,13 @@ merged v w = record v {
 abbrev pub spent : Knowledge
 spent = knows [] [] []
 
--- settle: what was known before the merge begins what is known now, and its callers made no call since
+-- settle: what was known before the merge begins what is known now, and its callers made no call since; and no number
+-- is held twice
 abbrev pub Settles : Step PlainSession → M → ℕ → M → Type 0
 Settles st m found m' =
     (m' ≡ (record m.0 { kept = no_part; other = no_part }, m.1))
     × Saw m.0.kept.callers m.0.kept.seen m.0.seen × Saw m.0.other.callers m.0.other.seen m.0.seen
+    × HoldsOnce m.0
 
 -- the pass rests: it has a caller and no ticket, holds nothing, and is in no merge
 abbrev pub IsIdle : M → Type 0

@@ -2,7 +2,7 @@
 use Rattle.std.specs.Prelude.{ℕ, Bool, true, false, List, IfSome}
 use Rattle.tea_base.specs.declared.entry.Entry.{Entry}
 use Rattle.tea_base.specs.declared.entry.SessionId.{SessionId}
-use Rattle.reflector_core.specs.PlainSession.{PlainSession}
+use Rattle.reflector_core.specs.PlainSession.{PlainSession, IsSound}
 use Rattle.reflector_core.specs.Answer.{answer}
 use Rattle.reflector_core.specs.declared.request.Request.{Request}
 use Rattle.reflector_core.specs.declared.request.Request.TheVariants.{Join, Send, Tick, Leave, Offer, Pull}
@@ -15,10 +15,11 @@ Allowing T = T → SessionId → List Entry → ℕ → ℕ → List ℕ → Typ
 abbrev pub Allows : {T : Type 0} → Allowing T → T → SessionId → PlainSession → ℕ → List ℕ → Type 0
 Allows allows trust id s time bytes = allows trust id s.log s.horizon time bytes
 
--- what is allowed for a session is allowed after any further request
+-- what is allowed for a sound session is allowed after any further request that leaves it sound
 abbrev pub Stays : {T : Type 0} → Allowing T → Type 0
 Stays {T} allows =
     (trust : T) (id : SessionId) (s : PlainSession) (request : Request) (time : ℕ) (bytes : List ℕ)
+    → IsSound s → IsSound (answer s request).session
     → Allows allows trust id s time bytes → Allows allows trust id (answer s request).session time bytes
 
 -- the kept snapshot, if there is one, is allowed for its session

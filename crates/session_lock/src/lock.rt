@@ -1,20 +1,20 @@
 //! The lock round the session, and its passes.
 ghost use Rattle.std.specs.Prelude.{◌≡◌, ℕ, ◌<◌, ◌+◌, [], ◌∷◌, length, true, false, None, IfOk, IfErr, IsOk, MatchResult};
 ghost use Rattle.tea_base.specs.declared.entry.SessionId.{SessionId};
-ghost use Rattle.reflector_core.specs.PlainSession.{PlainSession};
-ghost use Rattle.reflector_core.specs.Play.{first as first_session};
+ghost use Rattle.reflector_core.specs.PlainSession.{PlainSession, IsSound};
+ghost use Rattle.reflector_core.specs.Play.{first as first_session, replies_from, TellsItsEvents};
 ghost use Rattle.session_lock.specs.Trusts.{IsTrusted, MayBeAsked, is_offer};
-ghost use Rattle.session_lock.specs.History.{play, calls_of};
-ghost use Rattle.session_lock.specs.Rules.{all_numbers};
-ghost use Rattle.session_lock.specs.Steps.{with_ticket, Waits, HasTurn, Works, IsIdle, Answers, Fails, split_left, split_right};
+ghost use Rattle.session_lock.specs.History.{play, calls_of, requests_of};
+ghost use Rattle.session_lock.specs.Rules.{all_numbers, HoldsOnce, PlaysWell};
+ghost use Rattle.session_lock.specs.Steps.{with_ticket, Waits, HasTurn, HasCounted, Works, IsIdle, Answers, Fails, split_left, split_right};
 ghost use Rattle.session_lock.specs.Numbers.{count_of, in_ranges, drop_numbers};
-ghost use Rattle.session_lock.specs.Passes.{Replied, Voided, Caught, Given, Merged, first_pass, numbers_held, own_calls};
+ghost use Rattle.session_lock.specs.Passes.{Replied, Voided, Caught, Given, Merged, HeldOnce, HoldsEach, UsedNoSpare, first_pass, caller, numbers_held, own_calls};
 
 use crate::held::Held;
 use crate::knowledge::Knowledge;
 use crate::rule::{
     Asking, CountAll, Cut, Draw, FinishDid, FinishVoid, Glue, Law, Look, LookUnused, Settle,
-    Sharing,
+    Sharing, Trusting,
 };
 use crate::trust::Trust;
 use atomic_table::{Refused, Seat, Table};
@@ -114,8 +114,8 @@ impl<T: Trust> SharedSession<T> {
     }
 
     /// Makes a call that is no offer, in its turn, which it waits for. It adds one item to the history: what was asked,
-    /// or, without memory, a Void. The reply is the session's at that place of the history. Where 2^64 - 1 calls were
-    /// made it adds nothing and waits for good.
+    /// or, without memory, a Void. The reply is the session's at that place of the history. Once 2^64 - 1 tickets were
+    /// drawn, by calls that need not all have ended, it draws none, adds nothing and waits for good.
     pub fn call<R: Wait>(
         &self,
         rt: &R,
@@ -127,7 +127,8 @@ impl<T: Trust> SharedSession<T> {
         ensures kept { pass.new ≡ record pass.old { seen = pass.new.seen } }
         ensures call { MatchResult result
             (λ reply. Replied (IsTrusted T.allows self.now.trust self.now.id) pass.old pass.new request.now reply)
-            (λ _. Voided pass.old pass.new request.now) }
+            (λ _. Voided (IsTrusted T.allows self.now.trust self.now.id) pass.old pass.new request.now) }
+        ensures sound { IsSound (play pass.new.seen) }
     {
         self.ask(rt, pass, request)
     }
@@ -145,7 +146,8 @@ impl<T: Trust> SharedSession<T> {
         ensures kept { pass.new ≡ record pass.old { seen = pass.new.seen } }
         ensures call { MatchResult result
             (λ reply. Replied (IsTrusted T.allows self.now.trust self.now.id) pass.old pass.new request.now reply)
-            (λ _. Voided pass.old pass.new request.now) }
+            (λ _. Voided (IsTrusted T.allows self.now.trust self.now.id) pass.old pass.new request.now) }
+        ensures sound { IsSound (play pass.new.seen) }
     {
         self.ask(rt, pass, request)
     }
@@ -154,9 +156,10 @@ impl<T: Trust> SharedSession<T> {
     pub fn calls_done(&self, pass: &mut Pass) -> u64
         requires { pass.old.session ≡ self.now.session }
         ensures length { result ≡ length pass.new.seen }
-        ensures seen { Caught pass.old pass.new }
+        ensures seen { Caught (IsTrusted T.allows self.now.trust self.now.id) pass.old pass.new }
+        ensures sound { IsSound (play pass.new.seen) }
     {
-        self.table.shared.load::<CountAll>(&mut pass.seat, SERVING)
+        self.count::<Brand>(&mut pass.seat)
     }
 
     /// A pass for a new caller, which has seen the same and has no calls. It takes `spare + 1` of the spare numbers: one
@@ -170,6 +173,8 @@ impl<T: Trust> SharedSession<T> {
         ensures numbers { IfOk result (λ new. (numbers_held new ≡ spare + 1) × (count_of new.spare ≡ spare)) }
         ensures numbers_left { numbers_held pass.new + (spare + 1) ≡ numbers_held pass.old }
         ensures spare_left { count_of pass.new.spare + (spare + 1) ≡ count_of pass.old.spare }
+        ensures apart { IfOk result (λ new. HeldOnce pass.new new) }
+        ensures unused { UsedNoSpare pass.old }
     {
         let seat = self.cut::<Brand>(&mut pass.seat, spare);
         Ok(Pass { seat })
@@ -181,6 +186,8 @@ impl<T: Trust> SharedSession<T> {
         requires other_session { other.session ≡ self.now.session }
         ensures merged { Merged keep.old other keep.new }
         ensures numbers { numbers_held keep.new ≡ numbers_held keep.old + numbers_held other }
+        ensures distinct { HeldOnce keep.old other }
+        ensures caller { (0 < length keep.old.callers) × (caller keep.new ≡ caller keep.old) }
     {
         let Pass { seat } = other;
         self.table.shared.join_seat::<Glue>(&mut keep.seat, seat);
@@ -188,13 +195,16 @@ impl<T: Trust> SharedSession<T> {
     }
 
     /// The session in the end. The pass holds all numbers: every other one was merged into it, and no call is under way.
-    /// All that was ever called is among its calls.
+    /// All that was ever called is among its calls. The log has just the events that were answered Stamped.
     pub fn close(self, pass: Pass) -> Session
         requires session { pass.session ≡ self.session }
         requires whole { numbers_held pass ≡ all_numbers }
         ensures play { result.plain ≡ play pass.seen }
         ensures calls { own_calls pass ≡ pass.seen }
+        ensures numbers { HoldsEach pass }
         ensures trusted { IsTrusted T.allows self.trust self.id result.plain }
+        ensures events { TellsItsEvents (requests_of pass.seen)
+            (replies_from first_session (requests_of pass.seen)) result.plain.log }
     {
         let SharedSession { table } = self;
         let Pass { seat } = pass;
@@ -202,6 +212,16 @@ impl<T: Trust> SharedSession<T> {
         let held = closed.take(0);
         closed.free();
         held.into_session()
+    }
+
+    // Looks at the whole history, and gives its length.
+    fn count<J: Trusting>(&self, seat: &mut Place) -> u64
+        requires table { seat.old.table_id ≡ self.now.session }
+        requires trusted { (s : PlainSession) → IsTrusted T.allows self.now.trust self.now.id s → J.trusted s }
+        ensures table { seat.new.table_id ≡ self.now.session }
+        ensures counted { HasCounted J.trusted seat.old.me result seat.new.me }
+    {
+        self.table.shared.load::<CountAll<J>>(seat, SERVING)
     }
 
     // Makes a call for the pass.
@@ -216,13 +236,14 @@ impl<T: Trust> SharedSession<T> {
         ensures kept { pass.new ≡ record pass.old { seen = pass.new.seen } }
         ensures call { MatchResult result
             (λ reply. Replied (IsTrusted T.allows self.now.trust self.now.id) pass.old pass.new request.now reply)
-            (λ _. Voided pass.old pass.new request.now) }
+            (λ _. Voided (IsTrusted T.allows self.now.trust self.now.id) pass.old pass.new request.now) }
+        ensures sound { IsSound (play pass.new.seen) }
     {
         self.make::<Brand, R>(rt, &mut pass.seat, request)
     }
 
     // Makes a call with what is asked, which the proof names by `J`.
-    fn make<J: Asking, R: Wait>(
+    fn make<J: Asking + Trusting, R: Wait>(
         &self,
         rt: &R,
         seat: &mut Place,
@@ -237,6 +258,7 @@ impl<T: Trust> SharedSession<T> {
         ensures made { MatchResult result
             (λ reply. Answers J.trusted seat.old.me.0 seat.new.me request.now reply)
             (λ _. Fails seat.old.me.0 seat.new.me request.now) }
+        ensures plays { PlaysWell J.trusted seat.new.me.0.seen }
     {
         let ticket = self.draw(rt, seat);
         self.take_turn::<J, R>(rt, seat, ticket);
@@ -249,7 +271,9 @@ impl<T: Trust> SharedSession<T> {
                 Ok(reply)
             }
             Err(want) => {
-                self.table.shared.fetch_add::<FinishVoid>(seat, SERVING, 1);
+                self.table
+                    .shared
+                    .fetch_add::<FinishVoid<J>>(seat, SERVING, 1);
                 self.table.shared.wake_all(SERVING);
                 Err(want)
             }
@@ -260,6 +284,7 @@ impl<T: Trust> SharedSession<T> {
     fn draw<R: Wait>(&self, rt: &R, seat: &mut Place) -> u64
         requires table { seat.old.table_id ≡ self.now.session }
         requires idle { (seat.old.me.0.ticket ≡ None) × (seat.old.me.0.holding ≡ false) }
+        requires caller { 0 < length seat.old.me.0.callers }
         ensures table { seat.new.table_id ≡ self.now.session }
         ensures drawn { seat.new.me ≡ (with_ticket seat.old.me.0 result, seat.old.me.1) }
     {
@@ -278,7 +303,7 @@ impl<T: Trust> SharedSession<T> {
     }
 
     // Waits until the ticket is served, and takes the session. Between two looks it sleeps until a call has ended.
-    fn take_turn<J: Asking, R: Wait>(&self, rt: &R, seat: &mut Place, ticket: u64)
+    fn take_turn<J: Trusting, R: Wait>(&self, rt: &R, seat: &mut Place, ticket: u64)
         requires table { seat.old.table_id ≡ self.now.session }
         requires trusted { (s : PlainSession) → IsTrusted T.allows self.now.trust self.now.id s → J.trusted s }
         requires drawn { Waits seat.old.me ticket }
@@ -317,6 +342,7 @@ impl<T: Trust> SharedSession<T> {
         ensures kept { seat.new.me ≡ (split_left (spare + 1) seat.old.me.0, seat.old.me.1) }
         ensures given { result.me ≡ (split_right (spare + 1) seat.old.me.0, []) }
         ensures unused { (n : ℕ) → 0 < in_ranges n seat.old.me.0.spare → calls_of (n ∷ []) seat.old.me.0.seen ≡ [] }
+        ensures once { HoldsOnce seat.old.me.0 }
     {
         self.table.shared.load::<LookUnused>(seat, NEXT);
         self.table.shared.split_seat::<Cut<J>>(seat)

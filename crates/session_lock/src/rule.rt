@@ -21,21 +21,27 @@ impl<T: Trust> TableRule<Held, Knowledge, (SessionId, T)> for Law<T> {
     ghost first = { λ _. first_knowledge };
 }
 
-/// What a caller asks, and what its session keeps as trusted. Each call picks both.
+/// What a caller asks. Each call picks it.
 pub(crate) trait Asking {
     ghost use Rattle.reflector_core.specs.declared.request.Request.{Request};
-    ghost use Rattle.reflector_core.specs.PlainSession.{PlainSession};
 
     ghost request: { Request };
-
-    ghost trusted: { PlainSession → Type 0 };
 }
 
 impl Asking for Brand {
     ghost use Rattle.reflector_core.specs.declared.request.Request.TheVariants.{Pull};
 
     ghost request = { Pull 0 0 };
+}
 
+/// Which sessions keep what is trusted, since a step can't read that of the table. Each call picks it.
+pub(crate) trait Trusting {
+    ghost use Rattle.reflector_core.specs.PlainSession.{PlainSession};
+
+    ghost trusted: { PlainSession → Type 0 };
+}
+
+impl Trusting for Brand {
     ghost trusted = { λ _. Unit {0} };
 }
 
@@ -48,10 +54,10 @@ impl Play<Held, Knowledge> for Draw {
 }
 
 pub(crate) struct Look<J> {
-    asking: PhantomData<J>,
+    trusting: PhantomData<J>,
 }
 
-impl<J: Asking> Play<Held, Knowledge> for Look<J> {
+impl<J: Trusting> Play<Held, Knowledge> for Look<J> {
     ghost use Rattle.session_lock.specs.Steps.{Looks};
 
     ghost then = { Looks J.trusted };
@@ -62,29 +68,33 @@ pub(crate) struct FinishDid<J> {
     asking: PhantomData<J>,
 }
 
-impl<J: Asking> Play<Held, Knowledge> for FinishDid<J> {
+impl<J: Asking + Trusting> Play<Held, Knowledge> for FinishDid<J> {
     ghost use Rattle.session_lock.specs.declared.knowledge.Item.TheVariants.{Did};
     ghost use Rattle.session_lock.specs.Steps.{Finishes};
 
-    ghost then = { Finishes (λ caller. Did caller J.request) };
+    ghost then = { Finishes J.trusted (λ caller. Did caller J.request) };
 }
 
 /// The call found no memory.
-pub(crate) struct FinishVoid;
+pub(crate) struct FinishVoid<J> {
+    trusting: PhantomData<J>,
+}
 
-impl Play<Held, Knowledge> for FinishVoid {
+impl<J: Trusting> Play<Held, Knowledge> for FinishVoid<J> {
     ghost use Rattle.session_lock.specs.declared.knowledge.Item.TheVariants.{Void};
     ghost use Rattle.session_lock.specs.Steps.{Finishes};
 
-    ghost then = { Finishes (λ caller. Void caller) };
+    ghost then = { Finishes J.trusted (λ caller. Void caller) };
 }
 
-pub(crate) struct CountAll;
+pub(crate) struct CountAll<J> {
+    trusting: PhantomData<J>,
+}
 
-impl Play<Held, Knowledge> for CountAll {
+impl<J: Trusting> Play<Held, Knowledge> for CountAll<J> {
     ghost use Rattle.session_lock.specs.Steps.{Counts};
 
-    ghost then = { Counts };
+    ghost then = { Counts J.trusted };
 }
 
 /// How many spare numbers a new pass gets. Each split picks it.

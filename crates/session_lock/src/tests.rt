@@ -192,7 +192,7 @@ impl Trust for TrustFounding {
 
     ghost allows = { λ _ _ _ _ time _. time ≡ 0 };
 
-    ghost stays = { λ _ _ _ _ _ _ ok. ok };
+    ghost stays = { λ _ _ _ _ _ _ _ _ ok. ok };
 }
 
 /// The view 7 joins.

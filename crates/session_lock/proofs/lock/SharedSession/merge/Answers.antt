@@ -3,7 +3,7 @@ use Rattle.session_lock.specs.Steps.{IsIdle}
 use Rattle.session_lock.specs.Trusts.{IsTrusted}
 use Rattle.session_lock.proofs.StepLaws.{settles_me}
 use Rattle.session_lock.proofs.Shares.{merges}
-use Rattle.session_lock.proofs.Contracts.{fits, put_together, merged_told, merged_count}
+use Rattle.session_lock.proofs.Contracts.{fits, put_together, merged_told, merged_count, merged_apart, merged_caller}
 use Rattle.session_lock.proofs.lock.SharedSession.merge.Goals as goal
 
 pub join_seat-requires : goal.join_seat-requires
@@ -40,3 +40,11 @@ pub returns-clause-numbers : goal.returns-clause-numbers
 returns-clause-numbers g c =
     merged_count c.keep.inside.seat.table_id c.other.inside.seat.table_id c.load.new.seat.table_id c.keep.inside.seat.me c.join_seat.new.seat.me c.load.new.seat.me c.other.inside.seat.me.0 c.args.keep.now c.args.other c.keep.view_is c.other.view_is
     c.join_seat.ensures.2 c.load.ensures.2
+
+pub returns-clause-distinct : goal.returns-clause-distinct
+returns-clause-distinct g c =
+    merged_apart c.keep.inside.seat.table_id c.other.inside.seat.table_id c.keep.inside.seat.me c.join_seat.new.seat.me c.load.new.seat.me c.other.inside.seat.me.0 c.args.keep.now c.args.other c.keep.view_is c.other.view_is c.join_seat.ensures.2 c.load.ensures.2
+
+pub returns-clause-caller : goal.returns-clause-caller
+returns-clause-caller g c =
+    merged_caller c.keep.inside.seat.table_id c.keep.inside.seat.me.0 c.args.keep.now c.args.other _ c.keep.invariant.5.0 c.keep.invariant.5.1 c.keep.view_is c.keep.invariant.5.2 (returns-clause-merged g c)
