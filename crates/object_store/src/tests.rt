@@ -1,11 +1,17 @@
 //! Each call once, and the limits.
+ghost use Rattle.std.specs.Prelude.{IfOk};
+ghost use Rattle.model_value.specs.View.{plain_values};
+ghost use Rattle.object_store.specs.Store.{AreFields};
+
 use super::*;
-use model_value::{Value, Values, same};
+use model_value::{Value, Values};
 use std::alloc::Global;
 use std::test::Fail;
 use tea_base::List;
 
-fn fields(alloc: Global, number: i64) -> Result<Values, Fail> {
+fn fields(alloc: Global, number: i64) -> Result<Values, Fail>
+    ensures { IfOk result (λ fields. AreFields (plain_values fields)) }
+{
     let mut fields = List::new(alloc);
     fields.push(Value::Nil)?;
     fields.push(Value::Int(number))?;
