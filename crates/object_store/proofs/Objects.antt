@@ -1,12 +1,12 @@
 -- Objects by their place, lists with an object more or fewer, and the bounds of weights.
-use Rattle.std.proofs.Common.{◌≡◌, ℕ, zero, suc, ◌+◌, ◌*◌, ◌<◌, ◌≤◌, Bool, true, false, cond, List, [], ◌∷◌, ◌++◌, map, length, set, get_or, Option, Some, None, refl, sym, ap, subst, ◌∙◌, arith, drop, IsTrue, Bor}
-use Rattle.std.specs.Prelude.{nat_eq, not, is_some, Result, Ok, Err, is_ok, is_err}
+use Rattle.std.proofs.Common.{◌≡◌, ℕ, zero, suc, ◌+◌, ◌*◌, ◌<◌, ◌≤◌, Bool, true, false, cond, List, [], ◌∷◌, ◌++◌, length, set, get_or, Option, Some, None, refl, sym, ap, subst, ◌∙◌, arith, drop, IsTrue, Bor}
+use Rattle.std.specs.Prelude.{nat_eq, is_some, Result, Ok, Err, is_ok, is_err}
 use Rattle.std.specs.Option.{option_copied, option_map}
 use Rattle.std.specs.List.{filter, position_from}
 use Rattle.std.proofs.lemmas.Option.{none-some}
-use Rattle.std.proofs.lemmas.List.{length-map, length-append, map-append, map-set}
+use Rattle.std.proofs.lemmas.List.{length-map, length-append, map-append}
 use Rattle.std.proofs.lemmas.Bool.{false≢true}
-use Rattle.model_value.specs.Plain.{PlainValue, InBounds, weight, most_weight}
+use Rattle.model_value.specs.Plain.{PlainValue, InBounds, weight}
 use Rattle.model_value.specs.Valid.{AllInBounds, object_at, IsHeld, most_objects}
 use Rattle.model_value.specs.declared.value.Value.{Value}
 use Rattle.model_value.specs.World.{ObjectRecord, values_weight, object_weight, total}
@@ -61,11 +61,11 @@ placed : (id first place : ℕ) (os : List Object) → position_from (λ (p : Ob
 placed id first place [] e = absurd (none-some place e)
 placed id first place (o ∷ os) e = placed_here id first place o os (nat_eq o.id id) refl (placed id (first + 1) place os) e
 
-pub is_at : (id place : ℕ) (os : List Object) → Some place ≡ position_from (λ (p : Object). nat_eq p.id id) 0 os → IsAt id place os
-is_at id place os e =
-    let p = placed id 0 place os (sym e) in
-    let same : place ≡ p.behind = omega arith in
-    subst (λ (k : ℕ). IsAt id k os) (sym same) p.at
+pub is_at : (id place : ℕ) (os searched : List Object) → Some place ≡ position_from (λ (p : Object). nat_eq p.id id) 0 searched → searched ≡ os → IsAt id place os
+is_at id place os searched e same =
+    let p = placed id 0 place searched (sym e) in
+    let behind : place ≡ p.behind = omega arith in
+    subst (λ (all : List Object). IsAt id place all) same (subst (λ (k : ℕ). IsAt id k searched) (sym behind) p.at)
 
 nowhere_here : (id : ℕ) (o : Object) (os : List Object) (first : ℕ) (same : Bool) → nat_eq o.id id ≡ same → (position_from (λ (p : Object). nat_eq p.id id) (first + 1) os ≡ None → object_at (objects_seen os) id ≡ None) → cond same (Some first) (position_from (λ (p : Object). nat_eq p.id id) (first + 1) os) ≡ None → object_at (objects_seen (o ∷ os)) id ≡ None
 nowhere_here id o os first true test later e = absurd (none-some first (sym e))
@@ -75,8 +75,8 @@ nowhere_from : (id first : ℕ) (os : List Object) → position_from (λ (p : Ob
 nowhere_from id first [] e = refl
 nowhere_from id first (o ∷ os) e = nowhere_here id o os first (nat_eq o.id id) refl (nowhere_from id (first + 1) os) e
 
-pub nowhere : (id : ℕ) (os : List Object) → None ≡ position_from (λ (p : Object). nat_eq p.id id) 0 os → object_at (objects_seen os) id ≡ None
-nowhere id os e = nowhere_from id 0 os (sym e)
+pub nowhere : (id : ℕ) (os searched : List Object) → None ≡ position_from (λ (p : Object). nat_eq p.id id) 0 searched → searched ≡ os → object_at (objects_seen os) id ≡ None
+nowhere id os searched e same = subst (λ (all : List Object). object_at (objects_seen all) id ≡ None) same (nowhere_from id 0 searched (sym e))
 
 -- ---- an object more
 

@@ -66,7 +66,9 @@ impl Store {
         ensures { Creates result class (plain_values fields) self.old self.new }
     {
         if self.objects.len() == MOST_OBJECTS {
-            return Err(StoreRefusal::Full { count: 4096 });
+            return Err(StoreRefusal::Full {
+                count: MOST_OBJECTS as u32,
+            });
         }
         if self.next == u32::MAX {
             return Err(StoreRefusal::Spent);

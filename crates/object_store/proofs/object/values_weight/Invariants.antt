@@ -1,4 +1,4 @@
-use Rattle.std.proofs.Common.{◌≡◌, ◌≤◌, ◌+◌, ◌*◌, length, drop}
+use Rattle.std.proofs.Common.{◌≡◌, ◌+◌, drop}
 use Rattle.model_value.specs.View.{plain_values}
 use Rattle.model_value.specs.Valid.{AllInBounds}
 use Rattle.model_value.specs.World.{values_weight}

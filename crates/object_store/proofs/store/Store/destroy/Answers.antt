@@ -1,4 +1,4 @@
-use Rattle.std.proofs.Common.{ap, arith, length, ◌∙◌}
+use Rattle.std.proofs.Common.{ap, arith, length}
 use Rattle.std.specs.Prelude.{nat_eq, not}
 use Rattle.model_value.specs.World.{ObjectRecord}
 use Rattle.object_store.specs.View.{objects_seen}
