@@ -1,6 +1,6 @@
 -- Subscriptions compared, lists with one more or fewer, and the bounds of weights.
 use Rattle.std.proofs.Common.{◌≡◌, ℕ, zero, suc, ◌+◌, ◌*◌, ◌<◌, ◌≤◌, Bool, true, false, cond, List, [], ◌∷◌, ◌++◌, length, get_or, drop, refl, sym, ap, subst, ◌∙◌, arith}
-use Rattle.std.specs.Prelude.{nat_eq, bytes_eq, ◌||◌, Result, Ok, Err, is_ok, is_err}
+use Rattle.std.specs.Prelude.{nat_eq, bytes_eq, ◌||◌, ◌&&◌, Result, Ok, Err, is_ok, is_err}
 use Rattle.std.specs.List.{filter}
 use Rattle.std.proofs.lemmas.Bool.{false≢true}
 use Rattle.std.proofs.lemmas.List.{length-append}
@@ -10,7 +10,7 @@ use Rattle.model_value.specs.World.{subscription_weight, total}
 use Rattle.model_value.specs.declared.message.Subscription.{Subscription}
 use Rattle.pubsub.specs.Topics.{AreTopics, AllTextsFit, TextsFit, is_held, same}
 
-pub ruleset by_texts = (bytes_eq-Decides,)
+pub ruleset by_texts = (bytes_eq-Decides)
 
 -- ---- a subscription more
 
@@ -18,9 +18,12 @@ neither : (a b : Bool) → (a || b) ≡ false → (a ≡ false) × (b ≡ false)
 neither true b e = absurd (false≢true (sym e))
 neither false b e = (refl, e)
 
+first_of : (a b : Bool) → (a && b) ≡ true → a ≡ true
+first_of true b e = refl
+first_of false b e = e
+
 nat_same : (n : ℕ) → nat_eq n n ≡ true
-nat_same zero = refl
-nat_same (suc n) = nat_same n
+nat_same n = first_of (nat_eq n n) (bytes_eq [] []) ((bytes_eq-Decides (n ∷ []) (n ∷ [])).1 refl)
 
 pub same_self : (s : Subscription) → same s s ≡ true
 same_self s =
@@ -110,7 +113,7 @@ texts_at (s ∷ ss) (suc i) d inside h = texts_at ss i d (omega arith) h
 
 pub total_bound : (ss : List Subscription) → AllTextsFit ss → total subscription_weight ss ≤ length ss * 12290
 total_bound [] h = omega arith
-total_bound (s ∷ ss) h = omega (arith, h.0.0, h.0.1.0, h.0.1.1, total_bound ss h.1)
+total_bound (s ∷ ss) h = omega (arith, h.0.0, h.0.1, h.0.2, total_bound ss h.1)
 
 pub weight_at : (ss : List Subscription) (i : ℕ) (d : Subscription) → i < length ss → subscription_weight (get_or ss i d) ≤ total subscription_weight (drop i ss)
 weight_at [] i d inside = absurd (omega arith)

@@ -1,4 +1,4 @@
-//! Each call once.
+//! Each call once, and the limit.
 ghost use Rattle.std.specs.Prelude.{IfOk};
 ghost use Rattle.pubsub.specs.Topics.{TextsFit};
 
@@ -15,4 +15,29 @@ fn subscription(alloc: Global, event: &str, object: u32) -> Result<Subscription,
         object,
         method: Text::copy(alloc, "act")?,
     })
+}
+
+#[test]
+fn topics_hold_subscriptions_in_order(rt: HostRuntime) -> Result<(), Fail> {
+    let alloc = rt.alloc();
+    let mut topics = Topics::new(alloc);
+    assert!(rt; topics.weight() == 0);
+    assert!(rt; topics.subscribe(subscription(alloc, "tick", 7)?) == Ok(true));
+    assert!(rt; topics.subscribe(subscription(alloc, "tick", 3)?) == Ok(true));
+    assert!(rt; topics.subscribe(subscription(alloc, "tick", 7)?) == Ok(false));
+    assert!(rt; topics.subscribe(subscription(alloc, "tock", 7)?) == Ok(true));
+    assert!(rt; topics.weight() == 24);
+    let scope = Text::copy(alloc, "room")?;
+    let event = Text::copy(alloc, "tick")?;
+    let found = topics.handlers(&scope, &event)?;
+    assert!(rt; found.len() == 2);
+    assert!(rt; matches!(found.get(0), Some(handler) if handler.object == 7));
+    assert!(rt; matches!(found.get(1), Some(handler) if handler.object == 3));
+    assert!(rt; topics.handlers(&event, &scope)?.is_empty());
+    assert!(rt; topics.unsubscribe(&subscription(alloc, "tick", 3)?));
+    assert!(rt; !topics.unsubscribe(&subscription(alloc, "tick", 3)?));
+    assert!(rt; topics.drop_object(7) == 2);
+    assert!(rt; topics.drop_object(7) == 0);
+    assert!(rt; topics.weight() == 0);
+    Ok(())
 }
