@@ -1,9 +1,10 @@
 -- Subscriptions compared, lists with one more or fewer, and the bounds of weights.
-use Rattle.std.proofs.Common.{◌≡◌, ℕ, zero, suc, ◌+◌, ◌*◌, ◌<◌, ◌≤◌, Bool, true, false, cond, List, [], ◌∷◌, ◌++◌, length, get_or, drop, refl, sym, ap, subst, ◌∙◌, arith}
-use Rattle.std.specs.Prelude.{nat_eq, bytes_eq, ◌||◌, ◌&&◌, Result, Ok, Err, is_ok, is_err}
+use Rattle.std.proofs.Common.{◌≡◌, ℕ, zero, suc, ◌*◌, ◌<◌, ◌≤◌, Bool, true, false, cond, List, [], ◌∷◌, ◌++◌, length, get_or, drop, refl, sym, ap, subst, ◌∙◌, arith}
+use Rattle.std.specs.Prelude.{◌||◌, Result, Ok, Err, is_ok, is_err}
 use Rattle.std.specs.List.{filter}
 use Rattle.std.proofs.lemmas.Bool.{false≢true}
 use Rattle.std.proofs.lemmas.List.{length-append}
+use Rattle.std.specs.Cmp.{unsigned_Decides}
 use Rattle.std.proofs.lemmas.Slice.Eq.{bytes_eq-Decides}
 use Rattle.model_value.specs.Valid.{IsNew, SubscriptionsDiffer, most_pending}
 use Rattle.model_value.specs.World.{subscription_weight, total}
@@ -18,19 +19,13 @@ neither : (a b : Bool) → (a || b) ≡ false → (a ≡ false) × (b ≡ false)
 neither true b e = absurd (false≢true (sym e))
 neither false b e = (refl, e)
 
-first_of : (a b : Bool) → (a && b) ≡ true → a ≡ true
-first_of true b e = refl
-first_of false b e = e
-
-nat_same : (n : ℕ) → nat_eq n n ≡ true
-nat_same n = first_of (nat_eq n n) (bytes_eq [] []) ((bytes_eq-Decides (n ∷ []) (n ∷ [])).1 refl)
-
 pub same_self : (s : Subscription) → same s s ≡ true
 same_self s =
     let scope = (bytes_eq-Decides s.scope s.scope).1 refl in
     let event = (bytes_eq-Decides s.event s.event).1 refl in
     let method = (bytes_eq-Decides s.method s.method).1 refl in
-    rw (scope, event, nat_same s.object, method) refl
+    let object = (unsigned_Decides s.object s.object).1 refl in
+    rw (scope, event, object, method) refl
 
 new_push : (t s : Subscription) (ts : List Subscription) → IsNew t ts → ¬ (t ≡ s) → IsNew t (ts ++ s ∷ [])
 new_push t s [] h e = (e, tt)

@@ -1,5 +1,5 @@
-//! Each call once, and the limit.
-ghost use Rattle.std.specs.Prelude.{IfOk};
+//! Each call once.
+ghost use Rattle.std.specs.Prelude.{◌≤◌, length, IfOk};
 ghost use Rattle.pubsub.specs.Topics.{TextsFit};
 
 use super::*;
@@ -8,7 +8,10 @@ use std::alloc::Global;
 use std::test::Fail;
 use tea_base::{Text, WantOfMemory};
 
-fn subscription(alloc: Global, event: &str, object: u32) -> Result<Subscription, WantOfMemory> {
+fn subscription(alloc: Global, event: &str, object: u32) -> Result<Subscription, WantOfMemory>
+    requires { length event.now ≤ 16 }
+    ensures { IfOk result (λ s. TextsFit s) }
+{
     Ok(Subscription {
         scope: Text::copy(alloc, "room")?,
         event: Text::copy(alloc, event)?,

@@ -1,4 +1,4 @@
-use Rattle.std.proofs.Common.{◌≤◌, length, ap, arith}
+use Rattle.std.proofs.Common.{length, ap, arith}
 use Rattle.std.specs.Prelude.{nat_eq, not}
 use Rattle.model_value.specs.declared.message.Subscription.{Subscription}
 use Rattle.pubsub.proofs.Subscriptions.{filtered, few_filter}
