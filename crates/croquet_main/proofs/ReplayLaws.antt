@@ -1,77 +1,35 @@
 -- What the parts of `replay` make together.
-use Rattle.std.proofs.Common.{◌≡◌, ◌⊎◌, inl, inr, ℕ, ◌≤◌, ◌<◌, List, [], ◌∷◌, length, Option, Some, None, Result, Ok, Err, OnOk, refl, sym, ap, subst, ◌∙◌, String, arith}
+use Rattle.std.proofs.Common.{◌≡◌, ◌⊎◌, inl, inr, ℕ, ◌≤◌, ◌<◌, List, [], ◌∷◌, length, Option, Result, Err, refl, sym, ap, subst, ◌∙◌, String, arith}
 use Rattle.tea_base.specs.declared.entry.Entry.{Entry}
 use Rattle.model_lang.specs.Tree.{ProgramTree}
-use Rattle.model_lang.specs.declared.fault.LangFault.{LangFault}
-use Rattle.model_lang.specs.declared.fault.LangFault.TheVariants as lang
-use Rattle.model_lang.specs.declared.tree.Class.{Class}
-use Rattle.model_lang.specs.Answer.{Parses, IsPlaced}
-use Rattle.model_lang.specs.Program.{IsRead, Reading, a_program, no_program, too_large, IsReading}
-use Rattle.model_check.specs.FirstForms.{IsFirstProgram}
-use Rattle.model_check.specs.declared.fault.CheckFault.{CheckFault}
-use Rattle.model_check.specs.Faults.{first_fault}
 use Rattle.tea_io.specs.Files.{Content, Untold, Absent, Known, MayBe}
 use Rattle.std.specs.Prelude.{⊤}
 use Rattle.std.specs.Result.{IsErrAnd}
 use Rattle.tea_io.specs.Told.{grown}
 use Rattle.tea_io.specs.declared.files.FileCall.{FileCall}
 use Rattle.tea_io.specs.declared.files.FileCall.TheVariants as call
-use Rattle.croquet_main.specs.declared.words.Command.{Command}
-use Rattle.croquet_main.specs.declared.words.Command.TheVariants.{Replay}
 use Rattle.croquet_main.specs.declared.status.Fault.{Fault}
 use Rattle.croquet_main.specs.declared.status.Fault.TheVariants.{Usage, Program, Input, Read, Write, Sink, Memory}
 use Rattle.croquet_main.specs.declared.status.Input.{Input as InputName}
 use Rattle.croquet_main.specs.declared.status.Input.TheVariants as input
-use Rattle.croquet_main.specs.PrintedText.{check_line}
-use Rattle.croquet_main.specs.Verdict.{Verdict, Refusal, NoProgram, TooLarge, NotBuilt, Faulty, IsLineOf, IsRefused, IsRefusedFor, OfTree, OfReading, BadWords, Unreadable, BadProgram, BadInput, Unknown, Done, AreKept, Comes, HasGoodWords, IsInputLog, IsProgramLine, LogComes, MayBeBad, MayBeDone, MayBeRead, MayBeRefused, OfCheck, OfLog, OfProgram, PutsFiles, ReplayComes, log_limit, program_limit, replay_text}
-use Rattle.croquet_main.specs.Ends.{AskedFor, AskedTo, IsDoneWith, IsLonger, IsReadLog, IsUnread, LogEnd, ProgramEnd, IsSoundProgram, MayEnd, ReadEnd, WorkEnd}
+use Rattle.croquet_main.specs.Verdict.{Verdict, ToRun, BadWords, Unreadable, BadProgram, BadInput, Unknown, Done, HasGoodWords, IsInputLog, LogComes, MayBeBad, MayBeDone, MayBeRead, OfLog, ReplayComes, log_limit, program_limit, replay_text}
+use Rattle.croquet_main.specs.Ends.{AskedFor, AskedTo, IsDoneWith, IsLonger, IsReadLog, LogEnd, ProgramEnd, IsSoundProgram, MayEnd, ReadEnd, WorkEnd}
 use Rattle.croquet_main.proofs.StampLaws.{grown-append}
-
--- one thing comes of a text: what `model_lang::one_reading` says
-abbrev pub IsOneReading : Type 0
-IsOneReading = (text : List ℕ) (reading other : Reading) → IsReading text reading → IsReading text other → reading ≡ other
+use Rattle.croquet_main.proofs.ProgramLaws.{Next, IsOneReading, IsSomeReading, HasNoFiles, IsNone, by_fault, end_program, no_files, program_comes, program_read, some_program, to_next}
 
 -- ---- the program
 
+-- what comes where a program was read
+abbrev pub AfterProgram : List ℕ → ℕ → Content → Next
+AfterProgram name time log = λ bytes tree verdict. LogComes log (replay_text name time bytes tree) verdict
+
 -- the verdict is by the log, or the program is not told
 abbrev pub ComesAfter : List ℕ → ℕ → Content → List ℕ → ProgramTree → Verdict → Type 0
-ComesAfter name time log bytes tree verdict = (verdict ≡ Unknown (input.Program ∷ input.Log ∷ [])) ⊎ LogComes log (replay_text name time bytes tree) verdict
-
--- the verdict is by the program
-abbrev pub ProgramComes : List ℕ → ℕ → Content → List ℕ → Verdict → Type 0
-ProgramComes name time log bytes verdict = OfProgram bytes (λ tree. LogComes log (replay_text name time bytes tree) verdict) verdict
-
-of_check : (found : Option CheckFault) (next : Type 0) (verdict : Verdict) → found ≡ None → OfCheck found next verdict → next
-of_check None next verdict none comes = comes
-of_check (Some fault) next verdict none comes = absurd cc
-
-of_tree : (tree : ProgramTree) (next : Type 0) (verdict : Verdict) → IsFirstProgram tree → first_fault tree ≡ None → OfTree tree next verdict → next
-of_tree tree next verdict built sound (inl (not, is)) = absurd (not built)
-of_tree tree next verdict built sound (inr (first, checked)) = of_check (first_fault tree) next verdict sound checked
-
-of_bytes : IsOneReading → (name : List ℕ) (time : ℕ) (log : Content) (bytes : List ℕ) (tree : ProgramTree) (verdict : Verdict) → length bytes ≤ program_limit → IsSoundProgram bytes tree → ProgramComes name time log bytes verdict → ComesAfter name time log bytes tree verdict
-of_bytes one name time log bytes tree verdict within sound (inl (long, is)) = absurd (omega (arith, within, long))
-of_bytes one name time log bytes tree verdict within sound (inr (short, (reading, read, comes))) =
-    let P : Reading → Type 0 = λ r. OfReading (length bytes) r (λ tree. LogComes log (replay_text name time bytes tree) verdict) verdict in
-    inr (of_tree tree _ verdict sound.built sound.sound (subst P (sym (one bytes (a_program tree) reading sound.read read)) comes))
+ComesAfter name time log bytes tree verdict = (verdict ≡ Unknown (input.Program ∷ input.Log ∷ []) ToRun) ⊎ LogComes log (replay_text name time bytes tree) verdict
 
 -- where a program was read
-pub to_log : IsOneReading → (name : List ℕ) (time : ℕ) (content log : Content) (bytes : List ℕ) (tree : ProgramTree) (verdict : Verdict) → MayBe content bytes → length bytes ≤ program_limit → IsSoundProgram bytes tree → ReplayComes name time content log verdict → ComesAfter name time log bytes tree verdict
-to_log one name time Untold log bytes tree verdict held within sound comes = inl comes
-to_log one name time Absent log bytes tree verdict held within sound comes = absurd held
-to_log one name time (Known told) log bytes tree verdict held within sound comes =
-    let P : List ℕ → Type 0 = λ b. ProgramComes name time log b verdict in
-    of_bytes one name time log bytes tree verdict within sound (subst P (sym held) comes)
-
--- a program above its limit
-long_bytes : (name : List ℕ) (time : ℕ) (log : Content) (bytes : List ℕ) (verdict : Verdict) → program_limit < length bytes → ProgramComes name time log bytes verdict → MayBeBad input.Program verdict
-long_bytes name time log bytes verdict longer (inl (long, is)) = rw is refl
-long_bytes name time log bytes verdict longer (inr (short, rest)) = absurd (omega (arith, longer, short))
-
-pub long_program : (name : List ℕ) (time : ℕ) (content log : Content) (verdict : Verdict) → IsLonger content program_limit → ReplayComes name time content log verdict → MayBeBad input.Program verdict
-long_program name time Untold log verdict longer comes = rw comes (0, omega arith, refl)
-long_program name time Absent log verdict longer comes = absurd longer
-long_program name time (Known bytes) log verdict longer comes = long_bytes name time log bytes verdict longer comes
+pub to_log : IsOneReading → (name : List ℕ) (time : ℕ) (content log : Content) (bytes : List ℕ) (tree : ProgramTree) (verdict : Verdict) → MayBe content bytes → length bytes ≤ program_limit → IsSoundProgram ToRun bytes tree → ReplayComes name time content log verdict → ComesAfter name time log bytes tree verdict
+to_log one name time content log bytes tree verdict held within sound comes = to_next one ToRun (input.Log ∷ []) (AfterProgram name time log) content bytes tree verdict held within sound comes
 
 -- the read of a log may fail, where it comes to it
 log_read_any : (log : Content) (text : List Entry → List ℕ) (verdict : Verdict) (read : InputName) → LogComes log text verdict → MayBeRead read verdict
@@ -80,25 +38,10 @@ log_read_any Absent text verdict read comes = rw comes tt
 log_read_any (Known bytes) text verdict read (inl (log, is_log, is)) = rw is tt
 log_read_any (Known bytes) text verdict read (inr (none, is)) = rw is tt
 
-read_check : (found : Option CheckFault) (log : Content) (text : List Entry → List ℕ) (verdict : Verdict) → OfCheck found (LogComes log text verdict) verdict → MayBeRead input.Program verdict
-read_check None log text verdict comes = log_read_any log text verdict input.Program comes
-read_check (Some fault) log text verdict comes = rw comes refl
-
-read_tree : (tree : ProgramTree) (log : Content) (text : List Entry → List ℕ) (verdict : Verdict) → OfTree tree (LogComes log text verdict) verdict → MayBeRead input.Program verdict
-read_tree tree log text verdict (inl (not, is)) = rw is refl
-read_tree tree log text verdict (inr (first, checked)) = read_check (first_fault tree) log text verdict checked
-
-read_reading : (most : ℕ) (reading : Reading) (name : List ℕ) (time : ℕ) (log : Content) (bytes : List ℕ) (verdict : Verdict) → OfReading most reading (λ tree. LogComes log (replay_text name time bytes tree) verdict) verdict → MayBeRead input.Program verdict
-read_reading most (a_program tree) name time log bytes verdict comes = read_tree tree log (replay_text name time bytes tree) verdict comes
-read_reading most no_program name time log bytes verdict comes = rw comes refl
-read_reading most (too_large what count) name time log bytes verdict comes = rw comes refl
-
 -- the read of a program may fail
-pub program_read : (name : List ℕ) (time : ℕ) (content log : Content) (verdict : Verdict) → ReplayComes name time content log verdict → MayBeRead input.Program verdict
-program_read name time Untold log verdict comes = rw comes tt
-program_read name time Absent log verdict comes = rw comes refl
-program_read name time (Known bytes) log verdict (inl (long, is)) = rw is refl
-program_read name time (Known bytes) log verdict (inr (short, (reading, read, comes))) = read_reading (length bytes) reading name time log bytes verdict comes
+pub replay_read : (name : List ℕ) (time : ℕ) (content log : Content) (verdict : Verdict) → ReplayComes name time content log verdict → MayBeRead input.Program verdict
+replay_read name time content log verdict comes =
+    program_read ToRun (input.Log ∷ []) (AfterProgram name time log) content verdict (λ bytes tree after. log_read_any log (replay_text name time bytes tree) verdict input.Program after) comes
 
 pub log_read : (name : List ℕ) (time : ℕ) (log : Content) (bytes : List ℕ) (tree : ProgramTree) (verdict : Verdict) → ComesAfter name time log bytes tree verdict → MayBeRead input.Log verdict
 log_read name time log bytes tree verdict (inl is) = rw is tt
@@ -110,60 +53,8 @@ good_words read BadWords may = absurd may
 good_words read (Unreadable absent) may = tt
 good_words read (BadProgram line) may = tt
 good_words read (BadInput bad) may = tt
-good_words read (Unknown inputs) may = tt
+good_words read (Unknown inputs purpose) may = tt
 good_words read (Done text files) may = tt
-
--- a program that is refused
-refused_check : (found : Option CheckFault) (next : Type 0) (line : List ℕ) (fault : CheckFault) (verdict : Verdict) → found ≡ Some fault → line ≡ check_line fault → OfCheck found next verdict → MayBeRefused line verdict
-refused_check None next line fault verdict is told comes = absurd cc
-refused_check (Some found) next line fault verdict is told comes =
-    let same : fault ≡ found = cc in rw comes (told ∙ ap check_line same)
-
-refused_tree : (tree : ProgramTree) (next : Type 0) (line : List ℕ) (fault : CheckFault) (verdict : Verdict) → IsFirstProgram tree → first_fault tree ≡ Some fault → line ≡ check_line fault → OfTree tree next verdict → MayBeRefused line verdict
-refused_tree tree next line fault verdict built found told (inl (not, is)) = absurd (not built)
-refused_tree tree next line fault verdict built found told (inr (first, checked)) = refused_check (first_fault tree) next line fault verdict found told checked
-
-unbuilt_tree : (tree : ProgramTree) (next : Type 0) (line : List ℕ) (verdict : Verdict) → ¬ IsFirstProgram tree → IsLineOf NotBuilt line → OfTree tree next verdict → MayBeRefused line verdict
-unbuilt_tree tree next line verdict never told (inl (not, is)) = rw is told
-unbuilt_tree tree next line verdict never told (inr (first, checked)) = absurd (never first)
-
--- of bytes that are refused another thing comes than what the reading of a program leads to
-refused_reading : IsOneReading → (bytes line : List ℕ) (next : ProgramTree → Type 0) (verdict : Verdict) (refusal : Refusal) → IsRefusedFor bytes refusal → IsLineOf refusal line → (reading : Reading) → IsReading bytes reading → OfReading (length bytes) reading next verdict → MayBeRefused line verdict
-refused_reading one bytes line next verdict (NoProgram most) (long, none) told reading read comes =
-    let is : verdict ≡ BadProgram (NoProgram (length bytes)) = subst (λ r. OfReading (length bytes) r next verdict) (sym (one bytes no_program reading none read)) comes in
-    rw is (rw long at told)
-refused_reading one bytes line next verdict (TooLarge what count) many told reading read comes =
-    let is : verdict ≡ BadProgram (TooLarge what count) = subst (λ r. OfReading (length bytes) r next verdict) (sym (one bytes (too_large what count) reading many read)) comes in
-    rw is told
-refused_reading one bytes line next verdict NotBuilt (tree, is_read, never) told reading read comes =
-    unbuilt_tree tree (next tree) line verdict never told (subst (λ r. OfReading (length bytes) r next verdict) (sym (one bytes (a_program tree) reading is_read read)) comes)
-refused_reading one bytes line next verdict (Faulty fault) (tree, is_read, first, found) told reading read comes =
-    refused_tree tree (next tree) line fault verdict first found told (subst (λ r. OfReading (length bytes) r next verdict) (sym (one bytes (a_program tree) reading is_read read)) comes)
-
-refused_bytes : IsOneReading → (name : List ℕ) (time : ℕ) (log : Content) (bytes line : List ℕ) (verdict : Verdict) → length bytes ≤ program_limit → IsRefused bytes line → ProgramComes name time log bytes verdict → MayBeRefused line verdict
-refused_bytes one name time log bytes line verdict within refused (inl (long, is)) = absurd (omega (arith, within, long))
-refused_bytes one name time log bytes line verdict within (refusal, is_refused, told) (inr (short, (reading, read, comes))) =
-    refused_reading one bytes line (λ tree. LogComes log (replay_text name time bytes tree) verdict) verdict refusal is_refused told reading read comes
-
-line_of_refused : (bytes line : List ℕ) → length bytes ≤ program_limit → IsRefused bytes line → IsProgramLine line
-line_of_refused bytes line within refused = (bytes, within, refused)
-
--- a text that is not read
-pub refused_unread : (bytes : List ℕ) (lang_fault : LangFault) (fault : Fault) → Parses (Err lang_fault) bytes → IsPlaced {A = List Class} (Err lang_fault) (length bytes) → IsUnread lang_fault fault → ProgramEnd (Err fault) bytes
-refused_unread bytes (lang.Syntax at) fault none placed is = rw is (NoProgram (length bytes), (refl, none), (at, placed, refl))
-refused_unread bytes (lang.TooLarge what count) fault many placed is = rw is (TooLarge what count, many, refl)
-refused_unread bytes lang.WantOfMemory fault parsed placed is = rw is tt
-
--- a program with a fault
-pub refused_faulty : (bytes line : List ℕ) (tree : ProgramTree) (fault : CheckFault) → IsRead bytes tree → IsFirstProgram tree × (first_fault tree ≡ Some fault) → line ≡ check_line fault → IsRefused bytes line
-refused_faulty bytes line tree fault read found told = (Faulty fault, (tree, read, found.0, found.1), told)
-
-pub refused_program : IsOneReading → (name : List ℕ) (time : ℕ) (content log : Content) (bytes line : List ℕ) (verdict : Verdict) → MayBe content bytes → length bytes ≤ program_limit → IsRefused bytes line → ReplayComes name time content log verdict → MayBeRefused line verdict
-refused_program one name time Untold log bytes line verdict held within refused comes = rw comes ((0, omega arith, refl), line_of_refused bytes line within refused)
-refused_program one name time Absent log bytes line verdict held within refused comes = absurd held
-refused_program one name time (Known told) log bytes line verdict held within refused comes =
-    let P : List ℕ → Type 0 = λ b. ProgramComes name time log b verdict in
-    refused_bytes one name time log bytes line verdict within refused (subst P (sym held) comes)
 
 -- ---- the log
 
@@ -215,31 +106,14 @@ done_log name time log bytes spelled tree entries verdict held short read (inr c
 -- ---- there is a verdict where all was read
 
 log_comes : (log : Content) (spelled : List ℕ) (entries : List Entry) (text : List Entry → List ℕ) → MayBe log spelled → IsInputLog spelled entries → (verdict : Verdict) × LogComes log text verdict × MayBeDone verdict
-log_comes Untold spelled entries text held is_log = (Unknown (input.Log ∷ []), refl, tt)
+log_comes Untold spelled entries text held is_log = (Unknown (input.Log ∷ []) ToRun, refl, tt)
 log_comes Absent spelled entries text held is_log = absurd held
 log_comes (Known bytes) spelled entries text held is_log = (Done (text entries) [], inl (entries, rw held at is_log, refl), tt)
 
-check_comes : (found : Option CheckFault) (next : Type 0) (verdict : Verdict) → found ≡ None → next → OfCheck found next verdict
-check_comes None next verdict none comes = comes
-check_comes (Some fault) next verdict none comes = absurd cc
-
-bytes_come : (name : List ℕ) (time : ℕ) (log : Content) (bytes spelled : List ℕ) (tree : ProgramTree) (entries : List Entry) → length bytes ≤ program_limit → IsSoundProgram bytes tree → MayBe log spelled → IsInputLog spelled entries → (verdict : Verdict) × ProgramComes name time log bytes verdict × MayBeDone verdict
-bytes_come name time log bytes spelled tree entries within sound held is_log =
-    let found = log_comes log spelled entries (replay_text name time bytes tree) held is_log in
-    (found.0, inr (within, (a_program tree, sound.read, inr (sound.built, check_comes (first_fault tree) _ found.0 sound.sound found.1))), found.2)
-
-pub some_verdict : (name : List ℕ) (time : ℕ) (content log : Content) (bytes spelled : List ℕ) (tree : ProgramTree) (entries : List Entry) → MayBe content bytes → length bytes ≤ program_limit → IsSoundProgram bytes tree → MayBe log spelled → length spelled ≤ log_limit → IsReadLog spelled entries → (verdict : Verdict) × ReplayComes name time content log verdict × MayBeDone verdict
-some_verdict name time Untold log bytes spelled tree entries held within sound log_held short read = (Unknown (input.Program ∷ input.Log ∷ []), refl, tt)
-some_verdict name time Absent log bytes spelled tree entries held within sound log_held short read = absurd held
-some_verdict name time (Known told) log bytes spelled tree entries held within sound log_held short read =
-    let P : List ℕ → Type 0 = λ b. (verdict : Verdict) × ProgramComes name time log b verdict × MayBeDone verdict in
-    subst P held (bytes_come name time log bytes spelled tree entries within sound log_held (is_input spelled entries short read))
-
--- ---- a fault that is handed on
-
-pub by_fault : {T : Type 0} (P : Result T Fault → Type 0) (result : Result T Fault) (fault : Fault) → IsErrAnd result (λ found. found ≡ fault) → P (Err fault) → P result
-by_fault P (Ok value) fault given meant = absurd given
-by_fault P (Err found) fault given meant = subst (λ (f : Fault). P (Err f)) (sym given) meant
+pub some_verdict : (name : List ℕ) (time : ℕ) (content log : Content) (bytes spelled : List ℕ) (tree : ProgramTree) (entries : List Entry) → MayBe content bytes → length bytes ≤ program_limit → IsSoundProgram ToRun bytes tree → MayBe log spelled → length spelled ≤ log_limit → IsReadLog spelled entries → (verdict : Verdict) × ReplayComes name time content log verdict × MayBeDone verdict
+some_verdict name time content log bytes spelled tree entries held within sound log_held short read =
+    program_comes ToRun (input.Log ∷ []) (AfterProgram name time log) content bytes tree held within sound
+    (log_comes log spelled entries (replay_text name time bytes tree) log_held (is_input spelled entries short read))
 
 -- ---- the calls that were made
 
@@ -274,16 +148,6 @@ asked_both program log old mid new first second = both_reads program log old mid
 
 -- ---- how the work ends
 
--- the program was read, and refused
-end_program_err : (A : Type 0) → IsOneReading → (fault : Fault) (name : List ℕ) (time : ℕ) (content log : Content) (bytes : List ℕ) (verdict : Verdict) → MayBe content bytes → length bytes ≤ program_limit → ProgramEnd (Err fault) bytes → ReplayComes name time content log verdict → WorkEnd {A = A} (Err fault) verdict
-end_program_err A one Usage name time content log bytes verdict held within end comes = absurd end
-end_program_err A one (Program line) name time content log bytes verdict held within end comes = refused_program one name time content log bytes line verdict held within end comes
-end_program_err A one (Input at) name time content log bytes verdict held within end comes = absurd end
-end_program_err A one Read name time content log bytes verdict held within end comes = absurd end
-end_program_err A one Write name time content log bytes verdict held within end comes = absurd end
-end_program_err A one Sink name time content log bytes verdict held within end comes = absurd end
-end_program_err A one Memory name time content log bytes verdict held within end comes = tt
-
 -- the log was not read
 end_log_err : (A : Type 0) (fault : Fault) (name : List ℕ) (time : ℕ) (log : Content) (bytes : List ℕ) (tree : ProgramTree) (verdict : Verdict) → ReadEnd log log_limit input.Log (Err fault) → ComesAfter name time log bytes tree verdict → WorkEnd {A = A} (Err fault) verdict
 end_log_err A Usage name time log bytes tree verdict end comes = absurd end
@@ -312,9 +176,9 @@ pub asked_bad_log : {T : Type 0} (result : Result T Fault) (fault : Fault) (prog
 asked_bad_log {T = T} result fault program log bytes verdict old mid new given p0 p1 p2 =
     by_fault (λ r. AskedFor r verdict ((input.Program, program) ∷ (input.Log, log) ∷ []) [] old new ⊤) result fault given (asked_bad_log_err T fault program log bytes verdict old mid new p0 p1 p2)
 
-pub end_program : {A : Type 0} (one : IsOneReading) (result : Result (String A) Fault) (fault : Fault) (name : List ℕ) (time : ℕ) (content log : Content) (bytes : List ℕ) (verdict : Verdict) → IsErrAnd result (λ found. found ≡ fault) → MayBe content bytes → length bytes ≤ program_limit → ProgramEnd (Err fault) bytes → ReplayComes name time content log verdict → WorkEnd result verdict
-end_program {A = A} one result fault name time content log bytes verdict given p0 p1 p2 p3 =
-    by_fault (λ r. WorkEnd r verdict) result fault given (end_program_err A one fault name time content log bytes verdict p0 p1 p2 p3)
+pub end_replay : {A : Type 0} (one : IsOneReading) (result : Result (String A) Fault) (fault : Fault) (name : List ℕ) (time : ℕ) (content log : Content) (bytes : List ℕ) (verdict : Verdict) → IsErrAnd result (λ found. found ≡ fault) → MayBe content bytes → length bytes ≤ program_limit → ProgramEnd ToRun (Err fault) bytes → ReplayComes name time content log verdict → WorkEnd result verdict
+end_replay {A = A} one result fault name time content log bytes verdict given held within end comes =
+    end_program one result fault ToRun (input.Log ∷ []) (AfterProgram name time log) content bytes verdict given held within end comes
 
 pub end_log : {A : Type 0} (result : Result (String A) Fault) (fault : Fault) (name : List ℕ) (time : ℕ) (log : Content) (bytes : List ℕ) (tree : ProgramTree) (verdict : Verdict) → IsErrAnd result (λ found. found ≡ fault) → ReadEnd log log_limit input.Log (Err fault) → ComesAfter name time log bytes tree verdict → WorkEnd result verdict
 end_log {A = A} result fault name time log bytes tree verdict given p0 p1 =
@@ -337,56 +201,26 @@ MayEnd-work A Memory verdict end = tt
 
 -- ---- no file is written
 
-abbrev pub HasNoFiles : Verdict → Type 0
-HasNoFiles (Done text files) = files ≡ []
-HasNoFiles _ = ⊤
-
 no_files_log : (log : Content) (text : List Entry → List ℕ) (verdict : Verdict) → LogComes log text verdict → HasNoFiles verdict
 no_files_log Untold text verdict comes = rw comes tt
 no_files_log Absent text verdict comes = rw comes tt
 no_files_log (Known bytes) text verdict (inl (log, is_log, is)) = rw is refl
 no_files_log (Known bytes) text verdict (inr (none, is)) = rw is tt
 
-no_files_check : (found : Option CheckFault) (log : Content) (text : List Entry → List ℕ) (verdict : Verdict) → OfCheck found (LogComes log text verdict) verdict → HasNoFiles verdict
-no_files_check None log text verdict comes = no_files_log log text verdict comes
-no_files_check (Some fault) log text verdict comes = rw comes tt
+pub replay_files : (name : List ℕ) (time : ℕ) (content log : Content) (verdict : Verdict) → ReplayComes name time content log verdict → HasNoFiles verdict
+replay_files name time content log verdict comes =
+    no_files ToRun (input.Log ∷ []) (AfterProgram name time log) content verdict (λ bytes tree after. no_files_log log (replay_text name time bytes tree) verdict after) comes
 
-no_files_tree : (tree : ProgramTree) (log : Content) (text : List Entry → List ℕ) (verdict : Verdict) → OfTree tree (LogComes log text verdict) verdict → HasNoFiles verdict
-no_files_tree tree log text verdict (inl (not, is)) = rw is tt
-no_files_tree tree log text verdict (inr (first, checked)) = no_files_check (first_fault tree) log text verdict checked
+-- ---- there is always a verdict
 
-no_files_reading : (most : ℕ) (reading : Reading) (name : List ℕ) (time : ℕ) (log : Content) (bytes : List ℕ) (verdict : Verdict) → OfReading most reading (λ tree. LogComes log (replay_text name time bytes tree) verdict) verdict → HasNoFiles verdict
-no_files_reading most (a_program tree) name time log bytes verdict comes = no_files_tree tree log (replay_text name time bytes tree) verdict comes
-no_files_reading most no_program name time log bytes verdict comes = rw comes tt
-no_files_reading most (too_large what count) name time log bytes verdict comes = rw comes tt
+some_of_log : (bytes : List ℕ) (text : List Entry → List ℕ) → ¬ IsNone (OfLog bytes text)
+some_of_log bytes text none = none (BadInput input.Log) (inr ((λ log is_log. none (Done (text log) []) (inl (log, is_log, refl))), refl))
 
-no_files : (name : List ℕ) (time : ℕ) (content log : Content) (verdict : Verdict) → ReplayComes name time content log verdict → HasNoFiles verdict
-no_files name time Untold log verdict comes = rw comes tt
-no_files name time Absent log verdict comes = rw comes tt
-no_files name time (Known bytes) log verdict (inl (long, is)) = rw is tt
-no_files name time (Known bytes) log verdict (inr (short, (reading, read, comes))) = no_files_reading (length bytes) reading name time log bytes verdict comes
+some_log : (log : Content) (text : List Entry → List ℕ) → ¬ IsNone (LogComes log text)
+some_log Untold text none = none (Unknown (input.Log ∷ []) ToRun) refl
+some_log Absent text none = none (Unreadable input.Log) refl
+some_log (Known bytes) text none = some_of_log bytes text none
 
-PutsFiles-kept : (verdict : Verdict) (old new : List ℕ → Content) → MayBeDone verdict → HasNoFiles verdict → AreKept old new → PutsFiles verdict old new
-PutsFiles-kept BadWords old new done none kept = absurd done
-PutsFiles-kept (Unreadable absent) old new done none kept = absurd done
-PutsFiles-kept (BadProgram line) old new done none kept = absurd done
-PutsFiles-kept (BadInput bad) old new done none kept = absurd done
-PutsFiles-kept (Unknown inputs) old new done none kept = tt
-PutsFiles-kept (Done text files) old new done none kept = rw none kept
-
-pub put_replay : (command : Option Command) (result : Result (Unit {0}) Fault) (program name log : List ℕ) (time : ℕ) (old new : List ℕ → Content) → command ≡ Some (Replay program name log time) → ((verdict : Verdict) → ReplayComes name time (old program) (old log) verdict → MayEnd result verdict) → AreKept old new → OnOk result ((verdict : Verdict) → Comes command old verdict → PutsFiles verdict old new)
-put_replay command (Ok done) program name log time old new is end kept =
-    λ verdict comes. (
-    let replay_comes : ReplayComes name time (old program) (old log) verdict = subst (λ (c : Option Command). Comes c old verdict) is comes in
-    PutsFiles-kept verdict old new (end verdict replay_comes) (no_files name time (old program) (old log) verdict replay_comes) kept
-    )
-put_replay command (Err fault) program name log time old new is end kept = tt
-
--- the text was not written whole, and no file is to be put
-pub PutsFiles-none : (text : List ℕ) (verdict : Verdict) (old new : List ℕ → Content) → IsDoneWith text verdict → AreKept old new → PutsFiles verdict old new
-PutsFiles-none text BadWords old new done kept = absurd done
-PutsFiles-none text (Unreadable absent) old new done kept = absurd done
-PutsFiles-none text (BadProgram line) old new done kept = absurd done
-PutsFiles-none text (BadInput bad) old new done kept = absurd done
-PutsFiles-none text (Unknown inputs) old new done kept = tt
-PutsFiles-none text (Done meant files) old new done kept = rw done.1 kept
+pub some_replay : IsSomeReading → (name : List ℕ) (time : ℕ) (program log : Content) → ¬ IsNone (ReplayComes name time program log)
+some_replay always name time program log none =
+    some_program always ToRun (input.Log ∷ []) (AfterProgram name time log) program (λ bytes tree. some_log log (replay_text name time bytes tree)) none

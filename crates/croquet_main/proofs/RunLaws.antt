@@ -1,19 +1,21 @@
 -- What the commands have in common.
-use Rattle.std.proofs.Common.{◌≡◌, inl, inr, ℕ, List, [], ◌∷◌, ◌++◌, Option, Some, None, Result, Ok, Err, IfErr, refl, sym, ap, subst, ◌∙◌}
+use Rattle.std.proofs.Common.{◌≡◌, inl, inr, ℕ, List, [], ◌∷◌, ◌++◌, Option, Some, None, Result, Ok, Err, IfErr, OnOk, refl, sym, ap, subst, ◌∙◌}
 use Rattle.tea_io.specs.Files.{Content, Untold, Absent, Known}
 use Rattle.tea_io.specs.Told.{grown}
 use Rattle.tea_io.specs.declared.files.FileCall.{FileCall}
 use Rattle.tea_io.specs.declared.files.FileCall.TheVariants as call
 use Rattle.reflector_core.specs.declared.request.Request.{Request}
 use Rattle.croquet_main.specs.declared.words.Command.{Command}
-use Rattle.croquet_main.specs.declared.words.Command.TheVariants.{Stamp, Replay}
+use Rattle.croquet_main.specs.declared.words.Command.TheVariants.{Stamp, Check, Replay}
 use Rattle.croquet_main.specs.declared.status.Fault.{Fault}
 use Rattle.croquet_main.specs.declared.status.Fault.TheVariants.{Usage, Program, Input, Read, Write, Sink, Memory}
 use Rattle.croquet_main.specs.declared.status.Input.{Input as InputName}
 use Rattle.croquet_main.specs.declared.status.Input.TheVariants as input
-use Rattle.croquet_main.specs.Verdict.{Verdict, BadWords, Unreadable, BadProgram, BadInput, Unknown, Done, Comes, HasBadWords, HasGoodWords, MayBeRead, inputs_of, optional_write, reads_of, reads_to, writes_of, replied, requests_in, stamp_verdict}
-use Rattle.croquet_main.specs.Ends.{AskedFor, AskedTo, MadeAll, WritesBefore}
-use Rattle.croquet_main.proofs.ReplayLaws.{good_words, program_read}
+use Rattle.croquet_main.specs.Verdict.{Verdict, BadWords, Unreadable, BadProgram, BadInput, Unknown, Done, AreKept, CheckComes, Comes, PutsFiles, ReplayComes, HasBadWords, HasGoodWords, MayBeRead, inputs_of, optional_write, reads_of, reads_to, writes_of, replied, requests_in, stamp_verdict}
+use Rattle.croquet_main.specs.Ends.{AskedFor, AskedTo, MadeAll, MayEnd, WritesBefore}
+use Rattle.croquet_main.proofs.ProgramLaws.{put_none}
+use Rattle.croquet_main.proofs.CheckLaws.{check_files, check_read}
+use Rattle.croquet_main.proofs.ReplayLaws.{good_words, replay_files, replay_read}
 
 -- ---- stamp
 
@@ -65,6 +67,18 @@ write_command command result script log verdict old new quiet before after is as
     let P : Option Command → Type 0 = λ k. MadeAll (reads_of k ++ writes_of k) old new before after in
     subst P (sym is) (write_made result (call.Read script ∷ []) (optional_write log) verdict old new quiet before after asked part failed)
 
+-- ---- commands that write no file
+
+pub put_check : (command : Option Command) (result : Result (Unit {0}) Fault) (program : List ℕ) (old new : List ℕ → Content) → command ≡ Some (Check program) → ((verdict : Verdict) → CheckComes (old program) verdict → MayEnd result verdict) → AreKept old new → OnOk result ((verdict : Verdict) → Comes command old verdict → PutsFiles verdict old new)
+put_check command result program old new is end kept =
+    subst (λ (k : Option Command). OnOk result ((verdict : Verdict) → Comes k old verdict → PutsFiles verdict old new)) (sym is)
+    (put_none result (CheckComes (old program)) old new end (check_files (old program)) kept)
+
+pub put_replay : (command : Option Command) (result : Result (Unit {0}) Fault) (program name log : List ℕ) (time : ℕ) (old new : List ℕ → Content) → command ≡ Some (Replay program name log time) → ((verdict : Verdict) → ReplayComes name time (old program) (old log) verdict → MayEnd result verdict) → AreKept old new → OnOk result ((verdict : Verdict) → Comes command old verdict → PutsFiles verdict old new)
+put_replay command result program name log time old new is end kept =
+    subst (λ (k : Option Command). OnOk result ((verdict : Verdict) → Comes k old verdict → PutsFiles verdict old new)) (sym is)
+    (put_none result (ReplayComes name time (old program) (old log)) old new end (replay_files name time (old program) (old log)) kept)
+
 -- ---- the words
 
 not_both_words : (verdict : Verdict) {fact : Type 0} → HasBadWords verdict → HasGoodWords verdict → fact
@@ -72,7 +86,7 @@ not_both_words BadWords bad good = absurd good
 not_both_words (Unreadable absent) bad good = absurd bad
 not_both_words (BadProgram line) bad good = absurd bad
 not_both_words (BadInput input) bad good = absurd bad
-not_both_words (Unknown inputs) bad good = absurd bad
+not_both_words (Unknown inputs purpose) bad good = absurd bad
 not_both_words (Done text files) bad good = absurd bad
 
 -- the words are bad only where there is no command
@@ -80,5 +94,7 @@ pub no_inputs_of : (command : Option Command) (held : List ℕ → Content) (ver
 no_inputs_of None held verdict comes bad = refl
 no_inputs_of (Some (Stamp script log)) held verdict comes bad =
     not_both_words verdict bad (good_words input.Script verdict (subst (MayBeRead input.Script) (sym comes) (stamp_read log (held script))))
+no_inputs_of (Some (Check program)) held verdict comes bad =
+    not_both_words verdict bad (good_words input.Program verdict (check_read (held program) verdict comes))
 no_inputs_of (Some (Replay program name log time)) held verdict comes bad =
-    not_both_words verdict bad (good_words input.Program verdict (program_read name time (held program) (held log) verdict comes))
+    not_both_words verdict bad (good_words input.Program verdict (replay_read name time (held program) (held log) verdict comes))

@@ -6,7 +6,7 @@ use Rattle.croquet_main.specs.declared.words.Parts.{Parts}
 use Rattle.croquet_main.specs.declared.words.Reader.{Reader}
 use Rattle.croquet_main.specs.declared.words.Setting.{Setting}
 use Rattle.croquet_main.specs.declared.words.Command.{Command}
-use Rattle.croquet_main.specs.declared.words.Command.TheVariants.{Stamp, Replay}
+use Rattle.croquet_main.specs.declared.words.Command.TheVariants.{Stamp, Check, Replay}
 
 abbrev pub Word : Type 0
 Word = List ℕ
@@ -70,6 +70,15 @@ stamp_with positionals log settings = None
 abbrev pub stamp_of : Parts → Option Command
 stamp_of parts = stamp_with parts.positionals (value_of (codes "--log") parts.settings) (without (codes "--log") parts.settings)
 
+-- `check` has one positional, and no setting
+abbrev pub check_with : List Word → List Setting → Option Command
+check_with (program ∷ []) [] = Some (Check program)
+check_with positionals settings = None
+
+-- `check PROGRAM`
+abbrev pub check_of : Parts → Option Command
+check_of parts = check_with parts.positionals parts.settings
+
 -- the most bytes of UTF-8 that the name of a session has
 abbrev pub most_name : ℕ
 most_name = 255
@@ -95,6 +104,7 @@ replay_of parts = replay_with parts.positionals parts.settings
 abbrev pub command_named : Word → Parts → Option Command
 command_named name parts =
     if bytes_eq name (codes "stamp") then stamp_of parts
+    else if bytes_eq name (codes "check") then check_of parts
     else if bytes_eq name (codes "replay") then replay_of parts
     else None
 
@@ -106,6 +116,7 @@ command_of (name ∷ words) = option_and_then (command_named name) (parts_of wor
 -- a replay has a name of at most so many bytes, and a time below 2 ^ 53
 abbrev pub IsWithinBounds : Command → Type 0
 IsWithinBounds (Stamp script log) = ⊤
+IsWithinBounds (Check program) = ⊤
 IsWithinBounds (Replay program name log time) = (length (encode_utf8_all name) ≤ most_name) × (time < 2 ^ 53)
 
 -- what a reader makes of these words, after those that it has read

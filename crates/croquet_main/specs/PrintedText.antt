@@ -1,14 +1,16 @@
--- The text of replies, the line of a world, and the lines of a program's faults.
+-- The text of replies, the lines of a world and of a check, and the lines of a program's faults.
 use Rattle.std.specs.Prelude.{ℕ, List, [], ◌∷◌, ◌++◌, length, sum, encode_utf8_all, Option, Some, None, codes}
+use Rattle.std.specs.List.{sum_by}
 use Rattle.text_lines.specs.Lines.{numbered}
 use Rattle.hex.specs.Hex.{encode_lower}
 use Rattle.sha2.specs.Sha256.{sha256}
 use Rattle.snapshot_codec.specs.Spelling.{world_spelling}
 use Rattle.model_value.specs.World.{WorldRecord}
 use Rattle.model_check.specs.declared.fault.CheckFault.{CheckFault}
+use Rattle.model_lang.specs.Tree.{ProgramTree}
 use Rattle.model_lang.specs.declared.fault.Bound.{Bound}
 use Rattle.model_lang.specs.declared.fault.Bound.TheVariants as bound
-use Rattle.model_check.specs.declared.fault.CheckFault.TheVariants.{Twice, NoField, NotBuilt, WantOfMemory}
+use Rattle.model_check.specs.declared.fault.CheckFault.TheVariants.{Twice, NoName, NoClass, NoField, Count, NoRoot, WantOfMemory}
 use Rattle.reflector_core.specs.declared.start.Base.{Base}
 use Rattle.reflector_core.specs.declared.request.Reply.{Reply}
 use Rattle.reflector_core.specs.declared.request.Reply.TheVariants.{Joined, Stamped, Again, Ticked, Left, Kept, Batch, Refused}
@@ -82,6 +84,14 @@ digested_line w digest = counts_part w ++ faults_part w ++ digest_part digest ++
 abbrev pub world_line : WorldRecord → List ℕ
 world_line w = digested_line w (sha256 (world_spelling w))
 
+-- how many methods all classes have together
+abbrev pub method_count : ProgramTree → ℕ
+method_count tree = sum_by (λ c. length c.methods) tree
+
+-- the line of a program without faults: the numbers of its classes and of its methods
+abbrev pub counts_line : ProgramTree → List ℕ
+counts_line tree = numbered (codes "classes") (length tree ∷ []) ++ numbered (codes " methods") (method_count tree ∷ []) ++ codes "\n"
+
 -- the text is no program from this place on
 abbrev pub syntax_line : ℕ → List ℕ
 syntax_line at = numbered (codes "syntax") (at ∷ []) ++ codes "\n"
@@ -99,21 +109,20 @@ bound_word bound.Parameters = codes "too-large parameters"
 abbrev pub too_large_line : Bound → ℕ → List ℕ
 too_large_line what count = numbered (bound_word what) (count ∷ []) ++ codes "\n"
 
+-- a word and a name
+abbrev pub named_line : List ℕ → List ℕ → List ℕ
+named_line word name = word ++ encode_utf8_all name ++ codes "\n"
+
 -- the program has a form whose meaning is not there yet
 abbrev pub not_built_line : List ℕ
 not_built_line = codes "not-built\n"
 
--- a name is named a second time
-abbrev pub twice_line : List ℕ → List ℕ
-twice_line name = codes "twice " ++ encode_utf8_all name ++ codes "\n"
-
--- there is no field of this name
-abbrev pub no_field_line : List ℕ → List ℕ
-no_field_line name = codes "no-field " ++ encode_utf8_all name ++ codes "\n"
-
--- the line of a fault that a check finds
+-- the line of a fault that a check finds: what it is, and the name at which it stands
 abbrev pub check_line : CheckFault → List ℕ
-check_line (Twice name) = twice_line name
-check_line (NoField name) = no_field_line name
-check_line NotBuilt = not_built_line
+check_line (Twice name) = named_line (codes "twice ") name
+check_line (NoName name) = named_line (codes "no-name ") name
+check_line (NoClass name) = named_line (codes "no-class ") name
+check_line (NoField name) = named_line (codes "no-field ") name
+check_line (Count name) = named_line (codes "count ") name
+check_line NoRoot = codes "no-root\n"
 check_line WantOfMemory = []

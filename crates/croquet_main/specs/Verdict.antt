@@ -10,13 +10,13 @@ use Rattle.tea_base.specs.declared.entry.Entry.{Entry}
 use Rattle.reflector_core.specs.declared.request.Request.{Request}
 use Rattle.reflector_core.specs.Play.{first, after_all, replies_from, TellsItsEvents}
 use Rattle.croquet_main.specs.declared.words.Command.{Command}
-use Rattle.croquet_main.specs.declared.words.Command.TheVariants.{Stamp, Replay}
+use Rattle.croquet_main.specs.declared.words.Command.TheVariants.{Stamp, Check, Replay}
 use Rattle.croquet_main.specs.declared.status.Input.{Input}
 use Rattle.croquet_main.specs.declared.status.Input.TheVariants.{Script, Program, Log}
 use Rattle.croquet_main.specs.declared.status.Status.{Status}
 use Rattle.croquet_main.specs.declared.status.Status.TheVariants as status
 use Rattle.croquet_main.specs.Script.{script_of}
-use Rattle.croquet_main.specs.PrintedText.{text_of, world_line, syntax_line, too_large_line, not_built_line, check_line}
+use Rattle.croquet_main.specs.PrintedText.{text_of, counts_line, world_line, syntax_line, too_large_line, not_built_line, check_line}
 use Rattle.tea_base.specs.declared.entry.What.{What}
 use Rattle.tea_base.specs.declared.entry.What.TheVariants.{Join, Exit, Event}
 use Rattle.tea_base.specs.Legal.{IsLegal}
@@ -26,24 +26,34 @@ use Rattle.model_lang.specs.Tree.{ProgramTree}
 use Rattle.model_lang.specs.declared.fault.Bound.{Bound}
 use Rattle.model_lang.specs.Program.{IsRead, IsNoProgram, IsTooLarge, Reading, a_program, no_program, too_large, IsReading}
 use Rattle.model_check.specs.declared.fault.CheckFault.{CheckFault}
-use Rattle.model_check.specs.FirstForms.{IsFirstProgram}
+use Rattle.model_check.specs.FirstForms.{IsBuilt}
 use Rattle.model_check.specs.Faults.{first_fault}
 use Rattle.world.specs.Worlds.{replay}
+
+-- what a program is read for
+pub data Purpose : Type 0 where
+  ToCheck : Purpose
+  ToRun : Purpose
+
+-- it serves: to be checked, whatever its forms are; to be run, where the meaning of each is there
+abbrev pub Serves : Purpose → ProgramTree → Type 0
+Serves ToCheck tree = ⊤
+Serves ToRun tree = IsBuilt tree
 
 -- why a program is refused
 pub data Refusal : Type 0 where
   -- of a text with so many bytes
   NoProgram : ℕ → Refusal
   TooLarge : Bound → ℕ → Refusal
-  NotBuilt : Refusal
   Faulty : CheckFault → Refusal
+  NotBuilt : Refusal
 
 -- the line that tells it; of a text that is no program it tells a place in it, or its end
 abbrev pub IsLineOf : Refusal → List ℕ → Type 0
 IsLineOf (NoProgram most) line = (at : ℕ) × (at ≤ most) × (line ≡ syntax_line at)
 IsLineOf (TooLarge what count) line = line ≡ too_large_line what count
-IsLineOf NotBuilt line = line ≡ not_built_line
 IsLineOf (Faulty fault) line = line ≡ check_line fault
+IsLineOf NotBuilt line = line ≡ not_built_line
 
 -- what a run comes to where nothing of the outside fails
 pub data Verdict : Type 0 where
@@ -55,8 +65,8 @@ pub data Verdict : Type 0 where
   BadProgram : Refusal → Verdict
   -- this input is not in its grammar, or above its limit
   BadInput : Input → Verdict
-  -- the files do not tell; one of these inputs may be bad
-  Unknown : List Input → Verdict
+  -- the files do not tell; one of these inputs may be bad, and a program among them is read for this
+  Unknown : List Input → Purpose → Verdict
   -- the command writes this text, and these files by their names
   Done : List ℕ → List (List ℕ × List ℕ) → Verdict
 
@@ -86,7 +96,7 @@ replied log None = BadInput Script
 replied log (Some requests) = Done (stamped_text requests) (stamped_files log requests)
 
 abbrev pub stamp_verdict : Option (List ℕ) → Content → Verdict
-stamp_verdict log Untold = Unknown (Script ∷ [])
+stamp_verdict log Untold = Unknown (Script ∷ []) ToRun
 stamp_verdict log Absent = Unreadable Script
 stamp_verdict log (Known bytes) = replied log (requests_in bytes)
 
@@ -124,7 +134,7 @@ OfLog bytes text verdict =
     ⊎ (((log : List Entry) → ¬ IsInputLog bytes log) × (verdict ≡ BadInput Log))
 
 abbrev pub LogComes : Content → (List Entry → List ℕ) → Verdict → Type 0
-LogComes Untold text verdict = verdict ≡ Unknown (Log ∷ [])
+LogComes Untold text verdict = verdict ≡ Unknown (Log ∷ []) ToRun
 LogComes Absent text verdict = verdict ≡ Unreadable Log
 LogComes (Known bytes) text verdict = OfLog bytes text verdict
 
@@ -133,41 +143,54 @@ abbrev pub OfCheck : Option CheckFault → Type 0 → Verdict → Type 0
 OfCheck None next verdict = next
 OfCheck (Some fault) next verdict = verdict ≡ BadProgram (Faulty fault)
 
--- a program whose forms are not there yet is refused, and another is checked
-abbrev pub OfTree : ProgramTree → Type 0 → Verdict → Type 0
-OfTree tree next verdict =
-    ((¬ IsFirstProgram tree) × (verdict ≡ BadProgram NotBuilt))
-    ⊎ (IsFirstProgram tree × OfCheck (first_fault tree) next verdict)
+-- a program without faults that does not serve is told; else it is what follows
+abbrev pub OfForms : Purpose → ProgramTree → Type 0 → Verdict → Type 0
+OfForms purpose tree next verdict = (Serves purpose tree × next) ⊎ ((¬ Serves purpose tree) × (verdict ≡ BadProgram NotBuilt))
 
-abbrev pub OfReading : ℕ → Reading → (ProgramTree → Type 0) → Verdict → Type 0
-OfReading most (a_program tree) next verdict = OfTree tree (next tree) verdict
-OfReading most no_program next verdict = verdict ≡ BadProgram (NoProgram most)
-OfReading most (too_large what count) next verdict = verdict ≡ BadProgram (TooLarge what count)
+-- a program is checked, and then its forms are looked at
+abbrev pub OfTree : Purpose → ProgramTree → Type 0 → Verdict → Type 0
+OfTree purpose tree next verdict = OfCheck (first_fault tree) (OfForms purpose tree next verdict) verdict
+
+abbrev pub OfReading : Purpose → ℕ → Reading → (ProgramTree → Type 0) → Verdict → Type 0
+OfReading purpose most (a_program tree) next verdict = OfTree purpose tree (next tree) verdict
+OfReading purpose most no_program next verdict = verdict ≡ BadProgram (NoProgram most)
+OfReading purpose most (too_large what count) next verdict = verdict ≡ BadProgram (TooLarge what count)
 
 -- what comes of a program's bytes: they are above the file's limit, or they are read
-abbrev pub OfProgram : List ℕ → (ProgramTree → Type 0) → Verdict → Type 0
-OfProgram bytes next verdict =
+abbrev pub OfProgram : Purpose → List ℕ → (ProgramTree → Type 0) → Verdict → Type 0
+OfProgram purpose bytes next verdict =
     ((program_limit < length bytes) × (verdict ≡ BadInput Program))
-    ⊎ ((length bytes ≤ program_limit) × ((reading : Reading) × IsReading bytes reading × OfReading (length bytes) reading next verdict))
+    ⊎ ((length bytes ≤ program_limit) × ((reading : Reading) × IsReading bytes reading × OfReading purpose (length bytes) reading next verdict))
 
--- what comes of a replay where a program and a log are read, one after the other
+-- What comes of a command that reads a program for this, and then other inputs: where its bytes are a program that serves, what
+-- is `next`.
+abbrev pub ProgramComes : Purpose → List Input → (List ℕ → ProgramTree → Verdict → Type 0) → Content → Verdict → Type 0
+ProgramComes purpose others next Untold verdict = verdict ≡ Unknown (Program ∷ others) purpose
+ProgramComes purpose others next Absent verdict = verdict ≡ Unreadable Program
+ProgramComes purpose others next (Known bytes) verdict = OfProgram purpose bytes (λ tree. next bytes tree verdict) verdict
+
+-- a program without faults is counted
+abbrev pub CheckComes : Content → Verdict → Type 0
+CheckComes program verdict = ProgramComes ToCheck [] (λ bytes tree checked. checked ≡ Done (counts_line tree) []) program verdict
+
+-- a program is run over the log that is read behind it
 abbrev pub ReplayComes : List ℕ → ℕ → Content → Content → Verdict → Type 0
-ReplayComes name time Untold log verdict = verdict ≡ Unknown (Program ∷ Log ∷ [])
-ReplayComes name time Absent log verdict = verdict ≡ Unreadable Program
-ReplayComes name time (Known bytes) log verdict =
-    OfProgram bytes (λ tree. LogComes log (replay_text name time bytes tree) verdict) verdict
+ReplayComes name time program log verdict =
+    ProgramComes ToRun (Log ∷ []) (λ bytes tree replayed. LogComes log (replay_text name time bytes tree) replayed) program verdict
 
 -- What a run comes to: one row for each command. It is one verdict, but whether bytes are read as a program is no test, so
 -- this is a relation.
 abbrev pub Comes : Option Command → (List ℕ → Content) → Verdict → Type 0
 Comes None held verdict = verdict ≡ BadWords
 Comes (Some (Stamp script log)) held verdict = verdict ≡ stamp_verdict log (held script)
+Comes (Some (Check program)) held verdict = CheckComes (held program) verdict
 Comes (Some (Replay program name log time)) held verdict = ReplayComes name time (held program) (held log) verdict
 
 -- the inputs that a command reads and the names of their files, in order
 abbrev pub inputs_of : Option Command → List (Input × List ℕ)
 inputs_of None = []
 inputs_of (Some (Stamp script log)) = (Script, script) ∷ []
+inputs_of (Some (Check program)) = (Program, program) ∷ []
 inputs_of (Some (Replay program name log time)) = (Program, program) ∷ (Log, log) ∷ []
 
 abbrev pub reads_in : List (Input × List ℕ) → List FileCall
@@ -197,6 +220,7 @@ optional_write (Some name) = Write name ∷ []
 abbrev pub writes_of : Option Command → List FileCall
 writes_of None = []
 writes_of (Some (Stamp script log)) = optional_write log
+writes_of (Some (Check program)) = []
 writes_of (Some (Replay program name log time)) = []
 
 -- the requests of a script that is told
@@ -209,6 +233,7 @@ told_requests (Known bytes) = requests_in bytes
 abbrev pub requests_of_run : Option Command → (List ℕ → Content) → Option (List Request)
 requests_of_run None held = None
 requests_of_run (Some (Stamp script log)) held = told_requests (held script)
+requests_of_run (Some (Check program)) held = None
 requests_of_run (Some (Replay program name log time)) held = None
 
 -- the log of the session after these requests is legal, its times rise, and it has the events that were answered Stamped
@@ -220,23 +245,23 @@ HasItsEvents (Some requests) = TellsItsEvents requests (replies_from first reque
 
 abbrev pub MayBeDone : Verdict → Type 0
 MayBeDone (Done text files) = ⊤
-MayBeDone (Unknown inputs) = ⊤
+MayBeDone (Unknown inputs purpose) = ⊤
 MayBeDone verdict = ⊥
 
 -- these bytes are refused for this
-abbrev pub IsRefusedFor : List ℕ → Refusal → Type 0
-IsRefusedFor bytes (NoProgram most) = (most ≡ length bytes) × IsNoProgram bytes
-IsRefusedFor bytes (TooLarge what count) = IsTooLarge what count bytes
-IsRefusedFor bytes NotBuilt = (tree : ProgramTree) × IsRead bytes tree × ¬ IsFirstProgram tree
-IsRefusedFor bytes (Faulty fault) = (tree : ProgramTree) × IsRead bytes tree × IsFirstProgram tree × (first_fault tree ≡ Some fault)
+abbrev pub IsRefusedFor : Purpose → List ℕ → Refusal → Type 0
+IsRefusedFor purpose bytes (NoProgram most) = (most ≡ length bytes) × IsNoProgram bytes
+IsRefusedFor purpose bytes (TooLarge what count) = IsTooLarge what count bytes
+IsRefusedFor purpose bytes (Faulty fault) = (tree : ProgramTree) × IsRead bytes tree × (first_fault tree ≡ Some fault)
+IsRefusedFor purpose bytes NotBuilt = (tree : ProgramTree) × IsRead bytes tree × (first_fault tree ≡ None) × ¬ Serves purpose tree
 
 -- these bytes are refused, and this is the line of it
-abbrev pub IsRefused : List ℕ → List ℕ → Type 0
-IsRefused bytes line = (refusal : Refusal) × IsRefusedFor bytes refusal × IsLineOf refusal line
+abbrev pub IsRefused : Purpose → List ℕ → List ℕ → Type 0
+IsRefused purpose bytes line = (refusal : Refusal) × IsRefusedFor purpose bytes refusal × IsLineOf refusal line
 
 -- the line of some bytes that are refused as a program
-abbrev pub IsProgramLine : List ℕ → Type 0
-IsProgramLine line = (bytes : List ℕ) × (length bytes ≤ program_limit) × IsRefused bytes line
+abbrev pub IsProgramLine : Purpose → List ℕ → Type 0
+IsProgramLine purpose line = (bytes : List ℕ) × (length bytes ≤ program_limit) × IsRefused purpose bytes line
 
 abbrev pub HasBadWords : Verdict → Type 0
 HasBadWords BadWords = ⊤
@@ -252,7 +277,7 @@ MayBeBad input BadWords = ⊥
 MayBeBad input (Unreadable absent) = ⊥
 MayBeBad input (BadProgram refusal) = ⊥
 MayBeBad input (BadInput bad) = input ≡ bad
-MayBeBad input (Unknown inputs) = Contains inputs input
+MayBeBad input (Unknown inputs purpose) = Contains inputs input
 MayBeBad input (Done text files) = ⊥
 
 -- the program may be refused with this line
@@ -261,7 +286,7 @@ MayBeRefused line BadWords = ⊥
 MayBeRefused line (Unreadable absent) = ⊥
 MayBeRefused line (BadProgram refusal) = IsLineOf refusal line
 MayBeRefused line (BadInput bad) = ⊥
-MayBeRefused line (Unknown inputs) = Contains inputs Program × IsProgramLine line
+MayBeRefused line (Unknown inputs purpose) = Contains inputs Program × IsProgramLine purpose line
 MayBeRefused line (Done text files) = ⊥
 
 -- where a run stops at this input, the other was read no later
@@ -275,7 +300,7 @@ MayBeRead input BadWords = ⊥
 MayBeRead input (Unreadable absent) = IsReadBy absent input
 MayBeRead input (BadProgram refusal) = IsReadBy Program input
 MayBeRead input (BadInput bad) = IsReadBy bad input
-MayBeRead input (Unknown inputs) = ⊤
+MayBeRead input (Unknown inputs purpose) = ⊤
 MayBeRead input (Done text files) = ⊤
 
 -- each status, with the verdicts at which it may come
@@ -361,7 +386,7 @@ OfText BadWords fact = fact []
 OfText (Unreadable absent) fact = fact []
 OfText (BadProgram refusal) fact = fact []
 OfText (BadInput input) fact = fact []
-OfText (Unknown inputs) fact = ⊤
+OfText (Unknown inputs purpose) fact = ⊤
 OfText (Done text files) fact = fact text
 
 -- what is written, by the status
@@ -414,7 +439,7 @@ PutsFiles BadWords old new = ⊥
 PutsFiles (Unreadable absent) old new = ⊥
 PutsFiles (BadProgram refusal) old new = ⊥
 PutsFiles (BadInput input) old new = ⊥
-PutsFiles (Unknown inputs) old new = ⊤
+PutsFiles (Unknown inputs purpose) old new = ⊤
 PutsFiles (Done text files) old new = ArePut files old new
 
 -- no file of this name is written
@@ -432,7 +457,7 @@ IsNotDone BadWords = ⊤
 IsNotDone (Unreadable absent) = ⊤
 IsNotDone (BadProgram refusal) = ⊤
 IsNotDone (BadInput input) = ⊤
-IsNotDone (Unknown inputs) = ⊥
+IsNotDone (Unknown inputs purpose) = ⊥
 IsNotDone (Done text files) = ⊥
 
 -- What the files hold after a run, by the status. Where the output failed or memory was wanted, the files are put, or else no

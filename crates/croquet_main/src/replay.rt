@@ -1,102 +1,39 @@
 //! The command `replay`: the world of a session at a time, from its program and its log.
-ghost use Rattle.std.specs.Prelude.{◌≡◌, ℕ, ◌≤◌, ◌<◌, List, [], ◌∷◌, ◌++◌, IfOk, IfErr, OnOk, IsErrOf, ⊤, length, codes, encode_utf8_all};
+ghost use Rattle.std.specs.Prelude.{◌≡◌, ℕ, ◌≤◌, ◌<◌, List, [], ◌∷◌, IfErr, OnOk, IsErrOf, ⊤, length, encode_utf8_all};
 ghost use Rattle.tea_io.specs.Told.{grown, Rose};
 ghost use Rattle.croquet_main.specs.declared.status.Input.TheVariants as input;
 ghost use Rattle.croquet_main.specs.CommandWords.{most_name};
-ghost use Rattle.croquet_main.specs.PrintedText.{bound_word};
-ghost use Rattle.text_lines.specs.Lines.{numbered};
-ghost use Rattle.croquet_main.specs.Verdict.{Verdict, program_limit, log_limit, AreKept, MayBeDone, OfText, ReplayComes};
-ghost use Rattle.croquet_main.specs.Ends.{AskedFor, IsReadingFault, IsUnread, LeavesBefore, LogEnd, MayEnd, ProgramEnd, WorkEnd, WritesBefore};
+ghost use Rattle.croquet_main.specs.Verdict.{Verdict, ToRun, program_limit, log_limit, AreKept, MayBeDone, OfText, ReplayComes};
+ghost use Rattle.croquet_main.specs.Ends.{AskedFor, IsReadingFault, LeavesBefore, LogEnd, MayEnd, ProgramEnd, WorkEnd, WritesBefore};
 ghost use Rattle.model_value.specs.Valid.{time_limit};
 
 use crate::calls::{print, read_input};
+use crate::program::{PROGRAM_LIMIT, read_program};
 use crate::status::{Fault, Input};
 use crate::world_run::{has_event, replayed};
-use model_check::{CheckFault, Checked, check};
-use model_lang::{Bound, LangFault, one_reading, parse};
+use model_check::Checked;
+use model_lang::one_reading;
 use session_log::{Log, LogFault, decode};
 use snapshot_codec::session_id;
 use std::alloc::Global;
-use tea_base::{Blob, Text, WantOfMemory};
+use tea_base::{Blob, Text};
 use tea_io::{Files, Sink};
-use text_lines::numbered;
-
-/// The most bytes of a program.
-const PROGRAM_LIMIT: u64 = 65536;
+use world::built;
 
 /// The most bytes of a log.
 const LOG_LIMIT: u64 = 134217728;
 
-/// The line of words and a number.
-fn numbered_line(alloc: Global, words: &str, number: u64) -> Result<Blob, WantOfMemory>
-    ensures { IfOk result (λ line. line ≡ numbered words.now (number ∷ []) ++ codes "\n") }
+/// The program that a text spells, without faults, in forms whose meaning is there.
+fn read_built(alloc: Global, text: &[u8]) -> Result<Checked, Fault>
+    ensures { ProgramEnd ToRun result text.now }
 {
-    let mut line = numbered(alloc, words, &[number])?;
-    line.push_str("\n")?;
-    Ok(Blob::from_vec(line.into_bytes()))
-}
-
-/// What a bound that is passed is told by.
-fn bound_word(what: Bound) -> &'static str
-    ensures { result.now ≡ bound_word what }
-{
-    match what {
-        Bound::Bytes => "too-large bytes",
-        Bound::Brackets => "too-large brackets",
-        Bound::Operators => "too-large operators",
-        Bound::Classes => "too-large classes",
-        Bound::Fields => "too-large fields",
-        Bound::Methods => "too-large methods",
-        Bound::Parameters => "too-large parameters",
+    let program = read_program(alloc, text)?;
+    if built(&program) {
+        return Ok(program);
     }
-}
-
-/// The fault of a text that is not read, with its line.
-fn unread(alloc: Global, fault: LangFault) -> Result<Fault, WantOfMemory>
-    ensures { IfOk result (IsUnread fault) }
-{
-    match fault {
-        LangFault::Syntax { at } => Ok(Fault::Program {
-            line: numbered_line(alloc, "syntax", u64::from(at))?,
-        }),
-        LangFault::TooLarge { what, count } => Ok(Fault::Program {
-            line: numbered_line(alloc, bound_word(what), count)?,
-        }),
-        LangFault::WantOfMemory => Ok(Fault::Memory),
-    }
-}
-
-/// A line of a word and a name.
-fn named_line(alloc: Global, word: &str, name: &Text) -> Result<Blob, WantOfMemory>
-    ensures { IfOk result (λ line. line ≡ word.now ++ encode_utf8_all name.now ++ codes "\n") }
-{
-    let mut line = String::from_str(alloc, word)?;
-    line.push_str(name.as_str())?;
-    line.push_str("\n")?;
-    Ok(Blob::from_vec(line.into_bytes()))
-}
-
-/// The program that a text spells, without faults.
-fn read_program(alloc: Global, text: &[u8]) -> Result<Checked, Fault>
-    ensures { ProgramEnd result text.now }
-{
-    let program = match parse(alloc, text) {
-        Ok(program) => program,
-        Err(fault) => return Err(unread(alloc, fault)?),
-    };
-    match check(alloc, program) {
-        Ok(checked) => Ok(checked),
-        Err(CheckFault::Twice { name }) => Err(Fault::Program {
-            line: named_line(alloc, "twice ", &name)?,
-        }),
-        Err(CheckFault::NoField { name }) => Err(Fault::Program {
-            line: named_line(alloc, "no-field ", &name)?,
-        }),
-        Err(CheckFault::NotBuilt) => Err(Fault::Program {
-            line: Blob::copy(alloc, b"not-built\n")?,
-        }),
-        Err(CheckFault::WantOfMemory) => Err(Fault::Memory),
-    }
+    Err(Fault::Program {
+        line: Blob::copy(alloc, b"not-built\n")?,
+    })
 }
 
 /// The log that these bytes spell, without Events.
@@ -139,7 +76,7 @@ fn work<F: Files>(
     // Of a text that is read as this program, or refused, nothing else comes.
     one_reading();
     let text = read_input(files, program, PROGRAM_LIMIT, Input::Program)?;
-    let program = read_program(alloc, text.bytes())?;
+    let program = read_built(alloc, text.bytes())?;
     let spelled = read_input(files, log, LOG_LIMIT, Input::Log)?;
     let log = read_log(alloc, spelled.bytes())?;
     let id = session_id(name, text.bytes());

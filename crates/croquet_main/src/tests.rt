@@ -53,6 +53,13 @@ fn ran(alloc: Global, words: &[&str], script: Blob, fail: (u32, u32)) -> Result<
     ran_over(alloc, words, files, fail.1)
 }
 
+/// What `check p` answers and writes, where the file `p` holds this, and one call of the files and one of the sink may fail.
+fn checked(alloc: Global, program: &[u8], fail: (u32, u32)) -> Result<(Status, String), Fail> {
+    let files = one_file(alloc, "p", Blob::copy(alloc, program)?, fail.0)?;
+    let Outcome { status, text, .. } = ran_over(alloc, &["check", "p"], files, fail.1)?;
+    Ok((status, text))
+}
+
 /// What `replay p NAME l TIME` answers and writes, where the files `p` and `l` hold these. The program is read by the second
 /// call of the files, and the log by the third.
 fn replayed(
@@ -81,6 +88,35 @@ const WITH_EVENT: &[u8] = b"TEALOG01\x00\x00\x00\x02\
 
 /// A program of one object.
 const SMALL: &str = "class Root{init(o){}}";
+
+/// A program that counts seconds.
+const COUNTER: &str = r#"class Root {
+  field count;
+  init(o) {
+    this.count = 0;
+    subscribe("counter", "reset", "reset");
+    this.future(1000).tick();
+  }
+  tick() {
+    this.count = this.count + 1;
+    publish("counter", "changed", this.count);
+    this.future(1000).tick();
+  }
+  reset(v) {
+    this.count = 0;
+    publish("counter", "changed", this.count);
+  }
+}
+"#;
+
+/// Statements of a method with the parameter `o`, in a class without fields, each with the line of its one fault.
+const FAULTS: [(&str, &str); 5] = [
+    ("let o=1;", "twice o\n"),
+    ("b;", "no-name b\n"),
+    ("create(B,1);", "no-class B\n"),
+    ("this.f;", "no-field f\n"),
+    ("now(1);", "count now\n"),
+];
 
 /// What `stamp s` answers and writes for a script.
 fn stamped(alloc: Global, script: &[u8]) -> Result<(Status, String), Fail> {
@@ -238,6 +274,10 @@ fn words_follow_their_rules(rt: HostRuntime) -> Result<(), Fail> {
         &["--log", "f", "stamp", "s"],
         &["Stamp", "s"],
         &["help"],
+        &["check"],
+        &["check", ""],
+        &["check", "s", "s"],
+        &["check", "s", "--log", "f"],
         &["replay", "p", "n", "l", "9007199254740992"],
         &["replay", "p", "n", "l", "01"],
         &["replay", "p", "n", "l"],
@@ -310,11 +350,162 @@ fn faults_of_the_outside_are_told(rt: HostRuntime) -> Result<(), Fail> {
 }
 
 #[test]
+fn programs_are_counted(rt: HostRuntime) -> Result<(), Fail> {
+    for (program, text) in [
+        (SMALL, "classes 1 methods 1\n"),
+        (COUNTER, "classes 1 methods 3\n"),
+        ("class Root{}", "classes 1 methods 0\n"),
+        (
+            "class A{a(){}b(){}}class Root{a(){}}",
+            "classes 2 methods 3\n",
+        ),
+        ("class Root{m(){while(1){}}}", "classes 1 methods 1\n"),
+        (
+            "class Root{field x;x(){return this.x;}}",
+            "classes 1 methods 1\n",
+        ),
+        (
+            "class Root{m(){if(1){let a=1;a;}else{let a=2;a;}while(1){let a=3;a;}let a=4;}}",
+            "classes 1 methods 1\n",
+        ),
+        (
+            "class Root{m(){create(Later,nil);}}class Later{}",
+            "classes 2 methods 1\n",
+        ),
+    ] {
+        let (status, written) = checked(rt.alloc(), program.as_bytes(), (0, 0))?;
+        assert_eq!(rt; written.as_str(), text, "of {program}");
+        assert_eq!(rt; status, Status::Ok);
+    }
+    Ok(())
+}
+
+#[test]
+fn each_fault_has_its_line(rt: HostRuntime) -> Result<(), Fail> {
+    for (program, text) in [
+        ("class Root{init(o){this.x=1;}}", "no-field x\n"),
+        ("class Root{init(o){this.x;}}", "no-field x\n"),
+        ("class A{}", "no-root\n"),
+        ("class Root{}class Root{}", "twice Root\n"),
+        ("class Root{field x;field x;}", "twice x\n"),
+        ("class Root{m(){}m(){}}", "twice m\n"),
+        ("class Root{m(a,a){}}", "twice a\n"),
+        ("class Root{m(a){let a=1;}}", "twice a\n"),
+        ("class Root{m(){let a=1;if(a){let a=2;}}}", "twice a\n"),
+        ("class Root{m(){let a=a;}}", "no-name a\n"),
+        ("class Root{m(){if(1){let a=1;}a=2;}}", "no-name a\n"),
+        ("class Root{m(a){}n(){a;}}", "no-name a\n"),
+        ("class Root{m(){never();}}", "no-name never\n"),
+        ("class Root{m(){create(B,nil);}}", "no-class B\n"),
+        ("class Root{m(){at(1);}}", "count at\n"),
+        ("class Root{m(){now(1);}}", "count now\n"),
+        ("", "syntax 0\n"),
+        (
+            "class Root{init(o){return 9223372036854775808;}}",
+            "syntax 26\n",
+        ),
+        (
+            "class Root{m(a,a,a,a,a,a,a,a,a,a,a,a,a,a,a,a,a){}}",
+            "too-large parameters 17\n",
+        ),
+    ] {
+        let (status, written) = checked(rt.alloc(), program.as_bytes(), (0, 0))?;
+        assert_eq!(rt; written.as_str(), text, "of {program}");
+        assert_eq!(rt; status, Status::Program);
+    }
+    Ok(())
+}
+
+#[test]
+fn of_two_faults_the_first_is_told(rt: HostRuntime) -> Result<(), Fail> {
+    let alloc = rt.alloc();
+    for (first, text) in FAULTS {
+        for (second, _) in FAULTS {
+            for name in ["Root", "A"] {
+                let program = format!(in alloc; "class {name}{{init(o){{{first}{second}}}}}")?;
+                let (status, written) = checked(alloc, program.as_bytes(), (0, 0))?;
+                assert_eq!(rt; written.as_str(), text, "of {program}");
+                assert_eq!(rt; status, Status::Program);
+            }
+        }
+    }
+    Ok(())
+}
+
+#[test]
+fn programs_come_to_their_bounds(rt: HostRuntime) -> Result<(), Fail> {
+    let alloc = rt.alloc();
+    let mut classes = String::from_str(alloc, "class Root{}")?;
+    let mut members = String::from_str(alloc, "class Root{")?;
+    for number in 1..256 {
+        classes.push_str(format!(in alloc; "class C{number}{{}}")?.as_str())?;
+    }
+    for number in 0..256 {
+        members.push_str(format!(in alloc; "field x{number};")?.as_str())?;
+    }
+    for number in 0..256 {
+        members.push_str(format!(in alloc; "x{number}(){{}}")?.as_str())?;
+    }
+    members.push_str("}")?;
+    for (program, text) in [
+        (&classes, "classes 256 methods 0\n"),
+        (&members, "classes 1 methods 256\n"),
+    ] {
+        let (status, written) = checked(alloc, program.as_bytes(), (0, 0))?;
+        assert_eq!(rt; written.as_str(), text);
+        assert_eq!(rt; status, Status::Ok);
+    }
+    classes.push_str("class More{}")?;
+    let (status, written) = checked(alloc, classes.as_bytes(), (0, 0))?;
+    assert_eq!(rt; written.as_str(), "too-large classes 257\n");
+    assert_eq!(rt; status, Status::Program);
+    Ok(())
+}
+
+#[test]
+fn what_a_check_reads_may_be_at_fault(rt: HostRuntime) -> Result<(), Fail> {
+    let alloc = rt.alloc();
+    let mut program = SMALL.as_bytes().to_vec(alloc)?;
+    program.resize(65536, b' ')?;
+    let mut long = program.clone()?;
+    long.push(b' ')?;
+    for (program, fail, status, text) in [
+        (
+            program.as_slice(),
+            (0, 0),
+            Status::Ok,
+            "classes 1 methods 1\n",
+        ),
+        (long.as_slice(), (0, 0), Status::Input, "input program\n"),
+        (long.as_slice(), (0, 1), Status::WriteFault, ""),
+        (SMALL.as_bytes(), (1, 0), Status::ReadFault, "read-fault\n"),
+        (SMALL.as_bytes(), (1, 1), Status::WriteFault, ""),
+        (SMALL.as_bytes(), (0, 1), Status::WriteFault, ""),
+        (b"class A{}".as_slice(), (0, 1), Status::WriteFault, ""),
+        (
+            b"class A{}".as_slice(),
+            (2, 2),
+            Status::Program,
+            "no-root\n",
+        ),
+    ] {
+        let (ended, written) = checked(alloc, program, fail)?;
+        assert_eq!(rt; written.as_str(), text, "at {fail:?}");
+        assert_eq!(rt; ended, status);
+    }
+    Ok(())
+}
+
+#[test]
 fn worlds_are_printed(rt: HostRuntime) -> Result<(), Fail> {
     for (program, text) in [
         (
             SMALL,
             "time 0 objects 1 pending 0 subscriptions 0 faults 0 digest 6105260a838bed442c565ff245fd69ae15bd6c887505be4a92748d5c75ae7da1\n",
+        ),
+        (
+            "class A{field a;}class Root{init(o){}}",
+            "time 0 objects 1 pending 0 subscriptions 0 faults 0 digest 5f90a05d1c6dc830d8b230b033cd52a8e6eb06418f88bb0e4e450a725291c976\n",
         ),
         (
             "class Root{field a;field b;field c;init(o){this.a = 1; this.b = 9223372036854775807 + 1; this.c = 1;}}",
@@ -362,8 +553,12 @@ fn a_program_may_be_refused(rt: HostRuntime) -> Result<(), Fail> {
         ("class Root{field x;field x;}", "twice x\n"),
         ("class Root{m(){a&b;}}", "syntax 17\n"),
         ("class Root{m(){return 1 2;}}", "syntax 24\n"),
-        ("class A{}", "not-built\n"),
+        ("class A{}", "no-root\n"),
         ("class Root{m(){while(1){}}}", "not-built\n"),
+        ("class Root{}class A{m(){return 1;}}", "not-built\n"),
+        ("class Root{m(){while(1){}this.x=1;}}", "no-field x\n"),
+        ("class Root{m(){this.x=1;while(1){}}}", "no-field x\n"),
+        ("class A{m(){while(1){}}}", "no-root\n"),
         (
             "class Root{m(){(((((((((((((((((((((((((((((((1",
             "too-large brackets 33\n",

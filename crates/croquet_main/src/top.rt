@@ -7,6 +7,7 @@ ghost use Rattle.croquet_main.specs.CommandWords.{command_of};
 ghost use Rattle.croquet_main.specs.Verdict.{Verdict, Comes, inputs_of, reads_of, writes_of, requests_of_run, Asked, FileFailed, HasItsEvents, IsNonEmpty, IsNotWritten, Leaves, MayAnswer, MayBeDone, OfText, PutsFiles, RoseAfter, TellsPart, Writes, input_line, memory_line};
 ghost use Rattle.croquet_main.specs.Ends.{AskedFor, MadeAll, IsTold, LeavesBefore, MayEnd, Tells, WritesBefore};
 
+use crate::check::check;
 use crate::replay::replay;
 use crate::stamp::stamp;
 use crate::status::{Fault, Input, Status};
@@ -50,6 +51,7 @@ fn run<F: Files, W: Sink>(
 {
     match read_command(alloc, words)? {
         Some(Command::Stamp { script, log }) => stamp(alloc, &script, &log, files, out),
+        Some(Command::Check { program }) => check(alloc, &program, files, out),
         Some(
             Command::Replay {
                 program,

@@ -2,7 +2,7 @@
 ghost use Rattle.std.specs.Prelude.{◌≡◌, ◌<◌, ℕ, [], ◌∷◌, true, None, IfOk, IfSome, IfNone, MatchBool, IsTrue, ◌↔◌, nat_lt};
 ghost use Rattle.std.specs.List.{list_all};
 ghost use Rattle.std.specs.Str.{bytes_eq};
-ghost use Rattle.croquet_main.specs.CommandWords.{command_of, command_named, stamp_of, replay_of, parts_of, is_empty, is_option, value_of, without, IsFirstOf, IsWithinBounds, HasNone};
+ghost use Rattle.croquet_main.specs.CommandWords.{command_of, command_named, stamp_of, check_of, replay_of, parts_of, is_empty, is_option, value_of, without, IsFirstOf, IsWithinBounds, HasNone};
 
 use std::alloc::Global;
 use tea_base::{List, Text, WantOfMemory, Words};
@@ -21,6 +21,10 @@ pub enum Command {
     Stamp {
         script: Text,
         log: Option<Text>,
+    },
+    /// `check PROGRAM`
+    Check {
+        program: Text,
     },
     /// `replay PROGRAM NAME LOG TIME`
     Replay {
@@ -182,6 +186,24 @@ fn stamp(parts: Parts) -> Option<Command>
     }
 }
 
+/// `check PROGRAM`
+fn check(parts: Parts) -> Option<Command>
+    ensures read { result ≡ check_of parts }
+    ensures bounds { IfSome result IsWithinBounds }
+{
+    let Parts {
+        positionals,
+        settings,
+    } = parts;
+    let mut positionals = positionals.into_vec();
+    let program = positionals.pop()?;
+    if positionals.is_empty() && settings.is_empty() {
+        Some(Command::Check { program })
+    } else {
+        None
+    }
+}
+
 /// `replay PROGRAM NAME LOG TIME`
 fn replay(parts: Parts) -> Option<Command>
     ensures read { result ≡ replay_of parts }
@@ -215,6 +237,8 @@ fn command_named(name: &Text, parts: Parts) -> Option<Command>
 {
     if is_word(name, "stamp") {
         stamp(parts)
+    } else if is_word(name, "check") {
+        check(parts)
     } else if is_word(name, "replay") {
         replay(parts)
     } else {

@@ -4,6 +4,7 @@ ghost use Rattle.std.specs.Arc.{arc_value};
 ghost use Rattle.tea_base.specs.Legal.{IsLegal};
 ghost use Rattle.model_value.specs.Valid.{time_limit};
 ghost use Rattle.model_lang.specs.TreeView.{program_tree};
+ghost use Rattle.model_check.specs.FirstForms.{IsBuilt};
 ghost use Rattle.world.specs.Worlds.{external as entered_by, replayed, replay};
 ghost use Rattle.croquet_main.specs.PrintedText.{world_line};
 ghost use Rattle.croquet_main.specs.Verdict.{is_event, has_event};
@@ -83,7 +84,7 @@ fn go_on(world: &mut World, log: &Log, time: u64) -> Result<(), WantOfMemory>
     }
 }
 
-/// The line of the world of a session at a time, whose log this is.
+/// The line of the world of a session at a time, whose log this is. All forms of the program have a meaning.
 pub fn replayed(
     alloc: Global,
     program: Checked,
@@ -91,6 +92,7 @@ pub fn replayed(
     log: &Log,
     time: u64,
 ) -> Result<String, WantOfMemory>
+    requires built { IsBuilt (program_tree program) }
     requires time { time < time_limit }
     requires inputs { has_event log.now.entries ≡ false }
     ensures { IfOk result (λ line. string_bytes line ≡ world_line (replay (program_tree program) id.0 log.now.entries time).world) }

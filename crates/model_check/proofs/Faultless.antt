@@ -2,112 +2,126 @@
 use Rattle.std.proofs.Common.{◌≡◌, List, [], ◌∷◌, ◌++◌, map, None, refl, sym}
 use Rattle.std.proofs.lemmas.Option.{none-some}
 use Rattle.model_lang.specs.Tree.{Name, Expression, nil, bool, int, text, this, local, field, list, unary, binary, builtin, call, future, create, Expressions, no_expressions, expression, Statement, declare, assign, set_field, when, while, give, do_, Statements, no_statements, statement, Otherwise, no_else, else_block, MethodTree, ProgramTree}
-use Rattle.model_check.specs.FirstForms.{IsFirstExpression, AreFirstExpressions, IsFirstStatement, AreFirstStatements, IsFirstElse}
+use Rattle.model_lang.specs.Bounds.{how_many}
 use Rattle.model_check.specs.declared.fault.CheckFault.{CheckFault}
-use Rattle.model_check.specs.Faults.{first_of, faults_of_name, faults_of_names, faults_of_field, faults_of_expression, faults_of_expressions, faults_of_statement, faults_of_statements, faults_of_else, faults_of_method, faults_of_methods, faults_of_class, faults_of_classes}
-use Rattle.model_check.specs.Solving.{solve_expression, solve_expressions, solve_statement, solve_statements, solve_else, solve_method, solve_program, IsSolvableMethod, AreSolvableMethods, AreSolvable}
-use Rattle.model_check.specs.Stands.{Stands, StandForAll, StandsForStatement, StandForBlock, StandsForElse, StandsForMethod, StandForMethods, StandForProgram}
-use Rattle.model_check.proofs.Places.{solved-field}
+use Rattle.model_check.specs.declared.fault.CheckFault.TheVariants.{NoName, NoClass, NoField}
+use Rattle.model_check.specs.Scopes.{scope_behind}
+use Rattle.model_check.specs.Faults.{first_of, faults_of_name, faults_of_names, faults_of_field, faults_of_local, faults_of_creation, faults_of_builtin, faults_of_expression, faults_of_expressions, faults_of_statement, faults_of_statements, faults_of_else, faults_of_method, faults_of_methods, faults_of_class, faults_of_classes}
+use Rattle.model_check.specs.Solving.{solve_expression, solve_expressions, solve_statement, solve_statements, solve_else, solve_method, solve_methods}
+use Rattle.model_check.specs.Stands.{Stands, StandForAll, StandsForStatement, StandForBlock, StandsForElse, StandsForMethod, StandForMethods, StandForClasses}
+use Rattle.model_check.proofs.Places.{placed, builtin_placed}
 
-none-left : (a b : List CheckFault) → first_of (a ++ b) ≡ None → first_of a ≡ None
+pub none-left : (a b : List CheckFault) → first_of (a ++ b) ≡ None → first_of a ≡ None
 none-left [] b e = refl
 none-left (f ∷ a) b e = e
 
-none-right : (a b : List CheckFault) → first_of (a ++ b) ≡ None → first_of b ≡ None
+pub none-right : (a b : List CheckFault) → first_of (a ++ b) ≡ None → first_of b ≡ None
 none-right [] b e = e
 none-right (f ∷ a) b e = absurd (none-some f (sym e))
 
 mutual
-  solved-expression : (fields : List Name) (e : Expression) → IsFirstExpression e → first_of (faults_of_expression fields e) ≡ None → Stands fields e (solve_expression fields e)
-  solved-expression fields nil f h = tt
-  solved-expression fields (bool b) f h = absurd f
-  solved-expression fields (int n) f h = refl
-  solved-expression fields (text s) f h = absurd f
-  solved-expression fields this f h = tt
-  solved-expression fields (local x) f h = absurd f
-  solved-expression fields (field x) f h = solved-field fields x h
-  solved-expression fields (list items) f h = absurd f
-  solved-expression fields (unary op e) f h = absurd f
-  solved-expression fields (binary op a b) f h =
-      let left = faults_of_expression fields a in
-      let right = faults_of_expression fields b in
-      (refl, solved-expression fields a f.1 (none-left left right h), solved-expression fields b f.2 (none-right left right h))
-  solved-expression fields (builtin x args) f h = absurd f
-  solved-expression fields (call object x args) f h = absurd f
-  solved-expression fields (future object delay x args) f h =
-      let first = faults_of_expression fields object in
-      let second = faults_of_expression fields delay in
-      let third = faults_of_expressions fields args in
+  solved-expression : (classes fields scope : List Name) (e : Expression) → first_of (faults_of_expression classes fields scope e) ≡ None → Stands classes fields scope e (solve_expression classes fields scope e)
+  solved-expression classes fields scope nil h = tt
+  solved-expression classes fields scope (bool b) h = refl
+  solved-expression classes fields scope (int n) h = refl
+  solved-expression classes fields scope (text s) h = refl
+  solved-expression classes fields scope this h = tt
+  solved-expression classes fields scope (local x) h = placed scope x (NoName x) h
+  solved-expression classes fields scope (field x) h = placed fields x (NoField x) h
+  solved-expression classes fields scope (list items) h = solved-expressions classes fields scope items h
+  solved-expression classes fields scope (unary op e) h = (refl, solved-expression classes fields scope e h)
+  solved-expression classes fields scope (binary op a b) h =
+      let left = faults_of_expression classes fields scope a in
+      let right = faults_of_expression classes fields scope b in
+      (refl, solved-expression classes fields scope a (none-left left right h), solved-expression classes fields scope b (none-right left right h))
+  solved-expression classes fields scope (builtin x args) h =
+      let name = faults_of_builtin x (how_many args) in
+      let rest = faults_of_expressions classes fields scope args in
+      (builtin_placed x (how_many args) (none-left name rest h), solved-expressions classes fields scope args (none-right name rest h))
+  solved-expression classes fields scope (call object x args) h =
+      let first = faults_of_expression classes fields scope object in
+      let rest = faults_of_expressions classes fields scope args in
+      (solved-expression classes fields scope object (none-left first rest h), refl, solved-expressions classes fields scope args (none-right first rest h))
+  solved-expression classes fields scope (future object delay x args) h =
+      let first = faults_of_expression classes fields scope object in
+      let second = faults_of_expression classes fields scope delay in
+      let third = faults_of_expressions classes fields scope args in
       let front = none-left (first ++ second) third h in (
-        solved-expression fields object f.0 (none-left first second front),
-        solved-expression fields delay f.1 (none-right first second front),
+        solved-expression classes fields scope object (none-left first second front),
+        solved-expression classes fields scope delay (none-right first second front),
         refl,
-        solved-expressions fields args f.2 (none-right (first ++ second) third h),
+        solved-expressions classes fields scope args (none-right (first ++ second) third h),
       )
-  solved-expression fields (create x options) f h = absurd f
+  solved-expression classes fields scope (create x options) h =
+      let name = faults_of_creation classes x in
+      let rest = faults_of_expression classes fields scope options in
+      (placed classes x (NoClass x) (none-left name rest h), solved-expression classes fields scope options (none-right name rest h))
 
-  solved-expressions : (fields : List Name) (es : Expressions) → AreFirstExpressions es → first_of (faults_of_expressions fields es) ≡ None → StandForAll fields es (solve_expressions fields es)
-  solved-expressions fields no_expressions f h = tt
-  solved-expressions fields (expression e es) f h =
-      let first = faults_of_expression fields e in
-      let rest = faults_of_expressions fields es in
-      (solved-expression fields e f.0 (none-left first rest h), solved-expressions fields es f.1 (none-right first rest h))
+  solved-expressions : (classes fields scope : List Name) (es : Expressions) → first_of (faults_of_expressions classes fields scope es) ≡ None → StandForAll classes fields scope es (solve_expressions classes fields scope es)
+  solved-expressions classes fields scope no_expressions h = tt
+  solved-expressions classes fields scope (expression e es) h =
+      let first = faults_of_expression classes fields scope e in
+      let rest = faults_of_expressions classes fields scope es in
+      (solved-expression classes fields scope e (none-left first rest h), solved-expressions classes fields scope es (none-right first rest h))
 
 mutual
-  solved-statement : (fields : List Name) (s : Statement) → IsFirstStatement s → first_of (faults_of_statement fields s) ≡ None → StandsForStatement fields s (solve_statement fields s)
-  solved-statement fields (declare x e) f h = absurd f
-  solved-statement fields (assign x e) f h = absurd f
-  solved-statement fields (set_field x e) f h =
+  solved-statement : (classes fields scope : List Name) (s : Statement) → first_of (faults_of_statement classes fields scope s) ≡ None → StandsForStatement classes fields scope s (solve_statement classes fields scope s)
+  solved-statement classes fields scope (declare x e) h = (refl, solved-expression classes fields scope e (none-right (faults_of_name scope x) (faults_of_expression classes fields scope e) h))
+  solved-statement classes fields scope (assign x e) h =
+      let name = faults_of_local scope x in
+      let value = faults_of_expression classes fields scope e in
+      (placed scope x (NoName x) (none-left name value h), solved-expression classes fields scope e (none-right name value h))
+  solved-statement classes fields scope (set_field x e) h =
       let name = faults_of_field fields x in
-      let value = faults_of_expression fields e in
-      (solved-field fields x (none-left name value h), solved-expression fields e f (none-right name value h))
-  solved-statement fields (when test block other) f h =
-      let first = faults_of_expression fields test in
-      let second = faults_of_statements fields block in
-      let third = faults_of_else fields other in
+      let value = faults_of_expression classes fields scope e in
+      (placed fields x (NoField x) (none-left name value h), solved-expression classes fields scope e (none-right name value h))
+  solved-statement classes fields scope (when test block other) h =
+      let first = faults_of_expression classes fields scope test in
+      let second = faults_of_statements classes fields scope block in
+      let third = faults_of_else classes fields scope other in
       let front = none-left (first ++ second) third h in (
-        solved-expression fields test f.0 (none-left first second front),
-        solved-block fields block f.1 (none-right first second front),
-        solved-else fields other f.2 (none-right (first ++ second) third h),
+        solved-expression classes fields scope test (none-left first second front),
+        solved-block classes fields scope block (none-right first second front),
+        solved-else classes fields scope other (none-right (first ++ second) third h),
       )
-  solved-statement fields (while test block) f h = absurd f
-  solved-statement fields (give e) f h = absurd f
-  solved-statement fields (do_ e) f h = solved-expression fields e f h
+  solved-statement classes fields scope (while test block) h =
+      let first = faults_of_expression classes fields scope test in
+      let second = faults_of_statements classes fields scope block in
+      (solved-expression classes fields scope test (none-left first second h), solved-block classes fields scope block (none-right first second h))
+  solved-statement classes fields scope (give e) h = solved-expression classes fields scope e h
+  solved-statement classes fields scope (do_ e) h = solved-expression classes fields scope e h
 
-  solved-block : (fields : List Name) (ss : Statements) → AreFirstStatements ss → first_of (faults_of_statements fields ss) ≡ None → StandForBlock fields ss (solve_statements fields ss)
-  solved-block fields no_statements f h = tt
-  solved-block fields (statement s ss) f h =
-      let first = faults_of_statement fields s in
-      let rest = faults_of_statements fields ss in
-      (solved-statement fields s f.0 (none-left first rest h), solved-block fields ss f.1 (none-right first rest h))
+  solved-block : (classes fields scope : List Name) (ss : Statements) → first_of (faults_of_statements classes fields scope ss) ≡ None → StandForBlock classes fields scope ss (solve_statements classes fields scope ss)
+  solved-block classes fields scope no_statements h = tt
+  solved-block classes fields scope (statement s ss) h =
+      let first = faults_of_statement classes fields scope s in
+      let rest = faults_of_statements classes fields (scope_behind scope s) ss in
+      (solved-statement classes fields scope s (none-left first rest h), solved-block classes fields (scope_behind scope s) ss (none-right first rest h))
 
-  solved-else : (fields : List Name) (other : Otherwise) → IsFirstElse other → first_of (faults_of_else fields other) ≡ None → StandsForElse fields other (solve_else fields other)
-  solved-else fields no_else f h = tt
-  solved-else fields (else_block block) f h = solved-block fields block f h
+  solved-else : (classes fields scope : List Name) (other : Otherwise) → first_of (faults_of_else classes fields scope other) ≡ None → StandsForElse classes fields scope other (solve_else classes fields scope other)
+  solved-else classes fields scope no_else h = tt
+  solved-else classes fields scope (else_block block) h = solved-block classes fields scope block h
 
-solved-method : (fields : List Name) (m : MethodTree) → IsSolvableMethod m → first_of (faults_of_method fields m) ≡ None → StandsForMethod fields m (solve_method fields m)
-solved-method fields m f h = (refl, refl, solved-block fields m.body f.0 (none-right (faults_of_names [] m.params) (faults_of_statements fields m.body) h))
+solved-method : (classes fields : List Name) (m : MethodTree) → first_of (faults_of_method classes fields m) ≡ None → StandsForMethod classes fields m (solve_method classes fields m)
+solved-method classes fields m h = (refl, refl, solved-block classes fields m.params m.body (none-right (faults_of_names [] m.params) (faults_of_statements classes fields m.params m.body) h))
 
-solved-methods : (fields seen : List Name) (ms : List MethodTree) → AreSolvableMethods ms → first_of (faults_of_methods fields seen ms) ≡ None → StandForMethods fields ms (map (solve_method fields) ms)
-solved-methods fields seen [] f h = tt
-solved-methods fields seen (m ∷ ms) f h =
+solved-methods : (classes fields seen : List Name) (ms : List MethodTree) → first_of (faults_of_methods classes fields seen ms) ≡ None → StandForMethods classes fields ms (map (solve_method classes fields) ms)
+solved-methods classes fields seen [] h = tt
+solved-methods classes fields seen (m ∷ ms) h =
     let first = faults_of_name seen m.name in
-    let second = faults_of_method fields m in
-    let third = faults_of_methods fields (seen ++ m.name ∷ []) ms in (
-      solved-method fields m f.0 (none-right first second (none-left (first ++ second) third h)),
-      solved-methods fields (seen ++ m.name ∷ []) ms f.1 (none-right (first ++ second) third h),
+    let second = faults_of_method classes fields m in
+    let third = faults_of_methods classes fields (seen ++ m.name ∷ []) ms in (
+      solved-method classes fields m (none-right first second (none-left (first ++ second) third h)),
+      solved-methods classes fields (seen ++ m.name ∷ []) ms (none-right (first ++ second) third h),
     )
 
-solved-classes : (seen : List Name) (cs : ProgramTree) → AreSolvable cs → first_of (faults_of_classes seen cs) ≡ None → StandForProgram cs (solve_program cs)
-solved-classes seen [] f h = tt
-solved-classes seen (c ∷ cs) f h =
+pub solved-classes : (classes seen : List Name) (cs : ProgramTree) → first_of (faults_of_classes classes seen cs) ≡ None → StandForClasses classes cs (map (solve_methods classes) cs)
+solved-classes classes seen [] h = tt
+solved-classes classes seen (c ∷ cs) h =
     let first = faults_of_name seen c.name in
-    let second = faults_of_class c in
-    let third = faults_of_classes (seen ++ c.name ∷ []) cs in
+    let second = faults_of_class classes c in
+    let third = faults_of_classes classes (seen ++ c.name ∷ []) cs in
     let own = none-right first second (none-left (first ++ second) third h) in (
-      solved-methods c.fields [] c.methods f.0.1 (none-right (faults_of_names [] c.fields) (faults_of_methods c.fields [] c.methods) own),
-      solved-classes (seen ++ c.name ∷ []) cs f.1 (none-right (first ++ second) third h),
+      solved-methods classes c.fields [] c.methods (none-right (faults_of_names [] c.fields) (faults_of_methods classes c.fields [] c.methods) own),
+      solved-classes classes (seen ++ c.name ∷ []) cs (none-right (first ++ second) third h),
     )
-
-pub solved-program : (tree : ProgramTree) → AreSolvable tree → first_of (faults_of_classes [] tree) ≡ None → StandForProgram tree (solve_program tree)
-solved-program tree f h = solved-classes [] tree f h

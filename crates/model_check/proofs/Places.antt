@@ -1,13 +1,17 @@
--- Where a name stands among names.
-use Rattle.std.proofs.Common.{◌≡◌, ℕ, ◌+◌, Bool, true, false, cond, List, [], ◌∷◌, Option, Some, None, refl, sym, ap, ◌∙◌}
-use Rattle.std.specs.Prelude.{◌||◌, bytes_eq, is_some, unwrap_or}
+-- Where a name stands among names, and which builtin it names.
+use Rattle.std.proofs.Common.{◌≡◌, ℕ, ◌+◌, Bool, true, false, cond, List, [], ◌∷◌, Option, Some, None, refl, sym, ap, ◌∙◌, subst}
+use Rattle.std.specs.Prelude.{◌||◌, bytes_eq, nat_eq, is_some, unwrap_or}
 use Rattle.std.specs.List.{position_from}
 use Rattle.std.proofs.lemmas.Option.{none-some}
 use Rattle.model_lang.specs.Tree.{Name}
-use Rattle.model_check.specs.declared.fault.CheckFault.TheVariants.{NoField}
-use Rattle.model_check.specs.Faults.{is_among, faults_of_field, first_of}
-use Rattle.model_check.specs.Solving.{slot_of}
-use Rattle.model_check.specs.Stands.{StandsForField}
+use Rattle.model_check.specs.declared.builtin.Builtin.{Builtin}
+use Rattle.model_check.specs.declared.builtin.Builtin.TheVariants.{Now}
+use Rattle.model_check.specs.declared.fault.CheckFault.{CheckFault}
+use Rattle.model_check.specs.declared.fault.CheckFault.TheVariants.{NoName, Count}
+use Rattle.model_check.specs.Builtins.{arguments_of, builtin_named}
+use Rattle.model_check.specs.Faults.{is_among, missing_from, faults_of_count, faults_of_builtin, first_of}
+use Rattle.model_check.specs.Solving.{place_of, builtin_of}
+use Rattle.model_check.specs.Stands.{IsPlace}
 
 among_front : (is_here among : Bool) (n : ℕ) (place : Option ℕ) → among ≡ is_some place → (is_here || among) ≡ is_some (cond is_here (Some n) place)
 among_front true among n place e = refl
@@ -17,20 +21,45 @@ pub is_among-position : (x : Name) (n : ℕ) (ys : List Name) → is_among x ys 
 is_among-position x n [] = refl
 is_among-position x n (y ∷ ys) = among_front (bytes_eq x y) (is_among x ys) n (position_from (bytes_eq x) (n + 1) ys) (is_among-position x (n + 1) ys)
 
-fault_at : (fields : List Name) (x : Name) (found : Option ℕ) → found ≡ position_from (bytes_eq x) 0 fields → first_of (faults_of_field fields x) ≡ first_of (cond (is_some found) [] (NoField x ∷ []))
-fault_at fields x found e =
-    let among : is_among x fields ≡ is_some found = cc (is_among-position x 0 fields) in
+fault_at : (names : List Name) (x : Name) (fault : CheckFault) (found : Option ℕ) → found ≡ position_from (bytes_eq x) 0 names → first_of (missing_from names x fault) ≡ first_of (cond (is_some found) [] (fault ∷ []))
+fault_at names x fault found e =
+    let among : is_among x names ≡ is_some found = cc (is_among-position x 0 names) in
     rw among refl
 
-pub slot_found : (fields : List Name) (x : Name) (slot : ℕ) → Some slot ≡ position_from (bytes_eq x) 0 fields → (first_of (faults_of_field fields x) ≡ None) × (slot ≡ slot_of fields x)
-slot_found fields x slot e = (fault_at fields x (Some slot) e, ap (λ (found : Option ℕ). unwrap_or found 0) e)
+pub place_found : (names : List Name) (x : Name) (fault : CheckFault) (place : ℕ) → Some place ≡ position_from (bytes_eq x) 0 names → (first_of (missing_from names x fault) ≡ None) × (place ≡ place_of names x)
+place_found names x fault place e = (fault_at names x fault (Some place) e, ap (λ (found : Option ℕ). unwrap_or found 0) e)
 
-pub slot_missing : (fields : List Name) (x : Name) → None ≡ position_from (bytes_eq x) 0 fields → first_of (faults_of_field fields x) ≡ Some (NoField x)
-slot_missing fields x e = fault_at fields x None e
+pub place_missing : (names : List Name) (x : Name) (fault : CheckFault) → None ≡ position_from (bytes_eq x) 0 names → first_of (missing_from names x fault) ≡ Some fault
+place_missing names x fault e = fault_at names x fault None e
 
-field_at : (fields : List Name) (x : Name) (found : Option ℕ) → position_from (bytes_eq x) 0 fields ≡ found → first_of (cond (is_some found) [] (NoField x ∷ [])) ≡ None → position_from (bytes_eq x) 0 fields ≡ Some (unwrap_or found 0)
-field_at fields x None e h = absurd (none-some (NoField x) (sym h))
-field_at fields x (Some k) e h = e
+-- the fault tells a copy of the name
+pub place_missing_told : (names : List Name) (x y : Name) (fault : Name → CheckFault) → None ≡ position_from (bytes_eq x) 0 names → y ≡ x → first_of (missing_from names x (fault x)) ≡ Some (fault y)
+place_missing_told names x y fault e told = place_missing names x (fault x) e ∙ ap (λ (x : Name). Some (fault x)) (sym told)
 
-pub solved-field : (fields : List Name) (x : Name) → first_of (faults_of_field fields x) ≡ None → StandsForField fields x (slot_of fields x)
-solved-field fields x h = field_at fields x (position_from (bytes_eq x) 0 fields) refl (sym (fault_at fields x (position_from (bytes_eq x) 0 fields) refl) ∙ h)
+placed_at : (names : List Name) (x : Name) (fault : CheckFault) (found : Option ℕ) → position_from (bytes_eq x) 0 names ≡ found → first_of (cond (is_some found) [] (fault ∷ [])) ≡ None → position_from (bytes_eq x) 0 names ≡ Some (unwrap_or found 0)
+placed_at names x fault None e h = absurd (none-some fault (sym h))
+placed_at names x fault (Some k) e h = e
+
+pub placed : (names : List Name) (x : Name) (fault : CheckFault) → first_of (missing_from names x fault) ≡ None → IsPlace names x (place_of names x)
+placed names x fault h = placed_at names x fault (position_from (bytes_eq x) 0 names) refl (sym (fault_at names x fault (position_from (bytes_eq x) 0 names) refl) ∙ h)
+
+-- ---- builtins
+
+counted_found : (found : Option Builtin) (x : Name) (given : ℕ) → first_of (faults_of_count found x given) ≡ None → found ≡ Some (unwrap_or found Now)
+counted_found None x given h = absurd (none-some (NoName x) (sym h))
+counted_found (Some b) x given h = refl
+
+pub builtin_placed : (x : Name) (given : ℕ) → first_of (faults_of_builtin x given) ≡ None → builtin_named x ≡ Some (builtin_of x)
+builtin_placed x given h = counted_found (builtin_named x) x given h
+
+pub builtin_missing : (x y : Name) (given : ℕ) → None ≡ builtin_named x → y ≡ x → first_of (faults_of_builtin x given) ≡ Some (NoName y)
+builtin_missing x y given e told =
+    subst (λ (found : Option Builtin). first_of (faults_of_count found x given) ≡ Some (NoName y)) e (ap (λ (x : Name). Some (NoName x)) (sym told))
+
+pub builtin_miscounted : (x y : Name) (b : Builtin) (given : ℕ) → Some b ≡ builtin_named x → nat_eq given (arguments_of b) ≡ false → y ≡ x → first_of (faults_of_builtin x given) ≡ Some (Count y)
+builtin_miscounted x y b given e other told =
+    subst (λ (found : Option Builtin). first_of (faults_of_count found x given) ≡ Some (Count y)) e (rw other (ap (λ (x : Name). Some (Count x)) (sym told)))
+
+pub builtin_counted : (x : Name) (b : Builtin) (given : ℕ) → Some b ≡ builtin_named x → nat_eq given (arguments_of b) ≡ true → (first_of (faults_of_builtin x given) ≡ None) × (b ≡ builtin_of x)
+builtin_counted x b given e same =
+    (subst (λ (found : Option Builtin). first_of (faults_of_count found x given) ≡ None) e (rw same refl), ap (λ (found : Option Builtin). unwrap_or found Now) e)

@@ -1,48 +1,84 @@
--- A program in the first forms is solvable, and is checked where it has no faults.
-use Rattle.std.proofs.Common.{◌≡◌, ◌↔◌, ◌≤◌, ◌<◌, Bool, IsTrue, length, get_or, ap, ◌∙◌, arith, List, [], ◌∷◌, None, refl, sym, subst}
-use Rattle.model_lang.specs.Tree.{MethodTree, ClassTree, ProgramTree}
-use Rattle.model_lang.specs.Bounds.{MethodsFit, ProgramFits}
+-- A program within its bounds is solvable, and is checked where it has no faults.
+use Rattle.std.proofs.Common.{◌≡◌, ◌≤◌, ℕ, zero, suc, Bool, true, false, length, map, ap, ◌∙◌, List, [], ◌∷◌, Some, None, refl, sym, subst}
+use Rattle.std.specs.Prelude.{◌||◌, slice_get, bytes_eq, option_map}
+use Rattle.std.proofs.lemmas.List.{length-map}
+use Rattle.std.proofs.lemmas.Option.{none-some, same_Some, slice_get-map}
+use Rattle.std.proofs.lemmas.Slice.Eq.{bytes_eq-Decides}
+use Rattle.model_lang.specs.Tree.{Name, MethodTree, ClassTree, ProgramTree, root_name}
+use Rattle.model_lang.specs.TreeView.{class_tree}
+use Rattle.model_lang.specs.Bounds.{most_members, MethodsFit, ClassesFit, ProgramFits}
 use Rattle.model_lang.specs.declared.tree.Class.{Class}
-use Rattle.model_lang.specs.Tree.{root_name}
-use Rattle.model_check.specs.FirstForms.{AreFirstMethods, IsFirstProgram}
-use Rattle.model_check.specs.Faults.{first_of, faults_of_program}
-use Rattle.model_check.specs.Methods.{IsChecked}
+use Rattle.model_check.specs.declared.fault.CheckFault.{CheckFault}
+use Rattle.model_check.specs.declared.fault.CheckFault.TheVariants.{NoRoot}
+use Rattle.model_check.specs.Answer.{Refuses}
+use Rattle.model_check.specs.Faults.{class_names, is_among, missing_from, first_of, faults_of_classes, faults_of_program}
+use Rattle.model_check.specs.Methods.{IsChecked, IsClass}
 use Rattle.model_check.specs.SolvedTree.{SolvedMethod}
-use Rattle.model_check.specs.Solving.{solve_program, AreSolvableMethods, AreSolvable}
+use Rattle.model_check.specs.Solving.{solve_methods, solve_program, HaveFewParameters, AreSolvable}
 use Rattle.model_check.specs.Stands.{StandForProgram}
-use Rattle.model_check.proofs.Faultless.{solved-program}
+use Rattle.model_check.proofs.Faultless.{solved-classes}
+use Rattle.model_check.proofs.First.{first_behind, refuses_before, refuses_behind}
+use Rattle.model_check.proofs.Trees.{map-names}
 
-solvable-methods : (ms : List MethodTree) → AreFirstMethods ms → MethodsFit ms → AreSolvableMethods ms
-solvable-methods [] f b = tt
-solvable-methods (m ∷ ms) f b = ((f.0, b.0.0), solvable-methods ms f.1 b.1)
+few-parameters : (ms : List MethodTree) → MethodsFit ms → HaveFewParameters ms
+few-parameters [] b = tt
+few-parameters (m ∷ ms) b = (b.0.0, few-parameters ms b.1)
 
-solvable-one : (c : ClassTree) → AreFirstMethods c.methods → ProgramFits (c ∷ []) → AreSolvable (c ∷ [])
-solvable-one c f b = ((b.1.0.0, solvable-methods c.methods f b.1.0.2), tt)
+solvable-classes : (cs : List ClassTree) → ClassesFit cs → AreSolvable cs
+solvable-classes [] b = tt
+solvable-classes (c ∷ cs) b = ((b.0.0, few-parameters c.methods b.0.2), solvable-classes cs b.1)
 
-pub solvable-program : (tree : ProgramTree) → ProgramFits tree → IsFirstProgram tree → AreSolvable tree
-solvable-program tree p f =
-    let one : tree ≡ f.0 ∷ [] = f.1 in
-    let fits : ProgramFits (f.0 ∷ []) = subst ProgramFits one p in
-    subst AreSolvable (sym one) (solvable-one f.0 f.3 fits)
+pub solvable-program : (tree : ProgramTree) → ProgramFits tree → AreSolvable tree
+solvable-program tree fits = solvable-classes tree fits.1
 
-pub checked-program : (tree : ProgramTree) (solved : List (List SolvedMethod)) → ProgramFits tree → IsFirstProgram tree → first_of (faults_of_program tree) ≡ None → solved ≡ solve_program tree → IsChecked tree 0 solved
-checked-program tree solved p f h e =
-    let stands = solved-program tree (solvable-program tree p f) h in
-    record { first = f; faultless = h; root_is = (f.0, rw f.1 refl, f.2); stands = subst (λ (found : List (List SolvedMethod)). StandForProgram tree found) (sym e) stands }
+pub few-classes : (cs : List Class) → ProgramFits (map class_tree cs) → length cs ≤ most_members
+few-classes cs fits = subst (λ (n : ℕ). n ≤ most_members) (length-map cs class_tree) fits.0
 
--- ---- one class
+-- no fault in the classes, and a class named Root
+pub checked-program : (cs : List Class) (root : ℕ) (solved : List (List SolvedMethod)) → first_of (faults_of_classes (map (λ c. c.name) cs) [] (map class_tree cs)) ≡ None → solved ≡ map (solve_methods (map (λ c. c.name) cs)) (map class_tree cs) → first_of (missing_from (map (λ c. c.name) cs) root_name NoRoot) ≡ None → IsClass (map class_tree cs) root root_name → IsChecked (map class_tree cs) root solved
+checked-program cs root solved h e none is =
+    let tree = map class_tree cs in
+    let names : map (λ (c : Class). c.name) cs ≡ class_names tree = sym (map-names cs) in
+    let own : first_of (faults_of_classes (class_names tree) [] tree) ≡ None = subst (λ (ns : List Name). first_of (faults_of_classes ns [] tree) ≡ None) names h in
+    let rooted : first_of (missing_from (class_names tree) root_name NoRoot) ≡ None = subst (λ (ns : List Name). first_of (missing_from ns root_name NoRoot) ≡ None) names none in
+    let made : solved ≡ solve_program tree = subst (λ (ns : List Name). solved ≡ map (solve_methods ns) tree) names e in
+    record {
+      faultless = first_behind (faults_of_classes (class_names tree) [] tree) (missing_from (class_names tree) root_name NoRoot) own ∙ rooted;
+      root_is = is;
+      stands = subst (λ (found : List (List SolvedMethod)). StandForProgram tree found) (sym made) (solved-classes (class_names tree) [] tree own);
+    }
 
-pub only : (cs : List Class) (d : Class) → 1 ≤ length cs → length cs < 2 → d ≡ get_or cs 0 d → cs ≡ d ∷ []
-only [] d some few is = absurd (omega arith)
-only (c ∷ []) d some few is = ap (λ (c : Class). c ∷ []) (sym is)
-only (c ∷ e ∷ cs) d some few is = absurd (omega arith)
+-- a fault of a class comes first
+pub classes_refused : (cs : List Class) (f : CheckFault) → Refuses f (faults_of_classes (map (λ c. c.name) cs) [] (map class_tree cs)) → Refuses f (faults_of_program (map class_tree cs))
+classes_refused cs f h =
+    let tree = map class_tree cs in
+    let names : map (λ (c : Class). c.name) cs ≡ class_names tree = sym (map-names cs) in
+    refuses_before f (faults_of_classes (class_names tree) [] tree) (missing_from (class_names tree) root_name NoRoot) (subst (λ (ns : List Name). Refuses f (faults_of_classes ns [] tree)) names h)
 
-pub first_one : (c : ClassTree) (tree : ProgramTree) (first : Bool) → tree ≡ c ∷ [] → (IsTrue first ↔ (c.name ≡ root_name) × AreFirstMethods c.methods) → IsTrue first ↔ IsFirstProgram tree
-first_one c tree first is decides = (
-  λ yes. let both = decides.0 yes in (c, is, both.0, both.1),
-  λ of_tree. (
-      let lists : ◌≡◌ {A = List ClassTree} (of_tree.0 ∷ []) (c ∷ []) = sym of_tree.1 ∙ is in
-      let same : of_tree.0 ≡ c = cc in
-      decides.1 (subst (λ (c : ClassTree). (c.name ≡ root_name) × AreFirstMethods c.methods) same (of_tree.2, of_tree.3))
-      ),
-)
+-- that no class is named Root comes last
+pub root_refused : (cs : List Class) (f : CheckFault) → first_of (faults_of_classes (map (λ c. c.name) cs) [] (map class_tree cs)) ≡ None → Refuses f (missing_from (map (λ c. c.name) cs) root_name NoRoot) → Refuses f (faults_of_program (map class_tree cs))
+root_refused cs f none h =
+    let tree = map class_tree cs in
+    let names : map (λ (c : Class). c.name) cs ≡ class_names tree = sym (map-names cs) in
+    refuses_behind f (faults_of_classes (class_names tree) [] tree) (missing_from (class_names tree) root_name NoRoot) (subst (λ (ns : List Name). first_of (faults_of_classes ns [] tree) ≡ None) names none) (subst (λ (ns : List Name). Refuses f (missing_from ns root_name NoRoot)) names h)
+
+-- ---- the class Root
+
+or_true : (a b : Bool) → b ≡ true → (a || b) ≡ true
+or_true true b e = refl
+or_true false b e = e
+
+among_at : (x : Name) (ys : List Name) (i : ℕ) → slice_get ys i ≡ Some x → is_among x ys ≡ true
+among_at x [] i e = absurd (none-some x e)
+among_at x (y ∷ ys) zero e =
+    let same : bytes_eq x y ≡ true = (bytes_eq-Decides x y).1 (sym (same_Some y x e)) in
+    rw same refl
+among_at x (y ∷ ys) (suc i) e =
+    let rest : is_among x ys ≡ true = among_at x ys i e in
+    or_true (bytes_eq x y) (is_among x ys) rest
+
+pub root_here : (cs : List Class) (i : ℕ) (c : Class) → slice_get cs i ≡ Some c → c.name ≡ root_name → (first_of (missing_from (map (λ c. c.name) cs) root_name NoRoot) ≡ None) × IsClass (map class_tree cs) i root_name
+root_here cs i c e named =
+    let at : slice_get (map (λ (c : Class). c.name) cs) i ≡ Some root_name = slice_get-map (λ (c : Class). c.name) cs i ∙ ap (option_map (λ (c : Class). c.name)) e ∙ ap (λ (x : Name). Some x) named in
+    let among : is_among root_name (map (λ (c : Class). c.name) cs) ≡ true = among_at root_name (map (λ (c : Class). c.name) cs) i at in
+    (rw among refl, (class_tree c, slice_get-map class_tree cs i ∙ ap (option_map class_tree) e, named))

@@ -1,8 +1,8 @@
 -- The forms whose meaning is there so far.
-use Rattle.std.specs.Prelude.{◌≡◌, List, [], ◌∷◌}
+use Rattle.std.specs.Prelude.{List, [], ◌∷◌}
 use Rattle.model_lang.specs.declared.tree.BinaryOp.{BinaryOp}
 use Rattle.model_lang.specs.declared.tree.BinaryOp.TheVariants as op
-use Rattle.model_lang.specs.Tree.{Expression, nil, bool, int, text, this, local, field, list, unary, binary, builtin, call, future, create, Expressions, no_expressions, expression, Statement, declare, assign, set_field, when, while, give, do_, Statements, no_statements, statement, Otherwise, no_else, else_block, MethodTree, ClassTree, ProgramTree, root_name}
+use Rattle.model_lang.specs.Tree.{Expression, nil, bool, int, text, this, local, field, list, unary, binary, builtin, call, future, create, Expressions, no_expressions, expression, Statement, declare, assign, set_field, when, while, give, do_, Statements, no_statements, statement, Otherwise, no_else, else_block, MethodTree, ProgramTree}
 
 abbrev pub IsFirstOperator : BinaryOp → Type 0
 IsFirstOperator op.Plus = Unit {0}
@@ -58,6 +58,7 @@ abbrev pub AreFirstMethods : List MethodTree → Type 0
 AreFirstMethods [] = Unit {0}
 AreFirstMethods (m ∷ ms) = IsFirstMethod m × AreFirstMethods ms
 
--- one class, named Root, in these forms
-abbrev pub IsFirstProgram : ProgramTree → Type 0
-IsFirstProgram tree = (c : ClassTree) × (tree ≡ c ∷ []) × (c.name ≡ root_name) × AreFirstMethods c.methods
+-- each method of each class in these forms
+abbrev pub IsBuilt : ProgramTree → Type 0
+IsBuilt [] = Unit {0}
+IsBuilt (c ∷ cs) = AreFirstMethods c.methods × IsBuilt cs

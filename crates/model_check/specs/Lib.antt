@@ -1,4 +1,6 @@
 pub mod FirstForms
+pub mod Builtins
+pub mod Scopes
 pub mod Faults
 pub mod SolvedTree
 pub mod SolvedView

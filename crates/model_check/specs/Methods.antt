@@ -2,8 +2,7 @@
 use Rattle.std.specs.Prelude.{◌≡◌, ℕ, List, length, find, bytes_eq, Option, Some, None, option_map, option_and_then, slice_get}
 use Rattle.std.specs.Borrow.{Bor}
 use Rattle.model_lang.specs.Tree.{Name, MethodTree, ClassTree, ProgramTree, root_name}
-use Rattle.model_check.specs.FirstForms.{IsFirstProgram}
-use Rattle.model_check.specs.Faults.{first_fault}
+use Rattle.model_check.specs.Faults.{class_names, first_fault}
 use Rattle.model_check.specs.SolvedTree.{SolvedMethod}
 use Rattle.model_check.specs.SolvedView.{solved_method}
 use Rattle.model_check.specs.Stands.{StandsForMethod, StandForProgram}
@@ -24,19 +23,14 @@ method_of tree n x = option_and_then (λ c. method_named x c.methods) (slice_get
 abbrev pub IsClass : ProgramTree → ℕ → Name → Type 0
 IsClass tree n x = (c : ClassTree) × (slice_get tree n ≡ Some c) × (c.name ≡ x)
 
--- a program without faults whose forms are there: the number of the class Root, and what stands for the methods of each class
+-- a program without faults: the number of the class Root, and what stands for the methods of each class
 pub record IsChecked (tree : ProgramTree) (root : ℕ) (solved : List (List SolvedMethod)) : Type 0 where
-  pub first : IsFirstProgram tree
   pub faultless : first_fault tree ≡ None
   pub root_is : IsClass tree root root_name
   pub stands : StandForProgram tree solved
 
--- what stands for the method of that name in a class
-abbrev pub FindsMethodIn : Option (Bor Solved) → ClassTree → Name → Type 0
-FindsMethodIn None c x = method_named x c.methods ≡ None
-FindsMethodIn (Some s) c x = (m : MethodTree) × (method_named x c.methods ≡ Some m) × StandsForMethod c.fields m (solved_method s.now)
-
 -- there is none where there is no such class, and where it has no such method
 abbrev pub FindsMethod : Option (Bor Solved) → ProgramTree → ℕ → Name → Type 0
 FindsMethod None tree n x = method_of tree n x ≡ None
-FindsMethod (Some s) tree n x = (c : ClassTree) × (m : MethodTree) × (slice_get tree n ≡ Some c) × (method_of tree n x ≡ Some m) × StandsForMethod c.fields m (solved_method s.now)
+FindsMethod (Some s) tree n x =
+    (c : ClassTree) × (m : MethodTree) × (slice_get tree n ≡ Some c) × (method_of tree n x ≡ Some m) × StandsForMethod (class_names tree) c.fields m (solved_method s.now)

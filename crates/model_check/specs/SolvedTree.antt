@@ -1,16 +1,26 @@
 -- Resolved methods as plain trees.
-use Rattle.std.specs.Prelude.{ℕ, ℤ, List, [], ◌∷◌}
+use Rattle.std.specs.Prelude.{ℕ, ℤ, Bool, List, [], ◌∷◌}
+use Rattle.model_lang.specs.declared.tree.UnaryOp.{UnaryOp}
 use Rattle.model_lang.specs.declared.tree.BinaryOp.{BinaryOp}
 use Rattle.model_lang.specs.Tree.{Name}
+use Rattle.model_check.specs.declared.builtin.Builtin.{Builtin}
 
 mutual
   pub data SolvedExpression : Type 0 where
     nil : SolvedExpression
+    bool : Bool → SolvedExpression
     int : ℤ → SolvedExpression
+    text : List ℕ → SolvedExpression
     this : SolvedExpression
+    local : ℕ → SolvedExpression
     field : ℕ → SolvedExpression
+    list : SolvedExpressions → SolvedExpression
+    unary : UnaryOp → SolvedExpression → SolvedExpression
     binary : BinaryOp → SolvedExpression → SolvedExpression → SolvedExpression
+    builtin : Builtin → SolvedExpressions → SolvedExpression
+    call : SolvedExpression → Name → SolvedExpressions → SolvedExpression
     future : SolvedExpression → SolvedExpression → Name → SolvedExpressions → SolvedExpression
+    create : ℕ → SolvedExpression → SolvedExpression
 
   pub data SolvedExpressions : Type 0 where
     no_expressions : SolvedExpressions
@@ -18,8 +28,12 @@ mutual
 
 mutual
   pub data SolvedStatement : Type 0 where
+    declare : ℕ → SolvedExpression → SolvedStatement
+    assign : ℕ → SolvedExpression → SolvedStatement
     set_field : ℕ → SolvedExpression → SolvedStatement
     when : SolvedExpression → SolvedStatements → SolvedOtherwise → SolvedStatement
+    while : SolvedExpression → SolvedStatements → SolvedStatement
+    give : SolvedExpression → SolvedStatement
     do_ : SolvedExpression → SolvedStatement
 
   pub data SolvedStatements : Type 0 where

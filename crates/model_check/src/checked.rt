@@ -1,20 +1,16 @@
 //! Checked programs.
-ghost use Rattle.std.specs.Prelude.{◌≡◌, length, map, None};
-ghost use Rattle.model_lang.specs.TreeView.{class_tree, program_tree};
+ghost use Rattle.std.specs.Prelude.{◌≡◌, length, map, None, option_and_then, slice_get};
+ghost use Rattle.model_lang.specs.TreeView.{method_tree, program_tree};
 ghost use Rattle.model_lang.specs.Tree.{root_name};
 ghost use Rattle.model_check.specs.Answer.{Checks};
-ghost use Rattle.model_check.specs.FirstForms.{IsFirstProgram};
 ghost use Rattle.model_check.specs.Faults.{first_fault};
-ghost use Rattle.model_check.specs.Methods.{field_count, IsClass, FindsMethodIn, FindsMethod};
-ghost use Rattle.model_check.specs.SolvedView.{solved_method};
-ghost use Rattle.model_check.specs.Stands.{StandForMethods};
+ghost use Rattle.model_check.specs.Methods.{field_count, method_named, IsClass, FindsMethod};
 
-use crate::class::solve;
+use crate::class::{root, solve};
 use crate::fault::CheckFault;
-use crate::forms::is_first;
 use crate::names::is_name;
 use crate::solved::Solved;
-use model_lang::{Class, Program};
+use model_lang::{Method, Program};
 use std::alloc::Global;
 use std::marker::Model;
 use tea_base::Text;
@@ -51,13 +47,11 @@ impl Model for Checked {
 pub fn check(alloc: Global, program: Program) -> Result<Checked, CheckFault>
     ensures { Checks result program }
 {
-    if !is_first(program.classes()) {
-        return Err(CheckFault::NotBuilt);
-    }
     let classes = solve(alloc, program.classes())?;
+    let root = root(program.classes())?;
     Ok(Checked {
         program,
-        root: 0,
+        root,
         classes,
     })
 }
@@ -66,7 +60,6 @@ impl Checked {
     /// The program itself.
     pub fn program(&self) -> &Program
         ensures program { result.now ≡ self.now }
-        ensures first { IsFirstProgram (program_tree self.now) }
         ensures faultless { first_fault (program_tree self.now) ≡ None }
     {
         &self.program
@@ -100,18 +93,18 @@ impl Checked {
     {
         let declared = self.program.classes().get(usize::from(class))?;
         let solved = self.classes.get(usize::from(class))?;
-        method_named(declared, solved, name)
+        let place = method_place(&declared.methods, name)?;
+        solved.get(place)
     }
 }
 
-// What stands for the method of that name in a class.
-fn method_named<'a>(class: &Class, solved: &'a [Solved], name: &Text) -> Option<&'a Solved>
-    requires { StandForMethods (class_tree class.now).fields (class_tree class.now).methods (map solved_method solved.now) }
-    ensures { FindsMethodIn result (class_tree class.now) name.now }
+// The place of the method of that name among methods.
+fn method_place(methods: &[Method], name: &Text) -> Option<usize>
+    ensures { let trees = map method_tree methods.now in option_and_then (slice_get trees) result ≡ method_named name.now trees }
 {
-    for i in 0..class.methods.len() {
-        if is_name(name, &class.methods[i].name) {
-            return solved.get(i);
+    for i in 0..methods.len() {
+        if is_name(name, &methods[i].name) {
+            return Some(i);
         }
     }
     None

@@ -1,31 +1,21 @@
 //! The forms whose meaning is there.
-ghost use Rattle.std.specs.Prelude.{◌≡◌, ◌↔◌, IsTrue, map};
-ghost use Rattle.model_lang.specs.Tree.{root_name};
-ghost use Rattle.model_lang.specs.TreeView.{expression_tree, expression_trees, statement_tree, statement_trees, method_tree, class_tree, program_tree};
-ghost use Rattle.model_check.specs.FirstForms.{IsFirstOperator, IsFirstExpression, AreFirstExpressions, IsFirstStatement, AreFirstStatements, AreFirstMethods, IsFirstProgram};
+ghost use Rattle.std.specs.Prelude.{◌↔◌, IsTrue, map};
+ghost use Rattle.model_lang.specs.TreeView.{expression_tree, expression_trees, statement_tree, statement_trees, method_tree, program_tree};
+ghost use Rattle.model_check.specs.FirstForms.{IsFirstOperator, IsFirstExpression, AreFirstExpressions, IsFirstStatement, AreFirstStatements, AreFirstMethods, IsBuilt};
 
 use model_lang::{BinaryOp, Class, Expr, Method, Stmt};
 
-/// Whether a program is one class, named `Root`, in these forms.
-pub fn is_first(classes: &[Class]) -> bool
-    ensures { IsTrue result ↔ IsFirstProgram (program_tree classes.now) }
+/// Whether what a program means is there so far: whether its methods are made of numbers, `nil`, `this`, fields that are read
+/// or set, `+`, `-`, `<`, futures and `if` alone.
+pub fn is_built(classes: &[Class]) -> bool
+    ensures { IsTrue result ↔ IsBuilt (program_tree classes.now) }
 {
-    match classes {
-        [class] => is_first_class(class),
-        _ => false,
+    for class in classes {
+        if !are_first_methods(&class.methods) {
+            return false;
+        }
     }
-}
-
-fn is_first_class(class: &Class) -> bool
-    ensures { IsTrue result ↔ (class.now.name ≡ root_name) × AreFirstMethods (class_tree class.now).methods }
-{
-    is_root(class) && are_first_methods(&class.methods)
-}
-
-fn is_root(class: &Class) -> bool
-    ensures { IsTrue result ↔ class.now.name ≡ root_name }
-{
-    class.name.as_str() == "Root"
+    true
 }
 
 fn are_first_methods(methods: &[Method]) -> bool

@@ -1,17 +1,22 @@
-//! The check of a program: its first fault in the order of the text, or its methods with each name resolved to a slot.
+//! The check of a program: its first fault in the order of the text, or its methods with each name resolved to a slot or a
+//! number.
 #![tactic(auto)]
 
+mod builtin;
 mod checked;
 mod class;
 mod expression;
 mod fault;
 mod forms;
 mod names;
+mod scope;
 mod solved;
 mod statement;
 #[cfg(test)]
 mod tests;
 
+pub use builtin::Builtin;
 pub use checked::{Checked, check};
 pub use fault::CheckFault;
+pub use forms::is_built;
 pub use solved::{Solved, SolvedExpr, SolvedStmt};

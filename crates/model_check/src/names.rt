@@ -1,12 +1,15 @@
 //! Names: which are equal, and where each stands.
-ghost use Rattle.std.specs.Prelude.{◌≡◌, [], length, ◌≤◌, bytes_eq};
+ghost use Rattle.std.specs.Prelude.{◌≡◌, ◌↔◌, IsTrue, [], map, length, ◌<◌, ◌≤◌, ◌^◌, bytes_eq};
 ghost use Rattle.std.specs.List.{position_from};
 ghost use Rattle.model_lang.specs.Bounds.{most_members};
+ghost use Rattle.model_lang.specs.Tree.{root_name};
 ghost use Rattle.model_check.specs.Answer.{Solves};
-ghost use Rattle.model_check.specs.Faults.{is_among as among, twice_where, faults_of_names, faults_of_field};
-ghost use Rattle.model_check.specs.Solving.{slot_of};
+ghost use Rattle.model_check.specs.Faults.{is_among as among, twice_where, faults_of_names, faults_of_field, faults_of_local, faults_of_creation};
+ghost use Rattle.model_check.specs.Solving.{place_of};
 
 use crate::fault::CheckFault;
+use crate::scope::Scope;
+use model_lang::Class;
 use tea_base::Text;
 
 /// Whether two names are the same.
@@ -14,6 +17,13 @@ pub fn is_name(name: &Text, other: &Text) -> bool
     ensures { result ≡ bytes_eq name.now other.now }
 {
     name.is_text(other)
+}
+
+/// Whether a class is named `Root`.
+pub fn is_root(class: &Class) -> bool
+    ensures { IsTrue result ↔ class.now.name ≡ root_name }
+{
+    class.name.as_str() == "Root"
 }
 
 /// Whether a name is among some.
@@ -52,9 +62,9 @@ pub fn all_once(names: &[Text]) -> Result<(), CheckFault>
 }
 
 /// The place of a field among those of its class.
-pub fn slot(fields: &[Text], name: &Text) -> Result<u32, CheckFault>
+pub fn field(fields: &[Text], name: &Text) -> Result<u32, CheckFault>
     requires { length fields.now ≤ most_members }
-    ensures { Solves result (faults_of_field fields.now name.now) (λ slot. slot ≡ slot_of fields.now name.now) }
+    ensures { Solves result (faults_of_field fields.now name.now) (λ slot. slot ≡ place_of fields.now name.now) }
 {
     match place(fields, name) {
         Some(slot) => Ok(slot),
@@ -64,13 +74,52 @@ pub fn slot(fields: &[Text], name: &Text) -> Result<u32, CheckFault>
     }
 }
 
+/// The place of a local among the names in scope.
+pub fn local(scope: &Scope, name: &Text) -> Result<u32, CheckFault>
+    ensures { Solves result (faults_of_local scope.now.names.items name.now) (λ slot. slot ≡ place_of scope.now.names.items name.now) }
+{
+    match place(&scope.names, name) {
+        Some(slot) => Ok(slot),
+        None => Err(CheckFault::NoName {
+            name: name.clone()?,
+        }),
+    }
+}
+
+/// The number of the class of that name.
+pub fn class_number(classes: &[Class], name: &Text) -> Result<u16, CheckFault>
+    requires { length classes.now ≤ most_members }
+    ensures { Solves result (faults_of_creation (map (λ c. c.name) classes.now) name.now) (λ number. number ≡ place_of (map (λ c. c.name) classes.now) name.now) }
+{
+    match class_place(classes, name) {
+        Some(number) => Ok(number),
+        None => Err(CheckFault::NoClass {
+            name: name.clone()?,
+        }),
+    }
+}
+
 fn place(names: &[Text], name: &Text) -> Option<u32>
-    requires { length names.now ≤ most_members }
+    requires { length names.now < 2 ^ 32 }
     ensures { result ≡ position_from (bytes_eq name.now) 0 names.now }
 {
     let mut place = 0;
     for other in names {
         if is_name(name, other) {
+            return Some(place);
+        }
+        place += 1;
+    }
+    None
+}
+
+fn class_place(classes: &[Class], name: &Text) -> Option<u16>
+    requires { length classes.now ≤ most_members }
+    ensures { result ≡ position_from (bytes_eq name.now) 0 (map (λ c. c.name) classes.now) }
+{
+    let mut place = 0;
+    for class in classes {
+        if is_name(name, &class.name) {
             return Some(place);
         }
         place += 1;

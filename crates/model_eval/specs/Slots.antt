@@ -6,7 +6,7 @@ use Rattle.model_value.specs.World.{ObjectRecord}
 use Rattle.model_value.specs.Valid.{object_at}
 use Rattle.model_check.specs.SolvedTree.{SolvedExpression, this, field, binary, future, SolvedExpressions, no_expressions, expression, SolvedStatement, set_field, when, do_, SolvedStatements, no_statements, statement, SolvedOtherwise, no_else, else_block, SolvedMethod}
 use Rattle.model_check.specs.SolvedTree as solved
-use Rattle.model_eval.specs.declared.fault.Fault.TheVariants.{NoObject, Depth, Arity}
+use Rattle.model_eval.specs.declared.fault.Fault.TheVariants.{BadKind, NoObject, Depth, Arity}
 use Rattle.model_eval.specs.Meaning.{Running, Outcome, Gives, Faults, and_then, entering, Reply, value, fails, replying, operated, truth, deciding, put, send}
 
 abbrev pub slot_value : Option ObjectRecord → ℕ → Reply
@@ -37,6 +37,7 @@ abbrev pub otherwise : Execute → ℕ → SolvedOtherwise → Running → Outco
 otherwise ex object no_else r = Gives tt r
 otherwise ex object (else_block ss) r = in_turn ex object ss r
 
+-- no program has another form yet
 abbrev pub expression_row : Evaluate → ℕ → SolvedExpression → Running → Outcome PlainValue
 expression_row ev object solved.nil r = Gives nil r
 expression_row ev object (solved.int n) r = Gives (int n) r
@@ -45,12 +46,14 @@ expression_row ev object (field slot) r = get_slot object slot r
 expression_row ev object (binary o a b) r = and_then (ev object a r) (λ v r1. and_then (ev object b r1) (λ w. replying (operated o v w)))
 expression_row ev object (future target delay x args) r =
     and_then (ev object target r) (λ o r1. and_then (ev object delay r1) (λ d r2. and_then (evaluated ev object args [] r2) (send o d x)))
+expression_row ev object _ r = Faults BadKind r
 
 abbrev pub statement_row : Evaluate → Execute → ℕ → SolvedStatement → Running → Outcome ⊤
 statement_row ev ex object (set_field slot e) r = and_then (ev object e r) (set_slot object slot)
 statement_row ev ex object (when test block other) r =
     and_then (ev object test r) (λ v. deciding (truth v) (λ b r1. if b then in_turn ex object block r1 else otherwise ex object other r1))
 statement_row ev ex object (do_ e) r = and_then (ev object e r) (λ _. Gives tt)
+statement_row ev ex object _ r = Faults BadKind r
 
 -- how many more may be open inside, where so many may be open
 abbrev pub entered : ℕ → Running → Outcome ℕ

@@ -32,6 +32,7 @@ fn evaluate(
     expression_row(alloc, inside, object, expr, state, budget)
 }
 
+// No program has another form yet.
 #[cycle(evaluate)]
 fn expression_row(
     alloc: Global,
@@ -64,6 +65,7 @@ fn expression_row(
             let values = evaluate_all(alloc, room, object, args, state, budget)?;
             send(alloc, state, &target, &delay, name, values)
         }
+        _ => Err(Stop::Fault(Fault::BadKind)),
     }
 }
 
@@ -102,6 +104,7 @@ fn execute(
     statement_row(alloc, inside, object, stmt, state, budget)
 }
 
+// No program has another form yet.
 #[cycle(execute)]
 fn statement_row(
     alloc: Global,
@@ -132,6 +135,7 @@ fn statement_row(
             evaluate(alloc, room, object, value, state, budget)?;
             Ok(())
         }
+        _ => Err(Stop::Fault(Fault::BadKind)),
     }
 }
 

@@ -7,4 +7,5 @@ pub mod Turn
 pub mod Texts
 pub mod Rooted
 pub mod Initial
+pub mod Roots
 pub mod FirstWorld

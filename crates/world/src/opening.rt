@@ -1,5 +1,5 @@
 //! The first world of a session.
-ghost use Rattle.std.specs.Prelude.{◌≡◌, ◌∷◌, [], replicate, length, IfOk, OnOk, Some, slice_get, take};
+ghost use Rattle.std.specs.Prelude.{◌≡◌, ◌↔◌, ◌∷◌, [], replicate, length, IfOk, IsTrue, OnOk, Some, slice_get, take};
 ghost use Rattle.std.specs.Int.{from_le_bytes, w64};
 ghost use Rattle.model_value.specs.Plain.{nil};
 ghost use Rattle.model_value.specs.View.{plain_values};
@@ -7,15 +7,23 @@ ghost use Rattle.model_value.specs.World.{world_record};
 ghost use Rattle.model_lang.specs.Program.{IsProgram};
 ghost use Rattle.model_lang.specs.Tree.{ClassTree};
 ghost use Rattle.model_lang.specs.TreeView.{program_tree};
+ghost use Rattle.model_check.specs.FirstForms.{IsBuilt};
 ghost use Rattle.world.specs.Worlds.{empty_world, rooted, root_from, first as first_of, initialised, init};
 ghost use Rattle.world.specs.View.{scene};
 
 use crate::messages::{begin, run};
-use model_check::Checked;
+use model_check::{Checked, is_built};
 use model_eval::State;
 use model_value::{Known, PlainObject, PlainWorld, Value, Values};
 use std::alloc::Global;
 use tea_base::{List, SessionId, Text, WantOfMemory};
+
+/// Whether all forms of a program have a meaning so far, as the first world wants it. Takes no memory.
+pub fn built(program: &Checked) -> bool
+    ensures { IsTrue result ↔ IsBuilt (program_tree program.now) }
+{
+    is_built(program.program().classes())
+}
 
 /// The first world: one message makes an object of class Root, known as `modelRoot`, and starts its `init`, if it has
 /// one, with nil.

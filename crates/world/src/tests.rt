@@ -17,6 +17,9 @@ const SESSION: SessionId = SessionId([
 fn first(alloc: Global, text: &str) -> Result<World, Fail> {
     let program = parse(alloc, text.as_bytes())?;
     let checked = check(alloc, program)?;
+    if !built(&checked) {
+        return Err("a form without a meaning")?;
+    }
     Ok(World::first(alloc, Arc::new(alloc, checked)?, SESSION)?)
 }
 

@@ -5,6 +5,7 @@ ghost use Rattle.model_value.specs.Messages.{plain_outgoing};
 ghost use Rattle.model_value.specs.Valid.{Valid, time_limit};
 ghost use Rattle.model_value.specs.World.{world_record};
 ghost use Rattle.model_lang.specs.TreeView.{program_tree};
+ghost use Rattle.model_check.specs.FirstForms.{IsBuilt};
 ghost use Rattle.world.specs.Worlds.{field_counts, first as first_of, advance as advanced, external as entered_by};
 ghost use Rattle.world.specs.View.{Moves, Copies, IsInput, IsSound};
 
@@ -49,12 +50,13 @@ impl Model for World {
 
 impl World {
     /// The first world of a session: at time 0, one message makes an object of the class Root, known as `modelRoot`, and
-    /// starts its `init` with nil, if it has one.
+    /// starts its `init` with nil, if it has one. All forms of the program have a meaning, which `built` tells.
     pub fn first(
         alloc: Global,
         program: Arc<Checked, Global>,
         id: SessionId,
     ) -> Result<World, WantOfMemory>
+        requires { IsBuilt (program_tree (arc_value program)) }
         ensures { IfOk result (λ w. w ≡ record { program = arc_value program; scene = first_of (program_tree (arc_value program)) id.0; broken = false }) }
     {
         let state = opening::first(alloc, &program, id)?;

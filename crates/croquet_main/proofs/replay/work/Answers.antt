@@ -10,12 +10,13 @@ use Rattle.croquet_main.specs.declared.status.Input.TheVariants as input
 use Rattle.croquet_main.specs.PrintedText.{world_line}
 use Rattle.croquet_main.specs.Verdict.{log_limit, replay_text}
 use Rattle.croquet_main.specs.Ends.{AskedFor, IsDoneWith, ReadEnd}
-use Rattle.croquet_main.proofs.ReplayLaws.{asked_bad_log, asked_both, asked_log, by_fault, done_log, end_bad_log, end_log, end_program, log_read, some_verdict, to_log}
+use Rattle.croquet_main.proofs.ProgramLaws.{by_fault}
+use Rattle.croquet_main.proofs.ReplayLaws.{asked_bad_log, asked_both, asked_log, done_log, end_bad_log, end_log, end_replay, log_read, some_verdict, to_log}
 use Rattle.croquet_main.proofs.replay.work.Goals as goal
 
 pub returns-in_err-program-clause-end : goal.returns-in_err-program-clause-end
 returns-in_err-program-clause-end g c verdict comes =
-    end_program c.one_reading.ensures.one c.from_residual-in_err-program.result c.in_err-program.field-0.0 c.args.name.now c.args.time (g.F.Files.held c.args.files.now c.args.program.now) (g.F.Files.held c.args.files.now c.args.log.now)
+    end_replay c.one_reading.ensures.one c.from_residual-in_err-program.result c.in_err-program.field-0.0 c.args.name.now c.args.time (g.F.Files.held c.args.files.now c.args.program.now) (g.F.Files.held c.args.files.now c.args.log.now)
     c.in_ok-text.text verdict c.from_residual-in_err-program.ensures.1 c.in_ok-text.ensures.end.0 c.in_ok-text.ensures.end.1 (rw c.bytes.ensures at c.in_err-program.ensures) comes
 
 pub returns-in_err-spelled-clause-end : goal.returns-in_err-spelled-clause-end

@@ -1,11 +1,10 @@
 use Rattle.std.proofs.Common.{◌≡◌, ◌∙◌, Some, sym, ap}
 use Rattle.croquet_main.specs.declared.status.Fault.{Fault}
-use Rattle.croquet_main.specs.declared.words.Command.TheVariants.{Stamp, Replay}
+use Rattle.croquet_main.specs.declared.words.Command.TheVariants.{Stamp, Check, Replay}
 use Rattle.croquet_main.specs.CommandWords.{command_of}
 use Rattle.croquet_main.specs.Verdict.{stamp_verdict}
 use Rattle.croquet_main.proofs.VerdictLaws.{IfErr-all, WritesBefore-nothing}
-use Rattle.croquet_main.proofs.RunLaws.{asked_command, write_command}
-use Rattle.croquet_main.proofs.ReplayLaws.{put_replay}
+use Rattle.croquet_main.proofs.RunLaws.{asked_command, put_check, put_replay, write_command}
 use Rattle.croquet_main.proofs.top.run.Goals as goal
 
 pub returns-in_err-script-clause-part : goal.returns-in_err-script-clause-part
@@ -23,6 +22,12 @@ returns-in-Some-Stamp-clause-write g c =
     sym c.in_ok-script.ensures.read ∙ c.in-Some-Stamp.is ∙ ap Some c.in-Some-Stamp.field-0-is in
     write_command (command_of c.args.words.now) c.stamp.result c.in-Some-Stamp.script c.in-Some-Stamp.log
     (stamp_verdict c.in-Some-Stamp.log (g.F.Files.held c.args.files.now c.in-Some-Stamp.script)) _ _ _ _ _ is c.stamp.ensures.asked c.stamp.ensures.part
+
+pub returns-in-Some-Check-clause-put : goal.returns-in-Some-Check-clause-put
+returns-in-Some-Check-clause-put g c =
+    let is : command_of c.args.words.now ≡ Some (Check c.in-Some-Check.program) = sym c.in_ok-script.ensures.read ∙ c.in-Some-Check.is ∙ ap Some c.in-Some-Check.field-0-is in
+    put_check (command_of c.args.words.now) c.check.result c.in-Some-Check.program
+    (g.F.Files.held c.args.files.now) (g.F.Files.held c.check.new.files) is c.check.ensures.end c.check.ensures.others
 
 pub returns-in-Some-Replay-clause-put : goal.returns-in-Some-Replay-clause-put
 returns-in-Some-Replay-clause-put g c =

@@ -8,6 +8,6 @@ use Rattle.model_check.proofs.class.solve.Given as goal
 abbrev pub invariant-loop-i : goal.invariant-loop-i
 invariant-loop-i l = record {
   solvable : AreSolvable (map class_tree (drop l.i l.classes));
-  faults : first_of (faults_of_classes (map (λ c. c.name) (take l.i l.classes)) (map class_tree (drop l.i l.classes))) ≡ first_of (faults_of_classes [] (map class_tree l.classes));
-  solved : map (λ methods. map solved_method methods.items) l.solved.items ≡ map (λ c. solve_methods (class_tree c)) (take l.i l.classes);
+  faults : first_of (faults_of_classes (map (λ c. c.name) l.classes) (map (λ c. c.name) (take l.i l.classes)) (map class_tree (drop l.i l.classes))) ≡ first_of (faults_of_classes (map (λ c. c.name) l.classes) [] (map class_tree l.classes));
+  solved : map (λ methods. map solved_method methods.items) l.solved.items ≡ map (λ c. solve_methods (map (λ c. c.name) l.classes) (class_tree c)) (take l.i l.classes);
 }

@@ -1,5 +1,4 @@
 use Rattle.std.proofs.Common.{◌≡◌, drop, take, map}
-use Rattle.model_check.specs.FirstForms.{AreFirstExpressions}
 use Rattle.model_lang.specs.TreeView.{expression_tree, expression_trees}
 use Rattle.model_check.specs.Faults.{first_of, faults_of_expressions}
 use Rattle.model_check.specs.SolvedView.{solved_expression}
@@ -8,7 +7,6 @@ use Rattle.model_check.proofs.expression.+expression.Given as goal
 
 abbrev pub invariant-expressions-loop-expr : goal.invariant-expressions-loop-expr
 invariant-expressions-loop-expr l = record {
-  first : AreFirstExpressions (expression_trees (drop l.expr-index l.exprs));
-  faults : first_of (faults_of_expressions l.fields (expression_trees (drop l.expr-index l.exprs))) ≡ first_of (faults_of_expressions l.fields (expression_trees l.exprs));
-  solved : map solved_expression l.solved.items ≡ map (λ e. solve_expression l.fields (expression_tree e)) (take l.expr-index l.exprs);
+  faults : first_of (faults_of_expressions (map (λ c. c.name) l.classes) l.fields l.scope.names.items (expression_trees (drop l.expr-index l.exprs))) ≡ first_of (faults_of_expressions (map (λ c. c.name) l.classes) l.fields l.scope.names.items (expression_trees l.exprs));
+  solved : map solved_expression l.solved.items ≡ map (λ e. solve_expression (map (λ c. c.name) l.classes) l.fields l.scope.names.items (expression_tree e)) (take l.expr-index l.exprs);
 }

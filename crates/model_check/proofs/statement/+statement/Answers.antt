@@ -1,38 +1,58 @@
-use Rattle.std.proofs.Common.{rules, ◌≡◌, ◌++◌, None, take, sym, ap, ◌∙◌, subst}
+use Rattle.std.proofs.Common.{rules, ◌≡◌, ◌++◌, List, None, sym, ◌∙◌, map, subst}
 use Rattle.std.specs.Prelude.{Err}
-use Rattle.std.proofs.lemmas.List.{take_all, at_drop_all}
-use Rattle.model_lang.specs.Tree.{Statement, when, else_block}
+use Rattle.model_lang.specs.Tree.{Name, Statement, when, else_block}
 use Rattle.model_lang.specs.TreeView.{expression_tree, statement_tree, statement_trees}
 use Rattle.model_lang.specs.declared.tree.Stmt.{the_lemmas}
-use Rattle.model_check.specs.Answer.{Solves}
+use Rattle.model_lang.specs.declared.tree.Class.{Class}
+use Rattle.model_check.specs.Answer.{Solves, Refuses}
 use Rattle.model_check.specs.Faults.{first_of, faults_of_expression, faults_of_statement, faults_of_statements}
-use Rattle.model_check.specs.SolvedTree.{solved_statements_of}
-use Rattle.model_check.specs.SolvedView.{solved_statement, solved_statements}
-use Rattle.model_check.specs.Solving.{solve_statement, solve_statements}
-use Rattle.model_check.proofs.First.{first_behind, refused_behind}
-use Rattle.model_check.proofs.Trees.{solved_statements_of-map}
+use Rattle.model_check.specs.SolvedView.{solved_statement}
+use Rattle.model_check.specs.Solving.{solve_statement}
+use Rattle.model_check.proofs.Blocks.{list_goes, list_ends, list_refused}
+use Rattle.model_check.proofs.First.{first_behind, refused_is, refused_behind}
 use Rattle.model_check.proofs.statement.+statement.Goals as goal
 
-pub block-returns : goal.block-returns
-block-returns t c =
+pub block-loop-stmt-preserved : goal.block-loop-stmt-preserved
+block-loop-stmt-preserved t c =
+    let classes = map (λ (k : Class). k.name) c.args.classes.now in
     let fields = c.args.fields.now in
-    let ss = c.args.stmts.now in
-    let i = c.loop-stmt.stmt-index in
-    let all : take i ss ≡ ss = take_all i ss c.loop-stmt-test.false in (
-      sym c.loop-stmt.invariant.faults ∙ at_drop_all (λ rest. first_of (faults_of_statements fields (statement_trees rest))) ss i c.loop-stmt-test.false,
-      ap solved_statements_of (rw all at c.loop-stmt.invariant.solved) ∙ solved_statements_of-map fields ss,
-    )
+    let scope = c.args.scope.now.names.items in
+    let now = c.loop-stmt.scope in
+    list_goes classes fields scope c.args.stmts.now c.args.scope.now.slots now.names.items c.statement.new.scope.names.items now.slots c.statement.new.scope.slots c.loop-stmt.solved.items c.push.new.self.items c.loop-stmt.stmt-index c.stmt-item.result c.in_ok-statement.field-0 c.loop-stmt-test.true c.stmt-item.is c.loop-stmt.invariant c.in_ok-statement.ensures.solved c.in_ok-statement.ensures.scope c.in_ok-statement.ensures.slots c.in_ok-push.ensures.items
 
-pub statement-returns-in_err-block-in-Some : goal.statement-returns-in_err-block-in-Some
-statement-returns-in_err-block-in-Some t c =
+pub block-returns-in_err-statement-clause-solved : goal.block-returns-in_err-statement-clause-solved
+block-returns-in_err-statement-clause-solved t c =
+    let classes = map (λ (k : Class). k.name) c.args.classes.now in
     let fields = c.args.fields.now in
+    let scope = c.args.scope.now.names.items in
+    let now = c.loop-stmt.scope in
+    let fault = c.in_err-statement.field-0.0 in
+    let refused : c.from_residual.result ≡ Err fault = search rules in
+    refused_is c.from_residual.result fault _ _ refused (list_refused classes fields scope c.args.stmts.now c.args.scope.now.slots now.names.items now.slots c.loop-stmt.solved.items c.loop-stmt.stmt-index c.stmt-item.result fault c.loop-stmt-test.true c.stmt-item.is c.loop-stmt.invariant c.in_err-statement.ensures.solved)
+
+pub block-returns-clause-solved : goal.block-returns-clause-solved
+block-returns-clause-solved t c =
+    let classes = map (λ (k : Class). k.name) c.args.classes.now in
+    let fields = c.args.fields.now in
+    let scope = c.args.scope.now.names.items in
+    let now = c.loop-stmt.scope in
+    let whole = list_ends classes fields scope c.args.stmts.now c.args.scope.now.slots now.names.items now.slots c.loop-stmt.solved.items c.loop-stmt.stmt-index c.loop-stmt-test.false c.loop-stmt.invariant now.within in
+    (whole.0, whole.1)
+
+pub statement-returns-in_err-block-in-Some-clause-solved : goal.statement-returns-in_err-block-in-Some-clause-solved
+statement-returns-in_err-block-in-Some-clause-solved t c =
+    let classes = map (λ (k : Class). k.name) c.args.classes.now in
+    let fields = c.args.fields.now in
+    let scope = c.args.scope.now.names.items in
     let test = expression_tree c.in-If.test in
-    let yes = statement_trees c.deref.result.now in
+    let yes = statement_trees c.deref-in-If.result.now in
     let no = statement_trees c.deref-in-Some.result.now in
     let whole : statement_tree c.args.stmt.now ≡ when test yes (else_block no) = search (rules, the_lemmas) in
     let result = c.from_residual-in_err-block-in-Some.result in
-    let refused : result ≡ Err c.in_err-block-in-Some.field-0.0 = search rules in
-    let before = faults_of_expression fields test ++ faults_of_statements fields yes in
+    let fault = c.in_err-block-in-Some.field-0.0 in
+    let refused : result ≡ Err fault = search rules in
+    let before = faults_of_expression classes fields scope test ++ faults_of_statements classes fields scope yes in
     let front : first_of before ≡ None =
-    first_behind (faults_of_expression fields test) (faults_of_statements fields yes) c.in_ok-test-in-If.ensures.0 ∙ c.in_ok-yes-in-If.ensures.0 in
-    subst (λ (s : Statement). Solves result (faults_of_statement fields s) (λ t. solved_statement t ≡ solve_statement fields s)) (sym whole) (refused_behind result c.in_err-block-in-Some.field-0.0 before (faults_of_statements fields no) (λ found. solved_statements found.items ≡ solve_statements fields no) (λ t. solved_statement t ≡ solve_statement fields (when test yes (else_block no))) refused front c.in_err-block-in-Some.ensures)
+    first_behind (faults_of_expression classes fields scope test) (faults_of_statements classes fields scope yes) c.in_ok-test-in-If.ensures.0 ∙ c.in_ok-yes-in-If.ensures.solved.0 in
+    let here = subst (λ (ns : List Name). Refuses fault (faults_of_statements classes fields ns no)) c.in_ok-yes-in-If.ensures.scope c.in_err-block-in-Some.ensures.solved in
+    subst (λ (s : Statement). Solves result (faults_of_statement classes fields scope s) (λ t. solved_statement t ≡ solve_statement classes fields scope s)) (sym whole) (refused_behind result fault before (faults_of_statements classes fields scope no) (λ t. solved_statement t ≡ solve_statement classes fields scope (when test yes (else_block no))) refused front here)

@@ -1,14 +1,9 @@
-use Rattle.std.proofs.Common.{◌≡◌, drop, take, map}
-use Rattle.model_check.specs.FirstForms.{AreFirstStatements}
-use Rattle.model_lang.specs.TreeView.{statement_tree, statement_trees}
-use Rattle.model_check.specs.Faults.{first_of, faults_of_statements}
+use Rattle.std.proofs.Common.{drop, map}
+use Rattle.model_lang.specs.TreeView.{statement_trees}
 use Rattle.model_check.specs.SolvedView.{solved_statement}
-use Rattle.model_check.specs.Solving.{solve_statement}
+use Rattle.model_check.proofs.Blocks.{IsUpTo}
 use Rattle.model_check.proofs.statement.+statement.Given as goal
 
 abbrev pub invariant-block-loop-stmt : goal.invariant-block-loop-stmt
-invariant-block-loop-stmt l = record {
-  first : AreFirstStatements (statement_trees (drop l.stmt-index l.stmts));
-  faults : first_of (faults_of_statements l.fields (statement_trees (drop l.stmt-index l.stmts))) ≡ first_of (faults_of_statements l.fields (statement_trees l.stmts));
-  solved : map solved_statement l.solved.items ≡ map (λ s. solve_statement l.fields (statement_tree s)) (take l.stmt-index l.stmts);
-}
+invariant-block-loop-stmt l =
+    IsUpTo (map (λ c. c.name) l.classes) l.fields l.fn.scope.names.items (statement_trees l.stmts) l.fn.scope.slots l.scope.names.items l.scope.slots (map solved_statement l.solved.items) (statement_trees (drop l.stmt-index l.stmts))

@@ -1,0 +1,69 @@
+-- The bytes of the words that the language gives a meaning: the names of the builtins, and `Root`.
+use Rattle.std.proofs.Common.{◌≡◌, ◌↔◌, ℕ, zero, suc, Bool, true, IsTrue, List, [], ◌∷◌, encode_utf8_all, refl, sym, ap, ◌∙◌, arith}
+use Rattle.std.specs.Prelude.{nat_lt, ◌&&◌}
+use Rattle.std.specs.Bool.{one_answer}
+use Rattle.std.proofs.lemmas.Bool.{and_parts}
+use Rattle.std.proofs.lemmas.Bool.Decides.{Decides-ltb}
+use Rattle.std.proofs.lemmas.Slice.Eq.{bytes_eq-Decides}
+use Rattle.std.proofs.lemmas.Str.{encodes_same, encodes-IsAscii}
+use Rattle.std.specs.Str.{bytes_eq, IsAscii}
+use Rattle.model_lang.specs.Tree.{Name, root_name}
+use Rattle.model_check.specs.declared.builtin.Builtin.{Builtin}
+use Rattle.model_check.specs.declared.builtin.Builtin.TheVariants as builtin
+use Rattle.model_check.specs.Builtins.{name_of}
+
+abbrev is_ascii : List ℕ → Bool
+is_ascii [] = true
+is_ascii (x ∷ xs) = nat_lt x 128 && is_ascii xs
+
+ascii : (xs : List ℕ) → is_ascii xs ≡ true → IsAscii xs
+ascii [] h i = omega arith
+ascii (x ∷ xs) h zero = (Decides-ltb x 128).0 (and_parts (nat_lt x 128) (is_ascii xs) h).0
+ascii (x ∷ xs) h (suc i) = ascii xs (and_parts (nat_lt x 128) (is_ascii xs) h).1 i
+
+-- a text has the bytes of a word where it has its characters
+spells : (word : Name) → is_ascii word ≡ true → (same : Bool) (bytes : List ℕ) (name : Name) → same ≡ bytes_eq bytes word → bytes ≡ encode_utf8_all name → IsTrue same ↔ name ≡ word
+spells word plain same bytes name is told =
+    let own : encode_utf8_all word ≡ word = encodes-IsAscii word (ascii word plain) in
+    let decides = bytes_eq-Decides bytes word in (
+      λ same_bytes. encodes_same name word (sym told ∙ decides.0 (sym is ∙ same_bytes) ∙ sym own),
+      λ equal. is ∙ decides.1 (told ∙ ap encode_utf8_all equal ∙ own),
+    )
+
+pub root_named : (same : Bool) (bytes : List ℕ) (name : Name) → same ≡ bytes_eq bytes root_name → bytes ≡ encode_utf8_all name → IsTrue same ↔ name ≡ root_name
+root_named = spells root_name refl
+
+-- a test for a name says whether it is that name, from either side
+pub compared : (same : Bool) (x word : Name) → (IsTrue same ↔ x ≡ word) → same ≡ bytes_eq x word
+compared same x word h = one_answer same (bytes_eq x word) h (bytes_eq-Decides x word)
+
+pub compared_back : (same : Bool) (x word : Name) → (IsTrue same ↔ x ≡ word) → same ≡ bytes_eq word x
+compared_back same x word h = one_answer same (bytes_eq word x) (λ e. sym (h.0 e), λ e. h.1 (sym e)) (bytes_eq-Decides word x)
+
+plain_word : (b : Builtin) → is_ascii (name_of b) ≡ true
+plain_word builtin.Now = refl
+plain_word builtin.Random = refl
+plain_word builtin.ViewCount = refl
+plain_word builtin.Views = refl
+plain_word builtin.SessionId = refl
+plain_word builtin.Known = refl
+plain_word builtin.BeKnown = refl
+plain_word builtin.Exists = refl
+plain_word builtin.Destroy = refl
+plain_word builtin.Publish = refl
+plain_word builtin.Subscribe = refl
+plain_word builtin.Unsubscribe = refl
+plain_word builtin.Cancel = refl
+plain_word builtin.Length = refl
+plain_word builtin.At = refl
+plain_word builtin.Put = refl
+plain_word builtin.Push = refl
+plain_word builtin.Slice = refl
+plain_word builtin.Concat = refl
+plain_word builtin.Text = refl
+plain_word builtin.Number = refl
+plain_word builtin.Compare = refl
+
+pub builtin_spelled : (b : Builtin) (same : Bool) (bytes word : List ℕ) (name : Name) → word ≡ name_of b → same ≡ bytes_eq bytes word → bytes ≡ encode_utf8_all name → same ≡ bytes_eq name (name_of b)
+builtin_spelled b same bytes word name is tested told =
+    compared same name (name_of b) (spells (name_of b) (plain_word b) same bytes name (tested ∙ ap (bytes_eq bytes) is) told)

@@ -1,5 +1,0 @@
-use Rattle.model_check.proofs.Root.{root_named}
-use Rattle.model_check.proofs.forms.is_root.Goals as goal
-
-pub returns : goal.returns
-returns c = root_named c.eq.result c.as_str.result.now c.args.class.now.name c.eq.ensures c.as_str.ensures

@@ -1,0 +1,175 @@
+//! The builtins of the language.
+ghost use Rattle.std.specs.Prelude.{◌≡◌, find, bytes_eq};
+ghost use Rattle.model_check.specs.Answer.{Solves};
+ghost use Rattle.model_check.specs.Builtins.{name_of, arguments_of, builtin_named};
+ghost use Rattle.model_check.specs.Faults.{faults_of_builtin};
+ghost use Rattle.model_check.specs.Solving.{builtin_of};
+
+use crate::fault::CheckFault;
+use tea_base::Text;
+
+/// A builtin, named for its word in the language.
+#[derive(Clone, Copy, Debug, PartialEq, Eq)]
+pub enum Builtin {
+    /// `now()`
+    Now,
+    /// `random(a)`
+    Random,
+    /// `viewCount()`
+    ViewCount,
+    /// `views()`
+    Views,
+    /// `sessionId()`
+    SessionId,
+    /// `known(a)`
+    Known,
+    /// `beKnown(a)`
+    BeKnown,
+    /// `exists(a)`
+    Exists,
+    /// `destroy(a)`
+    Destroy,
+    /// `publish(a, b, c)`
+    Publish,
+    /// `subscribe(a, b, c)`
+    Subscribe,
+    /// `unsubscribe(a, b, c)`
+    Unsubscribe,
+    /// `cancel(a)`
+    Cancel,
+    /// `length(a)`
+    Length,
+    /// `at(a, b)`
+    At,
+    /// `put(a, b, c)`
+    Put,
+    /// `push(a, b)`
+    Push,
+    /// `slice(a, b, c)`
+    Slice,
+    /// `concat(a, b)`
+    Concat,
+    /// `text(a)`
+    Text,
+    /// `number(a)`
+    Number,
+    /// `compare(a, b)`
+    Compare,
+}
+
+const BUILTINS: [Builtin; 22] = [
+    Builtin::Now,
+    Builtin::Random,
+    Builtin::ViewCount,
+    Builtin::Views,
+    Builtin::SessionId,
+    Builtin::Known,
+    Builtin::BeKnown,
+    Builtin::Exists,
+    Builtin::Destroy,
+    Builtin::Publish,
+    Builtin::Subscribe,
+    Builtin::Unsubscribe,
+    Builtin::Cancel,
+    Builtin::Length,
+    Builtin::At,
+    Builtin::Put,
+    Builtin::Push,
+    Builtin::Slice,
+    Builtin::Concat,
+    Builtin::Text,
+    Builtin::Number,
+    Builtin::Compare,
+];
+
+/// The builtin that a call names, with so many arguments.
+pub fn called_builtin(name: &Text, given: usize) -> Result<Builtin, CheckFault>
+    ensures { Solves result (faults_of_builtin name.now given) (λ found. found ≡ builtin_of name.now) }
+{
+    let Some(found) = named(name) else {
+        return Err(CheckFault::NoName {
+            name: name.clone()?,
+        });
+    };
+    if given != arguments(found) {
+        return Err(CheckFault::Count {
+            name: name.clone()?,
+        });
+    }
+    Ok(found)
+}
+
+fn named(name: &Text) -> Option<Builtin>
+    ensures { result ≡ builtin_named name.now }
+{
+    first_named(name, &BUILTINS)
+}
+
+fn first_named(name: &Text, builtins: &[Builtin]) -> Option<Builtin>
+    ensures { result ≡ find (λ b. bytes_eq name.now (name_of b)) builtins.now }
+{
+    for builtin in builtins {
+        if is_named(name, *builtin) {
+            return Some(*builtin);
+        }
+    }
+    None
+}
+
+fn is_named(name: &Text, builtin: Builtin) -> bool
+    ensures { result ≡ bytes_eq name.now (name_of builtin) }
+{
+    name.as_str() == word(builtin)
+}
+
+fn word(builtin: Builtin) -> &'static str
+    ensures { result.now ≡ name_of builtin }
+{
+    match builtin {
+        Builtin::Now => "now",
+        Builtin::Random => "random",
+        Builtin::ViewCount => "viewCount",
+        Builtin::Views => "views",
+        Builtin::SessionId => "sessionId",
+        Builtin::Known => "known",
+        Builtin::BeKnown => "beKnown",
+        Builtin::Exists => "exists",
+        Builtin::Destroy => "destroy",
+        Builtin::Publish => "publish",
+        Builtin::Subscribe => "subscribe",
+        Builtin::Unsubscribe => "unsubscribe",
+        Builtin::Cancel => "cancel",
+        Builtin::Length => "length",
+        Builtin::At => "at",
+        Builtin::Put => "put",
+        Builtin::Push => "push",
+        Builtin::Slice => "slice",
+        Builtin::Concat => "concat",
+        Builtin::Text => "text",
+        Builtin::Number => "number",
+        Builtin::Compare => "compare",
+    }
+}
+
+fn arguments(builtin: Builtin) -> usize
+    ensures { result ≡ arguments_of builtin }
+{
+    match builtin {
+        Builtin::Now | Builtin::ViewCount | Builtin::Views | Builtin::SessionId => 0,
+        Builtin::Random
+        | Builtin::Known
+        | Builtin::BeKnown
+        | Builtin::Exists
+        | Builtin::Destroy
+        | Builtin::Cancel
+        | Builtin::Length
+        | Builtin::Text
+        | Builtin::Number => 1,
+        Builtin::At | Builtin::Push | Builtin::Concat | Builtin::Compare => 2,
+        Builtin::Publish
+        | Builtin::Subscribe
+        | Builtin::Unsubscribe
+        | Builtin::Put
+        | Builtin::Slice => 3,
+    }
+}
