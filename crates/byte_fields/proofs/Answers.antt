@@ -10,6 +10,12 @@ pub answers_spelled : {A E X : Type 0} {s : A → List ℕ} {F : A → Type 0} {
 answers_spelled bad view (Ok x) bytes codec fits given = (whole_takes codec bytes (view x) fits given).0
 answers_spelled bad view (Err fault) bytes codec fits given = tt
 
+-- what holds of each value that has a spelling holds of what is read
+pub answers_fit : {A E X : Type 0} {s : A → List ℕ} {F : A → Type 0} {r : Reading A} (bad : E) (view : X → A) (result : Result X E) (bytes : List ℕ) → Codec A s F r → IsBytes bytes → Gives bad view result (whole r bytes)
+    → (G : A → Type 0) → ((x : A) → F x → G x) → IfOk result (λ x. G (view x))
+answers_fit bad view (Ok x) bytes codec fits given G holds = holds (view x) (whole_takes codec bytes (view x) fits given).1
+answers_fit bad view (Err fault) bytes codec fits given G holds = tt
+
 -- where it is refused, no value has this spelling
 pub answers_bad : {A E X : Type 0} {s : A → List ℕ} {F : A → Type 0} {r : Reading A} (bad : E) (view : X → A) (result : Result X E) (bytes : List ℕ) → Codec A s F r → Gives bad view result (whole r bytes)
     → result ≡ Err bad → (x : A) → F x → bytes ≡ s x → ⊥

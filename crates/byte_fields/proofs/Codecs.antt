@@ -2,13 +2,14 @@
 use Rattle.std.proofs.Common.{◌≡◌, ℕ, zero, suc, ◌+◌, ◌^◌, ◌<◌, ◌≤◌, Bool, true, false, cond, ltb, eqb, List, [], ◌∷◌, ◌++◌, length, get_or, take, drop, Option, Some, None, refl, sym, ap, subst, ◌∙◌, append_assoc, append-nil, arith, inl, inr}
 use Rattle.std.specs.Int.{Width, w32, w64, byte_len, from_be_bytes, to_be_bytes}
 use Rattle.std.specs.List.{flat_map}
-use Rattle.std.specs.Str.{bytes_eq}
+use Rattle.std.specs.Str.{bytes_eq, chars, is_utf8, all_scalars, encode_utf8_all}
 use Rattle.std.proofs.lemmas.Bool.{cases_lt, ltb-false, le-ltb, eqb-true}
 use Rattle.std.proofs.lemmas.List.{nil_from_length, take_at, drop_at, take-append-drop, length-append, length-take, get_or-drop, get_or-take, get_or_past}
 use Rattle.std.proofs.lemmas.List.Concat.{flat_map-cons}
 use Rattle.std.proofs.lemmas.Nat.{be_bytes_4, be_bytes_8, from_be_bytes-to_be_bytes_4, from_be_bytes-to_be_bytes_8}
 use Rattle.std.proofs.lemmas.Slice.Eq.{bytes_eq-Decides}
-use Rattle.byte_fields.specs.Fields.{Reading, ◌>>=◌, byte_at, bytes_at, number_at, paired_at, headed_at, mark_at, marked_at, made_at, tested_at, nothing_at, never_at, blob, blob_at, list_of, items_at, list_at, whole}
+use Rattle.std.proofs.lemmas.Str.{chars-encodes, encodes-chars, scalars-chars, is_utf8-from_IsUtf8, IsUtf8-from_is_utf8}
+use Rattle.byte_fields.specs.Fields.{Reading, ◌>>=◌, byte_at, bytes_at, number_at, paired_at, headed_at, mark_at, marked_at, made_at, tested_at, nothing_at, never_at, blob, blob_at, text_at, list_of, items_at, list_at, whole}
 
 abbrev pub IsBytes : List ℕ → Type 0
 IsBytes bytes = (i : ℕ) → get_or bytes i 0 < 256
@@ -240,6 +241,31 @@ pub blob_codec : Codec (List ℕ) blob (λ x. length x < 2 ^ 32) blob_at
 blob_codec = said_codec blob (λ x. length x < 2 ^ 32) (λ x _. refl) (λ x h. h.0) (λ x h. (h, tt))
     (headed_codec length (λ x. x) (λ x. Unit {0}) bytes_at (number_codec w32 (2 ^ 32) wide32)
     (λ n _. said_codec (λ x. x) (λ x. (length x ≡ n) × Unit {0}) (λ x _. refl) (λ x h. (h, tt)) (λ x h. h.0) (bytes_codec n)))
+
+-- ---- texts
+
+-- it is of Unicode scalar values, and not too long for its length field
+abbrev pub FitsText : List ℕ → Type 0
+FitsText characters = (all_scalars characters ≡ true) × (length (encode_utf8_all characters) < 2 ^ 32)
+
+text_again : (characters : List ℕ) → FitsText characters
+    → (bytes : List ℕ) × (characters ≡ chars bytes) × ((length bytes < 2 ^ 32) × (is_utf8 bytes ≡ true))
+text_again characters fits =
+    let bytes = encode_utf8_all characters in
+    (bytes, sym (chars-encodes characters fits.0), (fits.1, is_utf8-from_IsUtf8 bytes (characters, (fits.0, refl))))
+
+text_taken : (bytes : List ℕ) → (length bytes < 2 ^ 32) × (is_utf8 bytes ≡ true) → FitsText (chars bytes)
+text_taken bytes fits =
+    let u = IsUtf8-from_is_utf8 bytes fits.1 in
+    (scalars-chars bytes u, rw (encodes-chars bytes u) (fits.0))
+
+pub text_codec : Codec (List ℕ) (λ characters. blob (encode_utf8_all characters)) FitsText text_at
+text_codec =
+    made_codec chars (λ characters. blob (encode_utf8_all characters)) FitsText (tested_codec is_utf8 blob_codec)
+    text_again text_taken
+    (λ bytes fits. ap blob (encodes-chars bytes (IsUtf8-from_is_utf8 bytes fits.1)))
+
+-- ---- lists
 
 -- each item has a spelling behind those before it
 abbrev pub EachFits : {A : Type 0} → (List A → A → Type 0) → List A → List A → Type 0

@@ -3,7 +3,7 @@ use Rattle.std.specs.Prelude.{◌≡◌, ℕ, zero, suc, List, [], ◌∷◌, �
 use Rattle.std.specs.Int.{Width, w32, byte_len, from_be_bytes, to_be_bytes}
 use Rattle.std.specs.List.{flat_map}
 use Rattle.std.specs.Option.{option_and_then}
-use Rattle.std.specs.Str.{bytes_eq}
+use Rattle.std.specs.Str.{bytes_eq, chars, is_utf8}
 
 -- a reader of values
 abbrev pub Reading : Type 0 → Type 0
@@ -72,6 +72,10 @@ blob bytes = to_be_bytes w32 (length bytes) ++ bytes
 
 abbrev pub blob_at : Reading (List ℕ)
 blob_at = headed_at (number_at w32) bytes_at
+
+-- the characters of a length and so many bytes of UTF-8
+abbrev pub text_at : Reading (List ℕ)
+text_at = made_at chars (tested_at is_utf8 blob_at)
 
 -- a count, and so many items
 abbrev pub list_of : {A : Type 0} → (A → List ℕ) → List A → List ℕ

@@ -1,8 +1,9 @@
 //! The readers of single fields.
-ghost use Rattle.std.specs.Prelude.{◌≡◌, length};
+ghost use Rattle.std.specs.Prelude.{◌≡◌, length, if◌then◌else◌};
 ghost use Rattle.std.specs.Option.{IfSome, option_map};
 ghost use Rattle.std.specs.Int.{w32, w64};
-ghost use Rattle.byte_fields.specs.Fields.{byte_at, bytes_at, number_at, blob_at, mark_at};
+ghost use Rattle.std.specs.Str.{chars, is_utf8};
+ghost use Rattle.byte_fields.specs.Fields.{byte_at, bytes_at, number_at, blob_at, text_at, mark_at};
 
 /// The first `count` bytes.
 pub fn bytes_at(bytes: &[u8], count: usize) -> Option<(&[u8], &[u8])>
@@ -49,6 +50,26 @@ pub fn blob_at(bytes: &[u8]) -> Option<(&[u8], &[u8])>
 {
     let (length, rest) = u32_at(bytes)?;
     bytes_at(rest, length as usize)
+}
+
+/// A length of four bytes, and so many bytes of UTF-8 (RFC 3629). Gives their text.
+pub fn text_at(bytes: &[u8]) -> Option<(&str, &[u8])>
+    ensures { option_map (λ x. (chars x.0.now, x.1.now)) result ≡ text_at bytes.now }
+{
+    let (field, rest) = blob_at(bytes)?;
+    let text = text_of(field)?;
+    Some((text, rest))
+}
+
+/// The text of bytes that are UTF-8.
+fn text_of(bytes: &[u8]) -> Option<&str>
+    ensures { option_map (λ text. text.now) result ≡
+        (if is_utf8 bytes.now then Some bytes.now else None) }
+{
+    match str::from_utf8(bytes) {
+        Ok(text) => Some(text),
+        Err(_) => None,
+    }
 }
 
 /// The bytes after a mark that they begin with.

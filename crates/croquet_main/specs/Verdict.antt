@@ -26,7 +26,7 @@ use Rattle.model_lang.specs.Tree.{ProgramTree}
 use Rattle.model_lang.specs.declared.fault.Bound.{Bound}
 use Rattle.model_lang.specs.Program.{IsRead, IsNoProgram, IsTooLarge, Reading, a_program, no_program, too_large, IsReading}
 use Rattle.model_check.specs.declared.fault.CheckFault.{CheckFault}
-use Rattle.model_check.specs.FirstForms.{IsBuilt}
+use Rattle.model_check.specs.BuiltForms.{IsBuilt}
 use Rattle.model_check.specs.Faults.{first_fault}
 use Rattle.world.specs.Worlds.{replay}
 

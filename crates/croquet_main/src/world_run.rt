@@ -4,7 +4,7 @@ ghost use Rattle.std.specs.Arc.{arc_value};
 ghost use Rattle.tea_base.specs.Legal.{IsLegal};
 ghost use Rattle.model_value.specs.Valid.{time_limit};
 ghost use Rattle.model_lang.specs.TreeView.{program_tree};
-ghost use Rattle.model_check.specs.FirstForms.{IsBuilt};
+ghost use Rattle.model_check.specs.BuiltForms.{IsBuilt};
 ghost use Rattle.world.specs.Worlds.{external as entered_by, replayed, replay};
 ghost use Rattle.croquet_main.specs.PrintedText.{world_line};
 ghost use Rattle.croquet_main.specs.Verdict.{is_event, has_event};

@@ -1,4 +1,4 @@
-pub mod FirstForms
+pub mod BuiltForms
 pub mod Builtins
 pub mod Scopes
 pub mod Faults

@@ -99,7 +99,8 @@ pub fn called_builtin(name: &Text, given: usize) -> Result<Builtin, CheckFault>
     Ok(found)
 }
 
-fn named(name: &Text) -> Option<Builtin>
+/// The builtin of that name, if there is one.
+pub fn named(name: &Text) -> Option<Builtin>
     ensures { result ≡ builtin_named name.now }
 {
     first_named(name, &BUILTINS)

@@ -323,29 +323,31 @@ fn checked(alloc: Global, text: &str) -> Result<Checked, Fail> {
 }
 
 #[test]
-fn a_program_in_the_first_forms_has_a_meaning(rt: HostRuntime) -> Result<(), Fail> {
+fn a_program_that_publishes_has_no_meaning_yet(rt: HostRuntime) -> Result<(), Fail> {
     for (text, built) in [
         ("class Root{}", true),
         (
-            "class Root{field a;m(x){if(this.a<1+2-3){this.future(1).m(this,nil);}else{this.a=4;}}}",
+            "class Root{field a;m(x){let y=[x,!true,-1];while(y==nil){y=this.m(y);}if(x){return create(Root,y);}else{this.a=\"a\";}this.future(random(6)).m(length(y));}}",
             true,
         ),
-        ("class A{field a;m(){this.a=nil;}}class Root{}", true),
-        ("class A{m(){return nil;}}class Root{}", false),
-        ("class Root{m(){}n(){true;}}", false),
-        ("class Root{m(){\"a\";}}", false),
-        ("class Root{m(x){x;}}", false),
-        ("class Root{m(){[];}}", false),
-        ("class Root{m(){!nil;}}", false),
-        ("class Root{m(){1>2;}}", false),
-        ("class Root{m(){1+now();}}", false),
-        ("class Root{m(){this.m();}}", false),
-        ("class Root{m(){this.future(1).m(this.m());}}", false),
-        ("class Root{m(){create(Root,nil);}}", false),
-        ("class Root{m(){let x=1;}}", false),
-        ("class Root{m(x){x=1;}}", false),
-        ("class Root{m(){while(nil){}}}", false),
-        ("class Root{m(){if(nil){}else{return nil;}}}", false),
+        ("class A{m(){return sessionId();}}class Root{}", true),
+        ("class Root{m(){publish(1,2,3);}}", false),
+        ("class Root{m(){subscribe(1,2,3);}}", false),
+        ("class Root{m(){unsubscribe(1,2,3);}}", false),
+        ("class Root{m(){cancel(1);}}", false),
+        ("class Root{m(){views();}}", false),
+        ("class Root{m(){viewCount();}}", false),
+        ("class A{m(){return [views()];}}class Root{}", false),
+        ("class Root{m(){}n(){let x=-viewCount();}}", false),
+        ("class Root{field a;m(){this.a=1+viewCount();}}", false),
+        ("class Root{m(x){x=length(views());}}", false),
+        ("class Root{m(){this.m(views());}}", false),
+        ("class Root{m(){this.future(viewCount()).m();}}", false),
+        ("class Root{m(){this.future(1).m(views());}}", false),
+        ("class Root{m(){create(Root,views());}}", false),
+        ("class Root{m(){while(viewCount()==1){}}}", false),
+        ("class Root{m(){while(true){views();}}}", false),
+        ("class Root{m(){if(true){}else{return views();}}}", false),
     ] {
         let checked = checked(rt.alloc(), text)?;
         let classes = checked.program().classes();

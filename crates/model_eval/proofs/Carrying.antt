@@ -1,110 +1,64 @@
 -- What a part of a method keeps, what follows on it keeps too.
-use Rattle.std.proofs.Common.{◌≡◌, ℕ, ◌-◌, ◌≤◌, ◌<◌, Bool, true, false, List, length, Option, Some, None, nat_eq, refl, ◌∙◌, subst, arith, if◌then◌else◌}
-use Rattle.std.specs.Prelude.{⊤}
-use Rattle.model_value.specs.Plain.{PlainValue}
+use Rattle.std.proofs.Common.{◌≡◌, ℕ, ◌-◌, ◌≤◌, Bool, true, false, List, Option, Some, None, nat_eq, nat_le, refl, ◌∙◌, subst, arith, if◌then◌else◌}
+use Rattle.model_value.specs.Plain.{PlainValue, InBounds, weight, is_in_bounds}
 use Rattle.model_value.specs.Messages.{PlainMessage}
+use Rattle.model_value.specs.World.{ObjectRecord}
 use Rattle.model_value.specs.Valid.{Valid, most_turns}
+use Rattle.model_value.specs.declared.message.Subscription.{Subscription}
+use Rattle.model_value.specs.declared.world.Known.{Known}
 use Rattle.model_eval.specs.declared.fault.Fault.{Fault}
-use Rattle.model_eval.specs.declared.fault.Fault.TheVariants.{Fuel}
-use Rattle.model_eval.specs.Meaning.{Running, Outcome, Gives, Faults, and_then, entering, Reply, value, fails, replying, deciding, with_fields, with_objects, with_message}
-use Rattle.model_eval.specs.Kept.{now_due, Kept, CarriesIf, Carries}
-use Rattle.model_eval.proofs.FieldBounds.{with_fields-alike, Alike-classes}
-use Rattle.model_eval.proofs.Pending.{if_either, due-later}
+use Rattle.model_eval.specs.declared.fault.Fault.TheVariants.{Fuel, Size}
+use Rattle.model_eval.specs.Running.{Running, Outcome, Gives, Faults, and_then, entering, spending, bounded, weighed, Reply, value, fails, replying, deciding}
+use Rattle.model_eval.specs.Kept.{due, now_due, Kept, CarriesIf}
+use Rattle.model_eval.proofs.Pending.{if_either}
+use Rattle.model_eval.proofs.ValueBounds.{Replies, fits-true}
 
 -- ---- keeping
-
-pub kept-refl : (r : Running) → Kept r r
-kept-refl r = record {
-  id = refl;
-  time = refl;
-  turns = refl;
-  random = refl;
-  next_object = refl;
-  faults = refl;
-  views = refl;
-  known = refl;
-  subscriptions = refl;
-  published = refl;
-  fuel = omega arith;
-  calm = λ _. omega arith;
-  classes = λ id o found. (o, found, refl);
-}
 
 pub kept-trans : (r s t : Running) → Kept r s → Kept s t → Kept r t
 kept-trans r s t h g = record {
   id = g.id ∙ h.id;
   time = g.time ∙ h.time;
   turns = g.turns ∙ h.turns;
-  random = g.random ∙ h.random;
-  next_object = g.next_object ∙ h.next_object;
   faults = g.faults ∙ h.faults;
   views = g.views ∙ h.views;
-  known = g.known ∙ h.known;
-  subscriptions = g.subscriptions ∙ h.subscriptions;
   published = g.published ∙ h.published;
   fuel = omega (arith, h.fuel, g.fuel);
+  next_object = omega (arith, h.next_object, g.next_object);
+  next_number = omega (arith, h.next_number, g.next_number);
   calm = λ most. let first : now_due s.world ≤ now_due r.world = h.calm most in let second : now_due t.world ≤ now_due s.world = g.calm (h.turns ∙ most) in omega arith;
-  classes = λ id o found. let there = h.classes id o found in let further = g.classes id there.0 there.1 in (further.0, further.1, further.2 ∙ there.2);
 }
 
-pub kept-entered : (r : Running) → Kept r (record r { fuel = r.fuel - 1 })
-kept-entered r = record {
+-- with other lists, other ids and numbers to come, another state of its random numbers, and no more fuel
+pub kept-changed : (r : Running) (fuel next_object next_number random : ℕ) (os : List ObjectRecord) (ks : List Known) (ss : List Subscription) (ms : List PlainMessage)
+    → fuel ≤ r.fuel → r.world.next_object ≤ next_object → r.world.next_number ≤ next_number → (r.world.turns ≡ most_turns → due r.world.time ms ≤ now_due r.world)
+    → Kept r (record {
+      fuel = fuel;
+      world = record (r.world) { next_object = next_object; next_number = next_number; random = random; objects = os; known = ks; subscriptions = ss; pending = ms };
+      published = r.published;
+    })
+kept-changed r fuel next_object next_number random os ks ss ms less later further calm = record {
   id = refl;
   time = refl;
   turns = refl;
-  random = refl;
-  next_object = refl;
   faults = refl;
   views = refl;
-  known = refl;
-  subscriptions = refl;
   published = refl;
-  fuel = omega arith;
-  calm = λ _. omega arith;
-  classes = λ id o found. (o, found, refl);
+  fuel = less;
+  next_object = later;
+  next_number = further;
+  calm = calm;
 }
 
-pub kept-fields : (id : ℕ) (change : List PlainValue → List PlainValue) (r : Running) → ((vs : List PlainValue) → length (change vs) ≡ length vs) → Kept r (with_objects r (with_fields id change r.world.objects))
-kept-fields id change r long = record {
-  id = refl;
-  time = refl;
-  turns = refl;
-  random = refl;
-  next_object = refl;
-  faults = refl;
-  views = refl;
-  known = refl;
-  subscriptions = refl;
-  published = refl;
-  fuel = omega arith;
-  calm = λ _. omega arith;
-  classes = Alike-classes r.world.objects (with_fields id change r.world.objects) (with_fields-alike id change r.world.objects long);
-}
+pub kept-fuel : (r : Running) (fuel : ℕ) → fuel ≤ r.fuel → Kept r (record r { fuel = fuel })
+kept-fuel r fuel h =
+    kept-changed r fuel r.world.next_object r.world.next_number r.world.random r.world.objects r.world.known r.world.subscriptions r.world.pending
+    h (omega arith) (omega arith) (λ _. omega arith)
 
--- a message that is not due yet, if too many ran at this instant
-pub kept-message : (m : PlainMessage) (r : Running) → (r.world.turns ≡ most_turns → r.world.time < m.time) → Kept r (with_message r m)
-kept-message m r h = record {
-  id = refl;
-  time = refl;
-  turns = refl;
-  random = refl;
-  next_object = refl;
-  faults = refl;
-  views = refl;
-  known = refl;
-  subscriptions = refl;
-  published = refl;
-  fuel = omega arith;
-  calm = λ most. omega (arith, due-later r.world.time m r.world.pending (h most));
-  classes = λ id o found. (o, found, refl);
-}
+pub kept-refl : (r : Running) → Kept r r
+kept-refl r = kept-fuel r r.fuel (omega arith)
 
 -- ---- outcomes
-
--- of the value that an operator gives, if it gives one
-abbrev pub Replies : (PlainValue → Type 0) → Reply → Type 0
-Replies P (value a) = P a
-Replies P (fails f) = ⊤
 
 module _ (counts : List ℕ) where
   -- after what keeps, under what it needs
@@ -125,15 +79,20 @@ module _ (counts : List ℕ) where
   carries-then H P Q r (Gives a s) next h later = carries-after H (H × Valid counts s.world × P a) Q r s (next a s) h.0 (λ x. (x, (h.1 x).0, (h.1 x).1)) (later a s)
   carries-then H P Q r (Faults e s) next h later = h
 
-  -- the same behind a part that asks for a valid world alone
-  pub carries-next : {A B : Type 0} (H : Type 0) (P : A → Type 0) (Q : B → Type 0) (r : Running) (o : Outcome A) (next : A → Running → Outcome B)
-      → (H → Valid counts r.world) → Carries counts P r o → ((a : A) (s : Running) → CarriesIf (H × Valid counts s.world × P a) counts Q s (next a s)) → CarriesIf H counts Q r (and_then o next)
-  carries-next H P Q r o next v h later = carries-then H P Q r o next (carries-if H (Valid counts r.world) P r o v h) later
+  -- the same behind a part that asks for something else
+  pub carries-next : {A B : Type 0} (H G : Type 0) (P : A → Type 0) (Q : B → Type 0) (r : Running) (o : Outcome A) (next : A → Running → Outcome B)
+      → (H → G) → CarriesIf G counts P r o → ((a : A) (s : Running) → CarriesIf (H × Valid counts s.world × P a) counts Q s (next a s)) → CarriesIf H counts Q r (and_then o next)
+  carries-next H G P Q r o next f h later = carries-then H P Q r o next (carries-if H G P r o f h) later
 
-  pub carries-entering : {A : Type 0} (P : A → Type 0) (r : Running) (next : Running → Outcome A) → ((s : Running) → Carries counts P s (next s)) → Carries counts P r (entering r next)
-  carries-entering P r next h =
-      if_either (Carries counts P r) (nat_eq r.fuel 0) (Faults Fuel r) (next (record r { fuel = r.fuel - 1 })) (λ _. (kept-refl r, λ v. v))
-      (λ _. carries-after (Valid counts r.world) (Valid counts r.world) P r (record r { fuel = r.fuel - 1 }) (next (record r { fuel = r.fuel - 1 })) (kept-entered r) (λ v. v) (h (record r { fuel = r.fuel - 1 })))
+  pub carries-test : {A : Type 0} (H : Type 0) (P : A → Type 0) (r : Running) (b : Bool) (x y : Outcome A)
+      → (b ≡ true → CarriesIf H counts P r x) → (b ≡ false → CarriesIf H counts P r y) → CarriesIf H counts P r (if b then x else y)
+  carries-test H P r b x y h g = if_either (CarriesIf H counts P r) b x y h g
+
+  pub carries-entering : {A : Type 0} (H : Type 0) (P : A → Type 0) (r : Running) (next : Running → Outcome A)
+      → (H → Valid counts r.world) → CarriesIf H counts P (record r { fuel = r.fuel - 1 }) (next (record r { fuel = r.fuel - 1 })) → CarriesIf H counts P r (entering r next)
+  carries-entering H P r next v h =
+      carries-test H P r (nat_eq r.fuel 0) (Faults Fuel r) (next (record r { fuel = r.fuel - 1 })) (λ _. (kept-refl r, v))
+      (λ _. carries-after H H P r (record r { fuel = r.fuel - 1 }) (next (record r { fuel = r.fuel - 1 })) (kept-fuel r (r.fuel - 1) (omega arith)) (λ x. x) h)
 
   pub carries-deciding : {A : Type 0} (H : Type 0) (P : A → Type 0) (r : Running) (o : Option Bool) (next : Bool → Running → Outcome A)
       → (H → Valid counts r.world) → ((b : Bool) → CarriesIf H counts P r (next b r)) → CarriesIf H counts P r (deciding o next r)
@@ -145,9 +104,19 @@ module _ (counts : List ℕ) where
   carries-replying H P r (value a) v h = (kept-refl r, λ x. (v x, h))
   carries-replying H P r (fails f) v h = (kept-refl r, v)
 
-  pub carries-test : {A : Type 0} (H : Type 0) (P : A → Type 0) (r : Running) (b : Bool) (x y : Outcome A)
-      → (b ≡ true → CarriesIf H counts P r x) → (b ≡ false → CarriesIf H counts P r y) → CarriesIf H counts P r (if b then x else y)
-  carries-test H P r b x y h g = if_either (CarriesIf H counts P r) b x y h g
+  -- a value that takes steps
+  pub carries-spending : (H : Type 0) (P : PlainValue → Type 0) (r : Running) (steps : ℕ) (a : PlainValue) → (H → Valid counts r.world) → (H → P a) → CarriesIf H counts P r (spending steps r (Gives a))
+  carries-spending H P r steps a v h =
+      carries-test H P r (nat_le steps r.fuel) (Gives a (record r { fuel = r.fuel - steps })) (Faults Fuel r)
+      (λ _. (kept-fuel r (r.fuel - steps) (omega arith), λ x. (v x, h x))) (λ _. (kept-refl r, v))
+
+  pub carries-bounded : (H : Type 0) (r : Running) (a : PlainValue) → (H → Valid counts r.world) → CarriesIf H counts InBounds r (bounded a r)
+  carries-bounded H r a v = carries-test H InBounds r (is_in_bounds a) (Gives a r) (Faults Size r) (λ e. (kept-refl r, λ x. (v x, fits-true a e))) (λ _. (kept-refl r, v))
+
+  pub carries-weighed : (H : Type 0) (r : Running) (a : PlainValue) → (H → Valid counts r.world) → CarriesIf H counts InBounds r (weighed a r)
+  carries-weighed H r a v =
+      carries-test H InBounds r (is_in_bounds a) (spending (weight a) r (Gives a)) (Faults Size r)
+      (λ e. carries-spending H InBounds r (weight a) a v (λ _. fits-true a e)) (λ _. (kept-refl r, v))
 
 -- ---- what an outcome that carries tells
 

@@ -6,10 +6,10 @@ use Rattle.model_value.specs.Valid.{object_at, if_same, IsHeld, AllInBounds, Obj
 use Rattle.model_value.specs.declared.message.Subscription.{Subscription}
 use Rattle.model_value.specs.declared.world.Known.{Known}
 use Rattle.model_lang.specs.Tree.{Name}
-use Rattle.model_eval.specs.Meaning.{value_named, with_named, with_fields}
+use Rattle.model_eval.specs.Objects.{value_named, with_named, with_fields}
 
 -- what holds in either branch holds of a test
-if_both : {A : Type 0} (P : A → Type 0) (b : Bool) (x y : A) → P x → P y → P (if b then x else y)
+pub if_both : {A : Type 0} (P : A → Type 0) (b : Bool) (x y : A) → P x → P y → P (if b then x else y)
 if_both P true x y h g = h
 if_both P false x y h g = g
 

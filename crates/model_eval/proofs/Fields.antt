@@ -16,7 +16,8 @@ use Rattle.model_value.specs.declared.world.PlainObject.{PlainObject}
 use Rattle.model_eval.specs.declared.fault.Fault.TheVariants.{Full}
 use Rattle.model_eval.specs.declared.state.State.{State}
 use Rattle.model_eval.specs.declared.state.Budget.{Budget}
-use Rattle.model_eval.specs.Meaning.{Running, Faults, with_fields, with_objects, if_light}
+use Rattle.model_eval.specs.Running.{Running, Gives, Faults}
+use Rattle.model_eval.specs.Objects.{with_fields, with_objects, if_light}
 use Rattle.model_eval.specs.Answer.{running}
 use Rattle.model_eval.specs.Places.{place_of, slot_at, with_fields_at}
 
@@ -114,9 +115,14 @@ pub heavy : (left : Option ℕ) (most weight : ℕ) → is_some left ≡ false �
 heavy None most weight is h = h
 heavy (Some x) most weight is h = absurd (false≢true (sym is))
 
-pub too_heavy : (r changed : Running) → most_world_weight < world_weight changed.world → if_light r changed ≡ Faults Full r
-too_heavy r changed h =
+pub too_heavy : {A : Type 0} (a : A) (r changed : Running) → most_world_weight < world_weight changed.world → if_light a r changed ≡ Faults Full r
+too_heavy a r changed h =
     let e : nat_le (world_weight changed.world) most_world_weight ≡ false = grind (arith, nat_tests) in
+    rw e refl
+
+pub light_enough : {A : Type 0} (a : A) (r changed : Running) → world_weight changed.world ≤ most_world_weight → if_light a r changed ≡ Gives a changed
+light_enough a r changed h =
+    let e : nat_le (world_weight changed.world) most_world_weight ≡ true = grind (arith, nat_tests) in
     rw e refl
 
 pub restored : (s : State) (budget : Budget) (objects : List PlainObject) → map object_record objects ≡ map object_record s.world.objects → running (record s { world = record (s.world) { objects = objects } }) budget ≡ running s budget

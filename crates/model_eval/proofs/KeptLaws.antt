@@ -1,203 +1,259 @@
 -- What a method keeps of a world, row by row.
-use Rattle.std.proofs.Common.{◌≡◌, ℕ, zero, suc, ◌+◌, ◌≤◌, ◌<◌, false, ◌&&◌, ℤ, List, [], ◌∷◌, ◌++◌, length, Option, Some, None, nat_eq, nat_le, refl, subst, arith, ⊎_elim, if◌then◌else◌, slice_get, bytes_eq, int_lt, ◌+ℤ◌, ◌-ℤ◌}
-use Rattle.std.specs.Prelude.{⊤}
-use Rattle.std.proofs.lemmas.Bool.{leb-true, eqb-false, and_cases}
+use Rattle.std.proofs.Common.{◌≡◌, ℕ, zero, suc, ◌+◌, ◌-◌, true, false, List, [], ◌∷◌, ◌++◌, length, Option, Some, None, nat_eq, refl, subst, arith, if◌then◌else◌, slice_get, bytes_eq}
+use Rattle.std.specs.Prelude.{⊤, is_some}
 use Rattle.std.proofs.lemmas.List.{length_push}
-use Rattle.model_value.specs.Plain.{PlainValue, nil, bool, int, ref, InBounds, most_weight, most_depth}
-use Rattle.model_value.specs.Messages.{PlainMessage}
-use Rattle.model_value.specs.World.{ObjectRecord, world_weight, most_world_weight}
-use Rattle.model_value.specs.Valid.{Valid, object_at, AllInBounds, IsHeld, most_turns, most_parameters, time_limit}
-use Rattle.model_lang.specs.Tree.{Name, Expression, this, field, binary, future, Expressions, no_expressions, expression, Statement, set_field, when, do_, Statements, no_statements, statement, Otherwise, no_else, else_block, MethodTree, ClassTree, ProgramTree}
+use Rattle.model_value.specs.Plain.{PlainValue, bool, text, ref, list, InBounds}
+use Rattle.model_value.specs.View.{plains_of}
+use Rattle.model_value.specs.World.{ObjectRecord}
+use Rattle.model_value.specs.Valid.{Valid, object_at, AllInBounds}
+use Rattle.model_lang.specs.Tree.{Name, Expression, this, local, field, unary, binary, builtin, call, future, create, Expressions, no_expressions, expression, Statement, declare, assign, set_field, when, while, give, do_, Statements, no_statements, statement, Otherwise, no_else, else_block, MethodTree, ClassTree, ProgramTree}
 use Rattle.model_lang.specs.Tree as tree
 use Rattle.model_lang.specs.declared.tree.BinaryOp.{BinaryOp}
 use Rattle.model_lang.specs.declared.tree.BinaryOp.TheVariants as op
 use Rattle.model_lang.specs.Bounds.{how_many, FewArguments, AllFewArguments, HasFewArguments, AllHaveFewArguments, ElseHasFewArguments, MethodsFit, ClassesFit}
-use Rattle.model_lang.specs.Names.{IsShort, HasShortNames, AllHaveShortNames, NamesAreShort, AllNamesAreShort, ElseNamesAreShort, MethodNamesAreShort, ClassNamesAreShort}
-use Rattle.model_eval.specs.declared.fault.Fault.TheVariants.{Overflow, Arity, Depth, Instant, Full}
-use Rattle.model_eval.specs.Meaning.{Running, Gives, Faults, and_then, Here, Reply, value, fails, replying, in_64_bits, fitting, on_ints, operated, truth, with_named, got, with_fields, with_objects, put, set_named, ahead, has_room, with_message, sent, sent_to, send, Evaluate, Execute, evaluated, in_turn, otherwise, expression_row, statement_row, evaluate, execute, performed, starts_in, starts_on, starts}
+use Rattle.model_lang.specs.Names.{HasShortNames, AllHaveShortNames, NamesAreShort, AllNamesAreShort, ElseNamesAreShort, MethodNamesAreShort, ClassNamesAreShort}
+use Rattle.model_check.specs.Builtins.{builtin_named}
 use Rattle.model_check.specs.Methods.{method_named}
-use Rattle.model_eval.specs.Kept.{CarriesIf, Carries}
-use Rattle.model_eval.proofs.FieldBounds.{nil-in_bounds, value_named-in_bounds, with_named-in_bounds, length-with_named, object_at-fits}
-use Rattle.model_eval.proofs.Pending.{if_either, short-fits, ahead-is}
-use Rattle.model_eval.proofs.ValidLaws.{valid-fields, valid-message}
-use Rattle.model_eval.proofs.Carrying.{kept-refl, kept-fields, kept-message, carries-if, carries-more, carries-then, carries-next, carries-entering, carries-deciding, carries-replying, carries-test, Replies}
-
--- ---- values
-
-plain-in_bounds : (m n : ℕ) → m ≡ 1 → n ≡ 0 → (m ≤ most_weight) × (n ≤ most_depth)
-plain-in_bounds m n h g = (omega arith, omega arith)
-
-int-in_bounds : (n : ℤ) → InBounds (int n)
-int-in_bounds n = plain-in_bounds 1 0 refl refl
-
-fitting-in_bounds : (n : ℤ) → Replies InBounds (fitting n)
-fitting-in_bounds n = if_either (Replies InBounds) (in_64_bits n) (value (int n)) (fails Overflow) (λ _. int-in_bounds n) (λ _. tt)
-
-on_ints-in_bounds : (f : ℤ → ℤ → Reply) → ((m n : ℤ) → Replies InBounds (f m n)) → (v w : PlainValue) → Replies InBounds (on_ints f v w)
-on_ints-in_bounds f h (int m) (int n) = h m n
-on_ints-in_bounds f h _ _ = tt
-
-pub operated-in_bounds : (o : BinaryOp) (v w : PlainValue) → Replies InBounds (operated o v w)
-operated-in_bounds op.Plus v w = on_ints-in_bounds (λ m n. fitting (m +ℤ n)) (λ m n. fitting-in_bounds (m +ℤ n)) v w
-operated-in_bounds op.Minus v w = on_ints-in_bounds (λ m n. fitting (m -ℤ n)) (λ m n. fitting-in_bounds (m -ℤ n)) v w
-operated-in_bounds op.Less v w = on_ints-in_bounds (λ m n. value (bool (int_lt m n))) (λ m n. plain-in_bounds 1 0 refl refl) v w
-operated-in_bounds _ v w = tt
-
-AllInBounds-push : (vs : List PlainValue) (v : PlainValue) → AllInBounds vs → InBounds v → AllInBounds (vs ++ v ∷ [])
-AllInBounds-push [] v h g = (g, tt)
-AllInBounds-push (w ∷ vs) v h g = (h.0, AllInBounds-push vs v h.1 g)
-
--- what is not refused at an instant at which too many ran is to come
-pub to_come : (time now turns : ℕ) → (nat_eq time now && nat_eq turns most_turns) ≡ false → now ≤ time → turns ≡ most_turns → now < time
-to_come time now turns e h most =
-    ⊎_elim (λ apart. let differ : ¬ (time ≡ now) = eqb-false time now apart in omega (arith, differ)) (λ apart. absurd (eqb-false turns most_turns apart most)) (and_cases (nat_eq time now) (nat_eq turns most_turns) e)
-
--- ---- fields and futures
-
-module _ (counts : List ℕ) where
-  got-carries : (o : Option ObjectRecord) (id : ℕ) (x : Name) (names : List Name) (r : Running) → object_at r.world.objects id ≡ o → Carries counts InBounds r (got o x names r)
-  got-carries None id x names r e = (kept-refl r, λ v. v)
-  got-carries (Some o) id x names r e =
-      (kept-refl r, λ v. (v, value_named-in_bounds x names o.fields (object_at-fits counts r.world.next_object r.world.objects id o v.objects e).2))
-
-  put-carries : (H : Type 0) (o : Option ObjectRecord) (id : ℕ) (change : List PlainValue → List PlainValue) (r : Running)
-      → (H → Valid counts r.world) → ((vs : List PlainValue) → length (change vs) ≡ length vs) → (H → (vs : List PlainValue) → AllInBounds vs → AllInBounds (change vs))
-      → CarriesIf H counts (λ _. ⊤) r (put o id change r)
-  put-carries H None id change r v long bound = (kept-refl r, v)
-  put-carries H (Some o) id change r v long bound =
-      let changed : Running = with_objects r (with_fields id change r.world.objects) in
-      carries-test counts H (λ _. ⊤) r (nat_le (world_weight changed.world) most_world_weight) (Gives tt changed) (Faults Full r)
-      (λ light. (kept-fields id change r long, λ x. (valid-fields counts id change r long (bound x) (leb-true (world_weight changed.world) most_world_weight light) (v x), tt)))
-      (λ _. (kept-refl r, v))
-
-  set_named-carries : (H : Type 0) (here : Here) (x : Name) (a : PlainValue) (r : Running) → (H → Valid counts r.world) → (H → InBounds a) → CarriesIf H counts (λ _. ⊤) r (set_named here x a r)
-  set_named-carries H here x a r v fits =
-      put-carries H (object_at r.world.objects here.object) here.object (with_named x a here.class.fields) r v (length-with_named x a here.class.fields)
-      (λ y vs. with_named-in_bounds x a here.class.fields vs (fits y))
-
-  sent-carries : (H : Type 0) (object : ℕ) (x : Name) (args : List PlainValue) (ahead : Option ℕ) (r : Running)
-      → (H → Valid counts r.world) → (H → AllInBounds args × (length args ≤ most_parameters)) → IsShort x → IsHeld r.world.objects object
-      → ((time : ℕ) → ahead ≡ Some time → (r.world.time ≤ time) × (time < time_limit)) → CarriesIf H counts InBounds r (sent object x args ahead r)
-  sent-carries H object x args None r v fit short held within = (kept-refl r, v)
-  sent-carries H object x args (Some time) r v fit short held within =
-      let m : PlainMessage = record { time = time; number = r.world.next_number; object = object; method = x; args = args } in
-      let bounds : (r.world.time ≤ time) × (time < time_limit) = within time refl in
-      carries-test counts H InBounds r (nat_eq time r.world.time && nat_eq r.world.turns most_turns) (Faults Instant r) (if has_room r.world m then Gives nil (with_message r m) else Faults Full r)
-      (λ _. (kept-refl r, v))
-      (λ apart. carries-test counts H InBounds r (has_room r.world m) (Gives nil (with_message r m)) (Faults Full r)
-      (λ room. (
-        kept-message m r (to_come time r.world.time r.world.turns apart bounds.0),
-        λ y. (valid-message counts m r refl (bounds.0, bounds.1, omega arith, held, short-fits x short, (fit y).1, (fit y).0) room (v y), nil-in_bounds),
-      ))
-      (λ _. (kept-refl r, v)))
-
-  sent_to-carries : (H : Type 0) (o : Option ObjectRecord) (object : ℕ) (delay : ℤ) (x : Name) (args : List PlainValue) (r : Running)
-      → (H → Valid counts r.world) → (H → AllInBounds args × (length args ≤ most_parameters)) → IsShort x → object_at r.world.objects object ≡ o
-      → CarriesIf H counts InBounds r (sent_to o object delay x args r)
-  sent_to-carries H None object delay x args r v fit short e = (kept-refl r, v)
-  sent_to-carries H (Some o) object delay x args r v fit short e = sent-carries H object x args (ahead r.world.time delay) r v fit short (o, e) (ahead-is r.world.time delay)
-
-  send-carries : (H : Type 0) (o d : PlainValue) (x : Name) (args : List PlainValue) (r : Running)
-      → (H → Valid counts r.world) → (H → AllInBounds args × (length args ≤ most_parameters)) → IsShort x → CarriesIf H counts InBounds r (send o d x args r)
-  send-carries H (ref object) (int delay) x args r v fit short = sent_to-carries H (object_at r.world.objects object) object delay x args r v fit short refl
-  send-carries H _ _ x args r v fit short = (kept-refl r, v)
+use Rattle.model_eval.specs.declared.fault.Fault.TheVariants.{Arity, Depth}
+use Rattle.model_eval.specs.Running.{Running, Outcome, Gives, Faults, and_then, weighed, replying, truth, deciding}
+use Rattle.model_eval.specs.Operators.{operated, truly, operating, unary_operated}
+use Rattle.model_eval.specs.Objects.{with_named, made}
+use Rattle.model_eval.specs.Futures.{send}
+use Rattle.model_eval.specs.Builtins.{answered_by}
+use Rattle.model_eval.specs.Meaning.{Here, Local, locals_of, Flow, next, returned, follow, behind, value_of, set_named, Evaluate, Execute, Start, evaluated, in_turn, block, otherwise, looped, called_on, init, initialised, created, created_by, number_of, expression_row, statement_row, performed, starts_in, starts_on, starting, evaluate, execute, starts}
+use Rattle.model_eval.specs.Kept.{field_counts, CarriesIf, Carries}
+use Rattle.model_eval.proofs.FieldBounds.{nil-in_bounds, with_named-in_bounds, length-with_named}
+use Rattle.model_eval.proofs.Pending.{if_either}
+use Rattle.model_eval.proofs.Created.{get-mapped}
+use Rattle.model_eval.proofs.ValueBounds.{bool-in_bounds, int-in_bounds, ref-in_bounds, AllInBounds-push, operated-in_bounds, unary_operated-in_bounds, LocalsFit, local_value-in_bounds, with_local-fit, declared-fit, locals_of-fit, FlowFits, behind-fits, value_of-fits}
+use Rattle.model_eval.proofs.Carrying.{kept-refl, carries-if, carries-more, carries-then, carries-next, carries-test, carries-entering, carries-deciding, carries-replying, carries-bounded, carries-weighed}
+use Rattle.model_eval.proofs.Doing.{got-carries, put-carries, send-carries, made-carries, answered_by-carries}
 
 -- ---- the table
 
 -- what is given is of no concern
-abbrev pub Anything : ⊤ → Type 0
+abbrev pub Anything : {A : Type 0} → A → Type 0
 Anything _ = ⊤
 
 -- values in bounds, as many as a number says
 abbrev pub AreMany : ℕ → List PlainValue → Type 0
 AreMany n vs = AllInBounds vs × (length vs ≡ n)
 
+-- what a statement or an expression begins with: a valid world, and locals in bounds
+abbrev pub Ready : List ℕ → List Local → Running → Type 0
+Ready counts locals r = Valid counts r.world × LocalsFit locals
+
 abbrev pub Evaluates : List ℕ → Evaluate → Type 0
-Evaluates counts ev = (here : Here) (e : Expression) (r : Running) → FewArguments e → HasShortNames e → Carries counts InBounds r (ev here e r)
+Evaluates counts ev = (here : Here) (e : Expression) (locals : List Local) (r : Running) → FewArguments e → HasShortNames e → CarriesIf (Ready counts locals r) counts InBounds r (ev here e locals r)
 
 abbrev pub Executes : List ℕ → Execute → Type 0
-Executes counts ex = (here : Here) (s : Statement) (r : Running) → HasFewArguments s → NamesAreShort s → Carries counts Anything r (ex here s r)
+Executes counts ex = (here : Here) (s : Statement) (locals : List Local) (r : Running) → HasFewArguments s → NamesAreShort s → CarriesIf (Ready counts locals r) counts FlowFits r (ex here s locals r)
+
+abbrev pub Begins : List ℕ → Start → Type 0
+Begins counts start = (object : ℕ) (x : Name) (args : List PlainValue) (r : Running) → CarriesIf (Valid counts r.world × AllInBounds args) counts InBounds r (start object x args r)
+
+-- ---- expressions
 
 module _ (counts : List ℕ) (ev : Evaluate) (keeps : Evaluates counts ev) where
-  evaluated-carries : (H : Type 0) (here : Here) (es : Expressions) (values : List PlainValue) (r : Running)
-      → (H → Valid counts r.world) → (H → AllInBounds values) → AllFewArguments es → AllHaveShortNames es
-      → CarriesIf H counts (AreMany (length values + how_many es)) r (evaluated ev here es values r)
-  evaluated-carries H here no_expressions values r v fit few short = (kept-refl r, λ x. (v x, (fit x, omega arith)))
-  evaluated-carries H here (expression e es) values r v fit few short =
-      carries-next counts H InBounds (AreMany (length values + how_many (expression e es))) r (ev here e r) (λ a. evaluated ev here es (values ++ a ∷ [])) v (keeps here e r few.0 short.0)
-      (λ a s. carries-more counts (H × Valid counts s.world × InBounds a) (AreMany (length (values ++ a ∷ []) + how_many es)) (AreMany (length values + how_many (expression e es))) s (evaluated ev here es (values ++ a ∷ []) s)
-      (λ vs many. (many.0, omega (arith, length_push values a, many.1)))
-      (evaluated-carries (H × Valid counts s.world × InBounds a) here es (values ++ a ∷ []) s (λ x. x.1) (λ x. AllInBounds-push values a (fit x.0) x.2) few.1 short.1))
+  evaluated-carries : (H : Type 0) (here : Here) (es : Expressions) (locals : List Local) (values : List PlainValue) (r : Running)
+      → (H → Ready counts locals r) → (H → AllInBounds values) → AllFewArguments es → AllHaveShortNames es
+      → CarriesIf H counts (AreMany (length values + how_many es)) r (evaluated ev here es locals values r)
+  evaluated-carries H here no_expressions locals values r ready fit few short = (kept-refl r, λ x. ((ready x).0, (fit x, omega arith)))
+  evaluated-carries H here (expression e es) locals values r ready fit few short =
+      carries-next counts H (Ready counts locals r) InBounds (AreMany (length values + how_many (expression e es))) r (ev here e locals r) (λ a. evaluated ev here es locals (values ++ a ∷ []))
+      ready (keeps here e locals r few.0 short.0)
+      (λ a s. carries-more counts (H × Valid counts s.world × InBounds a) (AreMany (length (values ++ a ∷ []) + how_many es)) (AreMany (length values + how_many (expression e es))) s
+      (evaluated ev here es locals (values ++ a ∷ []) s) (λ vs many. (many.0, omega (arith, length_push values a, many.1)))
+      (evaluated-carries (H × Valid counts s.world × InBounds a) here es locals (values ++ a ∷ []) s (λ x. (x.1, (ready x.0).1)) (λ x. AllInBounds-push values a (fit x.0) x.2) few.1 short.1))
 
-  expression-carries : (here : Here) (e : Expression) (r : Running) → FewArguments e → HasShortNames e → Carries counts InBounds r (expression_row ev here e r)
-  expression-carries here tree.nil r few short = (kept-refl r, λ v. (v, nil-in_bounds))
-  expression-carries here (tree.int n) r few short = (kept-refl r, λ v. (v, int-in_bounds n))
-  expression-carries here this r few short = (kept-refl r, λ v. (v, plain-in_bounds 1 0 refl refl))
-  expression-carries here (field x) r few short = got-carries counts (object_at r.world.objects here.object) here.object x here.class.fields r refl
-  expression-carries here (binary o a b) r few short =
-      carries-next counts (Valid counts r.world) InBounds InBounds r (ev here a r) (λ v r1. and_then (ev here b r1) (λ w. replying (operated o v w))) (λ x. x) (keeps here a r few.0 short.0)
-      (λ v r1. carries-next counts (Valid counts r.world × Valid counts r1.world × InBounds v) InBounds InBounds r1 (ev here b r1) (λ w. replying (operated o v w)) (λ x. x.1) (keeps here b r1 few.1 short.1)
-      (λ w r2. carries-replying counts ((Valid counts r.world × Valid counts r1.world × InBounds v) × Valid counts r2.world × InBounds w) InBounds r2 (operated o v w) (λ x. x.1) (operated-in_bounds o v w)))
-  expression-carries here (future object delay x args) r few short =
-      carries-next counts (Valid counts r.world) InBounds InBounds r (ev here object r) _ (λ x. x) (keeps here object r few.0 short.0)
-      (λ o r1. carries-next counts _ InBounds InBounds r1 (ev here delay r1) _ (λ x. x.1) (keeps here delay r1 few.1 short.1)
-      (λ d r2. carries-then counts _ (AreMany (how_many args)) InBounds r2 (evaluated ev here args [] r2) (send o d x)
-      (carries-more counts _ (AreMany (0 + how_many args)) (AreMany (how_many args)) r2 (evaluated ev here args [] r2) (λ vs many. (many.0, omega (arith, many.1)))
-      (evaluated-carries _ here args [] r2 (λ x. x.1) (λ _. tt) few.2.1 short.3))
-      (λ vs r3. send-carries counts _ o d x vs r3 (λ x. x.1) (λ x. (x.2.0, omega (arith, x.2.1, few.2.0))) short.2)))
-  expression-carries here _ r few short = (kept-refl r, λ v. v)
+  -- a part, which is a truth
+  truly-carries : (H : Type 0) (here : Here) (e : Expression) (locals : List Local) (r : Running)
+      → (H → Ready counts locals r) → FewArguments e → HasShortNames e → CarriesIf H counts InBounds r (truly (ev here e locals) r)
+  truly-carries H here e locals r ready few short =
+      carries-next counts H (Ready counts locals r) InBounds InBounds r (ev here e locals r) (λ w. deciding (truth w) (λ b. Gives (bool b))) ready (keeps here e locals r few short)
+      (λ w s. carries-deciding counts (H × Valid counts s.world × InBounds w) InBounds s (truth w) (λ b. Gives (bool b)) (λ x. x.1) (λ b. (kept-refl s, λ x. (x.1, bool-in_bounds b))))
+
+  both-carries : (H : Type 0) (here : Here) (o : BinaryOp) (v : PlainValue) (e : Expression) (locals : List Local) (r : Running)
+      → (H → Ready counts locals r) → FewArguments e → HasShortNames e → CarriesIf H counts InBounds r (and_then (ev here e locals r) (λ w. replying (operated o v w)))
+  both-carries H here o v e locals r ready few short =
+      carries-next counts H (Ready counts locals r) InBounds InBounds r (ev here e locals r) (λ w. replying (operated o v w)) ready (keeps here e locals r few short)
+      (λ w s. carries-replying counts (H × Valid counts s.world × InBounds w) InBounds s (operated o v w) (λ x. x.1) (operated-in_bounds o v w))
+
+  operating-carries : (H : Type 0) (here : Here) (o : BinaryOp) (v : PlainValue) (e : Expression) (locals : List Local) (r : Running)
+      → (H → Ready counts locals r) → FewArguments e → HasShortNames e → CarriesIf H counts InBounds r (operating o v (ev here e locals) r)
+  operating-carries H here op.Or v e locals r ready few short =
+      carries-deciding counts H InBounds r (truth v) (λ b r1. if b then Gives (bool true) r1 else truly (ev here e locals) r1) (λ x. (ready x).0)
+      (λ b. carries-test counts H InBounds r b (Gives (bool true) r) (truly (ev here e locals) r) (λ _. (kept-refl r, λ x. ((ready x).0, bool-in_bounds true))) (λ _. truly-carries H here e locals r ready few short))
+  operating-carries H here op.And v e locals r ready few short =
+      carries-deciding counts H InBounds r (truth v) (λ b r1. if b then truly (ev here e locals) r1 else Gives (bool false) r1) (λ x. (ready x).0)
+      (λ b. carries-test counts H InBounds r b (truly (ev here e locals) r) (Gives (bool false) r) (λ _. truly-carries H here e locals r ready few short) (λ _. (kept-refl r, λ x. ((ready x).0, bool-in_bounds false))))
+  operating-carries H here o v e locals r ready few short = both-carries H here o v e locals r ready few short
+
+module _ (program : ProgramTree) (ev : Evaluate) (start : Start) (keeps : Evaluates (field_counts program) ev) (begins : Begins (field_counts program) start) where
+  called_on-carries : (H : Type 0) (o : PlainValue) (x : Name) (args : List PlainValue) (r : Running)
+      → (H → Valid (field_counts program) r.world) → (H → AllInBounds args) → CarriesIf H (field_counts program) InBounds r (called_on start o x args r)
+  called_on-carries H (ref object) x args r valid fit =
+      carries-if (field_counts program) H (Valid (field_counts program) r.world × AllInBounds args) InBounds r (start object x args r) (λ y. (valid y, fit y)) (begins object x args r)
+  called_on-carries H _ x args r valid fit = (kept-refl r, valid)
+
+  initialised-carries : (H : Type 0) (c : ClassTree) (v : PlainValue) (id : ℕ) (r : Running)
+      → (H → Valid (field_counts program) r.world) → (H → InBounds v) → CarriesIf H (field_counts program) InBounds r (initialised start c v id r)
+  initialised-carries H c v id r valid fit =
+      carries-test (field_counts program) H InBounds r (is_some (method_named init c.methods)) (and_then (start id init (v ∷ []) r) (λ _. Gives (ref id))) (Gives (ref id) r)
+      (λ _. carries-next (field_counts program) H (Valid (field_counts program) r.world × AllInBounds (v ∷ [])) InBounds InBounds r (start id init (v ∷ []) r) (λ _. Gives (ref id))
+      (λ x. (valid x, (fit x, tt))) (begins id init (v ∷ []) r) (λ _ s. (kept-refl s, λ x. (x.1, ref-in_bounds id))))
+      (λ _. (kept-refl r, λ x. (valid x, ref-in_bounds id)))
+
+  created-carries : (H : Type 0) (n : ℕ) (c : Option ClassTree) (v : PlainValue) (r : Running)
+      → (H → Valid (field_counts program) r.world) → (H → InBounds v) → slice_get program n ≡ c → CarriesIf H (field_counts program) InBounds r (created start n c v r)
+  created-carries H n None v r valid fit e = (kept-refl r, valid)
+  created-carries H n (Some c) v r valid fit e =
+      carries-then (field_counts program) H Anything InBounds r (made n (length c.fields) r) (initialised start c v)
+      (made-carries (field_counts program) H n (length c.fields) r valid (get-mapped (λ c. length c.fields) program n c e))
+      (λ id s. initialised-carries (H × Valid (field_counts program) s.world × Anything id) c v id s (λ x. x.1) (λ x. fit x.0))
+
+  created_by-carries : (H : Type 0) (n : Option ℕ) (v : PlainValue) (r : Running)
+      → (H → Valid (field_counts program) r.world) → (H → InBounds v) → CarriesIf H (field_counts program) InBounds r (created_by program start n v r)
+  created_by-carries H None v r valid fit = (kept-refl r, valid)
+  created_by-carries H (Some n) v r valid fit = created-carries H n (slice_get program n) v r valid fit refl
+
+  -- arguments, in bounds and not too many, and what is done with them
+  arguments-carry : (H : Type 0) (here : Here) (args : Expressions) (locals : List Local) (r : Running) (go : List PlainValue → Running → Outcome PlainValue)
+      → (H → Ready (field_counts program) locals r) → AllFewArguments args → AllHaveShortNames args
+      → ((vs : List PlainValue) (s : Running) → CarriesIf (H × Valid (field_counts program) s.world × AreMany (how_many args) vs) (field_counts program) InBounds s (go vs s))
+      → CarriesIf H (field_counts program) InBounds r (and_then (evaluated ev here args locals [] r) go)
+  arguments-carry H here args locals r go ready few short later =
+      carries-then (field_counts program) H (AreMany (how_many args)) InBounds r (evaluated ev here args locals [] r) go
+      (carries-more (field_counts program) H (AreMany (0 + how_many args)) (AreMany (how_many args)) r (evaluated ev here args locals [] r) (λ vs many. (many.0, omega (arith, many.1)))
+      (evaluated-carries (field_counts program) ev keeps H here args locals [] r ready (λ _. tt) few short)) later
+
+  -- a part, and what is done with its value
+  part-carries : (H : Type 0) (here : Here) (e : Expression) (locals : List Local) (r : Running) (go : PlainValue → Running → Outcome PlainValue)
+      → (H → Ready (field_counts program) locals r) → FewArguments e → HasShortNames e
+      → ((a : PlainValue) (s : Running) → CarriesIf (H × Valid (field_counts program) s.world × InBounds a) (field_counts program) InBounds s (go a s))
+      → CarriesIf H (field_counts program) InBounds r (and_then (ev here e locals r) go)
+  part-carries H here e locals r go ready few short later =
+      carries-next (field_counts program) H (Ready (field_counts program) locals r) InBounds InBounds r (ev here e locals r) go ready (keeps here e locals r few short) later
+
+  future-carries : (H : Type 0) (here : Here) (object delay : Expression) (x : Name) (args : Expressions) (locals : List Local) (r : Running)
+      → (H → Ready (field_counts program) locals r) → FewArguments (future object delay x args) → HasShortNames (future object delay x args)
+      → CarriesIf H (field_counts program) InBounds r (expression_row program ev start here (future object delay x args) locals r)
+  future-carries H here object delay x args locals r ready few short =
+      part-carries H here object locals r _ ready few.0 short.0
+      (λ o s. part-carries (H × Valid (field_counts program) s.world × InBounds o) here delay locals s _ (λ y. (y.1, (ready y.0).1)) few.1 short.1
+      (λ d t. arguments-carry ((H × Valid (field_counts program) s.world × InBounds o) × Valid (field_counts program) t.world × InBounds d) here args locals t (send o d x)
+      (λ y. (y.1, (ready y.0.0).1)) few.2.1 short.3
+      (λ vs u. send-carries (field_counts program) _ o d x vs u (λ y. y.1) (λ y. (y.2.0, omega (arith, y.2.1, few.2.0))) short.2)))
+
+  pub expression-carries : (here : Here) (e : Expression) (locals : List Local) (r : Running) → FewArguments e → HasShortNames e
+      → CarriesIf (Ready (field_counts program) locals r) (field_counts program) InBounds r (expression_row program ev start here e locals r)
+  expression-carries here tree.nil locals r few short = (kept-refl r, λ x. (x.0, nil-in_bounds))
+  expression-carries here (tree.bool b) locals r few short = (kept-refl r, λ x. (x.0, bool-in_bounds b))
+  expression-carries here (tree.int n) locals r few short = (kept-refl r, λ x. (x.0, int-in_bounds n))
+  expression-carries here (tree.text s) locals r few short = carries-bounded (field_counts program) (Ready (field_counts program) locals r) r (text s) (λ x. x.0)
+  expression-carries here this locals r few short = (kept-refl r, λ x. (x.0, ref-in_bounds here.object))
+  expression-carries here (local x) locals r few short = (kept-refl r, λ y. (y.0, local_value-in_bounds x locals y.1))
+  expression-carries here (field x) locals r few short =
+      got-carries (field_counts program) (Ready (field_counts program) locals r) (object_at r.world.objects here.object) here.object x here.class.fields r (λ y. y.0) refl
+  expression-carries here (tree.list items) locals r few short =
+      arguments-carry (Ready (field_counts program) locals r) here items locals r (λ vs. weighed (list (plains_of vs))) (λ x. x) few short
+      (λ vs s. carries-weighed (field_counts program) _ s (list (plains_of vs)) (λ x. x.1))
+  expression-carries here (unary o e) locals r few short =
+      part-carries (Ready (field_counts program) locals r) here e locals r (λ v. replying (unary_operated o v)) (λ x. x) few short
+      (λ v s. carries-replying (field_counts program) _ InBounds s (unary_operated o v) (λ x. x.1) (unary_operated-in_bounds o v))
+  expression-carries here (binary o a b) locals r few short =
+      part-carries (Ready (field_counts program) locals r) here a locals r (λ v. operating o v (ev here b locals)) (λ x. x) few.0 short.0
+      (λ v s. operating-carries (field_counts program) ev keeps _ here o v b locals s (λ x. (x.1, x.0.1)) few.1 short.1)
+  expression-carries here (builtin x args) locals r few short =
+      arguments-carry (Ready (field_counts program) locals r) here args locals r (answered_by (builtin_named x) here.object) (λ y. y) few short.1
+      (λ vs s. answered_by-carries (field_counts program) _ (builtin_named x) here.object vs s (λ y. y.1) (λ y. y.2.0))
+  expression-carries here (call object x args) locals r few short =
+      part-carries (Ready (field_counts program) locals r) here object locals r _ (λ y. y) few.0 short.0
+      (λ o s. arguments-carry (Ready (field_counts program) locals r × Valid (field_counts program) s.world × InBounds o) here args locals s (called_on start o x) (λ y. (y.1, y.0.1)) few.1.1 short.2
+      (λ vs t. called_on-carries _ o x vs t (λ y. y.1) (λ y. y.2.0)))
+  expression-carries here (future object delay x args) locals r few short = future-carries (Ready (field_counts program) locals r) here object delay x args locals r (λ y. y) few short
+  expression-carries here (create x options) locals r few short =
+      part-carries (Ready (field_counts program) locals r) here options locals r (created_by program start (number_of x program)) (λ y. y) few short.1
+      (λ v s. created_by-carries _ (number_of x program) v s (λ y. y.1) (λ y. y.2))
+
+-- ---- statements
+
+module _ (counts : List ℕ) where
+  follow-carries : (H : Type 0) (go : List Local → Running → Outcome (Flow (List Local))) (flow : Flow (List Local)) (r : Running) → (H → Valid counts r.world) → (H → FlowFits flow)
+      → ((locals : List Local) → CarriesIf (Ready counts locals r) counts FlowFits r (go locals r)) → CarriesIf H counts FlowFits r (follow go flow r)
+  follow-carries H go (next locals) r valid fits keeps = carries-if counts H (Ready counts locals r) FlowFits r (go locals r) (λ x. (valid x, fits x)) (keeps locals)
+  follow-carries H go (returned v) r valid fits keeps = (kept-refl r, λ x. (valid x, fits x))
 
 module _ (counts : List ℕ) (ex : Execute) (keeps : Executes counts ex) where
-  in_turn-carries : (here : Here) (ss : Statements) (r : Running) → AllHaveFewArguments ss → AllNamesAreShort ss → Carries counts Anything r (in_turn ex here ss r)
-  in_turn-carries here no_statements r few short = (kept-refl r, λ v. (v, tt))
-  in_turn-carries here (statement s ss) r few short =
-      carries-next counts (Valid counts r.world) Anything Anything r (ex here s r) (λ _. in_turn ex here ss) (λ x. x) (keeps here s r few.0 short.0)
-      (λ _ r1. carries-if counts _ (Valid counts r1.world) Anything r1 (in_turn ex here ss r1) (λ x. x.1) (in_turn-carries here ss r1 few.1 short.1))
+  in_turn-carries : (here : Here) (ss : Statements) (locals : List Local) (r : Running) → AllHaveFewArguments ss → AllNamesAreShort ss
+      → CarriesIf (Ready counts locals r) counts FlowFits r (in_turn ex here ss locals r)
+  in_turn-carries here no_statements locals r few short = (kept-refl r, λ x. (x.0, x.1))
+  in_turn-carries here (statement s ss) locals r few short =
+      carries-then counts (Ready counts locals r) FlowFits FlowFits r (ex here s locals r) (follow (in_turn ex here ss)) (keeps here s locals r few.0 short.0)
+      (λ flow t. follow-carries counts _ (in_turn ex here ss) flow t (λ x. x.1) (λ x. x.2) (λ ls. in_turn-carries here ss ls t few.1 short.1))
 
-  otherwise-carries : (here : Here) (o : Otherwise) (r : Running) → ElseHasFewArguments o → ElseNamesAreShort o → Carries counts Anything r (otherwise ex here o r)
-  otherwise-carries here no_else r few short = (kept-refl r, λ v. (v, tt))
-  otherwise-carries here (else_block ss) r few short = in_turn-carries here ss r few short
+  pub block-carries : (here : Here) (ss : Statements) (locals : List Local) (r : Running) → AllHaveFewArguments ss → AllNamesAreShort ss
+      → CarriesIf (Ready counts locals r) counts FlowFits r (block ex here ss locals r)
+  block-carries here ss locals r few short =
+      carries-then counts (Ready counts locals r) FlowFits FlowFits r (in_turn ex here ss locals r) (λ f. Gives (behind (length locals) f)) (in_turn-carries here ss locals r few short)
+      (λ f s. (kept-refl s, λ x. (x.1, behind-fits (length locals) f x.2)))
+
+  otherwise-carries : (here : Here) (o : Otherwise) (locals : List Local) (r : Running) → ElseHasFewArguments o → ElseNamesAreShort o
+      → CarriesIf (Ready counts locals r) counts FlowFits r (otherwise ex here o locals r)
+  otherwise-carries here no_else locals r few short = (kept-refl r, λ x. (x.0, x.1))
+  otherwise-carries here (else_block ss) locals r few short = block-carries here ss locals r few short
 
 module _ (counts : List ℕ) (ev : Evaluate) (ex : Execute) (evaluates : Evaluates counts ev) (executes : Executes counts ex) where
-  statement-carries : (here : Here) (s : Statement) (r : Running) → HasFewArguments s → NamesAreShort s → Carries counts Anything r (statement_row ev ex here s r)
-  statement-carries here (set_field x e) r few short =
-      carries-next counts (Valid counts r.world) InBounds Anything r (ev here e r) (set_named here x) (λ x. x) (evaluates here e r few short.1)
-      (λ a r1. set_named-carries counts (Valid counts r.world × Valid counts r1.world × InBounds a) here x a r1 (λ x. x.1) (λ x. x.2))
-  statement-carries here (when test block other) r few short =
-      carries-next counts (Valid counts r.world) InBounds Anything r (ev here test r) _ (λ x. x) (evaluates here test r few.0 short.0)
-      (λ a r1. carries-deciding counts (Valid counts r.world × Valid counts r1.world × InBounds a) Anything r1 (truth a) _ (λ x. x.1)
-      (λ b. carries-test counts (Valid counts r.world × Valid counts r1.world × InBounds a) Anything r1 b (in_turn ex here block r1) (otherwise ex here other r1)
-      (λ _. carries-if counts _ (Valid counts r1.world) Anything r1 (in_turn ex here block r1) (λ x. x.1) (in_turn-carries counts ex executes here block r1 few.1 short.1))
-      (λ _. carries-if counts _ (Valid counts r1.world) Anything r1 (otherwise ex here other r1) (λ x. x.1) (otherwise-carries counts ex executes here other r1 few.2 short.2))))
-  statement-carries here (do_ e) r few short =
-      carries-next counts (Valid counts r.world) InBounds Anything r (ev here e r) (λ _. Gives tt) (λ x. x) (evaluates here e r few short) (λ a r1. (kept-refl r1, λ x. (x.1, tt)))
-  statement-carries here _ r few short = (kept-refl r, λ v. v)
+  -- a part, and what is done with its value
+  value-carries : (here : Here) (e : Expression) (locals : List Local) (r : Running) (go : PlainValue → Running → Outcome (Flow (List Local))) → FewArguments e → HasShortNames e
+      → ((a : PlainValue) (s : Running) → CarriesIf (Ready counts locals r × Valid counts s.world × InBounds a) counts FlowFits s (go a s))
+      → CarriesIf (Ready counts locals r) counts FlowFits r (and_then (ev here e locals r) go)
+  value-carries here e locals r go few short later =
+      carries-then counts (Ready counts locals r) InBounds FlowFits r (ev here e locals r) go (evaluates here e locals r few short) later
 
--- ---- at every room
+  looped-carries : (turns : ℕ) (here : Here) (test : Expression) (body : Statements) (locals : List Local) (r : Running)
+      → FewArguments test → HasShortNames test → AllHaveFewArguments body → AllNamesAreShort body
+      → CarriesIf (Ready counts locals r) counts FlowFits r (looped turns ev ex here test body locals r)
+  looped-carries zero here test body locals r few short fewer shorter = (kept-refl r, λ x. x.0)
+  looped-carries (suc turns) here test body locals r few short fewer shorter =
+      value-carries here test locals r _ few short
+      (λ v s. carries-deciding counts (Ready counts locals r × Valid counts s.world × InBounds v) FlowFits s (truth v) _ (λ x. x.1)
+      (λ b. carries-test counts (Ready counts locals r × Valid counts s.world × InBounds v) FlowFits s b (and_then (block ex here body locals s) (follow (looped turns ev ex here test body))) (Gives (next locals) s)
+      (λ _. carries-next counts _ (Ready counts locals s) FlowFits FlowFits s (block ex here body locals s) (follow (looped turns ev ex here test body)) (λ x. (x.1, x.0.1))
+      (block-carries counts ex executes here body locals s fewer shorter)
+      (λ flow t. follow-carries counts _ (looped turns ev ex here test body) flow t (λ x. x.1) (λ x. x.2) (λ ls. looped-carries turns here test body ls t few short fewer shorter)))
+      (λ _. (kept-refl s, λ x. (x.1, x.0.1)))))
 
-pub evaluate-kept : (counts : List ℕ) (room : ℕ) (here : Here) (e : Expression) (r : Running) → FewArguments e → HasShortNames e → Carries counts InBounds r (evaluate room here e r)
-evaluate-kept counts zero here e r few short = carries-entering counts InBounds r (Faults Depth) (λ s. (kept-refl s, λ v. v))
-evaluate-kept counts (suc room) here e r few short =
-    carries-entering counts InBounds r (expression_row (evaluate room) here e)
-    (λ s. expression-carries counts (evaluate room) (λ here e r. evaluate-kept counts room here e r) here e s few short)
+  set_field-carries : (here : Here) (x : Name) (e : Expression) (locals : List Local) (r : Running) → FewArguments e → HasShortNames e
+      → CarriesIf (Ready counts locals r) counts FlowFits r (statement_row ev ex here (set_field x e) locals r)
+  set_field-carries here x e locals r few short =
+      value-carries here e locals r _ few short
+      (λ a s. carries-then counts (Ready counts locals r × Valid counts s.world × InBounds a) Anything FlowFits s (set_named here x a s) (λ _. Gives (next locals))
+      (put-carries counts _ (object_at s.world.objects here.object) here.object (with_named x a here.class.fields) s (λ y. y.1) (length-with_named x a here.class.fields)
+      (λ y vs. with_named-in_bounds x a here.class.fields vs y.2))
+      (λ _ t. (kept-refl t, λ y. (y.1, y.0.0.1))))
 
--- all values are in bounds, and there are as many more as there are parts
-pub evaluated-kept : (counts : List ℕ) (room : ℕ) (here : Here) (es : Expressions) (values : List PlainValue) (r : Running)
-    → AllFewArguments es → AllHaveShortNames es → AllInBounds values → Carries counts (AreMany (length values + how_many es)) r (evaluated (evaluate room) here es values r)
-evaluated-kept counts room here es values r few short fit =
-    evaluated-carries counts (evaluate room) (evaluate-kept counts room) (Valid counts r.world) here es values r (λ v. v) (λ _. fit) few short
+  when-carries : (here : Here) (test : Expression) (body : Statements) (other : Otherwise) (locals : List Local) (r : Running)
+      → HasFewArguments (when test body other) → NamesAreShort (when test body other)
+      → CarriesIf (Ready counts locals r) counts FlowFits r (statement_row ev ex here (when test body other) locals r)
+  when-carries here test body other locals r few short =
+      value-carries here test locals r _ few.0 short.0
+      (λ v s. carries-deciding counts (Ready counts locals r × Valid counts s.world × InBounds v) FlowFits s (truth v) _ (λ x. x.1)
+      (λ b. carries-if counts _ (Ready counts locals s) FlowFits s (if b then block ex here body locals s else otherwise ex here other locals s) (λ x. (x.1, x.0.1))
+      (carries-test counts (Ready counts locals s) FlowFits s b (block ex here body locals s) (otherwise ex here other locals s)
+      (λ _. block-carries counts ex executes here body locals s few.1 short.1) (λ _. otherwise-carries counts ex executes here other locals s few.2 short.2))))
 
-pub execute-kept : (counts : List ℕ) (room : ℕ) (here : Here) (s : Statement) (r : Running) → HasFewArguments s → NamesAreShort s → Carries counts Anything r (execute room here s r)
-execute-kept counts zero here s r few short = carries-entering counts Anything r (Faults Depth) (λ s. (kept-refl s, λ v. v))
-execute-kept counts (suc room) here s r few short =
-    carries-entering counts Anything r (statement_row (evaluate room) (execute room) here s)
-    (λ r1. statement-carries counts (evaluate room) (execute room) (evaluate-kept counts room) (λ here s r. execute-kept counts room here s r) here s r1 few short)
-
-pub in_turn-kept : (counts : List ℕ) (room : ℕ) (here : Here) (ss : Statements) (r : Running) → AllHaveFewArguments ss → AllNamesAreShort ss → Carries counts Anything r (in_turn (execute room) here ss r)
-in_turn-kept counts room = in_turn-carries counts (execute room) (execute-kept counts room)
-
-pub otherwise-kept : (counts : List ℕ) (room : ℕ) (here : Here) (o : Otherwise) (r : Running) → ElseHasFewArguments o → ElseNamesAreShort o → Carries counts Anything r (otherwise (execute room) here o r)
-otherwise-kept counts room = otherwise-carries counts (execute room) (execute-kept counts room)
+  statement-carries : (here : Here) (s : Statement) (locals : List Local) (r : Running) → HasFewArguments s → NamesAreShort s
+      → CarriesIf (Ready counts locals r) counts FlowFits r (statement_row ev ex here s locals r)
+  statement-carries here (declare x e) locals r few short =
+      value-carries here e locals r _ few short.1 (λ a s. (kept-refl s, λ y. (y.1, declared-fit x a locals y.2 y.0.1)))
+  statement-carries here (assign x e) locals r few short =
+      value-carries here e locals r _ few short.1 (λ a s. (kept-refl s, λ y. (y.1, with_local-fit x a locals y.2 y.0.1)))
+  statement-carries here (set_field x e) locals r few short = set_field-carries here x e locals r few short.1
+  statement-carries here (when test body other) locals r few short = when-carries here test body other locals r few short
+  statement-carries here (while test body) locals r few short = looped-carries r.fuel here test body locals r few.0 short.0 few.1 short.1
+  statement-carries here (give e) locals r few short = value-carries here e locals r _ few short (λ a s. (kept-refl s, λ y. (y.1, y.2)))
+  statement-carries here (do_ e) locals r few short = value-carries here e locals r _ few short (λ a s. (kept-refl s, λ y. (y.1, y.0.1)))
 
 -- ---- methods
 
@@ -215,29 +271,61 @@ method_fits x (n ∷ ms) m fit short =
     (λ _ e. let same : n ≡ m = cc in subst (λ m. AllHaveFewArguments m.body × AllNamesAreShort m.body) same (fit.0.1, short.0.2))
     (λ _ e. method_fits x ms m fit.1 short.1 e)
 
-module _ (counts : List ℕ) (room : ℕ) where
+module _ (counts : List ℕ) (ex : Execute) (keeps : Executes counts ex) where
   performed-carries : (here : Here) (m : Option MethodTree) (args : List PlainValue) (r : Running)
-      → ((n : MethodTree) → m ≡ Some n → AllHaveFewArguments n.body × AllNamesAreShort n.body) → Carries counts InBounds r (performed room here m args r)
-  performed-carries here None args r fit = (kept-refl r, λ v. v)
+      → ((n : MethodTree) → m ≡ Some n → AllHaveFewArguments n.body × AllNamesAreShort n.body) → CarriesIf (Valid counts r.world × AllInBounds args) counts InBounds r (performed ex here m args r)
+  performed-carries here None args r fit = (kept-refl r, λ x. x.0)
   performed-carries here (Some m) args r fit =
       let fits : AllHaveFewArguments m.body × AllNamesAreShort m.body = fit m refl in
-      carries-test counts (Valid counts r.world) InBounds r (nat_eq (length args) (length m.params)) (and_then (in_turn (execute room) here m.body r) (λ _. Gives nil)) (Faults Arity r)
-      (λ _. carries-next counts (Valid counts r.world) Anything InBounds r (in_turn (execute room) here m.body r) (λ _. Gives nil) (λ x. x) (in_turn-kept counts room here m.body r fits.0 fits.1)
-      (λ _ r1. (kept-refl r1, λ x. (x.1, nil-in_bounds))))
-      (λ _. (kept-refl r, λ v. v))
+      let H : Type 0 = Valid counts r.world × AllInBounds args in
+      let locals : List Local = locals_of m.params args in
+      carries-test counts H InBounds r (nat_eq (length args) (length m.params)) (and_then (in_turn ex here m.body locals r) (λ f. Gives (value_of f))) (Faults Arity r)
+      (λ _. carries-next counts H (Ready counts locals r) FlowFits InBounds r (in_turn ex here m.body locals r) (λ f. Gives (value_of f)) (λ x. (x.0, locals_of-fit m.params args x.1))
+      (in_turn-carries counts ex keeps here m.body locals r fits.0 fits.1) (λ f s. (kept-refl s, λ x. (x.1, value_of-fits f x.2))))
+      (λ _. (kept-refl r, λ x. x.0))
 
   starts_in-carries : (c : Option ClassTree) (object : ℕ) (x : Name) (args : List PlainValue) (r : Running)
-      → ((d : ClassTree) → c ≡ Some d → MethodsFit d.methods × MethodNamesAreShort d.methods) → Carries counts InBounds r (starts_in room c object x args r)
-  starts_in-carries None object x args r fit = (kept-refl r, λ v. v)
+      → ((d : ClassTree) → c ≡ Some d → MethodsFit d.methods × MethodNamesAreShort d.methods) → CarriesIf (Valid counts r.world × AllInBounds args) counts InBounds r (starts_in ex c object x args r)
+  starts_in-carries None object x args r fit = (kept-refl r, λ y. y.0)
   starts_in-carries (Some c) object x args r fit =
       let fits : MethodsFit c.methods × MethodNamesAreShort c.methods = fit c refl in
       performed-carries (record { class = c; object = object }) (method_named x c.methods) args r (λ m. method_fits x c.methods m fits.0 fits.1)
 
-  starts_on-carries : (program : ProgramTree) (object : ℕ) (o : Option ObjectRecord) (x : Name) (args : List PlainValue) (r : Running)
-      → ClassesFit program → ClassNamesAreShort program → Carries counts InBounds r (starts_on program room o object x args r)
-  starts_on-carries program object None x args r fit short = (kept-refl r, λ v. v)
-  starts_on-carries program object (Some o) x args r fit short = starts_in-carries (slice_get program o.class) object x args r (λ c. class_fits program o.class c fit short)
+  starts_on-carries : (program : ProgramTree) (o : Option ObjectRecord) (object : ℕ) (x : Name) (args : List PlainValue) (r : Running)
+      → ClassesFit program → ClassNamesAreShort program → CarriesIf (Valid counts r.world × AllInBounds args) counts InBounds r (starts_on program ex o object x args r)
+  starts_on-carries program None object x args r fit short = (kept-refl r, λ y. y.0)
+  starts_on-carries program (Some o) object x args r fit short = starts_in-carries (slice_get program o.class) object x args r (λ c. class_fits program o.class c fit short)
 
-pub starts-kept : (counts : List ℕ) (program : ProgramTree) (room object : ℕ) (x : Name) (args : List PlainValue) (r : Running)
-    → ClassesFit program → ClassNamesAreShort program → Carries counts InBounds r (starts program room object x args r)
-starts-kept counts program room object x args r fit short = starts_on-carries counts room program object (object_at r.world.objects object) x args r fit short
+  pub starting-begins : (program : ProgramTree) → ClassesFit program → ClassNamesAreShort program → Begins counts (starting program ex)
+  starting-begins program fit short object x args r = starts_on-carries program (object_at r.world.objects object) object x args r fit short
+
+-- ---- at every room
+
+pub row-kept : (program : ProgramTree) (room : ℕ) → ClassesFit program → ClassNamesAreShort program
+    → Evaluates (field_counts program) (evaluate program room) × Executes (field_counts program) (execute program room)
+row-kept program zero fit short = (
+  λ here e locals r few brief. carries-entering (field_counts program) (Ready (field_counts program) locals r) InBounds r (Faults Depth) (λ x. x.0) (kept-refl (record r { fuel = r.fuel - 1 }), λ x. x.0),
+  λ here s locals r few brief. carries-entering (field_counts program) (Ready (field_counts program) locals r) FlowFits r (Faults Depth) (λ x. x.0) (kept-refl (record r { fuel = r.fuel - 1 }), λ x. x.0),
+)
+row-kept program (suc room) fit short =
+    let below : Evaluates (field_counts program) (evaluate program room) × Executes (field_counts program) (execute program room) = row-kept program room fit short in
+    let begins : Begins (field_counts program) (starting program (execute program room)) = starting-begins (field_counts program) (execute program room) below.1 program fit short in (
+      λ here e locals r few brief.
+          carries-entering (field_counts program) (Ready (field_counts program) locals r) InBounds r (expression_row program (evaluate program room) (starting program (execute program room)) here e locals) (λ x. x.0)
+          (expression-carries program (evaluate program room) (starting program (execute program room)) below.0 begins here e locals (record r { fuel = r.fuel - 1 }) few brief),
+      λ here s locals r few brief.
+          carries-entering (field_counts program) (Ready (field_counts program) locals r) FlowFits r (statement_row (evaluate program room) (execute program room) here s locals) (λ x. x.0)
+          (statement-carries (field_counts program) (evaluate program room) (execute program room) below.0 below.1 here s locals (record r { fuel = r.fuel - 1 }) few brief),
+    )
+
+pub starts-carries : (program : ProgramTree) (room object : ℕ) (x : Name) (args : List PlainValue) (r : Running)
+    → ClassesFit program → ClassNamesAreShort program → CarriesIf (Valid (field_counts program) r.world × AllInBounds args) (field_counts program) InBounds r (starts program room object x args r)
+starts-carries program room object x args r fit short =
+    starting-begins (field_counts program) (execute program room) (row-kept program room fit short).1 program fit short object x args r
+
+-- the same of arguments in bounds
+pub starts-kept : (program : ProgramTree) (room object : ℕ) (x : Name) (args : List PlainValue) (r : Running)
+    → ClassesFit program → ClassNamesAreShort program → AllInBounds args → Carries (field_counts program) InBounds r (starts program room object x args r)
+starts-kept program room object x args r fit short bounds =
+    carries-if (field_counts program) (Valid (field_counts program) r.world) (Valid (field_counts program) r.world × AllInBounds args) InBounds r (starts program room object x args r)
+    (λ v. (v, bounds)) (starts-carries program room object x args r fit short)

@@ -8,7 +8,7 @@ use Rattle.model_value.specs.Valid.{TextFits, Precedes, PrecedesAll, AreInOrder,
 use Rattle.model_lang.specs.Tree.{Name}
 use Rattle.model_lang.specs.Names.{IsShort}
 use Rattle.model_eval.specs.Kept.{due}
-use Rattle.model_eval.specs.Meaning.{ahead, precedes, inserted}
+use Rattle.model_eval.specs.Futures.{ahead, precedes, inserted}
 use Rattle.model_eval.proofs.FieldBounds.{StillHeld}
 
 -- what holds in each branch, by its test, holds of a test
@@ -113,7 +113,7 @@ due-later time m ns h = due-inserted time m ns ∙ ap (λ b. (if b then 1 else 0
 
 -- ---- names and times
 
-encoded-length : (cs : List ℕ) → length (encode_utf8_all cs) ≤ 4 * length cs
+pub encoded-length : (cs : List ℕ) → length (encode_utf8_all cs) ≤ 4 * length cs
 encoded-length [] = omega arith
 encoded-length (c ∷ cs) = omega (arith, length-append (encode_utf8 c) (encode_utf8_all cs), length-encode c, len_utf8_bounds c, encoded-length cs)
 

@@ -1,13 +1,22 @@
 -- Worlds stay valid.
-use Rattle.std.proofs.Common.{◌≡◌, ℕ, ◌+◌, ◌-◌, ◌^◌, ◌≤◌, ◌<◌, ◌&&◌, true, List, length, refl, sym, subst, arith, nat_lt, nat_le}
+use Rattle.std.proofs.Common.{◌≡◌, ℕ, ◌+◌, ◌-◌, ◌^◌, ◌≤◌, ◌<◌, ◌&&◌, true, List, [], ◌∷◌, ◌++◌, length, Some, refl, sym, ap, ◌∙◌, subst, arith, nat_eq, nat_lt, nat_le, slice_get, Bool, not}
 use Rattle.std.proofs.lemmas.Bool.{ltb-true, leb-true, and_parts}
-use Rattle.model_value.specs.Plain.{PlainValue}
+use Rattle.std.proofs.lemmas.List.{length_push, length-replicate}
+use Rattle.model_value.specs.Plain.{PlainValue, nil}
 use Rattle.model_value.specs.Messages.{PlainMessage}
-use Rattle.model_value.specs.World.{message_weight, world_weight, most_world_weight}
-use Rattle.model_value.specs.Valid.{Valid, RiseFrom, AllInBounds, MessageFits, IsUnused, most_pending}
-use Rattle.model_eval.specs.Meaning.{Running, with_fields, with_objects, with_message, has_room}
-use Rattle.model_eval.proofs.FieldBounds.{StillHeld, Alike, with_fields-alike, Alike-ids, Alike-length, Alike-held, with_fields-fit, KnownFit-held, SubscriptionsFit-held}
+use Rattle.model_value.specs.World.{ObjectRecord, WorldRecord, object_weight, message_weight, subscription_weight, known_weight, world_weight, most_world_weight}
+use Rattle.model_value.specs.Valid.{Valid, RiseFrom, AllInBounds, IsHeld, ObjectFits, TextFits, MessageFits, IsUnused, most_objects, most_pending}
+use Rattle.model_value.specs.declared.message.Subscription.{Subscription}
+use Rattle.model_value.specs.declared.world.Known.{Known}
+use Rattle.model_lang.specs.Tree.{Name}
+use Rattle.model_eval.specs.Running.{Running}
+use Rattle.model_eval.specs.Objects.{with_fields, with_objects, new_object, has_room_for, with_object, last_id, without_object, with_known}
+use Rattle.model_eval.specs.Futures.{with_message, has_room}
+use Rattle.model_eval.proofs.FieldBounds.{StillHeld, Alike, with_fields-alike, Alike-ids, Alike-length, Alike-held, with_fields-fit, KnownFit-held, SubscriptionsFit-held, nil-in_bounds}
 use Rattle.model_eval.proofs.Pending.{AreInOrder-inserted, NumbersDiffer-inserted, next_number-unused, MessagesFit-inserted, MessagesFit-later, length-inserted, total-inserted}
+use Rattle.model_eval.proofs.Created.{ids-appended, ObjectsFit-appended, appended-held, replicate-in_bounds, total-appended}
+use Rattle.model_eval.proofs.Destroyed.{ids-filtered, ObjectsFit-filtered, KnownRise-filtered, SubscriptionsDiffer-filtered, AreInOrder-filtered, NumbersDiffer-filtered, total-filtered, length-filtered, KnownFit-others, SubscriptionsFit-others, MessagesFit-others}
+use Rattle.model_eval.proofs.KnownOrder.{KnownRise-with_known, KnownFit-with_known}
 
 -- with other fields in one object, if it is light
 pub valid-fields : (counts : List ℕ) (id : ℕ) (change : List PlainValue → List PlainValue) (r : Running)
@@ -74,4 +83,115 @@ valid-message counts m r new fits room v =
           (MessagesFit-later r.world ((with_message r m).world) ms refl (omega arith) (λ id held. held) v.pending);
       pending_fit = omega (arith, length-inserted m ms);
       weight = omega (arith, weight-message m r, light);
+    }
+
+-- with a new object of a class that has so many fields, if there is room for it
+pub valid-object : (counts : List ℕ) (class fields : ℕ) (w : WorldRecord) → slice_get counts class ≡ Some fields → has_room_for w (new_object class fields w) ≡ true
+    → Valid counts w → Valid counts (with_object w (new_object class fields w))
+valid-object counts class fields w known room v =
+    let os = w.objects in
+    let o : ObjectRecord = new_object class fields w in
+    let parts = and_parts (nat_lt (length os) most_objects && nat_lt w.next_object last_id) (nat_le (world_weight w + object_weight o) most_world_weight) room in
+    let few : length os < most_objects = ltb-true (length os) most_objects (and_parts (nat_lt (length os) most_objects) (nat_lt w.next_object last_id) parts.0).0 in
+    let light : world_weight w + object_weight o ≤ most_world_weight = leb-true (world_weight w + object_weight o) most_world_weight parts.1 in
+    let held : StillHeld os (os ++ o ∷ []) = appended-held os (o ∷ []) in
+    let fits : ObjectFits counts (w.next_object + 1) o =
+    (omega arith, known ∙ ap Some (sym (length-replicate fields nil)), replicate-in_bounds fields nil nil-in_bounds) in
+    record {
+      time = v.time;
+      next_object = omega arith;
+      turns = v.turns;
+      views = v.views;
+      views_fit = v.views_fit;
+      ids = ids-appended counts 0 os o v.objects v.next_object v.ids;
+      objects = ObjectsFit-appended counts w.next_object os o v.objects fits;
+      objects_fit = omega (arith, length_push os o, few);
+      known_order = v.known_order;
+      known = KnownFit-held os (os ++ o ∷ []) w.known held v.known;
+      subscriptions_differ = v.subscriptions_differ;
+      subscriptions = SubscriptionsFit-held os (os ++ o ∷ []) w.subscriptions held v.subscriptions;
+      subscriptions_fit = v.subscriptions_fit;
+      order = v.order;
+      numbers_differ = v.numbers_differ;
+      pending = MessagesFit-later w (with_object w o) w.pending refl (omega arith) held v.pending;
+      pending_fit = v.pending_fit;
+      weight = omega (arith, total-appended object_weight os o, light);
+    }
+
+-- without an object, and all that speaks of it
+pub valid-others : (counts : List ℕ) (id : ℕ) (w : WorldRecord) → Valid counts w → Valid counts (without_object id w)
+valid-others counts id w v =
+    let o : ObjectRecord → Bool = λ o. not (nat_eq o.id id) in
+    let k : Known → Bool = λ k. not (nat_eq k.object id) in
+    let s : Subscription → Bool = λ s. not (nat_eq s.object id) in
+    let m : PlainMessage → Bool = λ m. not (nat_eq m.object id) in
+    record {
+      time = v.time;
+      next_object = v.next_object;
+      turns = v.turns;
+      views = v.views;
+      views_fit = v.views_fit;
+      ids = ids-filtered o 0 w.objects v.ids;
+      objects = ObjectsFit-filtered counts w.next_object o w.objects v.objects;
+      objects_fit = omega (arith, length-filtered o w.objects, v.objects_fit);
+      known_order = KnownRise-filtered k w.known v.known_order;
+      known = KnownFit-others id w.objects w.known v.known;
+      subscriptions_differ = SubscriptionsDiffer-filtered s w.subscriptions v.subscriptions_differ;
+      subscriptions = SubscriptionsFit-others id w.objects w.subscriptions v.subscriptions;
+      subscriptions_fit = omega (arith, length-filtered s w.subscriptions, v.subscriptions_fit);
+      order = AreInOrder-filtered m w.pending v.order;
+      numbers_differ = NumbersDiffer-filtered m w.pending v.numbers_differ;
+      pending = MessagesFit-others id w w.pending v.pending;
+      pending_fit = omega (arith, length-filtered m w.pending, v.pending_fit);
+      weight = omega (arith, v.weight, total-filtered object_weight o w.objects, total-filtered message_weight m w.pending, total-filtered subscription_weight s w.subscriptions, total-filtered known_weight k w.known);
+    }
+
+-- with an object that is known by a name, if it is light
+pub valid-known : (counts : List ℕ) (x : Name) (object : ℕ) (w : WorldRecord) → TextFits x → IsHeld w.objects object
+    → world_weight (record w { known = with_known x object w.known }) ≤ most_world_weight
+    → Valid counts w → Valid counts (record w { known = with_known x object w.known })
+valid-known counts x object w fits held light v =
+    record {
+      time = v.time;
+      next_object = v.next_object;
+      turns = v.turns;
+      views = v.views;
+      views_fit = v.views_fit;
+      ids = v.ids;
+      objects = v.objects;
+      objects_fit = v.objects_fit;
+      known_order = KnownRise-with_known x object w.known v.known_order;
+      known = KnownFit-with_known w.objects x object w.known fits held v.known;
+      subscriptions_differ = v.subscriptions_differ;
+      subscriptions = v.subscriptions;
+      subscriptions_fit = v.subscriptions_fit;
+      order = v.order;
+      numbers_differ = v.numbers_differ;
+      pending = MessagesFit-later w (record w { known = with_known x object w.known }) w.pending refl (omega arith) (λ id held. held) v.pending;
+      pending_fit = v.pending_fit;
+      weight = light;
+    }
+
+-- with another state of its random numbers
+pub valid-random : (counts : List ℕ) (random : ℕ) (w : WorldRecord) → Valid counts w → Valid counts (record w { random = random })
+valid-random counts random w v =
+    record {
+      time = v.time;
+      next_object = v.next_object;
+      turns = v.turns;
+      views = v.views;
+      views_fit = v.views_fit;
+      ids = v.ids;
+      objects = v.objects;
+      objects_fit = v.objects_fit;
+      known_order = v.known_order;
+      known = v.known;
+      subscriptions_differ = v.subscriptions_differ;
+      subscriptions = v.subscriptions;
+      subscriptions_fit = v.subscriptions_fit;
+      order = v.order;
+      numbers_differ = v.numbers_differ;
+      pending = MessagesFit-later w (record w { random = random }) w.pending refl (omega arith) (λ id held. held) v.pending;
+      pending_fit = v.pending_fit;
+      weight = v.weight;
     }

@@ -1,20 +1,36 @@
 -- What the evaluator answers, beside what a program means.
-use Rattle.std.specs.Prelude.{◌≡◌, ℕ, List, map, Bool, Option, Some, None, Result, Ok, Err, ⊤}
-use Rattle.model_value.specs.Plain.{PlainValue}
+use Rattle.std.specs.Prelude.{◌≡◌, ℕ, ℤ, List, Vec, map, Bool, Option, Some, None, is_some, true, false, Result, Ok, Err, ⊤}
+use Rattle.std.specs.declared.alloc.Global.{Global}
+use Rattle.model_value.specs.Plain.{PlainValue, int}
 use Rattle.model_value.specs.View.{plain, plain_values}
 use Rattle.model_value.specs.Messages.{plain_outgoing}
 use Rattle.model_value.specs.World.{world_record}
 use Rattle.model_value.specs.declared.value.Value.{Value}
-use Rattle.model_eval.specs.declared.fault.Fault.TheVariants.{BadKind}
+use Rattle.model_builtin.specs.declared.fault.BuiltinStop.{BuiltinStop}
+use Rattle.model_builtin.specs.declared.fault.BuiltinStop.TheVariants as builtin_stop
+use Rattle.model_eval.specs.declared.fault.Fault.TheVariants.{BadKind, BadIndex, Size}
 use Rattle.model_eval.specs.declared.fault.Stop.{Stop}
 use Rattle.model_eval.specs.declared.fault.Stop.TheVariants as stop
+use Rattle.model_eval.specs.declared.evaluator.Flow.{Flow as Held}
+use Rattle.model_eval.specs.declared.evaluator.Flow.TheVariants as held
 use Rattle.model_eval.specs.declared.state.State.{State}
 use Rattle.model_eval.specs.declared.state.Budget.{Budget}
-use Rattle.model_eval.specs.Meaning.{Running, Outcome, Gives, Faults, Reply, value, fails}
+use Rattle.model_eval.specs.Running.{Running, Outcome, Gives, Faults, Reply, value, fails}
+use Rattle.model_eval.specs.Operators.{on_ints}
+use Rattle.model_lang.specs.Tree.{Name, ClassTree}
+use Rattle.model_check.specs.Methods.{method_named}
+use Rattle.model_eval.specs.Meaning.{Flow, next, returned, init}
 
 -- what a contract sees of what runs
 abbrev pub running : State → Budget → Running
 running state budget = record { fuel = budget.fuel; world = world_record state.world; published = map plain_outgoing state.published }
+
+-- a fault of what needs no world
+abbrev pub stop_of : BuiltinStop → Stop
+stop_of builtin_stop.BadKind = stop.Fault BadKind
+stop_of builtin_stop.BadIndex = stop.Fault BadIndex
+stop_of builtin_stop.Size = stop.Fault Size
+stop_of builtin_stop.WantOfMemory = stop.WantOfMemory
 
 -- the answer, and what runs after it, are what was meant, unless memory ran out
 abbrev pub Answers : Result Value Stop → State → Budget → Outcome PlainValue → Type 0
@@ -34,11 +50,30 @@ Did (Ok u) state budget meant = meant ≡ Gives tt (running state budget)
 Did (Err (stop.Fault f)) state budget meant = meant ≡ Faults f (running state budget)
 Did (Err stop.WantOfMemory) state budget meant = Unit {0}
 
+-- the same of what gives a number
+abbrev pub Numbers : Result ℕ Stop → State → Budget → Outcome ℕ → Type 0
+Numbers (Ok n) state budget meant = meant ≡ Gives n (running state budget)
+Numbers (Err (stop.Fault f)) state budget meant = meant ≡ Faults f (running state budget)
+Numbers (Err stop.WantOfMemory) state budget meant = Unit {0}
+
+-- the same of statements: the next one follows, with these locals, or the method ends
+abbrev pub Flows : Result Held Stop → Vec Value Global → State → Budget → Outcome (Flow (List PlainValue)) → Type 0
+Flows (Ok held.Next) locals state budget meant = meant ≡ Gives (next (plain_values locals.items)) (running state budget)
+Flows (Ok (held.Return v)) locals state budget meant = meant ≡ Gives (returned (plain v)) (running state budget)
+Flows (Err (stop.Fault f)) locals state budget meant = meant ≡ Faults f (running state budget)
+Flows (Err stop.WantOfMemory) locals state budget meant = Unit {0}
+
 -- the same of what leaves the state alone, whichever that is
 abbrev pub Enters : Result ℕ Stop → Budget → (State → Outcome ℕ) → Type 0
 Enters (Ok room) budget meant = (state : State) → meant state ≡ Gives room (running state budget)
 Enters (Err (stop.Fault f)) budget meant = (state : State) → meant state ≡ Faults f (running state budget)
 Enters (Err stop.WantOfMemory) budget meant = ⊥
+
+-- the same of what takes steps alone
+abbrev pub Spends : Result Value Stop → Budget → (State → Outcome PlainValue) → Type 0
+Spends (Ok v) budget meant = (state : State) → meant state ≡ Gives (plain v) (running state budget)
+Spends (Err (stop.Fault f)) budget meant = (state : State) → meant state ≡ Faults f (running state budget)
+Spends (Err stop.WantOfMemory) budget meant = Unit {0}
 
 -- the same of what changes nothing
 abbrev pub Replies : Result Value Stop → Reply → Type 0
@@ -46,7 +81,18 @@ Replies (Ok v) meant = meant ≡ value (plain v)
 Replies (Err (stop.Fault f)) meant = meant ≡ fails f
 Replies (Err stop.WantOfMemory) meant = Unit {0}
 
+-- two values are Ints, or what needs two Ints fails
+abbrev pub AreInts : Result (ℤ × ℤ) Stop → PlainValue → PlainValue → Type 0
+AreInts (Ok ints) v w = (v ≡ int ints.0) × (w ≡ int ints.1)
+AreInts (Err (stop.Fault f)) v w = (f ≡ BadKind) × ((row : ℤ → ℤ → Reply) → on_ints row v w ≡ fails BadKind)
+AreInts (Err stop.WantOfMemory) v w = Unit {0}
+
 abbrev pub Decides : Result Bool Stop → Option Bool → Type 0
 Decides (Ok b) meant = meant ≡ Some b
 Decides (Err (stop.Fault f)) meant = (meant ≡ None) × (f ≡ BadKind)
 Decides (Err stop.WantOfMemory) meant = Unit {0}
+
+-- whether a class has `init`, and its name where it has
+abbrev pub HasInit : Option Name → ClassTree → Type 0
+HasInit None c = is_some (method_named init c.methods) ≡ false
+HasInit (Some x) c = (x ≡ init) × (is_some (method_named init c.methods) ≡ true)

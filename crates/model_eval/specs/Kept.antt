@@ -1,9 +1,14 @@
 -- What a part of a method keeps of a world.
-use Rattle.std.specs.Prelude.{◌≡◌, ℕ, ◌+◌, ◌≤◌, List, [], ◌∷◌, Some, nat_le, if◌then◌else◌}
+use Rattle.std.specs.Prelude.{◌≡◌, ℕ, ◌+◌, ◌≤◌, List, [], ◌∷◌, length, map, nat_le, if◌then◌else◌}
 use Rattle.model_value.specs.Messages.{PlainMessage}
-use Rattle.model_value.specs.World.{ObjectRecord, WorldRecord}
-use Rattle.model_value.specs.Valid.{Valid, object_at, most_turns}
-use Rattle.model_eval.specs.Meaning.{Running, Outcome, Gives, Faults}
+use Rattle.model_value.specs.World.{WorldRecord}
+use Rattle.model_value.specs.Valid.{Valid, most_turns}
+use Rattle.model_lang.specs.Tree.{ProgramTree}
+use Rattle.model_eval.specs.Running.{Running, Outcome, Gives, Faults}
+
+-- how many fields each class has
+abbrev pub field_counts : ProgramTree → List ℕ
+field_counts = map (λ c. length c.fields)
 
 -- how many messages are due by a time
 abbrev pub due : ℕ → List PlainMessage → ℕ
@@ -19,18 +24,15 @@ pub record Kept (r s : Running) : Type 0 where
   pub id : s.world.id ≡ r.world.id
   pub time : s.world.time ≡ r.world.time
   pub turns : s.world.turns ≡ r.world.turns
-  pub random : s.world.random ≡ r.world.random
-  pub next_object : s.world.next_object ≡ r.world.next_object
   pub faults : s.world.faults ≡ r.world.faults
   pub views : s.world.views ≡ r.world.views
-  pub known : s.world.known ≡ r.world.known
-  pub subscriptions : s.world.subscriptions ≡ r.world.subscriptions
   pub published : s.published ≡ r.published
   pub fuel : s.fuel ≤ r.fuel
+  -- ids and numbers are not used again
+  pub next_object : r.world.next_object ≤ s.world.next_object
+  pub next_number : r.world.next_number ≤ s.world.next_number
   -- no message is added to an instant at which too many ran
   pub calm : r.world.turns ≡ most_turns → now_due s.world ≤ now_due r.world
-  -- each object is still there, and of its class
-  pub classes : (id : ℕ) (o : ObjectRecord) → object_at r.world.objects id ≡ Some o → (p : ObjectRecord) × (object_at s.world.objects id ≡ Some p) × (p.class ≡ o.class)
 
 -- what stays from r to the end of an outcome; and if H, then the world is valid there, and what is given is as P says
 abbrev pub CarriesIf : {A : Type 0} → Type 0 → List ℕ → (A → Type 0) → Running → Outcome A → Type 0

@@ -1,3 +1,8 @@
+pub mod Running
+pub mod Operators
+pub mod Objects
+pub mod Futures
+pub mod Builtins
 pub mod Meaning
 pub mod Kept
 pub mod Slots

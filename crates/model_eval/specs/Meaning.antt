@@ -1,224 +1,205 @@
--- What a program means: a row for each form that the grammar has so far.
-use Rattle.std.specs.Prelude.{ℕ, zero, suc, ◌+◌, ◌-◌, ◌*◌, ◌^◌, ℤ, pos, negsuc, ◌+ℤ◌, ◌-ℤ◌, Bool, nat_eq, nat_lt, nat_le, int_lt, if◌then◌else◌, ◌||◌, ◌&&◌, List, [], ◌∷◌, ◌++◌, length, bytes_eq, Option, Some, None, slice_get, ⊤}
-use Rattle.model_value.specs.Plain.{PlainValue, nil, bool, int, ref}
-use Rattle.model_value.specs.Messages.{PlainMessage, PlainOutgoing}
-use Rattle.model_value.specs.World.{ObjectRecord, WorldRecord, message_weight, world_weight, most_world_weight}
-use Rattle.model_value.specs.Valid.{object_at, time_limit, most_turns, most_pending}
-use Rattle.model_lang.specs.Tree.{Name, Expression, this, field, binary, future, Expressions, no_expressions, expression, Statement, set_field, when, do_, Statements, no_statements, statement, Otherwise, no_else, else_block, MethodTree, ClassTree, ProgramTree}
+-- What a program means: a row for each form.
+use Rattle.std.specs.Prelude.{ℕ, zero, suc, nat_eq, if◌then◌else◌, List, [], ◌∷◌, ◌++◌, length, take, bytes_eq, codes, Option, Some, None, is_some, slice_get, ⊤}
+use Rattle.std.specs.List.{position_from}
+use Rattle.model_value.specs.Plain.{PlainValue, nil, bool, int, text, ref, list}
+use Rattle.model_value.specs.View.{plains_of}
+use Rattle.model_value.specs.World.{ObjectRecord}
+use Rattle.model_value.specs.Valid.{object_at}
+use Rattle.model_lang.specs.Tree.{Name, Expression, this, local, field, unary, binary, builtin, call, future, create, Expressions, no_expressions, expression, Statement, declare, assign, set_field, when, while, give, do_, Statements, no_statements, statement, Otherwise, no_else, else_block, MethodTree, ClassTree, ProgramTree}
 use Rattle.model_lang.specs.Tree as tree
-use Rattle.model_lang.specs.declared.tree.BinaryOp.{BinaryOp}
-use Rattle.model_lang.specs.declared.tree.BinaryOp.TheVariants as op
+use Rattle.model_check.specs.Builtins.{builtin_named}
+use Rattle.model_check.specs.Faults.{class_names}
 use Rattle.model_check.specs.Methods.{method_named}
-use Rattle.model_eval.specs.declared.fault.Fault.{Fault}
-use Rattle.model_eval.specs.declared.fault.Fault.TheVariants.{Overflow, BadKind, NoObject, NoMethod, Arity, Fuel, Depth, Instant, Time, Full}
-
--- what runs: the fuel left, the world, and what was published
-pub record Running : Type 0 where
-  pub fuel : ℕ
-  pub world : WorldRecord
-  pub published : List PlainOutgoing
-
--- how a part ends: it gives something, or it faults, and what was done until then stays
-pub data Outcome (A : Type 0) : Type 0 where
-  Gives : A → Running → Outcome A
-  Faults : Fault → Running → Outcome A
-
-abbrev pub and_then : {A B : Type 0} → Outcome A → (A → Running → Outcome B) → Outcome B
-and_then (Gives a r) next = next a r
-and_then (Faults f r) next = Faults f r
-
--- entering a statement or an expression takes a step of fuel
-abbrev pub entering : {A : Type 0} → Running → (Running → Outcome A) → Outcome A
-entering r next = if nat_eq r.fuel 0 then Faults Fuel r else next (record r { fuel = r.fuel - 1 })
+use Rattle.model_eval.specs.declared.fault.Fault.TheVariants.{BadKind, NoObject, NoMethod, Arity, Fuel, Depth}
+use Rattle.model_eval.specs.Running.{Running, Outcome, Gives, Faults, and_then, entering, bounded, weighed, replying, truth, deciding}
+use Rattle.model_eval.specs.Operators.{operating, unary_operated}
+use Rattle.model_eval.specs.Objects.{got, put, with_named, made}
+use Rattle.model_eval.specs.Futures.{send}
+use Rattle.model_eval.specs.Builtins.{answered_by}
 
 -- the class whose method runs, and the object on which it runs
 pub record Here : Type 0 where
   pub class : ClassTree
   pub object : ℕ
 
--- ---- operators
+-- a name that is in scope, and what it holds
+pub record Local : Type 0 where
+  pub name : Name
+  pub value : PlainValue
 
--- what an operator gives: a value or a fault
-pub data Reply : Type 0 where
-  value : PlainValue → Reply
-  fails : Fault → Reply
+-- ---- locals
 
-abbrev pub replying : Reply → Running → Outcome PlainValue
-replying (value v) r = Gives v r
-replying (fails f) r = Faults f r
+abbrev pub local_value : Name → List Local → PlainValue
+local_value x [] = nil
+local_value x (l ∷ ls) = if bytes_eq x l.name then l.value else local_value x ls
 
-abbrev pub in_64_bits : ℤ → Bool
-in_64_bits (pos n) = nat_lt n (2 ^ 63)
-in_64_bits (negsuc n) = nat_lt n (2 ^ 63)
+abbrev pub with_local : Name → PlainValue → List Local → List Local
+with_local x v [] = []
+with_local x v (l ∷ ls) = if bytes_eq x l.name then record l { value = v } ∷ ls else l ∷ with_local x v ls
 
-abbrev pub fitting : ℤ → Reply
-fitting n = if in_64_bits n then value (int n) else fails Overflow
+-- the parameters of a method hold its arguments
+abbrev pub locals_of : List Name → List PlainValue → List Local
+locals_of (x ∷ xs) (v ∷ vs) = record { name = x; value = v } ∷ locals_of xs vs
+locals_of _ _ = []
 
-abbrev pub on_ints : (ℤ → ℤ → Reply) → PlainValue → PlainValue → Reply
-on_ints f (int m) (int n) = f m n
-on_ints f _ _ = fails BadKind
+-- ---- statements
 
--- no program has another operator yet
-abbrev pub operated : BinaryOp → PlainValue → PlainValue → Reply
-operated op.Plus = on_ints (λ m n. fitting (m +ℤ n))
-operated op.Minus = on_ints (λ m n. fitting (m -ℤ n))
-operated op.Less = on_ints (λ m n. value (bool (int_lt m n)))
-operated _ = λ a b. fails BadKind
+-- behind a statement the next one follows, with these locals, or the method ends with a value
+pub data Flow (L : Type 0) : Type 0 where
+  next : L → Flow L
+  returned : PlainValue → Flow L
 
-abbrev pub truth : PlainValue → Option Bool
-truth (bool b) = Some b
-truth _ = None
+abbrev pub follow : {L : Type 0} → (L → Running → Outcome (Flow L)) → Flow L → Running → Outcome (Flow L)
+follow go (next locals) r = go locals r
+follow go (returned v) r = Gives (returned v) r
 
-abbrev pub deciding : {A : Type 0} → Option Bool → (Bool → Running → Outcome A) → Running → Outcome A
-deciding (Some b) next r = next b r
-deciding None next r = Faults BadKind r
+-- the locals that were there before a block are those that are there behind it
+abbrev pub behind : {A : Type 0} → ℕ → Flow (List A) → Flow (List A)
+behind before (next locals) = next (take before locals)
+behind before (returned v) = returned v
+
+-- the value of a method is nil at the end of its body
+abbrev pub value_of : {L : Type 0} → Flow L → PlainValue
+value_of (next locals) = nil
+value_of (returned v) = v
 
 -- ---- fields
-
--- the value beside a name
-abbrev pub value_named : Name → List Name → List PlainValue → PlainValue
-value_named x (y ∷ ys) (v ∷ vs) = if bytes_eq x y then v else value_named x ys vs
-value_named x _ _ = nil
-
--- the values with another one beside a name
-abbrev pub with_named : Name → PlainValue → List Name → List PlainValue → List PlainValue
-with_named x new (y ∷ ys) (v ∷ vs) = if bytes_eq x y then new ∷ vs else v ∷ with_named x new ys vs
-with_named x new _ vs = vs
-
-abbrev pub got : Option ObjectRecord → Name → List Name → Running → Outcome PlainValue
-got None x names r = Faults NoObject r
-got (Some o) x names r = Gives (value_named x names o.fields) r
 
 abbrev pub get_field : Here → Name → Running → Outcome PlainValue
 get_field here x r = got (object_at r.world.objects here.object) x here.class.fields r
 
--- the objects with other fields in the one of this number
-abbrev pub with_fields : ℕ → (List PlainValue → List PlainValue) → List ObjectRecord → List ObjectRecord
-with_fields id change [] = []
-with_fields id change (o ∷ os) = if nat_eq o.id id then record o { fields = change o.fields } ∷ os else o ∷ with_fields id change os
-
-abbrev pub with_objects : Running → List ObjectRecord → Running
-with_objects r objects = record r { world = record (r.world) { objects = objects } }
-
--- unless the world becomes too heavy
-abbrev pub if_light : Running → Running → Outcome ⊤
-if_light r changed = if nat_le (world_weight changed.world) most_world_weight then Gives tt changed else Faults Full r
-
-abbrev pub put : Option ObjectRecord → ℕ → (List PlainValue → List PlainValue) → Running → Outcome ⊤
-put None id change r = Faults NoObject r
-put (Some o) id change r = if_light r (with_objects r (with_fields id change r.world.objects))
-
 abbrev pub set_named : Here → Name → PlainValue → Running → Outcome ⊤
 set_named here x v r = put (object_at r.world.objects here.object) here.object (with_named x v here.class.fields) r
-
--- ---- futures
-
--- the time that lies so many milliseconds ahead, if it is to come and below the limit
-abbrev pub ahead : ℕ → ℤ → Option ℕ
-ahead time (pos n) = if nat_lt (time + 1000 * n) time_limit then Some (time + 1000 * n) else None
-ahead time (negsuc n) = None
-
-abbrev pub precedes : PlainMessage → PlainMessage → Bool
-precedes m n = nat_lt m.time n.time || nat_eq m.time n.time && nat_lt m.number n.number
-
--- in its place by time and number
-abbrev pub inserted : PlainMessage → List PlainMessage → List PlainMessage
-inserted m [] = m ∷ []
-inserted m (n ∷ ns) = if precedes m n then m ∷ n ∷ ns else n ∷ inserted m ns
-
-abbrev pub has_room : WorldRecord → PlainMessage → Bool
-has_room w m = nat_lt (length w.pending) most_pending && nat_lt w.next_number (2 ^ 64 - 1) && nat_le (world_weight w + message_weight m) most_world_weight
-
-abbrev pub with_message : Running → PlainMessage → Running
-with_message r m = record r { world = record (r.world) { pending = inserted m r.world.pending; next_number = r.world.next_number + 1 } }
-
--- the message has the world's next number
-abbrev pub sent : ℕ → Name → List PlainValue → Option ℕ → Running → Outcome PlainValue
-sent object x args None r = Faults Time r
-sent object x args (Some time) r =
-    let m : PlainMessage = record { time = time; number = r.world.next_number; object = object; method = x; args = args } in
-    if nat_eq time r.world.time && nat_eq r.world.turns most_turns then Faults Instant r else
-    if has_room r.world m then Gives nil (with_message r m) else Faults Full r
-
-abbrev pub sent_to : Option ObjectRecord → ℕ → ℤ → Name → List PlainValue → Running → Outcome PlainValue
-sent_to None object delay x args r = Faults NoObject r
-sent_to (Some o) object delay x args r = sent object x args (ahead r.world.time delay) r
-
-abbrev pub send : PlainValue → PlainValue → Name → List PlainValue → Running → Outcome PlainValue
-send (ref object) (int delay) x args r = sent_to (object_at r.world.objects object) object delay x args r
-send _ _ x args r = Faults BadKind r
 
 -- ---- the table
 
 abbrev pub Evaluate : Type 0
-Evaluate = Here → Expression → Running → Outcome PlainValue
+Evaluate = Here → Expression → List Local → Running → Outcome PlainValue
 
 abbrev pub Execute : Type 0
-Execute = Here → Statement → Running → Outcome ⊤
+Execute = Here → Statement → List Local → Running → Outcome (Flow (List Local))
+
+-- a method of an object starts
+abbrev pub Start : Type 0
+Start = ℕ → Name → List PlainValue → Running → Outcome PlainValue
 
 -- a list of parts, left to right, behind the values so far
-abbrev pub evaluated : Evaluate → Here → Expressions → List PlainValue → Running → Outcome (List PlainValue)
-evaluated ev here no_expressions values r = Gives values r
-evaluated ev here (expression e es) values r = and_then (ev here e r) (λ v. evaluated ev here es (values ++ v ∷ []))
+abbrev pub evaluated : Evaluate → Here → Expressions → List Local → List PlainValue → Running → Outcome (List PlainValue)
+evaluated ev here no_expressions locals values r = Gives values r
+evaluated ev here (expression e es) locals values r = and_then (ev here e locals r) (λ v. evaluated ev here es locals (values ++ v ∷ []))
 
--- a block, one statement after another
-abbrev pub in_turn : Execute → Here → Statements → Running → Outcome ⊤
-in_turn ex here no_statements r = Gives tt r
-in_turn ex here (statement s ss) r = and_then (ex here s r) (λ _. in_turn ex here ss)
+-- one statement after another
+abbrev pub in_turn : Execute → Here → Statements → List Local → Running → Outcome (Flow (List Local))
+in_turn ex here no_statements locals r = Gives (next locals) r
+in_turn ex here (statement s ss) locals r = and_then (ex here s locals r) (follow (in_turn ex here ss))
 
-abbrev pub otherwise : Execute → Here → Otherwise → Running → Outcome ⊤
-otherwise ex here no_else r = Gives tt r
-otherwise ex here (else_block ss) r = in_turn ex here ss r
+abbrev pub block : Execute → Here → Statements → List Local → Running → Outcome (Flow (List Local))
+block ex here ss locals r = and_then (in_turn ex here ss locals r) (λ f. Gives (behind (length locals) f))
 
--- what an expression means, once what its parts mean is known. No program has another form yet
-abbrev pub expression_row : Evaluate → Here → Expression → Running → Outcome PlainValue
-expression_row ev here tree.nil r = Gives nil r
-expression_row ev here (tree.int n) r = Gives (int n) r
-expression_row ev here this r = Gives (ref here.object) r
-expression_row ev here (field x) r = get_field here x r
-expression_row ev here (binary o a b) r = and_then (ev here a r) (λ v r1. and_then (ev here b r1) (λ w. replying (operated o v w)))
-expression_row ev here (future object delay x args) r =
-    and_then (ev here object r) (λ o r1. and_then (ev here delay r1) (λ d r2. and_then (evaluated ev here args [] r2) (send o d x)))
-expression_row ev here _ r = Faults BadKind r
+abbrev pub otherwise : Execute → Here → Otherwise → List Local → Running → Outcome (Flow (List Local))
+otherwise ex here no_else locals r = Gives (next locals) r
+otherwise ex here (else_block ss) locals r = block ex here ss locals r
+
+-- The test, and while it is true the block. Each test takes a step of fuel, so more turns than steps are never made.
+abbrev pub looped : ℕ → Evaluate → Execute → Here → Expression → Statements → List Local → Running → Outcome (Flow (List Local))
+looped zero ev ex here test body locals r = Faults Fuel r
+looped (suc turns) ev ex here test body locals r =
+    and_then (ev here test locals r) (λ v. deciding (truth v) (λ b r1.
+    if b then and_then (block ex here body locals r1) (follow (looped turns ev ex here test body)) else Gives (next locals) r1))
+
+-- the same by the fuel that is left behind the block
+abbrev pub goes_round : Evaluate → Execute → Here → Expression → Statements → List Local → Running → Outcome (Flow (List Local))
+goes_round ev ex here test body locals r =
+    and_then (ev here test locals r) (λ v. deciding (truth v) (λ b r1.
+    if b then and_then (block ex here body locals r1) (follow (λ ls s. looped s.fuel ev ex here test body ls s)) else Gives (next locals) r1))
+
+abbrev pub called_on : Start → PlainValue → Name → List PlainValue → Running → Outcome PlainValue
+called_on start (ref object) x args r = start object x args r
+called_on start _ x args r = Faults BadKind r
+
+abbrev pub init : Name
+init = codes "init"
+
+-- the method `init` of a new object starts with the one argument, where its class has one
+abbrev pub initialised : Start → ClassTree → PlainValue → ℕ → Running → Outcome PlainValue
+initialised start c v id r =
+    if is_some (method_named init c.methods) then and_then (start id init (v ∷ []) r) (λ _. Gives (ref id)) else Gives (ref id) r
+
+-- an object of the class of this number. A checked program has the class
+abbrev pub created : Start → ℕ → Option ClassTree → PlainValue → Running → Outcome PlainValue
+created start n None v r = Faults BadKind r
+created start n (Some c) v r = and_then (made n (length c.fields) r) (initialised start c v)
+
+abbrev pub created_by : ProgramTree → Start → Option ℕ → PlainValue → Running → Outcome PlainValue
+created_by program start None v r = Faults BadKind r
+created_by program start (Some n) v r = created start n (slice_get program n) v r
+
+-- the number of a class
+abbrev pub number_of : Name → ProgramTree → Option ℕ
+number_of x program = position_from (bytes_eq x) 0 (class_names program)
+
+-- what an expression means, once what its parts mean is known
+abbrev pub expression_row : ProgramTree → Evaluate → Start → Here → Expression → List Local → Running → Outcome PlainValue
+expression_row program ev start here tree.nil locals r = Gives nil r
+expression_row program ev start here (tree.bool b) locals r = Gives (bool b) r
+expression_row program ev start here (tree.int n) locals r = Gives (int n) r
+expression_row program ev start here (tree.text s) locals r = bounded (text s) r
+expression_row program ev start here this locals r = Gives (ref here.object) r
+expression_row program ev start here (local x) locals r = Gives (local_value x locals) r
+expression_row program ev start here (field x) locals r = get_field here x r
+expression_row program ev start here (tree.list items) locals r = and_then (evaluated ev here items locals [] r) (λ vs. weighed (list (plains_of vs)))
+expression_row program ev start here (unary o e) locals r = and_then (ev here e locals r) (λ v. replying (unary_operated o v))
+expression_row program ev start here (binary o a b) locals r = and_then (ev here a locals r) (λ v. operating o v (ev here b locals))
+expression_row program ev start here (builtin x args) locals r = and_then (evaluated ev here args locals [] r) (answered_by (builtin_named x) here.object)
+expression_row program ev start here (call object x args) locals r =
+    and_then (ev here object locals r) (λ o r1. and_then (evaluated ev here args locals [] r1) (called_on start o x))
+expression_row program ev start here (future object delay x args) locals r =
+    and_then (ev here object locals r) (λ o r1. and_then (ev here delay locals r1) (λ d r2. and_then (evaluated ev here args locals [] r2) (send o d x)))
+expression_row program ev start here (create x options) locals r = and_then (ev here options locals r) (created_by program start (number_of x program))
 
 -- what a statement does
-abbrev pub statement_row : Evaluate → Execute → Here → Statement → Running → Outcome ⊤
-statement_row ev ex here (set_field x e) r = and_then (ev here e r) (set_named here x)
-statement_row ev ex here (when test block other) r =
-    and_then (ev here test r) (λ v. deciding (truth v) (λ b r1. if b then in_turn ex here block r1 else otherwise ex here other r1))
-statement_row ev ex here (do_ e) r = and_then (ev here e r) (λ _. Gives tt)
-statement_row ev ex here _ r = Faults BadKind r
-
--- What the forms mean where so many more may be open: entering one takes a step of fuel, and then room.
-abbrev mutual
-  pub evaluate : ℕ → Evaluate
-  evaluate zero here e r = entering r (Faults Depth)
-  evaluate (suc room) here e r = entering r (expression_row (evaluate room) here e)
-
-abbrev mutual
-  pub execute : ℕ → Execute
-  execute zero here s r = entering r (Faults Depth)
-  execute (suc room) here s r = entering r (statement_row (evaluate room) (execute room) here s)
+abbrev pub statement_row : Evaluate → Execute → Here → Statement → List Local → Running → Outcome (Flow (List Local))
+statement_row ev ex here (declare x e) locals r = and_then (ev here e locals r) (λ v. Gives (next (locals ++ record { name = x; value = v } ∷ [])))
+statement_row ev ex here (assign x e) locals r = and_then (ev here e locals r) (λ v. Gives (next (with_local x v locals)))
+statement_row ev ex here (set_field x e) locals r = and_then (ev here e locals r) (λ v r1. and_then (set_named here x v r1) (λ _. Gives (next locals)))
+statement_row ev ex here (when test body other) locals r =
+    and_then (ev here test locals r) (λ v. deciding (truth v) (λ b r1. if b then block ex here body locals r1 else otherwise ex here other locals r1))
+statement_row ev ex here (while test body) locals r = looped r.fuel ev ex here test body locals r
+statement_row ev ex here (give e) locals r = and_then (ev here e locals r) (λ v. Gives (returned v))
+statement_row ev ex here (do_ e) locals r = and_then (ev here e locals r) (λ _. Gives (next locals))
 
 -- ---- methods
 
--- the value of a method is nil at the end of its body
-abbrev pub performed : ℕ → Here → Option MethodTree → List PlainValue → Running → Outcome PlainValue
-performed room here None args r = Faults NoMethod r
-performed room here (Some m) args r =
-    if nat_eq (length args) (length m.params) then and_then (in_turn (execute room) here m.body r) (λ _. Gives nil) else Faults Arity r
+abbrev pub performed : Execute → Here → Option MethodTree → List PlainValue → Running → Outcome PlainValue
+performed ex here None args r = Faults NoMethod r
+performed ex here (Some m) args r =
+    if nat_eq (length args) (length m.params) then and_then (in_turn ex here m.body (locals_of m.params args) r) (λ f. Gives (value_of f))
+    else Faults Arity r
 
-abbrev pub starts_in : ℕ → Option ClassTree → ℕ → Name → List PlainValue → Running → Outcome PlainValue
-starts_in room None object x args r = Faults NoMethod r
-starts_in room (Some c) object x args r = performed room (record { class = c; object = object }) (method_named x c.methods) args r
+abbrev pub starts_in : Execute → Option ClassTree → Start
+starts_in ex None object x args r = Faults NoMethod r
+starts_in ex (Some c) object x args r = performed ex (record { class = c; object = object }) (method_named x c.methods) args r
 
-abbrev pub starts_on : ProgramTree → ℕ → Option ObjectRecord → ℕ → Name → List PlainValue → Running → Outcome PlainValue
-starts_on program room None object x args r = Faults NoObject r
-starts_on program room (Some o) object x args r = starts_in room (slice_get program o.class) object x args r
+abbrev pub starts_on : ProgramTree → Execute → Option ObjectRecord → Start
+starts_on program ex None object x args r = Faults NoObject r
+starts_on program ex (Some o) object x args r = starts_in ex (slice_get program o.class) object x args r
+
+abbrev pub starting : ProgramTree → Execute → Start
+starting program ex object x args r = starts_on program ex (object_at r.world.objects object) object x args r
+
+-- What the forms mean where so many more may be open: entering one takes a step of fuel, and then room.
+abbrev mutual
+  pub evaluate : ProgramTree → ℕ → Evaluate
+  evaluate program zero here e locals r = entering r (Faults Depth)
+  evaluate program (suc room) here e locals r = entering r (expression_row program (evaluate program room) (starting program (execute program room)) here e locals)
+
+  pub execute : ProgramTree → ℕ → Execute
+  execute program zero here s locals r = entering r (Faults Depth)
+  execute program (suc room) here s locals r = entering r (statement_row (evaluate program room) (execute program room) here s locals)
 
 -- a method starts on an object, where so many statements and expressions may be open
-abbrev pub starts : ProgramTree → ℕ → ℕ → Name → List PlainValue → Running → Outcome PlainValue
-starts program room object x args r = starts_on program room (object_at r.world.objects object) object x args r
+abbrev pub starts : ProgramTree → ℕ → Start
+starts program room = starting program (execute program room)
 
 -- the most statements and expressions that are open at a time
 abbrev pub most_open : ℕ

@@ -1,13 +1,20 @@
 -- The same meaning over resolved trees, which the evaluator follows. No public clause names it: that it is the meaning of
--- the tree with its names is proved apart.
-use Rattle.std.specs.Prelude.{ℕ, zero, suc, nat_eq, if◌then◌else◌, List, [], ◌∷◌, ◌++◌, length, Option, Some, None, slice_index_or, slice_set, ⊤}
-use Rattle.model_value.specs.Plain.{PlainValue, nil, int, ref}
+-- the tree with its names is proved apart. The locals are values, by their slots.
+use Rattle.std.specs.Prelude.{ℕ, zero, suc, nat_eq, if◌then◌else◌, List, [], ◌∷◌, ◌++◌, length, take, Option, Some, None, slice_get, slice_index_or, slice_set, ⊤}
+use Rattle.model_value.specs.Plain.{PlainValue, nil, bool, int, text, ref, list}
+use Rattle.model_value.specs.View.{plains_of}
 use Rattle.model_value.specs.World.{ObjectRecord}
 use Rattle.model_value.specs.Valid.{object_at}
-use Rattle.model_check.specs.SolvedTree.{SolvedExpression, this, field, binary, future, SolvedExpressions, no_expressions, expression, SolvedStatement, set_field, when, do_, SolvedStatements, no_statements, statement, SolvedOtherwise, no_else, else_block, SolvedMethod}
+use Rattle.model_lang.specs.Tree.{ProgramTree}
+use Rattle.model_check.specs.SolvedTree.{SolvedExpression, this, local, field, unary, binary, builtin, call, future, create, SolvedExpressions, no_expressions, expression, SolvedStatement, declare, assign, set_field, when, while, give, do_, SolvedStatements, no_statements, statement, SolvedOtherwise, no_else, else_block, SolvedMethod}
 use Rattle.model_check.specs.SolvedTree as solved
-use Rattle.model_eval.specs.declared.fault.Fault.TheVariants.{BadKind, NoObject, Depth, Arity}
-use Rattle.model_eval.specs.Meaning.{Running, Outcome, Gives, Faults, and_then, entering, Reply, value, fails, replying, operated, truth, deciding, put, send}
+use Rattle.model_eval.specs.declared.fault.Fault.TheVariants.{NoObject, Fuel, Depth, Arity}
+use Rattle.model_eval.specs.Running.{Running, Outcome, Gives, Faults, and_then, entering, bounded, weighed, Reply, value, fails, replying, truth, deciding}
+use Rattle.model_eval.specs.Operators.{operating, unary_operated}
+use Rattle.model_eval.specs.Objects.{put}
+use Rattle.model_eval.specs.Futures.{send}
+use Rattle.model_eval.specs.Builtins.{answered}
+use Rattle.model_eval.specs.Meaning.{Start, Flow, next, returned, follow, behind, value_of, called_on, created, starts}
 
 abbrev pub slot_value : Option ObjectRecord → ℕ → Reply
 slot_value None slot = fails NoObject
@@ -20,57 +27,81 @@ abbrev pub set_slot : ℕ → ℕ → PlainValue → Running → Outcome ⊤
 set_slot object slot v r = put (object_at r.world.objects object) object (λ fields. slice_set fields slot v) r
 
 abbrev pub Evaluate : Type 0
-Evaluate = ℕ → SolvedExpression → Running → Outcome PlainValue
+Evaluate = ℕ → SolvedExpression → List PlainValue → Running → Outcome PlainValue
 
 abbrev pub Execute : Type 0
-Execute = ℕ → SolvedStatement → Running → Outcome ⊤
+Execute = ℕ → SolvedStatement → List PlainValue → Running → Outcome (Flow (List PlainValue))
 
-abbrev pub evaluated : Evaluate → ℕ → SolvedExpressions → List PlainValue → Running → Outcome (List PlainValue)
-evaluated ev object no_expressions values r = Gives values r
-evaluated ev object (expression e es) values r = and_then (ev object e r) (λ v. evaluated ev object es (values ++ v ∷ []))
+abbrev pub evaluated : Evaluate → ℕ → SolvedExpressions → List PlainValue → List PlainValue → Running → Outcome (List PlainValue)
+evaluated ev object no_expressions locals values r = Gives values r
+evaluated ev object (expression e es) locals values r = and_then (ev object e locals r) (λ v. evaluated ev object es locals (values ++ v ∷ []))
 
-abbrev pub in_turn : Execute → ℕ → SolvedStatements → Running → Outcome ⊤
-in_turn ex object no_statements r = Gives tt r
-in_turn ex object (statement s ss) r = and_then (ex object s r) (λ _. in_turn ex object ss)
+abbrev pub in_turn : Execute → ℕ → SolvedStatements → List PlainValue → Running → Outcome (Flow (List PlainValue))
+in_turn ex object no_statements locals r = Gives (next locals) r
+in_turn ex object (statement s ss) locals r = and_then (ex object s locals r) (follow (in_turn ex object ss))
 
-abbrev pub otherwise : Execute → ℕ → SolvedOtherwise → Running → Outcome ⊤
-otherwise ex object no_else r = Gives tt r
-otherwise ex object (else_block ss) r = in_turn ex object ss r
+abbrev pub block : Execute → ℕ → SolvedStatements → List PlainValue → Running → Outcome (Flow (List PlainValue))
+block ex object ss locals r = and_then (in_turn ex object ss locals r) (λ f. Gives (behind (length locals) f))
 
--- no program has another form yet
-abbrev pub expression_row : Evaluate → ℕ → SolvedExpression → Running → Outcome PlainValue
-expression_row ev object solved.nil r = Gives nil r
-expression_row ev object (solved.int n) r = Gives (int n) r
-expression_row ev object this r = Gives (ref object) r
-expression_row ev object (field slot) r = get_slot object slot r
-expression_row ev object (binary o a b) r = and_then (ev object a r) (λ v r1. and_then (ev object b r1) (λ w. replying (operated o v w)))
-expression_row ev object (future target delay x args) r =
-    and_then (ev object target r) (λ o r1. and_then (ev object delay r1) (λ d r2. and_then (evaluated ev object args [] r2) (send o d x)))
-expression_row ev object _ r = Faults BadKind r
+abbrev pub otherwise : Execute → ℕ → SolvedOtherwise → List PlainValue → Running → Outcome (Flow (List PlainValue))
+otherwise ex object no_else locals r = Gives (next locals) r
+otherwise ex object (else_block ss) locals r = block ex object ss locals r
 
-abbrev pub statement_row : Evaluate → Execute → ℕ → SolvedStatement → Running → Outcome ⊤
-statement_row ev ex object (set_field slot e) r = and_then (ev object e r) (set_slot object slot)
-statement_row ev ex object (when test block other) r =
-    and_then (ev object test r) (λ v. deciding (truth v) (λ b r1. if b then in_turn ex object block r1 else otherwise ex object other r1))
-statement_row ev ex object (do_ e) r = and_then (ev object e r) (λ _. Gives tt)
-statement_row ev ex object _ r = Faults BadKind r
+-- what follows a test of a loop: its block, and then the rest of the loop
+abbrev pub turned : Execute → ℕ → SolvedStatements → (List PlainValue → Running → Outcome (Flow (List PlainValue))) → PlainValue → List PlainValue → Running → Outcome (Flow (List PlainValue))
+turned ex object body again v locals =
+    deciding (truth v) (λ b r1. if b then and_then (block ex object body locals r1) (follow again) else Gives (next locals) r1)
+
+abbrev pub looped : ℕ → Evaluate → Execute → ℕ → SolvedExpression → SolvedStatements → List PlainValue → Running → Outcome (Flow (List PlainValue))
+looped zero ev ex object test body locals r = Faults Fuel r
+looped (suc turns) ev ex object test body locals r =
+    and_then (ev object test locals r) (λ v. turned ex object body (looped turns ev ex object test body) v locals)
+
+abbrev pub expression_row : ProgramTree → Evaluate → Start → ℕ → SolvedExpression → List PlainValue → Running → Outcome PlainValue
+expression_row program ev start object solved.nil locals r = Gives nil r
+expression_row program ev start object (solved.bool b) locals r = Gives (bool b) r
+expression_row program ev start object (solved.int n) locals r = Gives (int n) r
+expression_row program ev start object (solved.text s) locals r = bounded (text s) r
+expression_row program ev start object this locals r = Gives (ref object) r
+expression_row program ev start object (local slot) locals r = Gives (slice_index_or locals slot nil) r
+expression_row program ev start object (field slot) locals r = get_slot object slot r
+expression_row program ev start object (solved.list items) locals r = and_then (evaluated ev object items locals [] r) (λ vs. weighed (list (plains_of vs)))
+expression_row program ev start object (unary o e) locals r = and_then (ev object e locals r) (λ v. replying (unary_operated o v))
+expression_row program ev start object (binary o a b) locals r = and_then (ev object a locals r) (λ v. operating o v (ev object b locals))
+expression_row program ev start object (builtin f args) locals r = and_then (evaluated ev object args locals [] r) (answered f object)
+expression_row program ev start object (call target x args) locals r =
+    and_then (ev object target locals r) (λ o r1. and_then (evaluated ev object args locals [] r1) (called_on start o x))
+expression_row program ev start object (future target delay x args) locals r =
+    and_then (ev object target locals r) (λ o r1. and_then (ev object delay locals r1) (λ d r2. and_then (evaluated ev object args locals [] r2) (send o d x)))
+expression_row program ev start object (create n options) locals r = and_then (ev object options locals r) (created start n (slice_get program n))
+
+-- a `let` holds the slot behind those of the names in scope
+abbrev pub statement_row : Evaluate → Execute → ℕ → SolvedStatement → List PlainValue → Running → Outcome (Flow (List PlainValue))
+statement_row ev ex object (declare slot e) locals r = and_then (ev object e locals r) (λ v. Gives (next (take slot locals ++ v ∷ [])))
+statement_row ev ex object (assign slot e) locals r = and_then (ev object e locals r) (λ v. Gives (next (slice_set locals slot v)))
+statement_row ev ex object (set_field slot e) locals r = and_then (ev object e locals r) (λ v r1. and_then (set_slot object slot v r1) (λ _. Gives (next locals)))
+statement_row ev ex object (when test body other) locals r =
+    and_then (ev object test locals r) (λ v. deciding (truth v) (λ b r1. if b then block ex object body locals r1 else otherwise ex object other locals r1))
+statement_row ev ex object (while test body) locals r = looped r.fuel ev ex object test body locals r
+statement_row ev ex object (give e) locals r = and_then (ev object e locals r) (λ v. Gives (returned v))
+statement_row ev ex object (do_ e) locals r = and_then (ev object e locals r) (λ _. Gives (next locals))
 
 -- how many more may be open inside, where so many may be open
 abbrev pub entered : ℕ → Running → Outcome ℕ
 entered zero r = entering r (Faults Depth)
 entered (suc room) r = entering r (Gives room)
 
+-- a method is started by its name, whatever it is resolved to
 abbrev mutual
-  pub evaluate : ℕ → Evaluate
-  evaluate zero object e r = entering r (Faults Depth)
-  evaluate (suc room) object e r = entering r (expression_row (evaluate room) object e)
+  pub evaluate : ProgramTree → ℕ → Evaluate
+  evaluate program zero object e locals r = entering r (Faults Depth)
+  evaluate program (suc room) object e locals r = entering r (expression_row program (evaluate program room) (starts program room) object e locals)
 
-abbrev mutual
-  pub execute : ℕ → Execute
-  execute zero object s r = entering r (Faults Depth)
-  execute (suc room) object s r = entering r (statement_row (evaluate room) (execute room) object s)
+  pub execute : ProgramTree → ℕ → Execute
+  execute program zero object s locals r = entering r (Faults Depth)
+  execute program (suc room) object s locals r = entering r (statement_row (evaluate program room) (execute program room) object s locals)
 
 -- the body of a method on an object
-abbrev pub performed : ℕ → ℕ → SolvedMethod → List PlainValue → Running → Outcome PlainValue
-performed room object m args r =
-    if nat_eq (length args) m.params then and_then (in_turn (execute room) object m.body r) (λ _. Gives nil) else Faults Arity r
+abbrev pub performed : ProgramTree → ℕ → ℕ → SolvedMethod → List PlainValue → Running → Outcome PlainValue
+performed program room object m args r =
+    if nat_eq (length args) m.params then and_then (in_turn (execute program room) object m.body args r) (λ f. Gives (value_of f)) else Faults Arity r

@@ -1,5 +1,6 @@
 //! How a message ends before its time.
 
+use model_builtin::BuiltinStop;
 use std::alloc::{AllocError, AllocFailed};
 use tea_base::WantOfMemory;
 
@@ -30,8 +31,8 @@ pub enum Fault {
     Instant,
     /// A message is sent to a time before the world's, or to 2^53 microseconds of TeaTime or later.
     Time,
-    /// The world holds no more: 16,384 messages are pending, their numbers are spent, or it would weigh more than
-    /// 131,072. Of a view that comes: 1,024 are here.
+    /// The world holds no more: 4,096 objects are held, 16,384 messages are pending, the ids of the one or the numbers of
+    /// the other are spent, or it would weigh more than 131,072. Of a view that comes: 1,024 are here.
     Full,
 }
 
@@ -72,5 +73,21 @@ impl From<WantOfMemory> for Stop {
 
     fn from(_error: WantOfMemory) -> Stop {
         Stop::WantOfMemory
+    }
+}
+
+impl From<BuiltinStop> for Stop {
+    ghost use Rattle.std.specs.Prelude.{◌≡◌};
+    ghost use Rattle.model_eval.specs.Answer.{stop_of};
+
+    ghost from_gives = { λ stop r. r ≡ stop_of stop };
+
+    fn from(stop: BuiltinStop) -> Stop {
+        match stop {
+            BuiltinStop::BadKind => Stop::Fault(Fault::BadKind),
+            BuiltinStop::BadIndex => Stop::Fault(Fault::BadIndex),
+            BuiltinStop::Size => Stop::Fault(Fault::Size),
+            BuiltinStop::WantOfMemory => Stop::WantOfMemory,
+        }
     }
 }

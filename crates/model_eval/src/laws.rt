@@ -1,13 +1,25 @@
-//! What a method keeps of a world.
-ghost use Rattle.std.specs.Prelude.{ℕ, List};
+//! What a method keeps of a world, and how its loops end.
+ghost use Rattle.std.specs.Prelude.{◌≡◌, ℕ, List};
 ghost use Rattle.model_value.specs.Plain.{PlainValue, InBounds};
+ghost use Rattle.model_value.specs.Valid.{AllInBounds};
 ghost use Rattle.model_lang.specs.Program.{IsProgram};
-ghost use Rattle.model_lang.specs.Tree.{Name, ProgramTree};
-ghost use Rattle.model_eval.specs.Kept.{Carries};
-ghost use Rattle.model_eval.specs.Meaning.{Running, starts};
+ghost use Rattle.model_lang.specs.Tree.{Name, Expression, Statements, while, ProgramTree};
+ghost use Rattle.model_lang.specs.Bounds.{HasFewArguments};
+ghost use Rattle.model_lang.specs.Names.{NamesAreShort};
+ghost use Rattle.model_eval.specs.Running.{Running};
+ghost use Rattle.model_eval.specs.Kept.{Carries, field_counts};
+ghost use Rattle.model_eval.specs.Meaning.{Here, Local, looped, goes_round, evaluate, execute, starts};
 
-/// A method that ends, with a value or a fault, leaves a valid world valid, and its value is in bounds. It leaves as they
-/// were the world's time, its turns, its counts of faults, its views and all else that `Kept` names.
+/// A method that ends, with a value or a fault, leaves a valid world valid, and its value is in bounds, where its arguments
+/// are. It leaves as they were the world's time, its turns, its counts of faults, its views and all else that `Kept` names.
 pub fn method_keeps()
-    ensures { (counts : List ℕ) (program : ProgramTree) (room object : ℕ) (x : Name) (args : List PlainValue) (r : Running) → IsProgram program → Carries counts InBounds r (starts program room object x args r) }
+    ensures { (program : ProgramTree) (room object : ℕ) (x : Name) (args : List PlainValue) (r : Running) → IsProgram program → AllInBounds args → Carries (field_counts program) InBounds r (starts program room object x args r) }
+{}
+
+/// The bound on the turns of a loop is never met. A loop is its test and, where that is true, its block and then the loop
+/// again, with the fuel that is left; so it faults where its fuel is used up, and nowhere else. The loop is one within the
+/// bounds that a text's loops keep.
+pub fn loops_end_by_fuel_alone()
+    ensures { (program : ProgramTree) (room : ℕ) (here : Here) (test : Expression) (body : Statements) (locals : List Local) (r : Running) → IsProgram program → HasFewArguments (while test body) → NamesAreShort (while test body) →
+        looped r.fuel (evaluate program room) (execute program room) here test body locals r ≡ goes_round (evaluate program room) (execute program room) here test body locals r }
 {}

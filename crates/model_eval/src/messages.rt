@@ -5,7 +5,7 @@ ghost use Rattle.model_value.specs.View.{plain, plain_values};
 ghost use Rattle.model_value.specs.Valid.{object_at};
 ghost use Rattle.model_value.specs.World.{world_record};
 ghost use Rattle.model_eval.specs.declared.state.Budget.{Budget};
-ghost use Rattle.model_eval.specs.Meaning.{ahead as ahead_of, has_room as room_for, inserted, precedes as is_before, send as sends, sent, sent_to};
+ghost use Rattle.model_eval.specs.Futures.{ahead as ahead_of, has_room as room_for, inserted, precedes as is_before, send as sends, sent, sent_to};
 ghost use Rattle.model_eval.specs.Answer.{Answers, running};
 
 use crate::fault::{Fault, Stop};

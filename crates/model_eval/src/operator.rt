@@ -1,50 +1,92 @@
 //! Operators and kinds: what needs no world.
-ghost use Rattle.std.specs.Prelude.{◌≡◌, MatchOption, Ok, Err};
+ghost use Rattle.std.specs.Prelude.{◌≡◌, MatchOption, Ok, Err, ◌≢◌, pos};
+ghost use Rattle.model_value.specs.Plain.{int};
 ghost use Rattle.model_value.specs.View.{plain};
-ghost use Rattle.model_eval.specs.Meaning.{operated, truth as truth_of};
-ghost use Rattle.model_eval.specs.Answer.{Replies, Decides};
+ghost use Rattle.model_eval.specs.Running.{truth as truth_of};
+ghost use Rattle.model_eval.specs.Operators.{operated, unary_operated, same as are_same};
+ghost use Rattle.model_eval.specs.Answer.{AreInts, Decides, Replies};
 
 use crate::fault::{Fault, Stop};
-use model_lang::BinaryOp;
-use model_value::Value;
+use model_lang::{BinaryOp, UnaryOp};
+use model_value::{Value, same};
 
-/// What an operator gives. No program has another operator than these three yet.
+/// What an operator gives of one value.
+pub fn operate_on_one(op: UnaryOp, value: &Value) -> Result<Value, Stop>
+    ensures { Replies result (unary_operated op (plain value.now)) }
+{
+    match (op, value) {
+        (UnaryOp::Minus, Value::Int(number)) => fitting(number.checked_neg()),
+        (UnaryOp::Not, Value::Bool(truth)) => Ok(Value::Bool(!*truth)),
+        _ => Err(Stop::Fault(Fault::BadKind)),
+    }
+}
+
+/// What an operator gives of two values; `||` and `&&`, which may leave their right side alone, stand apart.
 pub fn operate(op: BinaryOp, left: &Value, right: &Value) -> Result<Value, Stop>
     ensures { Replies result (operated op (plain left.now) (plain right.now)) }
 {
     match op {
-        BinaryOp::Plus => sum(left, right),
-        BinaryOp::Minus => difference(left, right),
-        BinaryOp::Less => less(left, right),
+        BinaryOp::Same => Ok(Value::Bool(are_equal(left, right))),
+        BinaryOp::Differs => Ok(Value::Bool(!are_equal(left, right))),
+        _ => {
+            let (left, right) = ints(left, right)?;
+            operate_on_ints(op, left, right)
+        }
+    }
+}
+
+fn are_equal(left: &Value, right: &Value) -> bool
+    ensures { result ≡ are_same (plain left.now) (plain right.now) }
+{
+    same(left, right)
+}
+
+fn ints(left: &Value, right: &Value) -> Result<(i64, i64), Stop>
+    ensures { AreInts result (plain left.now) (plain right.now) }
+{
+    match (left, right) {
+        (Value::Int(left), Value::Int(right)) => Ok((*left, *right)),
         _ => Err(Stop::Fault(Fault::BadKind)),
     }
 }
 
-fn sum(left: &Value, right: &Value) -> Result<Value, Stop>
-    ensures { Replies result (operated BinaryOp.Plus (plain left.now) (plain right.now)) }
+fn operate_on_ints(op: BinaryOp, left: i64, right: i64) -> Result<Value, Stop>
+    ensures { Replies result (operated op (int left) (int right)) }
 {
-    match (left, right) {
-        (Value::Int(a), Value::Int(b)) => fitting(a.checked_add(*b)),
-        _ => Err(Stop::Fault(Fault::BadKind)),
+    match op {
+        BinaryOp::Or | BinaryOp::And => Err(Stop::Fault(Fault::BadKind)),
+        BinaryOp::Same => Ok(Value::Bool(left == right)),
+        BinaryOp::Differs => Ok(Value::Bool(left != right)),
+        BinaryOp::Less => Ok(Value::Bool(left < right)),
+        BinaryOp::AtMost => Ok(Value::Bool(left <= right)),
+        BinaryOp::Greater => Ok(Value::Bool(left > right)),
+        BinaryOp::AtLeast => Ok(Value::Bool(left >= right)),
+        BinaryOp::Plus => fitting(left.checked_add(right)),
+        BinaryOp::Minus => fitting(left.checked_sub(right)),
+        BinaryOp::Times => fitting(left.checked_mul(right)),
+        BinaryOp::Divide => quotient(left, right),
+        BinaryOp::Rest => rest(left, right),
     }
 }
 
-fn difference(left: &Value, right: &Value) -> Result<Value, Stop>
-    ensures { Replies result (operated BinaryOp.Minus (plain left.now) (plain right.now)) }
+// The quotient, cut towards zero.
+fn quotient(left: i64, right: i64) -> Result<Value, Stop>
+    ensures { Replies result (operated BinaryOp.Divide (int left) (int right)) }
 {
-    match (left, right) {
-        (Value::Int(a), Value::Int(b)) => fitting(a.checked_sub(*b)),
-        _ => Err(Stop::Fault(Fault::BadKind)),
+    if right == 0 {
+        return Err(Stop::Fault(Fault::ZeroDivisor));
     }
+    fitting(left.checked_div(right))
 }
 
-fn less(left: &Value, right: &Value) -> Result<Value, Stop>
-    ensures { Replies result (operated BinaryOp.Less (plain left.now) (plain right.now)) }
+// The remainder, with the sign of the left number. Where the quotient does not fit there is none.
+fn rest(left: i64, right: i64) -> Result<Value, Stop>
+    ensures { Replies result (operated BinaryOp.Rest (int left) (int right)) }
 {
-    match (left, right) {
-        (Value::Int(a), Value::Int(b)) => Ok(Value::Bool(*a < *b)),
-        _ => Err(Stop::Fault(Fault::BadKind)),
+    if right == 0 {
+        return Err(Stop::Fault(Fault::ZeroDivisor));
     }
+    fitting(left.checked_rem(right))
 }
 
 /// Which way a test decides.

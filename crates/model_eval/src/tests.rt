@@ -1,29 +1,45 @@
-//! A field set to the greatest weight and past it, and messages sent at the bounds of time.
+//! Programs run on worlds made by hand, compared with what the tables of forms and builtins make of them.
+mod expressions;
+mod objects;
+mod programs;
+mod steps;
+mod world;
+
 use super::*;
-use crate::messages::send;
-use crate::objects::set_slot;
-use model_value::{PlainObject, PlainWorld, Value, room};
+use model_check::{Checked, check};
+use model_lang::parse;
+use model_value::{Message, PlainObject, PlainWorld, Subscription, Value};
 use std::alloc::Global;
 use std::test::Fail;
 use tea_base::{List, SessionId, Text, WantOfMemory};
 
-/// A world with the one object 1, of one field that holds Nil, at this time.
-fn state(alloc: Global, time: u64, turns: u32) -> Result<State, WantOfMemory> {
-    let mut fields = List::new(alloc);
-    fields.push(Value::Nil)?;
+/// A session.
+const SESSION: SessionId = SessionId([
+    0xab, 1, 2, 3, 4, 5, 6, 7, 8, 9, 10, 11, 12, 13, 14, 15, 16, 17, 18, 19, 20, 21, 22, 23, 24,
+    25, 26, 27, 28, 29, 30, 255,
+]);
+
+/// A program that was read and checked.
+fn checked(alloc: Global, text: &str) -> Result<Checked, Fail> {
+    let program = parse(alloc, text.as_bytes())?;
+    Ok(check(alloc, program)?)
+}
+
+/// A world at 2,500 microseconds with the one object 1, of this class, with this in its fields.
+fn founded(alloc: Global, class: u16, fields: List<Value>) -> Result<State, WantOfMemory> {
     let mut objects = List::new(alloc);
     objects.push(PlainObject {
         id: 1,
-        class: 0,
+        class,
         fields,
     })?;
     let world = PlainWorld {
-        id: SessionId([0; 32]),
-        time,
+        id: SESSION,
+        time: 2500,
         next_object: 2,
         next_number: 7,
         random: 0,
-        turns,
+        turns: 1,
         faults: [0; 14],
         views: List::new(alloc),
         objects,
@@ -37,6 +53,127 @@ fn state(alloc: Global, time: u64, turns: u32) -> Result<State, WantOfMemory> {
     })
 }
 
+/// A state in which a message of a program may start: object 1 is of class Root, with nil in each field.
+fn opened(alloc: Global, program: &Checked) -> Result<State, Fail> {
+    let class = program.root();
+    let Some(count) = program.fields(class) else {
+        return Err("no class Root")?;
+    };
+    let mut fields = List::new(alloc);
+    for _ in 0..count {
+        fields.push(Value::Nil)?;
+    }
+    Ok(founded(alloc, class, fields)?)
+}
+
+/// What the method `m` of object 1 gives of no arguments.
+fn run(
+    alloc: Global,
+    program: &Checked,
+    state: &mut State,
+    budget: &mut Budget,
+) -> Result<Result<Value, Fault>, Fail> {
+    let name = Text::copy(alloc, "m")?;
+    match run_method(alloc, program, state, 1, &name, List::new(alloc), budget) {
+        Ok(value) => Ok(Ok(value)),
+        Err(Stop::Fault(fault)) => Ok(Err(fault)),
+        Err(Stop::WantOfMemory) => Err("want of memory")?,
+    }
+}
+
+/// Writes a value as the language spells it, and a reference as `#` and the object's number.
+#[cycle(write_value)]
+fn write_value(alloc: Global, out: &mut String, value: &Value) -> Result<(), Fail> {
+    match value {
+        Value::Nil => out.push_str("nil")?,
+        Value::Bool(truth) => out.push_str(format!(in alloc; "{truth}")?.as_str())?,
+        Value::Int(number) => out.push_str(format!(in alloc; "{number}")?.as_str())?,
+        Value::Text(text) => out.push_str(format!(in alloc; "{:?}", text.as_str())?.as_str())?,
+        Value::Ref(object) => out.push_str(format!(in alloc; "#{object}")?.as_str())?,
+        Value::List(items) => write_values(alloc, out, items)?,
+    }
+    Ok(())
+}
+
+#[cycle(write_value)]
+fn write_values(alloc: Global, out: &mut String, values: &[Value]) -> Result<(), Fail> {
+    out.push('[')?;
+    let mut is_first = true;
+    for value in values {
+        if !is_first {
+            out.push(',')?;
+        }
+        write_value(alloc, out, value)?;
+        is_first = false;
+    }
+    out.push(']')?;
+    Ok(())
+}
+
+/// A value, or the name of a fault.
+fn spelled(alloc: Global, outcome: &Result<Value, Fault>) -> Result<String, Fail> {
+    match outcome {
+        Ok(value) => {
+            let mut out = String::new(alloc);
+            write_value(alloc, &mut out, value)?;
+            Ok(out)
+        }
+        Err(fault) => Ok(format!(in alloc; "{fault:?}")?),
+    }
+}
+
+/// What a program's method `m` gives in the budget of a whole message.
+fn given(alloc: Global, text: &str) -> Result<String, Fail> {
+    let program = checked(alloc, text)?;
+    let mut state = opened(alloc, &program)?;
+    let outcome = run(alloc, &program, &mut state, &mut Budget::new())?;
+    spelled(alloc, &outcome)
+}
+
+fn write_object(alloc: Global, out: &mut String, object: &PlainObject) -> Result<(), Fail> {
+    out.push_str(format!(in alloc; "; #{} of {} ", object.id, object.class)?.as_str())?;
+    write_values(alloc, out, object.fields.as_slice())
+}
+
+fn write_message(alloc: Global, out: &mut String, message: &Message) -> Result<(), Fail> {
+    let method = message.method.as_str();
+    out.push_str(format!(in alloc;
+        "; {} at {}: #{}.{method} ",
+        message.number, message.time, message.object
+    )?
+    .as_str())?;
+    write_values(alloc, out, message.args.as_slice())
+}
+
+fn write_subscription(
+    alloc: Global,
+    out: &mut String,
+    subscription: &Subscription,
+) -> Result<(), Fail> {
+    let method = subscription.method.as_str();
+    out.push_str(format!(in alloc; "; subscribed #{}.{method}", subscription.object)?.as_str())?;
+    Ok(())
+}
+
+/// What models can change in a world but its random numbers.
+fn world_text(alloc: Global, world: &PlainWorld) -> Result<String, Fail> {
+    let mut out = format!(in alloc; "next #{} {}", world.next_object, world.next_number)?;
+    for object in world.objects.as_slice() {
+        write_object(alloc, &mut out, object)?;
+    }
+    for known in world.known.as_slice() {
+        let name = known.name.as_str();
+        out.push_str(format!(in alloc; "; known {name} #{}", known.object)?.as_str())?;
+    }
+    for subscription in world.subscriptions.as_slice() {
+        write_subscription(alloc, &mut out, subscription)?;
+    }
+    for message in world.pending.as_slice() {
+        write_message(alloc, &mut out, message)?;
+    }
+    Ok(out)
+}
+
 /// A list of this many Nils, which weighs one more.
 fn nils(alloc: Global, count: u32) -> Result<Value, WantOfMemory> {
     let mut list = Vec::new(alloc);
@@ -44,59 +181,4 @@ fn nils(alloc: Global, count: u32) -> Result<Value, WantOfMemory> {
         list.push(Value::Nil)?;
     }
     Ok(Value::List(list))
-}
-
-/// A field is set twice, to lists of so many Nils: why it was not, each time, and the room that the world has then.
-fn set_twice(
-    alloc: Global,
-    object: u32,
-    counts: (u32, u32),
-) -> Result<(Option<Stop>, Option<Stop>, Option<u32>), WantOfMemory> {
-    let mut state = state(alloc, 0, 0)?;
-    let first = set_slot(alloc, &mut state, object, 0, nils(alloc, counts.0)?).err();
-    let second = set_slot(alloc, &mut state, object, 0, nils(alloc, counts.1)?).err();
-    Ok((first, second, room(&state.world)))
-}
-
-/// Why a message to object 1 is not sent, where so many messages ran at the time.
-fn refusal(alloc: Global, time: u64, turns: u32, delay: i64) -> Result<Option<Stop>, WantOfMemory> {
-    let mut state = state(alloc, time, turns)?;
-    let name = Text::copy(alloc, "tick")?;
-    let object = Value::Ref(1);
-    let delay = Value::Int(delay);
-    Ok(send(alloc, &mut state, &object, &delay, &name, List::new(alloc)).err())
-}
-
-#[test]
-fn a_field_is_set_to_the_greatest_weight(rt: HostRuntime) -> Result<(), Fail> {
-    let alloc = rt.alloc();
-    let full = Some(Stop::Fault(Fault::Full));
-    let gone = Some(Stop::Fault(Fault::NoObject));
-    assert_eq!(rt; set_twice(alloc, 1, (9, 131_069))?, (None, None, Some(0)));
-    // The field keeps what it held.
-    assert_eq!(rt;
-        set_twice(alloc, 1, (9, 131_070))?,
-        (None, full, Some(131_060))
-    );
-    assert_eq!(rt; set_twice(alloc, 2, (9, 9))?, (gone, gone, Some(131_069)));
-    Ok(())
-}
-
-#[test]
-fn messages_are_sent_to_times_to_come(rt: HostRuntime) -> Result<(), Fail> {
-    let alloc = rt.alloc();
-    let late = (1 << 53) - 1 - 1000;
-    let time = Some(Stop::Fault(Fault::Time));
-    let instant = Some(Stop::Fault(Fault::Instant));
-    for (turns, delay, refused) in [
-        (1024, 1, None),
-        (1024, 2, time),
-        (1024, -1, time),
-        (1024, i64::MAX, time),
-        (1024, 0, instant),
-        (1023, 0, None),
-    ] {
-        assert_eq!(rt; refusal(alloc, late, turns, delay)?, refused, "at {delay}");
-    }
-    Ok(())
 }

@@ -3,3 +3,8 @@ pub mod Totals
 pub mod Objects
 pub mod Order
 pub mod Spellings
+pub mod Items
+pub mod Plains
+pub mod Rooms
+pub mod ValueCodec
+pub mod PayloadCodec

@@ -7,3 +7,5 @@ pub mod Valid
 pub mod WorldCode
 pub mod Room
 pub mod Spelling
+pub mod Reading
+pub mod Payload

@@ -1,5 +1,5 @@
 -- Values as plain trees, with their weight, their depth and their bounds.
-use Rattle.std.specs.Prelude.{◌≡◌, ◌≤◌, ◌<◌, ℕ, ◌+◌, ◌/◌, max, ℤ, Bool, List, length, Option, Some, None, encode_utf8_all}
+use Rattle.std.specs.Prelude.{◌≡◌, ◌≤◌, ◌<◌, ℕ, ◌+◌, ◌/◌, max, nat_le, ◌&&◌, ℤ, Bool, List, [], ◌∷◌, length, Option, Some, None, encode_utf8_all}
 
 mutual
   pub data PlainValue : Type 0 where
@@ -15,6 +15,11 @@ mutual
   pub data PlainValues : Type 0 where
     no_items : PlainValues
     item : PlainValue → PlainValues → PlainValues
+
+-- the items of a list, in order
+abbrev pub items_of : PlainValues → List PlainValue
+items_of no_items = []
+items_of (item value rest) = value ∷ items_of rest
 
 -- a text takes one, and one more for each 16 bytes of UTF-8 begun
 abbrev mutual
@@ -54,6 +59,10 @@ most_depth = 32
 
 abbrev pub InBounds : PlainValue → Type 0
 InBounds value = (weight value ≤ most_weight) × (depth value ≤ most_depth)
+
+-- the same as a test
+abbrev pub is_in_bounds : PlainValue → Bool
+is_in_bounds value = nat_le (weight value) most_weight && nat_le (depth value) most_depth
 
 -- what a weight leaves of a room, if it is not above it, and the depth is not above the levels
 abbrev pub Leaves : Option ℕ → ℕ → ℕ → ℕ → ℕ → Type 0

@@ -1,6 +1,7 @@
 -- The one spelling of each value. All numbers are big-endian.
-use Rattle.std.specs.Prelude.{ℕ, true, false, List, [], ◌∷◌, ◌++◌, length, ◌+◌, encode_utf8_all}
+use Rattle.std.specs.Prelude.{◌≡◌, ◌<◌, ◌^◌, ℕ, true, false, List, [], ◌∷◌, ◌++◌, length, ◌+◌, FitsSigned, encode_utf8_all}
 use Rattle.std.specs.Int.{to_be_bytes, cast_unsigned, w32, w64}
+use Rattle.std.specs.Str.{all_scalars}
 use Rattle.model_value.specs.Plain.{PlainValue, nil, bool, int, text, ref, list, PlainValues, no_items, item}
 
 -- a text field: how many bytes of UTF-8 there are, and these
@@ -26,3 +27,17 @@ abbrev mutual
   pub items_spelling : PlainValues → List ℕ
   items_spelling no_items = []
   items_spelling (item value rest) = value_spelling value ++ items_spelling rest
+
+-- a tree that a value can stand for: its numbers have 64 bits and 32, and its texts are of Unicode scalar values
+abbrev mutual
+  pub IsValue : PlainValue → Type 0
+  IsValue nil = Unit {0}
+  IsValue (bool flag) = Unit {0}
+  IsValue (int number) = FitsSigned w64 number
+  IsValue (text characters) = all_scalars characters ≡ true
+  IsValue (ref object) = object < 2 ^ 32
+  IsValue (list items) = AreValues items
+
+  pub AreValues : PlainValues → Type 0
+  AreValues no_items = Unit {0}
+  AreValues (item value rest) = IsValue value × AreValues rest

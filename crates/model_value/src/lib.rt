@@ -2,8 +2,11 @@
 #![tactic(auto)]
 
 mod copies;
+mod fault;
 mod measure;
 mod message;
+mod payloads;
+mod reading;
 #[cfg(test)]
 mod tests;
 mod value;
@@ -14,9 +17,12 @@ mod writing;
 pub use copies::{
     copy_known, copy_message, copy_object, copy_subscription, copy_values, copy_world,
 };
+pub use fault::ValueFault;
 pub use measure::{MOST_DEPTH, MOST_WEIGHT, depth, in_bounds, weight};
 pub use message::{Message, Messages, Outgoing, Published, Subscription, Subscriptions};
-pub use value::{Value, Values, copy, same};
-pub use weights::{MOST_WORLD_WEIGHT, message_fits, room};
+pub use payloads::{payload, read_payload};
+pub use reading::decode;
+pub use value::{Value, Values, copy, copy_all, same};
+pub use weights::{MOST_WORLD_WEIGHT, known_fits, message_fits, object_fits, room};
 pub use world::{Known, KnownNames, PlainObject, PlainObjects, PlainWorld};
 pub use writing::{encode, put_value};

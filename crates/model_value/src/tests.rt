@@ -134,10 +134,9 @@ fn spelled(alloc: Global, value: &Value) -> Result<Blob, Fail> {
     }
 }
 
-#[test]
-fn a_value_of_each_kind_is_spelled(rt: HostRuntime) -> Result<(), Fail> {
-    let alloc = rt.alloc();
-    let value = list(
+/// A list of a value of each kind.
+fn each_kind(alloc: Global) -> Result<Value, WantOfMemory> {
+    list(
         alloc,
         [
             Value::Nil,
@@ -148,16 +147,125 @@ fn a_value_of_each_kind_is_spelled(rt: HostRuntime) -> Result<(), Fail> {
             Value::Ref(0x0a0b_0c0d),
             list(alloc, [Value::Int(258)])?,
         ],
-    )?;
-    let bytes = spelled(alloc, &value)?;
-    let by_hand = b"\x06\0\0\0\x07\
-        \0\x01\x02\
-        \x03\xff\xff\xff\xff\xff\xff\xff\xfe\
-        \x04\0\0\0\x03t\xc3\xa9\
-        \x05\x0a\x0b\x0c\x0d\
-        \x06\0\0\0\x01\x03\0\0\0\0\0\0\x01\x02";
-    assert!(rt; bytes.is_bytes(by_hand));
+    )
+}
+
+/// Its spelling, written by hand.
+const EACH_KIND: [u8; 44] = *b"\x06\0\0\0\x07\
+    \0\x01\x02\
+    \x03\xff\xff\xff\xff\xff\xff\xff\xfe\
+    \x04\0\0\0\x03t\xc3\xa9\
+    \x05\x0a\x0b\x0c\x0d\
+    \x06\0\0\0\x01\x03\0\0\0\0\0\0\x01\x02";
+
+#[test]
+fn a_value_of_each_kind_is_spelled(rt: HostRuntime) -> Result<(), Fail> {
+    let alloc = rt.alloc();
+    let bytes = spelled(alloc, &each_kind(alloc)?)?;
+    assert!(rt; bytes.is_bytes(&EACH_KIND));
     Ok(())
+}
+
+/// Whether no value has this spelling.
+fn is_refused(alloc: Global, bytes: &[u8]) -> Result<bool, WantOfMemory> {
+    match decode(alloc, bytes) {
+        Ok(_) => Ok(false),
+        Err(ValueFault::BadValue) => Ok(true),
+        Err(ValueFault::WantOfMemory) => Err(WantOfMemory),
+    }
+}
+
+#[test]
+fn a_value_of_each_kind_is_read(rt: HostRuntime) -> Result<(), Fail> {
+    let alloc = rt.alloc();
+    let value = decode(alloc, &EACH_KIND)?;
+    assert!(rt; same(&value, &each_kind(alloc)?));
+    Ok(())
+}
+
+#[test]
+fn a_spelling_is_read_to_its_last_byte(rt: HostRuntime) -> Result<(), Fail> {
+    let alloc = rt.alloc();
+    for length in 0..EACH_KIND.len() {
+        assert!(rt; is_refused(alloc, &EACH_KIND[..length])?, "at {length}");
+    }
+    let mut longer = Vec::from_slice(alloc, &EACH_KIND)?;
+    longer.push(0)?;
+    assert!(rt; is_refused(alloc, &longer)?);
+    Ok(())
+}
+
+#[test]
+fn other_bytes_spell_no_value(rt: HostRuntime) -> Result<(), Fail> {
+    let alloc = rt.alloc();
+    for bytes in [
+        // No such kind.
+        b"\x07".as_slice(),
+        // No UTF-8: a byte of no character, a character cut off, a surrogate, and a character spelled too long.
+        b"\x04\0\0\0\x01\xff".as_slice(),
+        b"\x04\0\0\0\x01\xc3".as_slice(),
+        b"\x04\0\0\0\x03\xed\xa0\x80".as_slice(),
+        b"\x04\0\0\0\x02\xc0\x80".as_slice(),
+        // A length and a count of what is not there.
+        b"\x04\xff\xff\xff\xff".as_slice(),
+        b"\x06\xff\xff\xff\xff\0".as_slice(),
+    ] {
+        assert!(rt; is_refused(alloc, bytes)?, "at {bytes:?}");
+    }
+    Ok(())
+}
+
+/// These bytes so many times, and one more byte.
+fn repeated(alloc: Global, bytes: &[u8], count: u32, last: u8) -> Result<Vec<u8>, WantOfMemory> {
+    let mut all = Vec::new(alloc);
+    for _ in 0..count {
+        all.extend_from_slice(bytes)?;
+    }
+    all.push(last)?;
+    Ok(all)
+}
+
+#[test]
+fn values_are_read_to_the_bounds_and_not_past_them(rt: HostRuntime) -> Result<(), Fail> {
+    let alloc = rt.alloc();
+    // One list in another, and Nil innermost.
+    let deep = decode(alloc, &repeated(alloc, b"\x06\0\0\0\x01", 32, 0)?)?;
+    assert!(rt; same(&deep, &nested(alloc, 32)?));
+    for depth in [33, 100_000] {
+        let deeper = repeated(alloc, b"\x06\0\0\0\x01", depth, 0)?;
+        assert!(rt; is_refused(alloc, &deeper)?, "at {depth}");
+    }
+    // A list of Nils, behind its count.
+    let mut heavy = Vec::from_slice(alloc, b"\x06\0\0\x0f\xff")?;
+    heavy.extend_from_slice(&repeated(alloc, b"\0", 4094, 0)?)?;
+    assert!(rt; same(&decode(alloc, &heavy)?, &nils(alloc, 4095)?));
+    let mut heavier = Vec::from_slice(alloc, b"\x06\0\0\x10\0")?;
+    heavier.extend_from_slice(&repeated(alloc, b"\0", 4095, 0)?)?;
+    assert!(rt; is_refused(alloc, &heavier)?);
+    Ok(())
+}
+
+/// The spelling of scope `a`, event `b` and Int 5.
+const PAYLOAD: [u8; 19] = *b"\0\0\0\x01a\0\0\0\x01b\x03\0\0\0\0\0\0\0\x05";
+
+#[test]
+fn a_payload_is_spelled_and_read(rt: HostRuntime) -> Result<(), Fail> {
+    let alloc = rt.alloc();
+    let scope = Text::copy(alloc, "a")?;
+    let event = Text::copy(alloc, "b")?;
+    if scope.bytes().len() > 1 || event.bytes().len() > 1 {
+        return Err("the texts are longer".into());
+    }
+    let bytes = payload(alloc, &scope, &event, &Value::Int(5))?;
+    assert!(rt; bytes.is_bytes(&PAYLOAD));
+    let (scope, event, value) = read_payload(alloc, &PAYLOAD)?;
+    assert_eq!(rt; (scope.as_str(), event.as_str()), ("a", "b"));
+    assert!(rt; same(&value, &Value::Int(5)));
+    match read_payload(alloc, &PAYLOAD[..18]) {
+        Ok(_) => Err("the payload is cut off".into()),
+        Err(ValueFault::BadValue) => Ok(()),
+        Err(ValueFault::WantOfMemory) => Err(WantOfMemory.into()),
+    }
 }
 
 /// A list of one item.

@@ -42,8 +42,9 @@ pub fn copy(alloc: Global, value: &Value) -> Result<Value, WantOfMemory>
     }
 }
 
+/// The same values in memory of their own.
 #[cycle(copy)]
-pub(crate) fn copy_all(alloc: Global, items: &[Value]) -> Result<Vec<Value>, WantOfMemory>
+pub fn copy_all(alloc: Global, items: &[Value]) -> Result<Vec<Value>, WantOfMemory>
     ensures { IfOk result (λ new. plain_values new.items ≡ plain_values items.now) }
 {
     let mut copies = Vec::with_capacity(alloc, items.len())?;

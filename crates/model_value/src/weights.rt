@@ -36,6 +36,20 @@ pub fn message_fits(room: u32, message: &Message) -> bool
     room_behind_message(message, room).is_some()
 }
 
+/// Whether an object fits into so much room: it weighs 2 and its fields.
+pub fn object_fits(room: u32, object: &PlainObject) -> bool
+    ensures { IsTrue result ↔ object_weight (object_record object.now) ≤ room }
+{
+    room_behind_object(object, room).is_some()
+}
+
+/// Whether a known name fits into so much room: it weighs 1 and its text.
+pub fn known_fits(room: u32, known: &Known) -> bool
+    ensures { IsTrue result ↔ known_weight known.now ≤ room }
+{
+    room_behind_name(known, room).is_some()
+}
+
 /// What a text's weight leaves of the room, or None where it is greater. So below for each kind.
 fn room_behind_text(text: &Text, room: u32) -> Option<u32>
     ensures { IsRoomBehind result room (text_weight text.now) }
@@ -109,7 +123,13 @@ fn room_behind_known(known: &[Known], room: u32) -> Option<u32>
 {
     let mut left = room;
     for one in known {
-        left = room_behind_text(&one.name, left.checked_sub(1)?)?;
+        left = room_behind_name(one, left)?;
     }
     Some(left)
+}
+
+fn room_behind_name(known: &Known, room: u32) -> Option<u32>
+    ensures { IsRoomBehind result room (known_weight known.now) }
+{
+    room_behind_text(&known.name, room.checked_sub(1)?)
 }

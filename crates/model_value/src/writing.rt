@@ -87,7 +87,7 @@ fn put_items(out: &mut Writer, items: &[Value]) -> Result<(), WantOfMemory>
 }
 
 /// Writes a text field: how many bytes of UTF-8 there are in four bytes, and these.
-fn put_text(out: &mut Writer, text: &Text) -> Result<(), WantOfMemory>
+pub(crate) fn put_text(out: &mut Writer, text: &Text) -> Result<(), WantOfMemory>
     requires { length (encode_utf8_all text.now) < 2 ^ 32 }
     ensures { OnOk result (out.new ≡ out.old ++ text_field text.now) }
 {

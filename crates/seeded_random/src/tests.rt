@@ -2,6 +2,10 @@ use super::*;
 
 #[test]
 fn numbers_are_drawn_from_one_word_each(rt: HostRuntime) {
+    let mut source = Source64::from_state(0);
+    assert!(rt; source.below(6) == 5);
+    assert!(rt; source.below(6) == 2);
+    assert!(rt; source.below(6) == 0);
     // Three throws of a die by a session's own source, as another program computed them.
     let mut source = Source64::from_state(0xcc60_6886_bf5e_6660);
     assert!(rt; source.below(6) == 2);

@@ -21,9 +21,9 @@ pub opened-valid : (counts : List ℕ) (m : PlainMessage) (rest : List PlainMess
 opened-valid counts m rest w e v =
     begun-valid counts (moved m.time (record w { pending = rest })) (moved-valid counts m.time (record w { pending = rest }) (first-fits counts w m rest e v).1 (rest-from counts w m rest e v) (taken-valid counts w m rest e v))
 
-pub handled-valid : (counts : List ℕ) (program : ProgramTree) (m : PlainMessage) (rest : List PlainMessage) (s : Scene) → Fits program → s.world.pending ≡ m ∷ rest → Valid counts s.world → Valid counts (handled program m rest s).world
+pub handled-valid : (counts : List ℕ) (program : ProgramTree) (m : PlainMessage) (rest : List PlainMessage) (s : Scene) → Fits counts program → s.world.pending ≡ m ∷ rest → Valid counts s.world → Valid counts (handled program m rest s).world
 handled-valid counts program m rest s fits e v =
-    (ran-keeps counts program m.object m.method m.args (with_world s (opened m rest s.world)) fits).valid (opened-valid counts m rest s.world e v)
+    (ran-keeps counts program m.object m.method m.args (with_world s (opened m rest s.world)) fits).valid (opened-valid counts m rest s.world e v, (first-fits counts s.world m rest e v).6)
 
 due-le : (t : ℕ) (ms : List PlainMessage) → kept.due t ms ≤ length ms
 due-le t [] = omega arith
@@ -60,7 +60,7 @@ falls_if t m rest w v false e first from le few k due =
     one_due : (time : ℕ) (m : PlainMessage) (rest : List PlainMessage) → m.time ≤ time → kept.due time (m ∷ rest) ≡ kept.due time rest + 1
     one_due time m rest le = one_due_if time (nat_le m.time time) (kept.due time rest) (le-leb m.time time le)
 
-pub enough-falls : (counts : List ℕ) (program : ProgramTree) (t : ℕ) (m : PlainMessage) (rest : List PlainMessage) (s : Scene) → Fits program → Valid counts s.world → s.world.pending ≡ m ∷ rest → m.time ≤ t → enough t (handled program m rest s).world < enough t s.world
+pub enough-falls : (counts : List ℕ) (program : ProgramTree) (t : ℕ) (m : PlainMessage) (rest : List PlainMessage) (s : Scene) → Fits counts program → Valid counts s.world → s.world.pending ≡ m ∷ rest → m.time ≤ t → enough t (handled program m rest s).world < enough t s.world
 enough-falls counts program t m rest s fits v e le =
     let o : Scene = with_world s (opened m rest s.world) in
     let k = ran-keeps counts program m.object m.method m.args o fits in
@@ -76,7 +76,7 @@ is-due : (t : ℕ) (s : Scene) (d : PlainMessage × List PlainMessage) → due t
 is-due t s d e = let f = due-some t s.world.pending d.0 d.1 e in record { first = f.first; time = f.time }
 
 -- any bound that is enough gives the same
-same_by : (counts : List ℕ) (program : ProgramTree) (t n k : ℕ) (s : Scene) (d : Option (PlainMessage × List PlainMessage)) → due t s.world.pending ≡ d → Fits program → Valid counts s.world
+same_by : (counts : List ℕ) (program : ProgramTree) (t n k : ℕ) (s : Scene) (d : Option (PlainMessage × List PlainMessage)) → due t s.world.pending ≡ d → Fits counts program → Valid counts s.world
     → ((u : Scene) → Valid counts u.world → enough t u.world < enough t s.world → advance_within program n t u ≡ advance_within program k t u)
     → on_due program t (advance_within program n t) d s ≡ on_due program t (advance_within program k t) d s
 same_by counts program t n k s None e fits v same = refl
@@ -84,13 +84,13 @@ same_by counts program t n k s (Some d) e fits v same =
     let is = is-due t s d e in
     same (handled program d.0 d.1 s) (handled-valid counts program d.0 d.1 s fits is.first v) (enough-falls counts program t d.0 d.1 s fits v is.first is.time)
 
-nothing_due : (counts : List ℕ) (program : ProgramTree) (t : ℕ) (s : Scene) (d : Option (PlainMessage × List PlainMessage)) → due t s.world.pending ≡ d → Fits program → Valid counts s.world → enough t s.world ≤ 0 → (more : Scene → Scene) → on_due program t more d s ≡ with_world s (moved t s.world)
+nothing_due : (counts : List ℕ) (program : ProgramTree) (t : ℕ) (s : Scene) (d : Option (PlainMessage × List PlainMessage)) → due t s.world.pending ≡ d → Fits counts program → Valid counts s.world → enough t s.world ≤ 0 → (more : Scene → Scene) → on_due program t more d s ≡ with_world s (moved t s.world)
 nothing_due counts program t s None e fits v none more = refl
 nothing_due counts program t s (Some d) e fits v none more =
     let is = is-due t s d e in
     absurd (omega (arith, none, enough-falls counts program t d.0 d.1 s fits v is.first is.time))
 
-pub within-enough : (counts : List ℕ) (program : ProgramTree) (t n k : ℕ) (s : Scene) → Fits program → Valid counts s.world → enough t s.world ≤ n → enough t s.world ≤ k → advance_within program n t s ≡ advance_within program k t s
+pub within-enough : (counts : List ℕ) (program : ProgramTree) (t n k : ℕ) (s : Scene) → Fits counts program → Valid counts s.world → enough t s.world ≤ n → enough t s.world ≤ k → advance_within program n t s ≡ advance_within program k t s
 within-enough counts program t zero zero s fits v a b = refl
 within-enough counts program t zero (suc k) s fits v a b = sym (nothing_due counts program t s (due t s.world.pending) refl fits v a (advance_within program k t))
 within-enough counts program t (suc n) zero s fits v a b = nothing_due counts program t s (due t s.world.pending) refl fits v b (advance_within program n t)
@@ -98,7 +98,7 @@ within-enough counts program t (suc n) (suc k) s fits v a b =
     same_by counts program t n k s (due t s.world.pending) refl fits v (λ u valid less. within-enough counts program t n k u fits valid (omega (arith, a, less)) (omega (arith, b, less)))
 
 -- one message, or the end
-pub advance-step : (counts : List ℕ) (program : ProgramTree) (t : ℕ) (s : Scene) → Fits program → Valid counts s.world → advance program t s ≡ on_due program t (advance program t) (due t s.world.pending) s
+pub advance-step : (counts : List ℕ) (program : ProgramTree) (t : ℕ) (s : Scene) → Fits counts program → Valid counts s.world → advance program t s ≡ on_due program t (advance program t) (due t s.world.pending) s
 advance-step counts program t s fits v =
     let all = enough t s.world in
     within-enough counts program t all (suc all) s fits v (omega arith) (omega arith) ∙ step (due t s.world.pending) refl
@@ -113,7 +113,7 @@ advance-step counts program t s fits v =
 -- ---- what advancing leaves
 
 -- a property of where it ends, from what holds at each message and at the end
-module _ (counts : List ℕ) (program : ProgramTree) (t : ℕ) (fits : Fits program) (P : Scene → Type 0) (at_end : (s : Scene) → Valid counts s.world → due t s.world.pending ≡ None → P (with_world s (moved t s.world))) where
+module _ (counts : List ℕ) (program : ProgramTree) (t : ℕ) (fits : Fits counts program) (P : Scene → Type 0) (at_end : (s : Scene) → Valid counts s.world → due t s.world.pending ≡ None → P (with_world s (moved t s.world))) where
   ends_by : (n : ℕ) (s : Scene) (d : Option (PlainMessage × List PlainMessage)) → due t s.world.pending ≡ d → Valid counts s.world → ((u : Scene) → Valid counts u.world → enough t u.world < enough t s.world → P (advance program t u)) → P (on_due program t (advance program t) d s)
   ends_by n s None e v later = at_end s v e
   ends_by n s (Some d) e v later =
@@ -127,7 +127,7 @@ module _ (counts : List ℕ) (program : ProgramTree) (t : ℕ) (fits : Fits prog
   pub ends-so : (s : Scene) → Valid counts s.world → P (advance program t s)
   ends-so s v = ends (enough t s.world) s v (omega arith)
 
-pub advance-valid : (counts : List ℕ) (program : ProgramTree) (t : ℕ) (s : Scene) → Fits program → t < time_limit → Valid counts s.world → Valid counts (advance program t s).world
+pub advance-valid : (counts : List ℕ) (program : ProgramTree) (t : ℕ) (s : Scene) → Fits counts program → t < time_limit → Valid counts s.world → Valid counts (advance program t s).world
 advance-valid counts program t s fits below v = ends-so counts program t fits (λ u. Valid counts u.world) (λ u valid none. arrived-valid counts t u.world below none valid) s v
 
 moved-pending : (t : ℕ) (w : WorldRecord) → (moved t w).pending ≡ w.pending
@@ -138,7 +138,7 @@ moved-pending t w = pending_if (nat_lt w.time t) t w
     pending_if false t w = refl
 
 -- nothing is due any more
-pub advance-rests : (counts : List ℕ) (program : ProgramTree) (t : ℕ) (s : Scene) → Fits program → Valid counts s.world → due t (advance program t s).world.pending ≡ None
+pub advance-rests : (counts : List ℕ) (program : ProgramTree) (t : ℕ) (s : Scene) → Fits counts program → Valid counts s.world → due t (advance program t s).world.pending ≡ None
 advance-rests counts program t s fits v = ends-so counts program t fits (λ u. due t u.world.pending ≡ None) (λ u valid none. ap (due t) (moved-pending t u.world) ∙ none) s v
 
 -- the world's time is where it arrives
@@ -150,14 +150,14 @@ opened_time_if : (later : Bool) (t : ℕ) (m : PlainMessage) (rest : List PlainM
 opened_time_if true t m rest w le due = due
 opened_time_if false t m rest w le due = le
 
-handled-time : (counts : List ℕ) (program : ProgramTree) (t : ℕ) (m : PlainMessage) (rest : List PlainMessage) (s : Scene) → Fits program → s.world.time ≤ t → m.time ≤ t → (handled program m rest s).world.time ≤ t
+handled-time : (counts : List ℕ) (program : ProgramTree) (t : ℕ) (m : PlainMessage) (rest : List PlainMessage) (s : Scene) → Fits counts program → s.world.time ≤ t → m.time ≤ t → (handled program m rest s).world.time ≤ t
 handled-time counts program t m rest s fits le due =
     let o : Scene = with_world s (opened m rest s.world) in
     let same = (ran-keeps counts program m.object m.method m.args o fits).time in
     let before : o.world.time ≤ t = opened_time_if (nat_lt s.world.time m.time) t m rest s.world le due in
     omega (arith, same, before)
 
-module _ (counts : List ℕ) (program : ProgramTree) (t : ℕ) (fits : Fits program) where
+module _ (counts : List ℕ) (program : ProgramTree) (t : ℕ) (fits : Fits counts program) where
   arrives_by : (s : Scene) (d : Option (PlainMessage × List PlainMessage)) → due t s.world.pending ≡ d → Valid counts s.world → s.world.time ≤ t
       → ((u : Scene) → Valid counts u.world → u.world.time ≤ t → enough t u.world < enough t s.world → (advance program t u).world.time ≡ t)
       → (on_due program t (advance program t) d s).world.time ≡ t
@@ -212,7 +212,7 @@ behind-due counts s t a d v none some =
     let here : AreBehind s (d.0 ∷ d.1) = subst (AreBehind s) is.first all in
     omega (arith, here.0)
 
-module _ (counts : List ℕ) (program : ProgramTree) (s t : ℕ) (fits : Fits program) (le : s ≤ t) (below : s < time_limit) where
+module _ (counts : List ℕ) (program : ProgramTree) (s t : ℕ) (fits : Fits counts program) (le : s ≤ t) (below : s < time_limit) where
   -- from where nothing is due at s
   rested_by : (a : Scene) (d : Option (PlainMessage × List PlainMessage)) → due t a.world.pending ≡ d → Valid counts a.world → due s a.world.pending ≡ None
       → on_due program t (advance program t) d (with_world a (moved s a.world)) ≡ on_due program t (advance program t) d a

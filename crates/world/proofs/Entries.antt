@@ -106,6 +106,6 @@ entered-valid counts Join view w v = came-valid counts view w v
 entered-valid counts Exit view w v = went-valid counts view w v
 entered-valid counts (Event number payload) view w v = v
 
-pub external-valid : (counts : List ℕ) (program : ProgramTree) (e : Entry) (s : Scene) → Fits program → e.time < time_limit → Valid counts s.world → Valid counts (external program e s).world
+pub external-valid : (counts : List ℕ) (program : ProgramTree) (e : Entry) (s : Scene) → Fits counts program → e.time < time_limit → Valid counts s.world → Valid counts (external program e s).world
 external-valid counts program e s fits below v =
     entered-valid counts e.what e.view (begun (advance program e.time s).world) (begun-valid counts (advance program e.time s).world (advance-valid counts program e.time s fits below v))

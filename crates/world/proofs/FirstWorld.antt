@@ -68,7 +68,7 @@ few_fields j [] d fit h = absurd (none-some d h)
 few_fields zero (c ∷ cs) d fit h = subst (λ (k : ClassTree). length k.fields ≤ most_members) (same_Some c d h) fit.0.0
 few_fields (suc j) (c ∷ cs) d fit h = few_fields j cs d fit.1 h
 
-root-valid : (program : ProgramTree) (id : List ℕ) (n : ℕ) (c : ClassTree) → Fits program → root_from 0 program ≡ Some (n, c) → Valid (field_counts program) (rooted n c (begun (empty_world id)))
+root-valid : (program : ProgramTree) (id : List ℕ) (n : ℕ) (c : ClassTree) → Fits (field_counts program) program → root_from 0 program ≡ Some (n, c) → Valid (field_counts program) (rooted n c (begun (empty_world id)))
 root-valid program id n c fits h =
     let f = root_found 0 n c program h in
     let place : n ≡ 0 + f.0 = f.1 in
@@ -99,14 +99,14 @@ empty-valid counts id = record {
   weight = omega arith;
 }
 
-initialised_if : (has : Bool) (program : ProgramTree) (s : Scene) → Fits program → Valid (field_counts program) s.world → Valid (field_counts program) (if has then ran program 1 init (nil ∷ []) s else s).world
-initialised_if true program s fits v = (ran-keeps (field_counts program) program 1 init (nil ∷ []) s fits).valid v
+initialised_if : (has : Bool) (program : ProgramTree) (s : Scene) → Fits (field_counts program) program → Valid (field_counts program) s.world → Valid (field_counts program) (if has then ran program 1 init (nil ∷ []) s else s).world
+initialised_if true program s fits v = (ran-keeps (field_counts program) program 1 init (nil ∷ []) s fits).valid (v, (nil-in_bounds, tt))
 initialised_if false program s fits v = v
 
-first_by : (program : ProgramTree) (id : List ℕ) (root : Option (ℕ × ClassTree)) → root_from 0 program ≡ root → Fits program → Valid (field_counts program) (first_with program root (begun (empty_world id))).world
+first_by : (program : ProgramTree) (id : List ℕ) (root : Option (ℕ × ClassTree)) → root_from 0 program ≡ root → Fits (field_counts program) program → Valid (field_counts program) (first_with program root (begun (empty_world id))).world
 first_by program id None e fits = empty-valid (field_counts program) id
 first_by program id (Some r) e fits =
     initialised_if (is_some (method_named init r.1.methods)) program (record { world = rooted r.0 r.1 (begun (empty_world id)); published = [] }) fits (root-valid program id r.0 r.1 fits e)
 
-pub first-valid : (program : ProgramTree) (id : List ℕ) → Fits program → Valid (field_counts program) (first program id).world
+pub first-valid : (program : ProgramTree) (id : List ℕ) → Fits (field_counts program) program → Valid (field_counts program) (first program id).world
 first-valid program id fits = first_by program id (root_from 0 program) refl fits

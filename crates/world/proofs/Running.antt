@@ -1,15 +1,16 @@
 -- What a message leaves of a world: it stays valid, its time and its turns stay, and at too many turns no more is due.
-use Rattle.std.proofs.Common.{◌≡◌, ℕ, ◌≤◌, List, arith}
+use Rattle.std.proofs.Common.{◌≡◌, ℕ, ◌≤◌, List, sym, subst, arith}
 use Rattle.model_value.specs.Plain.{PlainValue, InBounds}
 use Rattle.model_value.specs.World.{WorldRecord}
-use Rattle.model_value.specs.Valid.{Valid, most_turns}
+use Rattle.model_value.specs.Valid.{Valid, AllInBounds, most_turns}
 use Rattle.model_lang.specs.Tree.{Name, ProgramTree}
 use Rattle.model_lang.specs.Bounds.{ClassesFit}
 use Rattle.model_lang.specs.Names.{ClassNamesAreShort}
 use Rattle.model_eval.specs.declared.fault.Fault.{Fault}
-use Rattle.model_eval.specs.Meaning.{Outcome, Gives, Faults, starts, most_open}
-use Rattle.model_eval.specs.Kept.{now_due, Carries}
-use Rattle.model_eval.proofs.KeptLaws.{starts-kept}
+use Rattle.model_eval.specs.Running.{Outcome, Gives, Faults}
+use Rattle.model_eval.specs.Meaning.{starts, most_open}
+use Rattle.model_eval.specs.Kept.{now_due, field_counts, CarriesIf}
+use Rattle.model_eval.proofs.KeptLaws.{starts-carries}
 use Rattle.world.specs.Worlds.{Scene, counted, begun, running, ended, ran}
 
 pub counted-valid : (counts : List ℕ) (f : Fault) (w : WorldRecord) → Valid counts w → Valid counts (counted f w)
@@ -56,22 +57,24 @@ begun-valid counts w v = record {
   weight = v.weight;
 }
 
--- what a message keeps, from one scene to the next
-pub record Keeps (counts : List ℕ) (s t : Scene) : Type 0 where
+-- what a message keeps, from one scene to the next; and if H, then the world is valid behind it
+pub record Keeps (H : Type 0) (counts : List ℕ) (s t : Scene) : Type 0 where
   pub time : t.world.time ≡ s.world.time
   pub turns : t.world.turns ≡ s.world.turns
   pub calm : s.world.turns ≡ most_turns → now_due t.world ≤ now_due s.world
-  pub valid : Valid counts s.world → Valid counts t.world
+  pub valid : H → Valid counts t.world
 
-ended-keeps : (counts : List ℕ) (s : Scene) (o : Outcome PlainValue) → Carries counts InBounds (running s) o → Keeps counts s (ended o)
-ended-keeps counts s (Gives v r) h = record { time = h.0.time; turns = h.0.turns; calm = h.0.calm; valid = λ valid. (h.1 valid).0 }
-ended-keeps counts s (Faults f r) h = record { time = h.0.time; turns = h.0.turns; calm = h.0.calm; valid = λ valid. counted-valid counts f r.world (h.1 valid) }
+ended-keeps : (H : Type 0) (counts : List ℕ) (s : Scene) (o : Outcome PlainValue) → CarriesIf H counts InBounds (running s) o → Keeps H counts s (ended o)
+ended-keeps H counts s (Gives v r) h = record { time = h.0.time; turns = h.0.turns; calm = h.0.calm; valid = λ valid. (h.1 valid).0 }
+ended-keeps H counts s (Faults f r) h = record { time = h.0.time; turns = h.0.turns; calm = h.0.calm; valid = λ valid. counted-valid counts f r.world (h.1 valid) }
 
--- a program within the bounds
-pub record Fits (program : ProgramTree) : Type 0 where
+-- a program within the bounds, whose classes have so many fields
+pub record Fits (counts : List ℕ) (program : ProgramTree) : Type 0 where
+  pub counted : counts ≡ field_counts program
   pub classes : ClassesFit program
   pub names : ClassNamesAreShort program
 
-pub ran-keeps : (counts : List ℕ) (program : ProgramTree) (object : ℕ) (x : Name) (args : List PlainValue) (s : Scene) → Fits program → Keeps counts s (ran program object x args s)
+pub ran-keeps : (counts : List ℕ) (program : ProgramTree) (object : ℕ) (x : Name) (args : List PlainValue) (s : Scene) → Fits counts program → Keeps (Valid counts s.world × AllInBounds args) counts s (ran program object x args s)
 ran-keeps counts program object x args s fits =
-    ended-keeps counts s (starts program most_open object x args (running s)) (starts-kept counts program most_open object x args (running s) fits.classes fits.names)
+    subst (λ (cs : List ℕ). Keeps (Valid cs s.world × AllInBounds args) cs s (ran program object x args s)) (sym fits.counted)
+    (ended-keeps (Valid (field_counts program) s.world × AllInBounds args) (field_counts program) s (starts program most_open object x args (running s)) (starts-carries program most_open object x args (running s) fits.classes fits.names))

@@ -1,5 +1,5 @@
 -- One turn of the loop that advances a world, and its end.
-use Rattle.std.proofs.Common.{◌≡◌, ℕ, ◌<◌, List, Some, None, sym, ap, ◌∙◌, subst}
+use Rattle.std.proofs.Common.{◌≡◌, ℕ, ◌<◌, List, Some, None, refl, sym, ap, ◌∙◌, subst}
 use Rattle.model_value.specs.Messages.{PlainMessage}
 use Rattle.model_value.specs.World.{WorldRecord}
 use Rattle.model_value.specs.Valid.{Valid}
@@ -12,8 +12,8 @@ use Rattle.world.proofs.Running.{Fits}
 use Rattle.world.proofs.Moving.{due-some}
 use Rattle.world.proofs.Advancing.{handled-valid, enough-falls, advance-step}
 
-pub program-fits : (program : ProgramTree) → IsProgram program → Fits program
-program-fits program p = record { classes = (passed-fits program p.1.spelled.fits).1; names = program-names program p }
+pub program-fits : (program : ProgramTree) → IsProgram program → Fits (field_counts program) program
+program-fits program p = record { counted = refl; classes = (passed-fits program p.1.spelled.fits).1; names = program-names program p }
 
 -- the scene that a turn leaves
 pub turned : (program : ProgramTree) (m : PlainMessage) (rest : List PlainMessage) (s after : Scene) (w : WorldRecord) → w ≡ record (s.world) { pending = rest } → after ≡ ran program m.object m.method m.args (with_world s (begun (moved m.time w))) → after ≡ handled program m rest s

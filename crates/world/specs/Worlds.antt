@@ -11,8 +11,11 @@ use Rattle.model_value.specs.Valid.{most_turns, most_views, most_pending}
 use Rattle.model_lang.specs.Tree.{Name, ClassTree, ProgramTree, root_name}
 use Rattle.model_eval.specs.declared.fault.Fault.{Fault}
 use Rattle.model_eval.specs.declared.fault.Fault.TheVariants as fault
+pub use Rattle.model_eval.specs.Kept.{field_counts}
 use Rattle.model_eval.specs.Kept.{now_due}
-use Rattle.model_eval.specs.Meaning.{Running, Outcome, Gives, Faults, starts, most_open, most_fuel}
+use Rattle.model_eval.specs.Running.{Running, Outcome, Gives, Faults}
+pub use Rattle.model_eval.specs.Meaning.{init}
+use Rattle.model_eval.specs.Meaning.{starts, most_open, most_fuel}
 use Rattle.model_check.specs.Methods.{method_named}
 
 -- a world, and what its models published
@@ -86,9 +89,6 @@ empty_world id = record {
 abbrev pub model_root : Name
 model_root = codes "modelRoot"
 
-abbrev pub init : Name
-init = codes "init"
-
 -- with one object, of a class of this number, known as `modelRoot`
 abbrev pub rooted : ℕ → ClassTree → WorldRecord → WorldRecord
 rooted number class w = record w {
@@ -96,10 +96,6 @@ rooted number class w = record w {
   objects = record { id = 1; class = number; fields = replicate (length class.fields) nil } ∷ [];
   known = record { name = model_root; object = 1 } ∷ [];
 }
-
--- how many fields each class has
-abbrev pub field_counts : ProgramTree → List ℕ
-field_counts = map (λ c. length c.fields)
 
 -- the class named Root and its number, where the classes are numbered from this one
 abbrev pub root_from : ℕ → ProgramTree → Option (ℕ × ClassTree)

@@ -7,7 +7,7 @@ ghost use Rattle.model_value.specs.World.{world_record};
 ghost use Rattle.model_lang.specs.Program.{IsProgram};
 ghost use Rattle.model_lang.specs.Tree.{ClassTree};
 ghost use Rattle.model_lang.specs.TreeView.{program_tree};
-ghost use Rattle.model_check.specs.FirstForms.{IsBuilt};
+ghost use Rattle.model_check.specs.BuiltForms.{IsBuilt};
 ghost use Rattle.world.specs.Worlds.{empty_world, rooted, root_from, first as first_of, initialised, init};
 ghost use Rattle.world.specs.View.{scene};
 

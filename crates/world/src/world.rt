@@ -5,7 +5,7 @@ ghost use Rattle.model_value.specs.Messages.{plain_outgoing};
 ghost use Rattle.model_value.specs.Valid.{Valid, time_limit};
 ghost use Rattle.model_value.specs.World.{world_record};
 ghost use Rattle.model_lang.specs.TreeView.{program_tree};
-ghost use Rattle.model_check.specs.FirstForms.{IsBuilt};
+ghost use Rattle.model_check.specs.BuiltForms.{IsBuilt};
 ghost use Rattle.world.specs.Worlds.{field_counts, first as first_of, advance as advanced, external as entered_by};
 ghost use Rattle.world.specs.View.{Moves, Copies, IsInput, IsSound};
 

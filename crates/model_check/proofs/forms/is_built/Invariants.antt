@@ -1,6 +1,6 @@
 use Rattle.std.proofs.Common.{◌↔◌, drop}
 use Rattle.model_lang.specs.TreeView.{program_tree}
-use Rattle.model_check.specs.FirstForms.{IsBuilt}
+use Rattle.model_check.specs.BuiltForms.{IsBuilt}
 use Rattle.model_check.proofs.forms.is_built.Given as goal
 
 abbrev pub invariant-loop-class : goal.invariant-loop-class

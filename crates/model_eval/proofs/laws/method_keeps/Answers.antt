@@ -4,4 +4,4 @@ use Rattle.model_eval.proofs.KeptLaws.{starts-kept}
 use Rattle.model_eval.proofs.laws.method_keeps.Goals as goal
 
 pub returns : goal.returns
-returns c = λ counts program room object x args r p. starts-kept counts program room object x args r (program-fits program p.1.spelled.fits).1 (program-names program p)
+returns c = λ program room object x args r p bounds. starts-kept program room object x args r (program-fits program p.1.spelled.fits).1 (program-names program p) bounds

@@ -1,6 +1,6 @@
 use Rattle.std.proofs.Common.{◌≡◌, ◌++◌, map, take, drop}
 use Rattle.model_value.specs.Messages.{plain_message}
-use Rattle.model_eval.specs.Meaning.{inserted}
+use Rattle.model_eval.specs.Futures.{inserted}
 use Rattle.model_eval.proofs.messages.place_of.Given as goal
 
 abbrev pub invariant-loop-i : goal.invariant-loop-i

@@ -1,0 +1,127 @@
+-- What is left of a world without an object.
+use Rattle.std.proofs.Common.{◌≡◌, ℕ, ◌+◌, ◌≤◌, ◌<◌, Bool, true, false, not, List, [], ◌∷◌, length, map, Option, Some, nat_eq, nat_le, refl, sym, ◌∙◌, arith, if◌then◌else◌}
+use Rattle.std.specs.List.{filter}
+use Rattle.std.proofs.lemmas.Bool.{eqb-true, not-true, not-false, eqb-false}
+use Rattle.model_value.specs.World.{ObjectRecord, WorldRecord, total}
+use Rattle.model_value.specs.Messages.{PlainMessage}
+use Rattle.model_value.specs.Valid.{RiseFrom, object_at, if_same, IsHeld, ObjectsFit, IsBeforeAll, KnownRise, KnownFit, SubscriptionsFit, IsNew, SubscriptionsDiffer, PrecedesAll, AreInOrder, IsUnused, NumbersDiffer, MessagesFit}
+use Rattle.model_value.specs.declared.message.Subscription.{Subscription}
+use Rattle.model_value.specs.declared.world.Known.{Known}
+use Rattle.model_eval.specs.Kept.{due}
+use Rattle.model_eval.specs.Objects.{without_object}
+use Rattle.model_eval.proofs.FieldBounds.{if_both}
+use Rattle.model_eval.proofs.Pending.{if_either}
+use Rattle.model_eval.proofs.Created.{found-still}
+
+-- ---- what is said of all items, or of each and all behind it
+
+filter-all : {A : Type 0} (Q : List A → Type 0) (keeps : A → Bool) → Q [] → ((x : A) (xs : List A) → Q (x ∷ xs) → Q xs)
+    → ((x : A) (xs ys : List A) → Q (x ∷ xs) → Q ys → Q (x ∷ ys)) → (xs : List A) → Q xs → Q (filter keeps xs)
+filter-all Q keeps none rest more [] h = none
+filter-all Q keeps none rest more (x ∷ xs) h =
+    let left : Q (filter keeps xs) = filter-all Q keeps none rest more xs (rest x xs h) in
+    if_both Q (keeps x) (x ∷ filter keeps xs) (filter keeps xs) (more x xs (filter keeps xs) h left) left
+
+filter-each : {A : Type 0} (R : A → List A → Type 0) (Q : List A → Type 0) (keeps : A → Bool) → Q [] → ((x : A) (xs : List A) → Q (x ∷ xs) → R x xs × Q xs)
+    → ((x : A) (xs : List A) → R x xs → Q xs → Q (x ∷ xs)) → ((x : A) (xs : List A) → R x xs → R x (filter keeps xs)) → (xs : List A) → Q xs → Q (filter keeps xs)
+filter-each R Q keeps none parts whole fewer [] h = none
+filter-each R Q keeps none parts whole fewer (x ∷ xs) h =
+    let both : R x xs × Q xs = parts x xs h in
+    let left : Q (filter keeps xs) = filter-each R Q keeps none parts whole fewer xs both.1 in
+    if_both Q (keeps x) (x ∷ filter keeps xs) (filter keeps xs) (whole x (filter keeps xs) (fewer x xs both.0) left) left
+
+RiseFrom-lower : (low x : ℕ) (xs : List ℕ) → low < x → RiseFrom x xs → RiseFrom low xs
+RiseFrom-lower low x [] below h = tt
+RiseFrom-lower low x (y ∷ ys) below h = let above : x < y = h.0 in (omega arith, h.1)
+
+pub ids-filtered : (keeps : ObjectRecord → Bool) (low : ℕ) (os : List ObjectRecord) → RiseFrom low (map (λ o. o.id) os) → RiseFrom low (map (λ o. o.id) (filter keeps os))
+ids-filtered keeps low [] h = tt
+ids-filtered keeps low (o ∷ os) h =
+    let left : RiseFrom o.id (map (λ o. o.id) (filter keeps os)) = ids-filtered keeps o.id os h.1 in
+    if_both (λ l. RiseFrom low (map (λ o. o.id) l)) (keeps o) (o ∷ filter keeps os) (filter keeps os) (h.0, left) (RiseFrom-lower low o.id (map (λ o. o.id) (filter keeps os)) h.0 left)
+
+pub ObjectsFit-filtered : (counts : List ℕ) (next : ℕ) (keeps : ObjectRecord → Bool) (os : List ObjectRecord) → ObjectsFit counts next os → ObjectsFit counts next (filter keeps os)
+ObjectsFit-filtered counts next keeps = filter-all (ObjectsFit counts next) keeps tt (λ o os h. h.1) (λ o os ps h g. (h.0, g))
+
+pub KnownRise-filtered : (keeps : Known → Bool) (ks : List Known) → KnownRise ks → KnownRise (filter keeps ks)
+KnownRise-filtered keeps =
+    filter-each (λ k ks. IsBeforeAll k.name ks) KnownRise keeps tt (λ k ks h. (h.0, h.1)) (λ k ks h g. (h, g))
+    (λ k. filter-all (IsBeforeAll k.name) keeps tt (λ l ls h. h.1) (λ l ls ms h g. (h.0, g)))
+
+pub SubscriptionsDiffer-filtered : (keeps : Subscription → Bool) (ss : List Subscription) → SubscriptionsDiffer ss → SubscriptionsDiffer (filter keeps ss)
+SubscriptionsDiffer-filtered keeps =
+    filter-each IsNew SubscriptionsDiffer keeps tt (λ s ss h. (h.0, h.1)) (λ s ss h g. (h, g))
+    (λ s. filter-all (IsNew s) keeps tt (λ t ts h. h.1) (λ t ts us h g. (h.0, g)))
+
+pub AreInOrder-filtered : (keeps : PlainMessage → Bool) (ms : List PlainMessage) → AreInOrder ms → AreInOrder (filter keeps ms)
+AreInOrder-filtered keeps =
+    filter-each PrecedesAll AreInOrder keeps tt (λ m ms h. (h.0, h.1)) (λ m ms h g. (h, g))
+    (λ m. filter-all (PrecedesAll m) keeps tt (λ n ns h. h.1) (λ n ns os h g. (h.0, g)))
+
+pub NumbersDiffer-filtered : (keeps : PlainMessage → Bool) (ms : List PlainMessage) → NumbersDiffer ms → NumbersDiffer (filter keeps ms)
+NumbersDiffer-filtered keeps =
+    filter-each (λ m ms. IsUnused m.number ms) NumbersDiffer keeps tt (λ m ms h. (h.0, h.1)) (λ m ms h g. (h, g))
+    (λ m. filter-all (IsUnused m.number) keeps tt (λ n ns h. h.1) (λ n ns os h g. (h.0, g)))
+
+-- ---- counts and weights
+
+pub total-filtered : {A : Type 0} (weighs : A → ℕ) (keeps : A → Bool) (xs : List A) → total weighs (filter keeps xs) ≤ total weighs xs
+total-filtered weighs keeps [] = omega arith
+total-filtered weighs keeps (x ∷ xs) =
+    let fewer : total weighs (filter keeps xs) ≤ total weighs xs = total-filtered weighs keeps xs in
+    if_both (λ l. total weighs l ≤ weighs x + total weighs xs) (keeps x) (x ∷ filter keeps xs) (filter keeps xs) (omega arith) (omega arith)
+
+pub length-filtered : {A : Type 0} (keeps : A → Bool) (xs : List A) → length (filter keeps xs) ≤ length xs
+length-filtered keeps [] = omega arith
+length-filtered keeps (x ∷ xs) =
+    let fewer : length (filter keeps xs) ≤ length xs = length-filtered keeps xs in
+    if_both (λ l. length l ≤ length (x ∷ xs)) (keeps x) (x ∷ filter keeps xs) (filter keeps xs) (omega arith) (omega arith)
+
+pub due-filtered : (time : ℕ) (keeps : PlainMessage → Bool) (ms : List PlainMessage) → due time (filter keeps ms) ≤ due time ms
+due-filtered time keeps [] = omega arith
+due-filtered time keeps (m ∷ ms) =
+    let fewer : due time (filter keeps ms) ≤ due time ms = due-filtered time keeps ms in
+    if_both (λ l. due time l ≤ (if nat_le m.time time then 1 else 0) + due time ms) (keeps m) (m ∷ filter keeps ms) (filter keeps ms) (omega arith) (omega arith)
+
+-- ---- what speaks of objects by their numbers
+
+abbrev pub others : ℕ → List ObjectRecord → List ObjectRecord
+others id os = filter (λ o. not (nat_eq o.id id)) os
+
+found-behind : (same : Bool) (o q : ObjectRecord) (x : Option ObjectRecord) → ¬ (same ≡ true) → if_same same o x ≡ Some q → x ≡ Some q
+found-behind true o q x apart e = absurd (apart refl)
+found-behind false o q x apart e = e
+
+object_at-others : (id other : ℕ) (os : List ObjectRecord) (q : ObjectRecord) → nat_eq other id ≡ false → object_at os other ≡ Some q → object_at (others id os) other ≡ Some q
+object_at-others id other [] q apart e = absurd cc
+object_at-others id other (o ∷ os) q apart e =
+    if_either (λ l. object_at l other ≡ Some q) (not (nat_eq o.id id)) (o ∷ others id os) (others id os)
+    (λ _. found-still (nat_eq o.id other) o q (object_at os other) (object_at (others id os) other) (object_at-others id other os q apart) e)
+    (λ gone. object_at-others id other os q apart
+    (found-behind (nat_eq o.id other) o q (object_at os other)
+    (λ same. eqb-false other id apart (sym (eqb-true o.id other same) ∙ eqb-true o.id id (not-false (nat_eq o.id id) gone))) e))
+
+others-held : (id other : ℕ) (os : List ObjectRecord) → not (nat_eq other id) ≡ true → IsHeld os other → IsHeld (others id os) other
+others-held id other os apart held = (held.0, object_at-others id other os held.0 (not-true (nat_eq other id) apart) held.1)
+
+pub KnownFit-others : (id : ℕ) (os : List ObjectRecord) (ks : List Known) → KnownFit os ks → KnownFit (others id os) (filter (λ k. not (nat_eq k.object id)) ks)
+KnownFit-others id os [] h = tt
+KnownFit-others id os (k ∷ ks) h =
+    let left : KnownFit (others id os) (filter (λ k. not (nat_eq k.object id)) ks) = KnownFit-others id os ks h.2 in
+    if_either (KnownFit (others id os)) (not (nat_eq k.object id)) (k ∷ filter (λ k. not (nat_eq k.object id)) ks) (filter (λ k. not (nat_eq k.object id)) ks)
+    (λ apart. (h.0, others-held id k.object os apart h.1, left)) (λ _. left)
+
+pub SubscriptionsFit-others : (id : ℕ) (os : List ObjectRecord) (ss : List Subscription)
+    → SubscriptionsFit os ss → SubscriptionsFit (others id os) (filter (λ s. not (nat_eq s.object id)) ss)
+SubscriptionsFit-others id os [] h = tt
+SubscriptionsFit-others id os (s ∷ ss) h =
+    let left : SubscriptionsFit (others id os) (filter (λ s. not (nat_eq s.object id)) ss) = SubscriptionsFit-others id os ss h.1 in
+    if_either (SubscriptionsFit (others id os)) (not (nat_eq s.object id)) (s ∷ filter (λ s. not (nat_eq s.object id)) ss) (filter (λ s. not (nat_eq s.object id)) ss)
+    (λ apart. ((h.0.0, h.0.1, h.0.2, others-held id s.object os apart h.0.3), left)) (λ _. left)
+
+pub MessagesFit-others : (id : ℕ) (w : WorldRecord) (ms : List PlainMessage) → MessagesFit w ms → MessagesFit (without_object id w) (filter (λ m. not (nat_eq m.object id)) ms)
+MessagesFit-others id w [] h = tt
+MessagesFit-others id w (m ∷ ms) h =
+    let left : MessagesFit (without_object id w) (filter (λ m. not (nat_eq m.object id)) ms) = MessagesFit-others id w ms h.1 in
+    if_either (MessagesFit (without_object id w)) (not (nat_eq m.object id)) (m ∷ filter (λ m. not (nat_eq m.object id)) ms) (filter (λ m. not (nat_eq m.object id)) ms)
+    (λ apart. ((h.0.0, h.0.1, h.0.2, others-held id m.object w.objects apart h.0.3, h.0.4, h.0.5, h.0.6), left)) (λ _. left)

@@ -1,0 +1,10 @@
+use Rattle.std.proofs.Common.{rules, ap, ◌∙◌}
+use Rattle.std.specs.Prelude.{nat_eq, not}
+use Rattle.std.specs.List.{filter}
+use Rattle.std.proofs.lemmas.Fn.{filter_same}
+use Rattle.model_value.specs.declared.message.Subscription.{Subscription}
+use Rattle.model_eval.proofs.objects.remove_subscriptions.Goals as goal
+
+pub returns : goal.returns
+returns c =
+    c.from_vec.ensures ∙ filter_same _ (λ (k : Subscription). not (nat_eq k.object c.args.id)) _ (λ x b f' k. search rules) _ _ c.retain.ensures.filtered ∙ ap (filter (λ (k : Subscription). not (nat_eq k.object c.args.id))) c.take_items-all.ensures

@@ -1,0 +1,62 @@
+-- What runs, and how a part of a program ends.
+use Rattle.std.specs.Prelude.{ℕ, ◌-◌, Bool, nat_eq, nat_le, if◌then◌else◌, List, Option, Some, None}
+use Rattle.model_value.specs.Plain.{PlainValue, bool, weight, is_in_bounds}
+use Rattle.model_value.specs.Messages.{PlainOutgoing}
+use Rattle.model_value.specs.World.{WorldRecord}
+use Rattle.model_eval.specs.declared.fault.Fault.{Fault}
+use Rattle.model_eval.specs.declared.fault.Fault.TheVariants.{BadKind, Fuel, Size}
+
+-- what runs: the fuel left, the world, and what was published
+pub record Running : Type 0 where
+  pub fuel : ℕ
+  pub world : WorldRecord
+  pub published : List PlainOutgoing
+
+abbrev pub with_world : Running → WorldRecord → Running
+with_world r w = record r { world = w }
+
+-- how a part ends: it gives something, or it faults, and what was done until then stays
+pub data Outcome (A : Type 0) : Type 0 where
+  Gives : A → Running → Outcome A
+  Faults : Fault → Running → Outcome A
+
+abbrev pub and_then : {A B : Type 0} → Outcome A → (A → Running → Outcome B) → Outcome B
+and_then (Gives a r) next = next a r
+and_then (Faults f r) next = Faults f r
+
+-- entering a statement or an expression takes a step of fuel
+abbrev pub entering : {A : Type 0} → Running → (Running → Outcome A) → Outcome A
+entering r next = if nat_eq r.fuel 0 then Faults Fuel r else next (record r { fuel = r.fuel - 1 })
+
+-- so many steps are taken, or none where fewer are left
+abbrev pub spending : {A : Type 0} → ℕ → Running → (Running → Outcome A) → Outcome A
+spending steps r next = if nat_le steps r.fuel then next (record r { fuel = r.fuel - steps }) else Faults Fuel r
+
+-- ---- values
+
+-- a value that is made, if it is in bounds
+abbrev pub bounded : PlainValue → Running → Outcome PlainValue
+bounded v r = if is_in_bounds v then Gives v r else Faults Size r
+
+-- the same of one that takes steps by its weight
+abbrev pub weighed : PlainValue → Running → Outcome PlainValue
+weighed v r = if is_in_bounds v then spending (weight v) r (Gives v) else Faults Size r
+
+-- a value or a fault, of what changes nothing
+pub data Reply : Type 0 where
+  value : PlainValue → Reply
+  fails : Fault → Reply
+
+abbrev pub replying : Reply → Running → Outcome PlainValue
+replying (value v) r = Gives v r
+replying (fails f) r = Faults f r
+
+-- ---- tests
+
+abbrev pub truth : PlainValue → Option Bool
+truth (bool b) = Some b
+truth _ = None
+
+abbrev pub deciding : {A : Type 0} → Option Bool → (Bool → Running → Outcome A) → Running → Outcome A
+deciding (Some b) next r = next b r
+deciding None next r = Faults BadKind r

@@ -1,0 +1,242 @@
+//! The builtins.
+ghost use Rattle.std.specs.Prelude.{◌≡◌, ◌∷◌, [], length, IfOk};
+ghost use Rattle.hex.specs.Hex.{encode_lower};
+ghost use Rattle.model_value.specs.View.{plain, plain_values};
+ghost use Rattle.model_eval.specs.Builtins.{answered, pure_answered, pure_of as pure_builtin, takes_steps as is_dear, drawn, time_told, id_told, known_told, held_told, on_none, on_int, on_text, on_ref};
+ghost use Rattle.model_eval.specs.Objects.{made_known, destroyed};
+ghost use Rattle.model_eval.specs.Answer.{Answers, Spends, running};
+ghost use Rattle.model_eval.specs.declared.state.State.{State};
+ghost use Rattle.model_eval.specs.declared.state.Budget.{Budget};
+
+use crate::fault::{Fault, Stop};
+use crate::known::{be_known, known_object};
+use crate::objects::{destroy, is_held};
+use crate::state::{Budget, State};
+use crate::values::weigh;
+use model_builtin::{Pure, apply};
+use model_check::Builtin;
+use model_value::{Value, Values};
+use seeded_random::Source64;
+use std::alloc::Global;
+use tea_base::{Text, WantOfMemory};
+
+/// What a builtin answers that a method of this object calls.
+pub fn answer(
+    alloc: Global,
+    builtin: Builtin,
+    object: u32,
+    args: &Values,
+    state: &mut State,
+    budget: &mut Budget,
+) -> Result<Value, Stop>
+    ensures { Answers result state.new budget.new (answered builtin object (plain_values args.now) (running state.old budget.old)) }
+{
+    match builtin {
+        Builtin::Now => now(args.as_slice(), state),
+        Builtin::Random => random(args.as_slice(), state),
+        Builtin::SessionId => session_id(alloc, args.as_slice(), state),
+        Builtin::Known => known(args.as_slice(), state),
+        Builtin::BeKnown => make_known(alloc, args.as_slice(), object, state),
+        Builtin::Exists => exists(args.as_slice(), state),
+        Builtin::Destroy => take_away(alloc, args.as_slice(), state),
+        Builtin::ViewCount
+        | Builtin::Views
+        | Builtin::Publish
+        | Builtin::Subscribe
+        | Builtin::Unsubscribe
+        | Builtin::Cancel
+        | Builtin::Length
+        | Builtin::At
+        | Builtin::Put
+        | Builtin::Push
+        | Builtin::Slice
+        | Builtin::Concat
+        | Builtin::Text
+        | Builtin::Number
+        | Builtin::Compare => answer_pure(alloc, pure_of(builtin), args, budget),
+    }
+}
+
+// The milliseconds since the session's founding.
+fn now(args: &[Value], state: &State) -> Result<Value, Stop>
+    ensures { (budget : Budget) → Answers result state.now budget (on_none time_told (plain_values args.now) (running state.now budget)) }
+{
+    match args {
+        [] => Ok(Value::Int((state.world.time / 1000).cast_signed())),
+        _ => Err(Stop::Fault(Fault::BadKind)),
+    }
+}
+
+fn random(args: &[Value], state: &mut State) -> Result<Value, Stop>
+    ensures { (budget : Budget) → Answers result state.new budget (on_int drawn (plain_values args.now) (running state.old budget)) }
+{
+    match args {
+        [limit] => draw(limit, state),
+        _ => Err(Stop::Fault(Fault::BadKind)),
+    }
+}
+
+fn draw(limit: &Value, state: &mut State) -> Result<Value, Stop>
+    ensures { (budget : Budget) → Answers result state.new budget (on_int drawn (plain limit.now ∷ []) (running state.old budget)) }
+{
+    match limit {
+        Value::Int(limit) => draw_below(*limit, state),
+        _ => Err(Stop::Fault(Fault::BadKind)),
+    }
+}
+
+// A number below this one, of the world's source.
+fn draw_below(limit: i64, state: &mut State) -> Result<Value, Stop>
+    ensures { (budget : Budget) → Answers result state.new budget (drawn limit (running state.old budget)) }
+{
+    if limit < 1 {
+        return Err(Stop::Fault(Fault::BadIndex));
+    }
+    let mut source = Source64::from_state(state.world.random);
+    let number = source.below(limit.cast_unsigned());
+    state.world.random = source.state();
+    Ok(Value::Int(number.cast_signed()))
+}
+
+fn session_id(alloc: Global, args: &[Value], state: &State) -> Result<Value, Stop>
+    ensures { (budget : Budget) → Answers result state.now budget (on_none id_told (plain_values args.now) (running state.now budget)) }
+{
+    match args {
+        [] => spelled_id(alloc, state),
+        _ => Err(Stop::Fault(Fault::BadKind)),
+    }
+}
+
+fn spelled_id(alloc: Global, state: &State) -> Result<Value, Stop>
+    ensures { (budget : Budget) → Answers result state.now budget (id_told (running state.now budget)) }
+{
+    Ok(Value::Text(digits(alloc, &state.world.id.0)?))
+}
+
+// The bytes of an id in hexadecimal digits.
+fn digits(alloc: Global, id: &[u8; 32]) -> Result<Text, WantOfMemory>
+    ensures digits { IfOk result (λ text. text ≡ encode_lower id.now) }
+    ensures bytes { length id.now ≡ 32 }
+{
+    let digits = hex::encode(alloc, id)?;
+    Text::copy(alloc, digits.as_str())
+}
+
+fn known(args: &[Value], state: &State) -> Result<Value, Stop>
+    ensures { (budget : Budget) → Answers result state.now budget (on_text known_told (plain_values args.now) (running state.now budget)) }
+{
+    match args {
+        [name] => find_known(name, state),
+        _ => Err(Stop::Fault(Fault::BadKind)),
+    }
+}
+
+fn find_known(name: &Value, state: &State) -> Result<Value, Stop>
+    ensures { (budget : Budget) → Answers result state.now budget (on_text known_told (plain name.now ∷ []) (running state.now budget)) }
+{
+    match name {
+        Value::Text(name) => Ok(known_object(state.world.known.as_slice(), name)),
+        _ => Err(Stop::Fault(Fault::BadKind)),
+    }
+}
+
+fn make_known(alloc: Global, args: &[Value], object: u32, state: &mut State) -> Result<Value, Stop>
+    ensures { (budget : Budget) → Answers result state.new budget (on_text (made_known object) (plain_values args.now) (running state.old budget)) }
+{
+    match args {
+        [name] => make_known_by(alloc, name, object, state),
+        _ => Err(Stop::Fault(Fault::BadKind)),
+    }
+}
+
+fn make_known_by(alloc: Global, name: &Value, object: u32, state: &mut State) -> Result<Value, Stop>
+    ensures { (budget : Budget) → Answers result state.new budget (on_text (made_known object) (plain name.now ∷ []) (running state.old budget)) }
+{
+    match name {
+        Value::Text(name) => be_known(alloc, name, object, state),
+        _ => Err(Stop::Fault(Fault::BadKind)),
+    }
+}
+
+fn exists(args: &[Value], state: &State) -> Result<Value, Stop>
+    ensures { (budget : Budget) → Answers result state.now budget (on_ref held_told (plain_values args.now) (running state.now budget)) }
+{
+    match args {
+        [object] => is_there(object, state),
+        _ => Err(Stop::Fault(Fault::BadKind)),
+    }
+}
+
+fn is_there(object: &Value, state: &State) -> Result<Value, Stop>
+    ensures { (budget : Budget) → Answers result state.now budget (on_ref held_told (plain object.now ∷ []) (running state.now budget)) }
+{
+    match object {
+        Value::Ref(id) => Ok(Value::Bool(is_held(state, *id))),
+        _ => Err(Stop::Fault(Fault::BadKind)),
+    }
+}
+
+fn take_away(alloc: Global, args: &[Value], state: &mut State) -> Result<Value, Stop>
+    ensures { (budget : Budget) → Answers result state.new budget (on_ref destroyed (plain_values args.now) (running state.old budget)) }
+{
+    match args {
+        [object] => take_away_one(alloc, object, state),
+        _ => Err(Stop::Fault(Fault::BadKind)),
+    }
+}
+
+fn take_away_one(alloc: Global, object: &Value, state: &mut State) -> Result<Value, Stop>
+    ensures { (budget : Budget) → Answers result state.new budget (on_ref destroyed (plain object.now ∷ []) (running state.old budget)) }
+{
+    match object {
+        Value::Ref(id) => destroy(alloc, state, *id),
+        _ => Err(Stop::Fault(Fault::BadKind)),
+    }
+}
+
+// The builtins that need no world.
+fn pure_of(builtin: Builtin) -> Option<Pure>
+    ensures { result ≡ pure_builtin builtin }
+{
+    match builtin {
+        Builtin::Length => Some(Pure::Length),
+        Builtin::At => Some(Pure::At),
+        Builtin::Put => Some(Pure::Put),
+        Builtin::Push => Some(Pure::Push),
+        Builtin::Slice => Some(Pure::Slice),
+        Builtin::Concat => Some(Pure::Concat),
+        Builtin::Text => Some(Pure::Text),
+        Builtin::Number => Some(Pure::Number),
+        Builtin::Compare => Some(Pure::Compare),
+        _ => None,
+    }
+}
+
+fn answer_pure(
+    alloc: Global,
+    builtin: Option<Pure>,
+    args: &Values,
+    budget: &mut Budget,
+) -> Result<Value, Stop>
+    ensures { Spends result budget.new (λ (state : State). pure_answered builtin (plain_values args.now) (running state budget.old)) }
+{
+    let Some(builtin) = builtin else {
+        return Err(Stop::Fault(Fault::BadKind));
+    };
+    let value = apply(alloc, builtin, args)?;
+    if takes_steps(builtin) {
+        weigh(value, budget)
+    } else {
+        Ok(value)
+    }
+}
+
+// Whether a builtin takes steps by the weight of its result.
+fn takes_steps(builtin: Pure) -> bool
+    ensures { result ≡ is_dear builtin }
+{
+    matches!(
+        builtin,
+        Pure::Put | Pure::Push | Pure::Slice | Pure::Concat | Pure::Text
+    )
+}

@@ -1,0 +1,136 @@
+//! The names by which objects are known.
+ghost use Rattle.std.specs.Prelude.{◌≡◌, ◌+◌, ◌<◌, ◌≤◌, OnOk, nat_le, length, insert, slice_set};
+ghost use Rattle.model_value.specs.Plain.{nil};
+ghost use Rattle.model_value.specs.View.{plain};
+ghost use Rattle.model_value.specs.World.{world_record, world_weight, known_weight, most_world_weight};
+ghost use Rattle.model_eval.specs.Running.{with_world};
+ghost use Rattle.model_eval.specs.Objects.{known_by, comes_before as before, if_light, made_known};
+ghost use Rattle.model_eval.specs.Places.{IsKnownAt, IsPlaceFor};
+ghost use Rattle.model_eval.specs.Answer.{Answers, running};
+ghost use Rattle.model_eval.specs.declared.state.Budget.{Budget};
+
+use crate::fault::{Fault, Stop};
+use crate::objects::{is_held, take_items};
+use crate::state::State;
+use model_builtin::order;
+use model_value::{Known, KnownNames, PlainWorld, Value, known_fits, room};
+use std::alloc::Global;
+use tea_base::{List, Text, WantOfMemory};
+
+/// The object that is known by a name, or nil.
+pub fn known_object(known: &[Known], name: &Text) -> Value
+    ensures { plain result ≡ known_by name.now known.now }
+{
+    for one in known {
+        if name.is_text(&one.name) {
+            return Value::Ref(one.object);
+        }
+    }
+    Value::Nil
+}
+
+/// Makes an object known by a name, in place of any other. Gives the fault NoObject where the object is gone, and Full, with
+/// the world as it was, where the world would become too heavy.
+pub fn be_known(alloc: Global, name: &Text, object: u32, state: &mut State) -> Result<Value, Stop>
+    ensures { (budget : Budget) → Answers result state.new budget (made_known object name.now (running state.old budget)) }
+{
+    if !is_held(state, object) {
+        return Err(Stop::Fault(Fault::NoObject));
+    }
+    let known = Known {
+        name: name.clone()?,
+        object,
+    };
+    match place_for(state.world.known.as_slice(), name) {
+        Place::Held(place) => hand_over(alloc, state, place, known),
+        Place::Free(place) => add(alloc, state, place, known),
+    }
+}
+
+/// Where a name stands among known names.
+enum Place {
+    /// It is known, at this place.
+    Held(usize),
+    /// It is not known, and would stand before the name at this place, or at the end.
+    Free(usize),
+}
+
+fn place_for(known: &[Known], name: &Text) -> Place
+    ensures { IsPlaceFor result name.now known.now }
+{
+    for i in 0..known.len() {
+        if name.is_text(&known[i].name) {
+            return Place::Held(i);
+        }
+        if comes_before(name, &known[i].name) {
+            return Place::Free(i);
+        }
+    }
+    Place::Free(known.len())
+}
+
+// Whether a text stands before another in the order of characters.
+fn comes_before(text: &Text, other: &Text) -> bool
+    ensures { result ≡ before text.now other.now }
+{
+    order(text.as_str(), other.as_str()).is_lt()
+}
+
+// The name at this place is known already, so the world becomes no heavier.
+fn hand_over(alloc: Global, state: &mut State, place: usize, known: Known) -> Result<Value, Stop>
+    requires { IsKnownAt place known.name state.old.world.known }
+    ensures { (budget : Budget) → let r = running state.old budget in
+        Answers result state.new budget (if_light nil r (with_world r (record (r.world) { known = slice_set r.world.known place known }))) }
+{
+    if room(&state.world).is_none() {
+        return Err(Stop::Fault(Fault::Full));
+    }
+    replace(alloc, &mut state.world.known, place, known);
+    Ok(Value::Nil)
+}
+
+fn replace(alloc: Global, known: &mut KnownNames, place: usize, new: Known)
+    requires { place < length known.old }
+    ensures { known.new ≡ slice_set known.old place new }
+{
+    let mut all = take_items(alloc, known);
+    all[place] = new;
+    *known = List::from_vec(all);
+}
+
+fn add(alloc: Global, state: &mut State, place: usize, known: Known) -> Result<Value, Stop>
+    requires { place ≤ length state.old.world.known }
+    ensures { (budget : Budget) → let r = running state.old budget in
+        Answers result state.new budget (if_light nil r (with_world r (record (r.world) { known = insert r.world.known place known }))) }
+{
+    if !has_room_for_name(&state.world, &known) {
+        return Err(Stop::Fault(Fault::Full));
+    }
+    put_at(alloc, &mut state.world.known, place, known)?;
+    Ok(Value::Nil)
+}
+
+fn put_at(
+    alloc: Global,
+    known: &mut KnownNames,
+    place: usize,
+    new: Known,
+) -> Result<(), WantOfMemory>
+    requires { place ≤ length known.old }
+    ensures { OnOk result (known.new ≡ insert known.old place new) }
+{
+    let mut all = take_items(alloc, known);
+    let outcome = all.insert(place, new);
+    *known = List::from_vec(all);
+    outcome?;
+    Ok(())
+}
+
+fn has_room_for_name(world: &PlainWorld, known: &Known) -> bool
+    ensures { result ≡ nat_le (world_weight (world_record world.now) + known_weight known.now) most_world_weight }
+{
+    match room(world) {
+        None => false,
+        Some(left) => known_fits(left, known),
+    }
+}
