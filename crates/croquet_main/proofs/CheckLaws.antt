@@ -11,7 +11,7 @@ use Rattle.model_lang.specs.Bounds.{ClassesFit, ProgramFits}
 use Rattle.croquet_main.specs.declared.status.Fault.{Fault}
 use Rattle.croquet_main.specs.declared.status.Input.TheVariants as input
 use Rattle.croquet_main.specs.PrintedText.{counts_line, method_count}
-use Rattle.croquet_main.specs.Verdict.{Verdict, ToCheck, Unknown, Done, CheckComes, MayBeDone, MayBeRead, program_limit}
+use Rattle.croquet_main.specs.Verdict.{Verdict, Unknown, Done, CheckComes, MayBeDone, MayBeRead, program_limit}
 use Rattle.croquet_main.specs.Ends.{IsDoneWith, IsSoundProgram, ProgramEnd, WorkEnd}
 use Rattle.croquet_main.proofs.ProgramLaws.{Next, IsOneReading, IsSomeReading, HasNoFiles, IsNone, end_program, no_files, program_comes, program_read, some_program, to_next}
 
@@ -19,33 +19,33 @@ use Rattle.croquet_main.proofs.ProgramLaws.{Next, IsOneReading, IsSomeReading, H
 abbrev pub Counted : Next
 Counted = λ bytes tree verdict. verdict ≡ Done (counts_line tree) []
 
-pub end_check : {A : Type 0} (one : IsOneReading) (result : Result (String A) Fault) (fault : Fault) (content : Content) (bytes : List ℕ) (verdict : Verdict) → IsErrAnd result (λ found. found ≡ fault) → MayBe content bytes → length bytes ≤ program_limit → ProgramEnd ToCheck (Err fault) bytes → CheckComes content verdict → WorkEnd result verdict
-end_check one result fault content bytes verdict given held within end comes = end_program one result fault ToCheck [] Counted content bytes verdict given held within end comes
+pub end_check : {A : Type 0} (one : IsOneReading) (result : Result (String A) Fault) (fault : Fault) (content : Content) (bytes : List ℕ) (verdict : Verdict) → IsErrAnd result (λ found. found ≡ fault) → MayBe content bytes → length bytes ≤ program_limit → ProgramEnd (Err fault) bytes → CheckComes content verdict → WorkEnd result verdict
+end_check one result fault content bytes verdict given held within end comes = end_program one result fault [] Counted content bytes verdict given held within end comes
 
-done_next : (text : List ℕ) (verdict : Verdict) → (verdict ≡ Unknown (input.Program ∷ []) ToCheck) ⊎ (verdict ≡ Done text []) → IsDoneWith text verdict
+done_next : (text : List ℕ) (verdict : Verdict) → (verdict ≡ Unknown (input.Program ∷ [])) ⊎ (verdict ≡ Done text []) → IsDoneWith text verdict
 done_next text verdict (inl is) = rw is tt
 done_next text verdict (inr is) = rw is (refl, refl)
 
 -- a program was read, and its line made
-pub done_check : IsOneReading → (content : Content) (bytes : List ℕ) (tree : ProgramTree) (verdict : Verdict) → MayBe content bytes → length bytes ≤ program_limit → IsSoundProgram ToCheck bytes tree → CheckComes content verdict → IsDoneWith (counts_line tree) verdict
+pub done_check : IsOneReading → (content : Content) (bytes : List ℕ) (tree : ProgramTree) (verdict : Verdict) → MayBe content bytes → length bytes ≤ program_limit → IsSoundProgram bytes tree → CheckComes content verdict → IsDoneWith (counts_line tree) verdict
 done_check one content bytes tree verdict held within sound comes =
-    done_next (counts_line tree) verdict (to_next one ToCheck [] Counted content bytes tree verdict held within sound comes)
+    done_next (counts_line tree) verdict (to_next one [] Counted content bytes tree verdict held within sound comes)
 
 -- ---- there is a verdict
 
-pub check_verdict : (content : Content) (bytes : List ℕ) (tree : ProgramTree) → MayBe content bytes → length bytes ≤ program_limit → IsSoundProgram ToCheck bytes tree → (verdict : Verdict) × CheckComes content verdict × MayBeDone verdict
+pub check_verdict : (content : Content) (bytes : List ℕ) (tree : ProgramTree) → MayBe content bytes → length bytes ≤ program_limit → IsSoundProgram bytes tree → (verdict : Verdict) × CheckComes content verdict × MayBeDone verdict
 check_verdict content bytes tree held within sound =
-    program_comes ToCheck [] Counted content bytes tree held within sound (Done (counts_line tree) [], refl, tt)
+    program_comes [] Counted content bytes tree held within sound (Done (counts_line tree) [], refl, tt)
 
 pub some_counted : IsSomeReading → (program : Content) → ¬ IsNone (CheckComes program)
-some_counted always program none = some_program always ToCheck [] Counted program (λ bytes tree none. none (Done (counts_line tree) []) refl) none
+some_counted always program none = some_program always [] Counted program (λ bytes tree none. none (Done (counts_line tree) []) refl) none
 
 -- the read of a program may fail
 pub check_read : (content : Content) (verdict : Verdict) → CheckComes content verdict → MayBeRead input.Program verdict
-check_read content verdict comes = program_read ToCheck [] Counted content verdict (λ bytes tree is. rw is tt) comes
+check_read content verdict comes = program_read [] Counted content verdict (λ bytes tree is. rw is tt) comes
 
 pub check_files : (content : Content) (verdict : Verdict) → CheckComes content verdict → HasNoFiles verdict
-check_files content verdict comes = no_files ToCheck [] Counted content verdict (λ bytes tree is. rw is refl) comes
+check_files content verdict comes = no_files [] Counted content verdict (λ bytes tree is. rw is refl) comes
 
 -- ---- how many methods there are
 

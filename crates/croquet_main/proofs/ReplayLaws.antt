@@ -12,7 +12,7 @@ use Rattle.croquet_main.specs.declared.status.Fault.{Fault}
 use Rattle.croquet_main.specs.declared.status.Fault.TheVariants.{Usage, Program, Input, Read, Write, Sink, Memory}
 use Rattle.croquet_main.specs.declared.status.Input.{Input as InputName}
 use Rattle.croquet_main.specs.declared.status.Input.TheVariants as input
-use Rattle.croquet_main.specs.Verdict.{Verdict, ToRun, BadWords, Unreadable, BadProgram, BadInput, Unknown, Done, HasGoodWords, IsInputLog, LogComes, MayBeBad, MayBeDone, MayBeRead, OfLog, ReplayComes, log_limit, program_limit, replay_text}
+use Rattle.croquet_main.specs.Verdict.{Verdict, BadWords, Unreadable, BadProgram, BadInput, Unknown, Done, HasGoodWords, IsInputLog, LogComes, MayBeBad, MayBeDone, MayBeRead, OfLog, ReplayComes, log_limit, program_limit, replay_text}
 use Rattle.croquet_main.specs.Ends.{AskedFor, AskedTo, IsDoneWith, IsLonger, IsReadLog, LogEnd, ProgramEnd, IsSoundProgram, MayEnd, ReadEnd, WorkEnd}
 use Rattle.croquet_main.proofs.StampLaws.{grown-append}
 use Rattle.croquet_main.proofs.ProgramLaws.{Next, IsOneReading, IsSomeReading, HasNoFiles, IsNone, by_fault, end_program, no_files, program_comes, program_read, some_program, to_next}
@@ -25,11 +25,11 @@ AfterProgram name time log = λ bytes tree verdict. LogComes log (replay_text na
 
 -- the verdict is by the log, or the program is not told
 abbrev pub ComesAfter : List ℕ → ℕ → Content → List ℕ → ProgramTree → Verdict → Type 0
-ComesAfter name time log bytes tree verdict = (verdict ≡ Unknown (input.Program ∷ input.Log ∷ []) ToRun) ⊎ LogComes log (replay_text name time bytes tree) verdict
+ComesAfter name time log bytes tree verdict = (verdict ≡ Unknown (input.Program ∷ input.Log ∷ [])) ⊎ LogComes log (replay_text name time bytes tree) verdict
 
 -- where a program was read
-pub to_log : IsOneReading → (name : List ℕ) (time : ℕ) (content log : Content) (bytes : List ℕ) (tree : ProgramTree) (verdict : Verdict) → MayBe content bytes → length bytes ≤ program_limit → IsSoundProgram ToRun bytes tree → ReplayComes name time content log verdict → ComesAfter name time log bytes tree verdict
-to_log one name time content log bytes tree verdict held within sound comes = to_next one ToRun (input.Log ∷ []) (AfterProgram name time log) content bytes tree verdict held within sound comes
+pub to_log : IsOneReading → (name : List ℕ) (time : ℕ) (content log : Content) (bytes : List ℕ) (tree : ProgramTree) (verdict : Verdict) → MayBe content bytes → length bytes ≤ program_limit → IsSoundProgram bytes tree → ReplayComes name time content log verdict → ComesAfter name time log bytes tree verdict
+to_log one name time content log bytes tree verdict held within sound comes = to_next one (input.Log ∷ []) (AfterProgram name time log) content bytes tree verdict held within sound comes
 
 -- the read of a log may fail, where it comes to it
 log_read_any : (log : Content) (text : List Entry → List ℕ) (verdict : Verdict) (read : InputName) → LogComes log text verdict → MayBeRead read verdict
@@ -41,7 +41,7 @@ log_read_any (Known bytes) text verdict read (inr (none, is)) = rw is tt
 -- the read of a program may fail
 pub replay_read : (name : List ℕ) (time : ℕ) (content log : Content) (verdict : Verdict) → ReplayComes name time content log verdict → MayBeRead input.Program verdict
 replay_read name time content log verdict comes =
-    program_read ToRun (input.Log ∷ []) (AfterProgram name time log) content verdict (λ bytes tree after. log_read_any log (replay_text name time bytes tree) verdict input.Program after) comes
+    program_read (input.Log ∷ []) (AfterProgram name time log) content verdict (λ bytes tree after. log_read_any log (replay_text name time bytes tree) verdict input.Program after) comes
 
 pub log_read : (name : List ℕ) (time : ℕ) (log : Content) (bytes : List ℕ) (tree : ProgramTree) (verdict : Verdict) → ComesAfter name time log bytes tree verdict → MayBeRead input.Log verdict
 log_read name time log bytes tree verdict (inl is) = rw is tt
@@ -53,7 +53,7 @@ good_words read BadWords may = absurd may
 good_words read (Unreadable absent) may = tt
 good_words read (BadProgram line) may = tt
 good_words read (BadInput bad) may = tt
-good_words read (Unknown inputs purpose) may = tt
+good_words read (Unknown inputs) may = tt
 good_words read (Done text files) may = tt
 
 -- ---- the log
@@ -87,7 +87,7 @@ bad_log name time log bytes spelled tree verdict held none (inr comes) = bad_con
 
 -- a log that was read
 is_input : (bytes : List ℕ) (entries : List Entry) → length bytes ≤ log_limit → IsReadLog bytes entries → IsInputLog bytes entries
-is_input bytes entries within read = record { within = within; legal = read.legal; spelled = read.spelled; inputs = read.inputs }
+is_input bytes entries within read = record { within = within; legal = read.legal; spelled = read.spelled }
 
 done_bytes : (bytes : List ℕ) (entries : List Entry) (text : List Entry → List ℕ) (verdict : Verdict) → length bytes ≤ log_limit → IsReadLog bytes entries → OfLog bytes text verdict → IsDoneWith (text entries) verdict
 done_bytes bytes entries text verdict within read (inl (other, is_other, is)) = rw is (ap text (read.only other is_other.legal is_other.spelled), refl)
@@ -106,13 +106,13 @@ done_log name time log bytes spelled tree entries verdict held short read (inr c
 -- ---- there is a verdict where all was read
 
 log_comes : (log : Content) (spelled : List ℕ) (entries : List Entry) (text : List Entry → List ℕ) → MayBe log spelled → IsInputLog spelled entries → (verdict : Verdict) × LogComes log text verdict × MayBeDone verdict
-log_comes Untold spelled entries text held is_log = (Unknown (input.Log ∷ []) ToRun, refl, tt)
+log_comes Untold spelled entries text held is_log = (Unknown (input.Log ∷ []), refl, tt)
 log_comes Absent spelled entries text held is_log = absurd held
 log_comes (Known bytes) spelled entries text held is_log = (Done (text entries) [], inl (entries, rw held at is_log, refl), tt)
 
-pub some_verdict : (name : List ℕ) (time : ℕ) (content log : Content) (bytes spelled : List ℕ) (tree : ProgramTree) (entries : List Entry) → MayBe content bytes → length bytes ≤ program_limit → IsSoundProgram ToRun bytes tree → MayBe log spelled → length spelled ≤ log_limit → IsReadLog spelled entries → (verdict : Verdict) × ReplayComes name time content log verdict × MayBeDone verdict
+pub some_verdict : (name : List ℕ) (time : ℕ) (content log : Content) (bytes spelled : List ℕ) (tree : ProgramTree) (entries : List Entry) → MayBe content bytes → length bytes ≤ program_limit → IsSoundProgram bytes tree → MayBe log spelled → length spelled ≤ log_limit → IsReadLog spelled entries → (verdict : Verdict) × ReplayComes name time content log verdict × MayBeDone verdict
 some_verdict name time content log bytes spelled tree entries held within sound log_held short read =
-    program_comes ToRun (input.Log ∷ []) (AfterProgram name time log) content bytes tree held within sound
+    program_comes (input.Log ∷ []) (AfterProgram name time log) content bytes tree held within sound
     (log_comes log spelled entries (replay_text name time bytes tree) log_held (is_input spelled entries short read))
 
 -- ---- the calls that were made
@@ -176,9 +176,9 @@ pub asked_bad_log : {T : Type 0} (result : Result T Fault) (fault : Fault) (prog
 asked_bad_log {T = T} result fault program log bytes verdict old mid new given p0 p1 p2 =
     by_fault (λ r. AskedFor r verdict ((input.Program, program) ∷ (input.Log, log) ∷ []) [] old new ⊤) result fault given (asked_bad_log_err T fault program log bytes verdict old mid new p0 p1 p2)
 
-pub end_replay : {A : Type 0} (one : IsOneReading) (result : Result (String A) Fault) (fault : Fault) (name : List ℕ) (time : ℕ) (content log : Content) (bytes : List ℕ) (verdict : Verdict) → IsErrAnd result (λ found. found ≡ fault) → MayBe content bytes → length bytes ≤ program_limit → ProgramEnd ToRun (Err fault) bytes → ReplayComes name time content log verdict → WorkEnd result verdict
+pub end_replay : {A : Type 0} (one : IsOneReading) (result : Result (String A) Fault) (fault : Fault) (name : List ℕ) (time : ℕ) (content log : Content) (bytes : List ℕ) (verdict : Verdict) → IsErrAnd result (λ found. found ≡ fault) → MayBe content bytes → length bytes ≤ program_limit → ProgramEnd (Err fault) bytes → ReplayComes name time content log verdict → WorkEnd result verdict
 end_replay {A = A} one result fault name time content log bytes verdict given held within end comes =
-    end_program one result fault ToRun (input.Log ∷ []) (AfterProgram name time log) content bytes verdict given held within end comes
+    end_program one result fault (input.Log ∷ []) (AfterProgram name time log) content bytes verdict given held within end comes
 
 pub end_log : {A : Type 0} (result : Result (String A) Fault) (fault : Fault) (name : List ℕ) (time : ℕ) (log : Content) (bytes : List ℕ) (tree : ProgramTree) (verdict : Verdict) → IsErrAnd result (λ found. found ≡ fault) → ReadEnd log log_limit input.Log (Err fault) → ComesAfter name time log bytes tree verdict → WorkEnd result verdict
 end_log {A = A} result fault name time log bytes tree verdict given p0 p1 =
@@ -209,7 +209,7 @@ no_files_log (Known bytes) text verdict (inr (none, is)) = rw is tt
 
 pub replay_files : (name : List ℕ) (time : ℕ) (content log : Content) (verdict : Verdict) → ReplayComes name time content log verdict → HasNoFiles verdict
 replay_files name time content log verdict comes =
-    no_files ToRun (input.Log ∷ []) (AfterProgram name time log) content verdict (λ bytes tree after. no_files_log log (replay_text name time bytes tree) verdict after) comes
+    no_files (input.Log ∷ []) (AfterProgram name time log) content verdict (λ bytes tree after. no_files_log log (replay_text name time bytes tree) verdict after) comes
 
 -- ---- there is always a verdict
 
@@ -217,10 +217,10 @@ some_of_log : (bytes : List ℕ) (text : List Entry → List ℕ) → ¬ IsNone 
 some_of_log bytes text none = none (BadInput input.Log) (inr ((λ log is_log. none (Done (text log) []) (inl (log, is_log, refl))), refl))
 
 some_log : (log : Content) (text : List Entry → List ℕ) → ¬ IsNone (LogComes log text)
-some_log Untold text none = none (Unknown (input.Log ∷ []) ToRun) refl
+some_log Untold text none = none (Unknown (input.Log ∷ [])) refl
 some_log Absent text none = none (Unreadable input.Log) refl
 some_log (Known bytes) text none = some_of_log bytes text none
 
 pub some_replay : IsSomeReading → (name : List ℕ) (time : ℕ) (program log : Content) → ¬ IsNone (ReplayComes name time program log)
 some_replay always name time program log none =
-    some_program always ToRun (input.Log ∷ []) (AfterProgram name time log) program (λ bytes tree. some_log log (replay_text name time bytes tree)) none
+    some_program always (input.Log ∷ []) (AfterProgram name time log) program (λ bytes tree. some_log log (replay_text name time bytes tree)) none

@@ -86,7 +86,7 @@ not_both_words BadWords bad good = absurd good
 not_both_words (Unreadable absent) bad good = absurd bad
 not_both_words (BadProgram line) bad good = absurd bad
 not_both_words (BadInput input) bad good = absurd bad
-not_both_words (Unknown inputs purpose) bad good = absurd bad
+not_both_words (Unknown inputs) bad good = absurd bad
 not_both_words (Done text files) bad good = absurd bad
 
 -- the words are bad only where there is no command

@@ -20,7 +20,7 @@ OfText-all BadWords fact all = all []
 OfText-all (Unreadable absent) fact all = all []
 OfText-all (BadProgram line) fact all = all []
 OfText-all (BadInput input) fact all = all []
-OfText-all (Unknown inputs purpose) fact all = tt
+OfText-all (Unknown inputs) fact all = tt
 OfText-all (Done text files) fact all = all text
 
 -- so is one that follows from another
@@ -29,7 +29,7 @@ OfText-map BadWords P Q f p = f [] p
 OfText-map (Unreadable absent) P Q f p = f [] p
 OfText-map (BadProgram line) P Q f p = f [] p
 OfText-map (BadInput input) P Q f p = f [] p
-OfText-map (Unknown inputs purpose) P Q f p = tt
+OfText-map (Unknown inputs) P Q f p = tt
 OfText-map (Done text files) P Q f p = f text p
 
 pub GrowsWithin-nothing : (told : Option (List ℕ)) (text : List ℕ) → GrowsWithin told told text
@@ -142,7 +142,7 @@ not_both BadWords done not_done = absurd done
 not_both (Unreadable absent) done not_done = absurd done
 not_both (BadProgram line) done not_done = absurd done
 not_both (BadInput input) done not_done = absurd done
-not_both (Unknown inputs purpose) done not_done = absurd not_done
+not_both (Unknown inputs) done not_done = absurd not_done
 not_both (Done text files) done not_done = absurd not_done
 
 -- what the files hold where a run ended by a fault that was told

@@ -1,5 +1,5 @@
 -- Entries of a log, one after the other.
-use Rattle.std.proofs.Common.{◌≡◌, ℕ, ◌+◌, ◌-◌, Bool, true, false, cond, List, ◌∷◌, drop, slice_get, Some, refl, sym, ap, subst, ◌∙◌, arith}
+use Rattle.std.proofs.Common.{◌≡◌, ℕ, ◌+◌, ◌-◌, List, ◌∷◌, drop, slice_get, Some, sym, ap, subst, ◌∙◌, arith}
 use Rattle.std.proofs.lemmas.Option.{slice_get_within, get_or_from_slice_get}
 use Rattle.std.proofs.lemmas.List.{drop_more}
 use Rattle.std.specs.Prelude.{nat_le, if◌then◌else◌}
@@ -7,7 +7,6 @@ use Rattle.tea_base.specs.declared.entry.Entry.{Entry}
 use Rattle.model_lang.specs.declared.tree.Class.{Class}
 use Rattle.model_lang.specs.TreeView.{program_tree}
 use Rattle.world.specs.Worlds.{Scene, external, replayed}
-use Rattle.croquet_main.specs.Verdict.{is_event, has_event}
 
 here : (entries : List Entry) (i : ℕ) (entry : Entry) → slice_get entries i ≡ Some entry → drop i entries ≡ entry ∷ drop (i + 1) entries
 here entries i entry got =
@@ -19,28 +18,6 @@ at_place entries i entry got = subst (λ (k : ℕ). slice_get entries k ≡ Some
 -- the entries from this one on
 pub drop_entry : (entries : List Entry) (i : ℕ) (entry : Entry) → slice_get entries (i + 1 - 1) ≡ Some entry → drop i entries ≡ entry ∷ drop (i + 1) entries
 drop_entry entries i entry got = here entries i entry (at_place entries i entry got)
-
-if_event : (b : Bool) (rest : Bool) → b ≡ true → cond b true rest ≡ true
-if_event true rest is = refl
-if_event false rest is = absurd cc
-
-if_none : (b : Bool) (rest : Bool) → b ≡ false → cond b true rest ≡ rest
-if_none true rest is = absurd cc
-if_none false rest is = refl
-
-pub event_here : (entries : List Entry) (i : ℕ) (entry : Entry) → slice_get entries (i + 1 - 1) ≡ Some entry → is_event entry.what ≡ true → has_event (drop i entries) ≡ true
-event_here entries i entry got is = ap has_event (drop_entry entries i entry got) ∙ if_event (is_event entry.what) _ is
-
-pub event_later : (entries : List Entry) (i : ℕ) (entry : Entry) → slice_get entries (i + 1 - 1) ≡ Some entry → is_event entry.what ≡ false → has_event (drop i entries) ≡ has_event (drop (i + 1) entries)
-event_later entries i entry got is = ap has_event (drop_entry entries i entry got) ∙ if_none (is_event entry.what) _ is
-
-both : (b : Bool) (rest : Bool) → cond b true rest ≡ false → b ≡ false
-both true rest is = absurd cc
-both false rest is = refl
-
--- where no Event is left, this is none
-pub no_event_here : (entries : List Entry) (i : ℕ) (entry : Entry) → slice_get entries (i + 1 - 1) ≡ Some entry → has_event (drop i entries) ≡ false → is_event entry.what ≡ false
-no_event_here entries i entry got none = both (is_event entry.what) (has_event (drop (i + 1) entries)) (sym (ap has_event (drop_entry entries i entry got)) ∙ none)
 
 -- the entries behind one that was handled lead to the same world
 pub led_on : (first now : List Class) (time : ℕ) (entries : List Entry) (i : ℕ) (entry : Entry) (scene after last : Scene) → slice_get entries (i + 1 - 1) ≡ Some entry → now ≡ first → after ≡ (if nat_le entry.time time then external (program_tree now) entry scene else scene) → replayed (program_tree first) time (drop i entries) scene ≡ last → replayed (program_tree first) time (drop (i + 1) entries) after ≡ last

@@ -1,5 +1,5 @@
 -- How the parts of a run end.
-use Rattle.std.specs.Prelude.{◌≡◌, ◌≢◌, ◌⊎◌, ℕ, ⊤, ◌≤◌, ◌<◌, ◌++◌, false, List, [], length, Option, Some, None, Result, Ok, Err, String, string_bytes}
+use Rattle.std.specs.Prelude.{◌≡◌, ◌≢◌, ◌⊎◌, ℕ, ⊤, ◌≤◌, ◌<◌, ◌++◌, List, [], length, Option, Some, None, Result, Ok, Err, String, string_bytes}
 use Rattle.tea_io.specs.Files.{Content, Untold, Absent, Known, MayBe}
 use Rattle.tea_io.specs.Told.{grown}
 use Rattle.tea_io.specs.Sink.{GrowsWithin}
@@ -28,7 +28,7 @@ use Rattle.croquet_main.specs.declared.status.Status.{Status}
 use Rattle.croquet_main.specs.declared.status.Status.TheVariants.{WriteFault, WantOfMemory}
 use Rattle.croquet_main.specs.declared.status.Status.TheVariants as status
 use Rattle.croquet_main.specs.declared.status.Input.TheVariants as input_name
-use Rattle.croquet_main.specs.Verdict.{Verdict, Purpose, Serves, IsRefused, BadWords, Unreadable, BadProgram, BadInput, Unknown, Done, MayBeRefused, MayBeRead, IsInputLog, has_event, reads_in, reads_to, MayBeDone, MayBeBad, HasBadWords, HasGoodWords, AreKept, IsNonEmpty, IsNotDone, OfText, PutsFiles, usage_line, input_line, read_line, write_line, memory_line}
+use Rattle.croquet_main.specs.Verdict.{Verdict, IsRefused, BadWords, Unreadable, BadProgram, BadInput, Unknown, Done, MayBeRefused, MayBeRead, IsInputLog, reads_in, reads_to, MayBeDone, MayBeBad, HasBadWords, HasGoodWords, AreKept, IsNonEmpty, IsNotDone, OfText, PutsFiles, usage_line, input_line, read_line, write_line, memory_line}
 
 -- what stands there is longer
 abbrev pub IsLonger : Content → ℕ → Type 0
@@ -169,11 +169,10 @@ IsTold Write result old new rose = Tells write_line WriteFault result old new ro
 IsTold Sink result old new rose = (result ≡ WriteFault) × (new ≡ old)
 IsTold Memory result old new rose = Tells memory_line WantOfMemory result old new rose
 
--- the bytes of a program are read as this tree, in which a check finds no fault, and which serves
-pub record IsSoundProgram (purpose : Purpose) (bytes : List ℕ) (tree : ProgramTree) : Type 0 where
+-- the bytes of a program are read as this tree, in which a check finds no fault
+pub record IsSoundProgram (bytes : List ℕ) (tree : ProgramTree) : Type 0 where
   pub read : IsRead bytes tree
   pub sound : first_fault tree ≡ None
-  pub serves : Serves purpose tree
 
 -- how a text is told that is not read
 abbrev pub IsUnread : LangFault → Fault → Type 0
@@ -186,22 +185,21 @@ abbrev pub IsUnsound : CheckFault → Fault → Type 0
 IsUnsound fault told = (fault ≢ check.WantOfMemory) × (told ≡ Program (check_line fault))
 
 -- how the reading of a program ends
-abbrev pub ProgramEnd : Purpose → Result (List Class) Fault → List ℕ → Type 0
-ProgramEnd purpose (Ok program) bytes = IsSoundProgram purpose bytes (program_tree program)
-ProgramEnd purpose (Err Usage) bytes = ⊥
-ProgramEnd purpose (Err (Program line)) bytes = IsRefused purpose bytes line
-ProgramEnd purpose (Err (Input input)) bytes = ⊥
-ProgramEnd purpose (Err Read) bytes = ⊥
-ProgramEnd purpose (Err Write) bytes = ⊥
-ProgramEnd purpose (Err Sink) bytes = ⊥
-ProgramEnd purpose (Err Memory) bytes = ⊤
+abbrev pub ProgramEnd : Result (List Class) Fault → List ℕ → Type 0
+ProgramEnd (Ok program) bytes = IsSoundProgram bytes (program_tree program)
+ProgramEnd (Err Usage) bytes = ⊥
+ProgramEnd (Err (Program line)) bytes = IsRefused bytes line
+ProgramEnd (Err (Input input)) bytes = ⊥
+ProgramEnd (Err Read) bytes = ⊥
+ProgramEnd (Err Write) bytes = ⊥
+ProgramEnd (Err Sink) bytes = ⊥
+ProgramEnd (Err Memory) bytes = ⊤
 
--- these bytes are the spelling of this legal log alone, and it has no Event
+-- these bytes are the spelling of this legal log alone
 pub record IsReadLog (bytes : List ℕ) (log : List Entry) : Type 0 where
   pub legal : IsLegal log
   pub spelled : bytes ≡ log_spelling log
   pub only : (other : List Entry) → IsLegal other → bytes ≡ log_spelling other → log ≡ other
-  pub inputs : has_event log ≡ false
 
 -- how the reading of a log ends
 abbrev pub LogEnd : Result LogState Fault → List ℕ → Type 0
@@ -220,7 +218,7 @@ IsDoneWith text BadWords = ⊥
 IsDoneWith text (Unreadable absent) = ⊥
 IsDoneWith text (BadProgram refusal) = ⊥
 IsDoneWith text (BadInput bad) = ⊥
-IsDoneWith text (Unknown inputs purpose) = ⊤
+IsDoneWith text (Unknown inputs) = ⊤
 IsDoneWith text (Done meant files) = (text ≡ meant) × (files ≡ [])
 
 -- how the reads and the work of a command end that writes no file

@@ -113,10 +113,6 @@ too_large_line what count = numbered (bound_word what) (count ∷ []) ++ codes "
 abbrev pub named_line : List ℕ → List ℕ → List ℕ
 named_line word name = word ++ encode_utf8_all name ++ codes "\n"
 
--- the program has a form whose meaning is not there yet
-abbrev pub not_built_line : List ℕ
-not_built_line = codes "not-built\n"
-
 -- the line of a fault that a check finds: what it is, and the name at which it stands
 abbrev pub check_line : CheckFault → List ℕ
 check_line (Twice name) = named_line (codes "twice ") name

@@ -16,9 +16,7 @@ use Rattle.croquet_main.specs.declared.status.Input.TheVariants.{Script, Program
 use Rattle.croquet_main.specs.declared.status.Status.{Status}
 use Rattle.croquet_main.specs.declared.status.Status.TheVariants as status
 use Rattle.croquet_main.specs.Script.{script_of}
-use Rattle.croquet_main.specs.PrintedText.{text_of, counts_line, world_line, syntax_line, too_large_line, not_built_line, check_line}
-use Rattle.tea_base.specs.declared.entry.What.{What}
-use Rattle.tea_base.specs.declared.entry.What.TheVariants.{Join, Exit, Event}
+use Rattle.croquet_main.specs.PrintedText.{text_of, counts_line, world_line, syntax_line, too_large_line, check_line}
 use Rattle.tea_base.specs.Legal.{IsLegal}
 use Rattle.sha2.specs.Sha256.{sha256}
 use Rattle.model_value.specs.Spelling.{text_field}
@@ -26,19 +24,8 @@ use Rattle.model_lang.specs.Tree.{ProgramTree}
 use Rattle.model_lang.specs.declared.fault.Bound.{Bound}
 use Rattle.model_lang.specs.Program.{IsRead, IsNoProgram, IsTooLarge, Reading, a_program, no_program, too_large, IsReading}
 use Rattle.model_check.specs.declared.fault.CheckFault.{CheckFault}
-use Rattle.model_check.specs.BuiltForms.{IsBuilt}
 use Rattle.model_check.specs.Faults.{first_fault}
 use Rattle.world.specs.Worlds.{replay}
-
--- what a program is read for
-pub data Purpose : Type 0 where
-  ToCheck : Purpose
-  ToRun : Purpose
-
--- it serves: to be checked, whatever its forms are; to be run, where the meaning of each is there
-abbrev pub Serves : Purpose → ProgramTree → Type 0
-Serves ToCheck tree = ⊤
-Serves ToRun tree = IsBuilt tree
 
 -- why a program is refused
 pub data Refusal : Type 0 where
@@ -46,14 +33,12 @@ pub data Refusal : Type 0 where
   NoProgram : ℕ → Refusal
   TooLarge : Bound → ℕ → Refusal
   Faulty : CheckFault → Refusal
-  NotBuilt : Refusal
 
 -- the line that tells it; of a text that is no program it tells a place in it, or its end
 abbrev pub IsLineOf : Refusal → List ℕ → Type 0
 IsLineOf (NoProgram most) line = (at : ℕ) × (at ≤ most) × (line ≡ syntax_line at)
 IsLineOf (TooLarge what count) line = line ≡ too_large_line what count
 IsLineOf (Faulty fault) line = line ≡ check_line fault
-IsLineOf NotBuilt line = line ≡ not_built_line
 
 -- what a run comes to where nothing of the outside fails
 pub data Verdict : Type 0 where
@@ -65,8 +50,8 @@ pub data Verdict : Type 0 where
   BadProgram : Refusal → Verdict
   -- this input is not in its grammar, or above its limit
   BadInput : Input → Verdict
-  -- the files do not tell; one of these inputs may be bad, and a program among them is read for this
-  Unknown : List Input → Purpose → Verdict
+  -- the files do not tell; one of these inputs may be bad, and a program among them
+  Unknown : List Input → Verdict
   -- the command writes this text, and these files by their names
   Done : List ℕ → List (List ℕ × List ℕ) → Verdict
 
@@ -96,7 +81,7 @@ replied log None = BadInput Script
 replied log (Some requests) = Done (stamped_text requests) (stamped_files log requests)
 
 abbrev pub stamp_verdict : Option (List ℕ) → Content → Verdict
-stamp_verdict log Untold = Unknown (Script ∷ []) ToRun
+stamp_verdict log Untold = Unknown (Script ∷ [])
 stamp_verdict log Absent = Unreadable Script
 stamp_verdict log (Known bytes) = replied log (requests_in bytes)
 
@@ -107,34 +92,24 @@ program_limit = 65536
 abbrev pub log_limit : ℕ
 log_limit = 134217728
 
-abbrev pub is_event : What → Bool
-is_event Join = false
-is_event Exit = false
-is_event (Event number payload) = true
-
-abbrev pub has_event : List Entry → Bool
-has_event [] = false
-has_event (entry ∷ entries) = if is_event entry.what then true else has_event entries
-
--- these bytes are the spelling of this log, which has no Event
+-- these bytes are the spelling of this legal log
 pub record IsInputLog (bytes : List ℕ) (log : List Entry) : Type 0 where
   pub within : length bytes ≤ log_limit
   pub legal : IsLegal log
   pub spelled : bytes ≡ log_spelling log
-  pub inputs : has_event log ≡ false
 
 -- the line of the world at a time, of the session of this name and this program's text, whose log this is
 abbrev pub replay_text : List ℕ → ℕ → List ℕ → ProgramTree → List Entry → List ℕ
 replay_text name time text tree log = world_line (replay tree (sha256 (text_field name ++ text)) log time).world
 
--- what comes of a log's bytes, where its entries make this text: they spell one without Events, or they do not
+-- what comes of a log's bytes, where its entries make this text: they spell one, or they do not
 abbrev pub OfLog : List ℕ → (List Entry → List ℕ) → Verdict → Type 0
 OfLog bytes text verdict =
     ((log : List Entry) × IsInputLog bytes log × (verdict ≡ Done (text log) []))
     ⊎ (((log : List Entry) → ¬ IsInputLog bytes log) × (verdict ≡ BadInput Log))
 
 abbrev pub LogComes : Content → (List Entry → List ℕ) → Verdict → Type 0
-LogComes Untold text verdict = verdict ≡ Unknown (Log ∷ []) ToRun
+LogComes Untold text verdict = verdict ≡ Unknown (Log ∷ [])
 LogComes Absent text verdict = verdict ≡ Unreadable Log
 LogComes (Known bytes) text verdict = OfLog bytes text verdict
 
@@ -143,40 +118,32 @@ abbrev pub OfCheck : Option CheckFault → Type 0 → Verdict → Type 0
 OfCheck None next verdict = next
 OfCheck (Some fault) next verdict = verdict ≡ BadProgram (Faulty fault)
 
--- a program without faults that does not serve is told; else it is what follows
-abbrev pub OfForms : Purpose → ProgramTree → Type 0 → Verdict → Type 0
-OfForms purpose tree next verdict = (Serves purpose tree × next) ⊎ ((¬ Serves purpose tree) × (verdict ≡ BadProgram NotBuilt))
-
--- a program is checked, and then its forms are looked at
-abbrev pub OfTree : Purpose → ProgramTree → Type 0 → Verdict → Type 0
-OfTree purpose tree next verdict = OfCheck (first_fault tree) (OfForms purpose tree next verdict) verdict
-
-abbrev pub OfReading : Purpose → ℕ → Reading → (ProgramTree → Type 0) → Verdict → Type 0
-OfReading purpose most (a_program tree) next verdict = OfTree purpose tree (next tree) verdict
-OfReading purpose most no_program next verdict = verdict ≡ BadProgram (NoProgram most)
-OfReading purpose most (too_large what count) next verdict = verdict ≡ BadProgram (TooLarge what count)
+abbrev pub OfReading : ℕ → Reading → (ProgramTree → Type 0) → Verdict → Type 0
+OfReading most (a_program tree) next verdict = OfCheck (first_fault tree) (next tree) verdict
+OfReading most no_program next verdict = verdict ≡ BadProgram (NoProgram most)
+OfReading most (too_large what count) next verdict = verdict ≡ BadProgram (TooLarge what count)
 
 -- what comes of a program's bytes: they are above the file's limit, or they are read
-abbrev pub OfProgram : Purpose → List ℕ → (ProgramTree → Type 0) → Verdict → Type 0
-OfProgram purpose bytes next verdict =
+abbrev pub OfProgram : List ℕ → (ProgramTree → Type 0) → Verdict → Type 0
+OfProgram bytes next verdict =
     ((program_limit < length bytes) × (verdict ≡ BadInput Program))
-    ⊎ ((length bytes ≤ program_limit) × ((reading : Reading) × IsReading bytes reading × OfReading purpose (length bytes) reading next verdict))
+    ⊎ ((length bytes ≤ program_limit) × ((reading : Reading) × IsReading bytes reading × OfReading (length bytes) reading next verdict))
 
--- What comes of a command that reads a program for this, and then other inputs: where its bytes are a program that serves, what
--- is `next`.
-abbrev pub ProgramComes : Purpose → List Input → (List ℕ → ProgramTree → Verdict → Type 0) → Content → Verdict → Type 0
-ProgramComes purpose others next Untold verdict = verdict ≡ Unknown (Program ∷ others) purpose
-ProgramComes purpose others next Absent verdict = verdict ≡ Unreadable Program
-ProgramComes purpose others next (Known bytes) verdict = OfProgram purpose bytes (λ tree. next bytes tree verdict) verdict
+-- What comes of a command that reads a program, and then other inputs: where its bytes are a program without faults, what is
+-- `next`.
+abbrev pub ProgramComes : List Input → (List ℕ → ProgramTree → Verdict → Type 0) → Content → Verdict → Type 0
+ProgramComes others next Untold verdict = verdict ≡ Unknown (Program ∷ others)
+ProgramComes others next Absent verdict = verdict ≡ Unreadable Program
+ProgramComes others next (Known bytes) verdict = OfProgram bytes (λ tree. next bytes tree verdict) verdict
 
 -- a program without faults is counted
 abbrev pub CheckComes : Content → Verdict → Type 0
-CheckComes program verdict = ProgramComes ToCheck [] (λ bytes tree checked. checked ≡ Done (counts_line tree) []) program verdict
+CheckComes program verdict = ProgramComes [] (λ bytes tree checked. checked ≡ Done (counts_line tree) []) program verdict
 
 -- a program is run over the log that is read behind it
 abbrev pub ReplayComes : List ℕ → ℕ → Content → Content → Verdict → Type 0
 ReplayComes name time program log verdict =
-    ProgramComes ToRun (Log ∷ []) (λ bytes tree replayed. LogComes log (replay_text name time bytes tree) replayed) program verdict
+    ProgramComes (Log ∷ []) (λ bytes tree replayed. LogComes log (replay_text name time bytes tree) replayed) program verdict
 
 -- What a run comes to: one row for each command. It is one verdict, but whether bytes are read as a program is no test, so
 -- this is a relation.
@@ -245,23 +212,22 @@ HasItsEvents (Some requests) = TellsItsEvents requests (replies_from first reque
 
 abbrev pub MayBeDone : Verdict → Type 0
 MayBeDone (Done text files) = ⊤
-MayBeDone (Unknown inputs purpose) = ⊤
+MayBeDone (Unknown inputs) = ⊤
 MayBeDone verdict = ⊥
 
 -- these bytes are refused for this
-abbrev pub IsRefusedFor : Purpose → List ℕ → Refusal → Type 0
-IsRefusedFor purpose bytes (NoProgram most) = (most ≡ length bytes) × IsNoProgram bytes
-IsRefusedFor purpose bytes (TooLarge what count) = IsTooLarge what count bytes
-IsRefusedFor purpose bytes (Faulty fault) = (tree : ProgramTree) × IsRead bytes tree × (first_fault tree ≡ Some fault)
-IsRefusedFor purpose bytes NotBuilt = (tree : ProgramTree) × IsRead bytes tree × (first_fault tree ≡ None) × ¬ Serves purpose tree
+abbrev pub IsRefusedFor : List ℕ → Refusal → Type 0
+IsRefusedFor bytes (NoProgram most) = (most ≡ length bytes) × IsNoProgram bytes
+IsRefusedFor bytes (TooLarge what count) = IsTooLarge what count bytes
+IsRefusedFor bytes (Faulty fault) = (tree : ProgramTree) × IsRead bytes tree × (first_fault tree ≡ Some fault)
 
 -- these bytes are refused, and this is the line of it
-abbrev pub IsRefused : Purpose → List ℕ → List ℕ → Type 0
-IsRefused purpose bytes line = (refusal : Refusal) × IsRefusedFor purpose bytes refusal × IsLineOf refusal line
+abbrev pub IsRefused : List ℕ → List ℕ → Type 0
+IsRefused bytes line = (refusal : Refusal) × IsRefusedFor bytes refusal × IsLineOf refusal line
 
 -- the line of some bytes that are refused as a program
-abbrev pub IsProgramLine : Purpose → List ℕ → Type 0
-IsProgramLine purpose line = (bytes : List ℕ) × (length bytes ≤ program_limit) × IsRefused purpose bytes line
+abbrev pub IsProgramLine : List ℕ → Type 0
+IsProgramLine line = (bytes : List ℕ) × (length bytes ≤ program_limit) × IsRefused bytes line
 
 abbrev pub HasBadWords : Verdict → Type 0
 HasBadWords BadWords = ⊤
@@ -277,7 +243,7 @@ MayBeBad input BadWords = ⊥
 MayBeBad input (Unreadable absent) = ⊥
 MayBeBad input (BadProgram refusal) = ⊥
 MayBeBad input (BadInput bad) = input ≡ bad
-MayBeBad input (Unknown inputs purpose) = Contains inputs input
+MayBeBad input (Unknown inputs) = Contains inputs input
 MayBeBad input (Done text files) = ⊥
 
 -- the program may be refused with this line
@@ -286,7 +252,7 @@ MayBeRefused line BadWords = ⊥
 MayBeRefused line (Unreadable absent) = ⊥
 MayBeRefused line (BadProgram refusal) = IsLineOf refusal line
 MayBeRefused line (BadInput bad) = ⊥
-MayBeRefused line (Unknown inputs purpose) = Contains inputs Program × IsProgramLine purpose line
+MayBeRefused line (Unknown inputs) = Contains inputs Program × IsProgramLine line
 MayBeRefused line (Done text files) = ⊥
 
 -- where a run stops at this input, the other was read no later
@@ -300,7 +266,7 @@ MayBeRead input BadWords = ⊥
 MayBeRead input (Unreadable absent) = IsReadBy absent input
 MayBeRead input (BadProgram refusal) = IsReadBy Program input
 MayBeRead input (BadInput bad) = IsReadBy bad input
-MayBeRead input (Unknown inputs purpose) = ⊤
+MayBeRead input (Unknown inputs) = ⊤
 MayBeRead input (Done text files) = ⊤
 
 -- each status, with the verdicts at which it may come
@@ -386,7 +352,7 @@ OfText BadWords fact = fact []
 OfText (Unreadable absent) fact = fact []
 OfText (BadProgram refusal) fact = fact []
 OfText (BadInput input) fact = fact []
-OfText (Unknown inputs purpose) fact = ⊤
+OfText (Unknown inputs) fact = ⊤
 OfText (Done text files) fact = fact text
 
 -- what is written, by the status
@@ -439,7 +405,7 @@ PutsFiles BadWords old new = ⊥
 PutsFiles (Unreadable absent) old new = ⊥
 PutsFiles (BadProgram refusal) old new = ⊥
 PutsFiles (BadInput input) old new = ⊥
-PutsFiles (Unknown inputs purpose) old new = ⊤
+PutsFiles (Unknown inputs) old new = ⊤
 PutsFiles (Done text files) old new = ArePut files old new
 
 -- no file of this name is written
@@ -457,7 +423,7 @@ IsNotDone BadWords = ⊤
 IsNotDone (Unreadable absent) = ⊤
 IsNotDone (BadProgram refusal) = ⊤
 IsNotDone (BadInput input) = ⊤
-IsNotDone (Unknown inputs purpose) = ⊥
+IsNotDone (Unknown inputs) = ⊥
 IsNotDone (Done text files) = ⊥
 
 -- What the files hold after a run, by the status. Where the output failed or memory was wanted, the files are put, or else no

@@ -2,7 +2,7 @@
 ghost use Rattle.std.specs.Prelude.{◌≡◌, [], ◌∷◌, ◌++◌, IfOk, codes};
 ghost use Rattle.text_lines.specs.Lines.{numbered};
 ghost use Rattle.croquet_main.specs.PrintedText.{bound_word, check_line, named_line};
-ghost use Rattle.croquet_main.specs.Verdict.{ToCheck, program_limit};
+ghost use Rattle.croquet_main.specs.Verdict.{program_limit};
 ghost use Rattle.croquet_main.specs.Ends.{IsUnread, IsUnsound, ProgramEnd};
 
 use crate::status::Fault;
@@ -82,7 +82,7 @@ fn unsound(alloc: Global, fault: CheckFault) -> Result<Fault, WantOfMemory>
 
 /// The program that a text spells, without faults.
 pub fn read_program(alloc: Global, text: &[u8]) -> Result<Checked, Fault>
-    ensures { ProgramEnd ToCheck result text.now }
+    ensures { ProgramEnd result text.now }
 {
     let program = match parse(alloc, text) {
         Ok(program) => program,

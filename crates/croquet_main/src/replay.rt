@@ -3,52 +3,37 @@ ghost use Rattle.std.specs.Prelude.{◌≡◌, ℕ, ◌≤◌, ◌<◌, List, []
 ghost use Rattle.tea_io.specs.Told.{grown, Rose};
 ghost use Rattle.croquet_main.specs.declared.status.Input.TheVariants as input;
 ghost use Rattle.croquet_main.specs.CommandWords.{most_name};
-ghost use Rattle.croquet_main.specs.Verdict.{Verdict, ToRun, program_limit, log_limit, AreKept, MayBeDone, OfText, ReplayComes};
+ghost use Rattle.croquet_main.specs.Verdict.{Verdict, program_limit, log_limit, AreKept, MayBeDone, OfText, ReplayComes};
 ghost use Rattle.croquet_main.specs.Ends.{AskedFor, IsReadingFault, LeavesBefore, LogEnd, MayEnd, ProgramEnd, WorkEnd, WritesBefore};
 ghost use Rattle.model_value.specs.Valid.{time_limit};
 
 use crate::calls::{print, read_input};
 use crate::program::{PROGRAM_LIMIT, read_program};
 use crate::status::{Fault, Input};
-use crate::world_run::{has_event, replayed};
-use model_check::Checked;
+use crate::world_run::replayed;
 use model_lang::one_reading;
 use session_log::{Log, LogFault, decode};
 use snapshot_codec::session_id;
 use std::alloc::Global;
-use tea_base::{Blob, Text};
+use tea_base::Text;
 use tea_io::{Files, Sink};
-use world::built;
 
 /// The most bytes of a log.
 const LOG_LIMIT: u64 = 134217728;
 
-/// The program that a text spells, without faults, in forms whose meaning is there.
-fn read_built(alloc: Global, text: &[u8]) -> Result<Checked, Fault>
-    ensures { ProgramEnd ToRun result text.now }
-{
-    let program = read_program(alloc, text)?;
-    if built(&program) {
-        return Ok(program);
-    }
-    Err(Fault::Program {
-        line: Blob::copy(alloc, b"not-built\n")?,
-    })
-}
-
-/// The log that these bytes spell, without Events.
+/// The log that these bytes spell.
 fn read_log(alloc: Global, bytes: &[u8]) -> Result<Log, Fault>
     ensures { LogEnd result bytes.now }
 {
-    let log = match decode(alloc, bytes) {
-        Ok(log) => log,
-        Err(LogFault::BadLog) => return Err(Fault::Input(Input::Log)),
-        Err(LogFault::WantOfMemory) => return Err(Fault::Memory),
-    };
-    if has_event(&log)? {
-        return Err(Fault::Input(Input::Log));
+    match decode(alloc, bytes) {
+        Ok(log) => {
+            // What it holds is a log, by its rules.
+            let _entries = log.len();
+            Ok(log)
+        }
+        Err(LogFault::BadLog) => Err(Fault::Input(Input::Log)),
+        Err(LogFault::WantOfMemory) => Err(Fault::Memory),
     }
-    Ok(log)
 }
 
 /// The line of the world at a time, of the session of this name, whose program and log these files hold.
@@ -76,7 +61,7 @@ fn work<F: Files>(
     // Of a text that is read as this program, or refused, nothing else comes.
     one_reading();
     let text = read_input(files, program, PROGRAM_LIMIT, Input::Program)?;
-    let program = read_built(alloc, text.bytes())?;
+    let program = read_program(alloc, text.bytes())?;
     let spelled = read_input(files, log, LOG_LIMIT, Input::Log)?;
     let log = read_log(alloc, spelled.bytes())?;
     let id = session_id(name, text.bytes());

@@ -541,6 +541,79 @@ fn worlds_are_printed(rt: HostRuntime) -> Result<(), Fail> {
     Ok(())
 }
 
+/// A log with a Join of view 7 at time 1, two events that are none at 2 and 101, a Join at 200 and an Exit at 201.
+const UNREADABLE: &[u8] = b"TEALOG01\x00\x00\x00\x05\
+    \x00\x00\x00\x00\x00\x00\x00\x01\x00\x00\x00\x07\x01\
+    \x00\x00\x00\x00\x00\x00\x00\x02\x00\x00\x00\x07\x03\x00\x00\x00\x01\x00\x00\x00\x02hi\
+    \x00\x00\x00\x00\x00\x00\x00\x65\x00\x00\x00\x07\x03\x00\x00\x00\x02\x00\x00\x00\x01\x00\
+    \x00\x00\x00\x00\x00\x00\x00\xc8\x00\x00\x00\x07\x01\
+    \x00\x00\x00\x00\x00\x00\x00\xc9\x00\x00\x00\x07\x02";
+
+/// A log with a Join of view 7 at time 1, and at 2,500,000 the event `reset` in the scope `counter` of nil.
+const RESET: &[u8] = b"TEALOG01\x00\x00\x00\x02\
+    \x00\x00\x00\x00\x00\x00\x00\x01\x00\x00\x00\x07\x01\
+    \x00\x00\x00\x00\x00\x26\x25\xa0\x00\x00\x00\x07\x03\x00\x00\x00\x01\x00\x00\x00\x15\
+    \x00\x00\x00\x07counter\x00\x00\x00\x05reset\x00";
+
+#[test]
+fn the_entries_of_a_log_are_handled(rt: HostRuntime) -> Result<(), Fail> {
+    for (program, log, name, time, text) in [
+        (
+            SMALL,
+            UNREADABLE,
+            "a",
+            "101",
+            "time 101 objects 1 pending 0 subscriptions 0 faults 2 digest 838ace9bf0ac648eac82fb603408868e4d8bf7561603b6884de19c6145f6a401\n",
+        ),
+        (
+            SMALL,
+            UNREADABLE,
+            "a",
+            "201",
+            "time 201 objects 1 pending 0 subscriptions 0 faults 2 digest ae237c12ccdcd94c9fd0abc8dae68838a7bc187ada01d0e9491b40c7802f5bec\n",
+        ),
+        (
+            COUNTER,
+            RESET,
+            "n",
+            "0",
+            "time 0 objects 1 pending 1 subscriptions 1 faults 0 digest 014c4e5a8510afe2c5c005f44f86e8f027252f367d618f4ce9d022307a0025b1\n",
+        ),
+        (
+            COUNTER,
+            RESET,
+            "n",
+            "2500000",
+            "time 2500000 objects 1 pending 1 subscriptions 1 faults 0 digest 2e813ae6d6f2d9bc5c29846249a7b184b5cac3c706d9345a341268c0ee4b88af\n",
+        ),
+        (
+            COUNTER,
+            RESET,
+            "n",
+            "3000000",
+            "time 3000000 objects 1 pending 1 subscriptions 1 faults 0 digest 113de60ebac430cf7364760ffec58d4c703454ccc9bc83905abca344c0ddb01c\n",
+        ),
+        (
+            COUNTER,
+            RESET,
+            "n",
+            "4000000",
+            "time 4000000 objects 1 pending 1 subscriptions 1 faults 0 digest 3963205d743fdefdeb8e2185c89845663a52076db3a7e9cc1d3cd34107ef770d\n",
+        ),
+    ] {
+        let (status, written) = replayed(
+            rt.alloc(),
+            program.as_bytes(),
+            log,
+            (name, time),
+            (0, 0),
+        )?;
+        assert_eq!(rt; written.as_str(), text, "at {time} of {program}");
+        assert_eq!(rt; status, Status::Ok);
+    }
+    Ok(())
+}
+
 #[test]
 fn a_message_may_send_thousands(rt: HostRuntime) -> Result<(), Fail> {
     // An interpreter takes minutes for it.
@@ -569,14 +642,8 @@ fn a_program_may_be_refused(rt: HostRuntime) -> Result<(), Fail> {
         ("class Root{m(){a&b;}}", "syntax 17\n"),
         ("class Root{m(){return 1 2;}}", "syntax 24\n"),
         ("class A{}", "no-root\n"),
-        ("class Root{m(){views();}}", "not-built\n"),
-        (
-            "class Root{}class A{m(){return viewCount();}}",
-            "not-built\n",
-        ),
         ("class Root{m(){cancel(1);this.x=1;}}", "no-field x\n"),
-        ("class Root{m(){this.x=1;publish(1,2,3);}}", "no-field x\n"),
-        ("class A{m(){views();}}", "no-root\n"),
+        ("class Root{m(){publish(1,2);}}", "count publish\n"),
         (
             "class Root{m(){(((((((((((((((((((((((((((((((1",
             "too-large brackets 33\n",
@@ -610,13 +677,6 @@ fn what_a_replay_reads_may_be_at_fault(rt: HostRuntime) -> Result<(), Fail> {
             (3, 0),
             Status::Input,
             "input program\n",
-        ),
-        (
-            SMALL.as_bytes(),
-            WITH_EVENT,
-            (0, 0),
-            Status::Input,
-            "input log\n",
         ),
         (
             SMALL.as_bytes(),

@@ -1,54 +1,23 @@
 //! A world that goes on over the entries of a log.
-ghost use Rattle.std.specs.Prelude.{◌≡◌, ◌<◌, ℕ, Bool, false, nat_le, if◌then◌else◌, string_bytes, IfOk, OnOk};
+ghost use Rattle.std.specs.Prelude.{◌≡◌, ◌<◌, nat_le, if◌then◌else◌, string_bytes, IfOk, OnOk};
 ghost use Rattle.std.specs.Arc.{arc_value};
-ghost use Rattle.tea_base.specs.Legal.{IsLegal};
 ghost use Rattle.model_value.specs.Valid.{time_limit};
 ghost use Rattle.model_lang.specs.TreeView.{program_tree};
-ghost use Rattle.model_check.specs.BuiltForms.{IsBuilt};
 ghost use Rattle.world.specs.Worlds.{external as entered_by, replayed, replay};
 ghost use Rattle.croquet_main.specs.PrintedText.{world_line};
-ghost use Rattle.croquet_main.specs.Verdict.{is_event, has_event};
 
 use crate::world_text::world_line;
 use model_check::Checked;
-use session_log::{GetRefusal, Log};
+use session_log::Log;
 use snapshot_codec::{digest, snapshot};
 use std::alloc::Global;
 use std::sync::Arc;
-use tea_base::{Entry, SessionId, WantOfMemory, What};
+use tea_base::{Entry, SessionId, WantOfMemory};
 use world::World;
-
-/// Whether an entry records an Event.
-fn is_event(what: &What) -> bool
-    ensures { result ≡ is_event what.now }
-{
-    match what {
-        What::Join => false,
-        What::Exit => false,
-        What::Event { .. } => true,
-    }
-}
-
-/// Whether a log has an Event.
-pub fn has_event(log: &Log) -> Result<bool, WantOfMemory>
-    ensures found { IfOk result (λ found. found ≡ has_event log.now.entries) }
-    ensures legal { IsLegal log.now.entries }
-{
-    for place in 0..log.len() {
-        let Ok(entry) = log.get(place + 1) else {
-            return Err(WantOfMemory);
-        };
-        if is_event(&entry.what) {
-            return Ok(true);
-        }
-    }
-    Ok(false)
-}
 
 /// Handles an entry, where its time is not above this one.
 fn handle(world: &mut World, entry: &Entry, time: u64) -> Result<(), WantOfMemory>
-    requires time { time < time_limit }
-    requires input { is_event entry.now.what ≡ false }
+    requires { time < time_limit }
     ensures { OnOk result (world.new ≡ record (world.old) {
       scene =
           if nat_le entry.now.time time then entered_by (program_tree world.old.program) entry.now world.old.scene else world.old.scene;
@@ -65,8 +34,7 @@ fn handle(world: &mut World, entry: &Entry, time: u64) -> Result<(), WantOfMemor
 
 /// Handles the entries that are not above a time, and advances to it.
 fn go_on(world: &mut World, log: &Log, time: u64) -> Result<(), WantOfMemory>
-    requires time { time < time_limit }
-    requires inputs { has_event log.now.entries ≡ false }
+    requires { time < time_limit }
     ensures { OnOk result (world.new ≡ record (world.old) {
       scene =
           replayed (program_tree world.old.program) time log.now.entries world.old.scene;
@@ -84,7 +52,7 @@ fn go_on(world: &mut World, log: &Log, time: u64) -> Result<(), WantOfMemory>
     }
 }
 
-/// The line of the world of a session at a time, whose log this is. All forms of the program have a meaning.
+/// The line of the world of a session at a time, whose log this is.
 pub fn replayed(
     alloc: Global,
     program: Checked,
@@ -92,9 +60,7 @@ pub fn replayed(
     log: &Log,
     time: u64,
 ) -> Result<String, WantOfMemory>
-    requires built { IsBuilt (program_tree program) }
-    requires time { time < time_limit }
-    requires inputs { has_event log.now.entries ≡ false }
+    requires { time < time_limit }
     ensures { IfOk result (λ line. string_bytes line ≡ world_line (replay (program_tree program) id.0 log.now.entries time).world) }
 {
     let program = Arc::new(alloc, program)?;

@@ -1,4 +1,3 @@
-pub mod BuiltForms
 pub mod Builtins
 pub mod Scopes
 pub mod Faults

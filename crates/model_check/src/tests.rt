@@ -323,40 +323,6 @@ fn checked(alloc: Global, text: &str) -> Result<Checked, Fail> {
 }
 
 #[test]
-fn a_program_that_publishes_has_no_meaning_yet(rt: HostRuntime) -> Result<(), Fail> {
-    for (text, built) in [
-        ("class Root{}", true),
-        (
-            "class Root{field a;m(x){let y=[x,!true,-1];while(y==nil){y=this.m(y);}if(x){return create(Root,y);}else{this.a=\"a\";}this.future(random(6)).m(length(y));}}",
-            true,
-        ),
-        ("class A{m(){return sessionId();}}class Root{}", true),
-        ("class Root{m(){publish(1,2,3);}}", false),
-        ("class Root{m(){subscribe(1,2,3);}}", false),
-        ("class Root{m(){unsubscribe(1,2,3);}}", false),
-        ("class Root{m(){cancel(1);}}", false),
-        ("class Root{m(){views();}}", false),
-        ("class Root{m(){viewCount();}}", false),
-        ("class A{m(){return [views()];}}class Root{}", false),
-        ("class Root{m(){}n(){let x=-viewCount();}}", false),
-        ("class Root{field a;m(){this.a=1+viewCount();}}", false),
-        ("class Root{m(x){x=length(views());}}", false),
-        ("class Root{m(){this.m(views());}}", false),
-        ("class Root{m(){this.future(viewCount()).m();}}", false),
-        ("class Root{m(){this.future(1).m(views());}}", false),
-        ("class Root{m(){create(Root,views());}}", false),
-        ("class Root{m(){while(viewCount()==1){}}}", false),
-        ("class Root{m(){while(true){views();}}}", false),
-        ("class Root{m(){if(true){}else{return views();}}}", false),
-    ] {
-        let checked = checked(rt.alloc(), text)?;
-        let classes = checked.program().classes();
-        assert_eq!(rt; is_built(classes), built, "of {text:?}");
-    }
-    Ok(())
-}
-
-#[test]
 fn a_class_has_its_fields(rt: HostRuntime) -> Result<(), Fail> {
     for (text, fields) in [
         ("class Root{}", 0),

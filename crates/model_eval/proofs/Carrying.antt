@@ -1,7 +1,8 @@
 -- What a part of a method keeps, what follows on it keeps too.
-use Rattle.std.proofs.Common.{◌≡◌, ℕ, ◌-◌, ◌≤◌, Bool, true, false, List, Option, Some, None, nat_eq, nat_le, refl, ◌∙◌, subst, arith, if◌then◌else◌}
+use Rattle.std.proofs.Common.{◌≡◌, ℕ, ◌-◌, ◌≤◌, Bool, true, false, List, [], ◌++◌, Option, Some, None, nat_eq, nat_le, refl, sym, ap, ◌∙◌, subst, append_assoc, arith, if◌then◌else◌}
+use Rattle.std.proofs.lemmas.List.{append-nil}
 use Rattle.model_value.specs.Plain.{PlainValue, InBounds, weight, is_in_bounds}
-use Rattle.model_value.specs.Messages.{PlainMessage}
+use Rattle.model_value.specs.Messages.{PlainMessage, PlainOutgoing}
 use Rattle.model_value.specs.World.{ObjectRecord}
 use Rattle.model_value.specs.Valid.{Valid, most_turns}
 use Rattle.model_value.specs.declared.message.Subscription.{Subscription}
@@ -22,7 +23,7 @@ kept-trans r s t h g = record {
   turns = g.turns ∙ h.turns;
   faults = g.faults ∙ h.faults;
   views = g.views ∙ h.views;
-  published = g.published ∙ h.published;
+  published = (h.published.0 ++ g.published.0, g.published.1 ∙ ap (λ (before : List PlainOutgoing). before ++ g.published.0) h.published.1 ∙ append_assoc r.published h.published.0 g.published.0);
   fuel = omega (arith, h.fuel, g.fuel);
   next_object = omega (arith, h.next_object, g.next_object);
   next_number = omega (arith, h.next_number, g.next_number);
@@ -43,7 +44,7 @@ kept-changed r fuel next_object next_number random os ks ss ms less later furthe
   turns = refl;
   faults = refl;
   views = refl;
-  published = refl;
+  published = ([], sym (append-nil r.published));
   fuel = less;
   next_object = later;
   next_number = further;
@@ -57,6 +58,21 @@ kept-fuel r fuel h =
 
 pub kept-refl : (r : Running) → Kept r r
 kept-refl r = kept-fuel r r.fuel (omega arith)
+
+-- with more behind what was published
+pub kept-published : (r : Running) (more : List PlainOutgoing) → Kept r (record r { published = r.published ++ more })
+kept-published r more = record {
+  id = refl;
+  time = refl;
+  turns = refl;
+  faults = refl;
+  views = refl;
+  published = (more, refl);
+  fuel = omega arith;
+  next_object = omega arith;
+  next_number = omega arith;
+  calm = λ _. omega arith;
+}
 
 -- ---- outcomes
 

@@ -3,7 +3,8 @@ use Rattle.std.proofs.Common.{◌≡◌, ℕ, zero, suc, ◌+◌, ◌<◌, Bool,
 use Rattle.std.specs.Prelude.{replicate}
 use Rattle.model_value.specs.Plain.{PlainValue, InBounds}
 use Rattle.model_value.specs.World.{ObjectRecord, total}
-use Rattle.model_value.specs.Valid.{RiseFrom, object_at, if_same, AllInBounds, ObjectFits, ObjectsFit}
+use Rattle.model_value.specs.Valid.{RiseFrom, object_at, if_same, AllInBounds, ObjectFits, ObjectsFit, SubscriptionFits, SubscriptionsFit}
+use Rattle.model_value.specs.declared.message.Subscription.{Subscription}
 use Rattle.model_eval.proofs.FieldBounds.{StillHeld}
 
 -- the ids rise, where the new one is above all others
@@ -41,3 +42,7 @@ pub get-mapped : {A B : Type 0} (f : A → B) (xs : List A) (i : ℕ) (x : A) �
 get-mapped f [] i x e = absurd cc
 get-mapped f (y ∷ ys) zero x e = let same : y ≡ x = cc in ap (λ y. Some (f y)) same
 get-mapped f (y ∷ ys) (suc i) x e = get-mapped f ys i x e
+
+pub SubscriptionsFit-appended : (os : List ObjectRecord) (ss : List Subscription) (s : Subscription) → SubscriptionsFit os ss → SubscriptionFits os s → SubscriptionsFit os (ss ++ s ∷ [])
+SubscriptionsFit-appended os [] s h fits = (fits, tt)
+SubscriptionsFit-appended os (t ∷ ts) s h fits = (h.0, SubscriptionsFit-appended os ts s h.1 fits)

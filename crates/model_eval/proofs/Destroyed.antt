@@ -1,34 +1,19 @@
 -- What is left of a world without an object.
-use Rattle.std.proofs.Common.{◌≡◌, ℕ, ◌+◌, ◌≤◌, ◌<◌, Bool, true, false, not, List, [], ◌∷◌, length, map, Option, Some, nat_eq, nat_le, refl, sym, ◌∙◌, arith, if◌then◌else◌}
+use Rattle.std.proofs.Common.{◌≡◌, ℕ, ◌+◌, ◌≤◌, ◌<◌, Bool, true, false, not, List, [], ◌∷◌, map, Option, Some, nat_eq, nat_le, refl, sym, ◌∙◌, arith, if◌then◌else◌}
 use Rattle.std.specs.List.{filter}
 use Rattle.std.proofs.lemmas.Bool.{eqb-true, not-true, not-false, eqb-false}
-use Rattle.model_value.specs.World.{ObjectRecord, WorldRecord, total}
+use Rattle.model_value.specs.World.{ObjectRecord, WorldRecord}
 use Rattle.model_value.specs.Messages.{PlainMessage}
-use Rattle.model_value.specs.Valid.{RiseFrom, object_at, if_same, IsHeld, ObjectsFit, IsBeforeAll, KnownRise, KnownFit, SubscriptionsFit, IsNew, SubscriptionsDiffer, PrecedesAll, AreInOrder, IsUnused, NumbersDiffer, MessagesFit}
+use Rattle.model_value.specs.Valid.{RiseFrom, object_at, if_same, IsHeld, ObjectsFit, IsBeforeAll, KnownRise, KnownFit, SubscriptionsFit, MessagesFit}
 use Rattle.model_value.specs.declared.message.Subscription.{Subscription}
 use Rattle.model_value.specs.declared.world.Known.{Known}
+pub use Rattle.message_queue.proofs.Filtered.{filter-all, filter-each, AreInOrder-filtered, NumbersDiffer-filtered, total-filtered, length-filtered}
+pub use Rattle.pubsub.proofs.Subscriptions.{SubscriptionsDiffer-filtered}
 use Rattle.model_eval.specs.Kept.{due}
 use Rattle.model_eval.specs.Objects.{without_object}
 use Rattle.model_eval.proofs.FieldBounds.{if_both}
 use Rattle.model_eval.proofs.Pending.{if_either}
 use Rattle.model_eval.proofs.Created.{found-still}
-
--- ---- what is said of all items, or of each and all behind it
-
-filter-all : {A : Type 0} (Q : List A → Type 0) (keeps : A → Bool) → Q [] → ((x : A) (xs : List A) → Q (x ∷ xs) → Q xs)
-    → ((x : A) (xs ys : List A) → Q (x ∷ xs) → Q ys → Q (x ∷ ys)) → (xs : List A) → Q xs → Q (filter keeps xs)
-filter-all Q keeps none rest more [] h = none
-filter-all Q keeps none rest more (x ∷ xs) h =
-    let left : Q (filter keeps xs) = filter-all Q keeps none rest more xs (rest x xs h) in
-    if_both Q (keeps x) (x ∷ filter keeps xs) (filter keeps xs) (more x xs (filter keeps xs) h left) left
-
-filter-each : {A : Type 0} (R : A → List A → Type 0) (Q : List A → Type 0) (keeps : A → Bool) → Q [] → ((x : A) (xs : List A) → Q (x ∷ xs) → R x xs × Q xs)
-    → ((x : A) (xs : List A) → R x xs → Q xs → Q (x ∷ xs)) → ((x : A) (xs : List A) → R x xs → R x (filter keeps xs)) → (xs : List A) → Q xs → Q (filter keeps xs)
-filter-each R Q keeps none parts whole fewer [] h = none
-filter-each R Q keeps none parts whole fewer (x ∷ xs) h =
-    let both : R x xs × Q xs = parts x xs h in
-    let left : Q (filter keeps xs) = filter-each R Q keeps none parts whole fewer xs both.1 in
-    if_both Q (keeps x) (x ∷ filter keeps xs) (filter keeps xs) (whole x (filter keeps xs) (fewer x xs both.0) left) left
 
 RiseFrom-lower : (low x : ℕ) (xs : List ℕ) → low < x → RiseFrom x xs → RiseFrom low xs
 RiseFrom-lower low x [] below h = tt
@@ -48,34 +33,13 @@ KnownRise-filtered keeps =
     filter-each (λ k ks. IsBeforeAll k.name ks) KnownRise keeps tt (λ k ks h. (h.0, h.1)) (λ k ks h g. (h, g))
     (λ k. filter-all (IsBeforeAll k.name) keeps tt (λ l ls h. h.1) (λ l ls ms h g. (h.0, g)))
 
-pub SubscriptionsDiffer-filtered : (keeps : Subscription → Bool) (ss : List Subscription) → SubscriptionsDiffer ss → SubscriptionsDiffer (filter keeps ss)
-SubscriptionsDiffer-filtered keeps =
-    filter-each IsNew SubscriptionsDiffer keeps tt (λ s ss h. (h.0, h.1)) (λ s ss h g. (h, g))
-    (λ s. filter-all (IsNew s) keeps tt (λ t ts h. h.1) (λ t ts us h g. (h.0, g)))
+pub SubscriptionsFit-filtered : (os : List ObjectRecord) (keeps : Subscription → Bool) (ss : List Subscription) → SubscriptionsFit os ss → SubscriptionsFit os (filter keeps ss)
+SubscriptionsFit-filtered os keeps = filter-all (SubscriptionsFit os) keeps tt (λ s ss h. h.1) (λ s ss ts h g. (h.0, g))
 
-pub AreInOrder-filtered : (keeps : PlainMessage → Bool) (ms : List PlainMessage) → AreInOrder ms → AreInOrder (filter keeps ms)
-AreInOrder-filtered keeps =
-    filter-each PrecedesAll AreInOrder keeps tt (λ m ms h. (h.0, h.1)) (λ m ms h g. (h, g))
-    (λ m. filter-all (PrecedesAll m) keeps tt (λ n ns h. h.1) (λ n ns os h g. (h.0, g)))
-
-pub NumbersDiffer-filtered : (keeps : PlainMessage → Bool) (ms : List PlainMessage) → NumbersDiffer ms → NumbersDiffer (filter keeps ms)
-NumbersDiffer-filtered keeps =
-    filter-each (λ m ms. IsUnused m.number ms) NumbersDiffer keeps tt (λ m ms h. (h.0, h.1)) (λ m ms h g. (h, g))
-    (λ m. filter-all (IsUnused m.number) keeps tt (λ n ns h. h.1) (λ n ns os h g. (h.0, g)))
+pub MessagesFit-filtered : (w : WorldRecord) (keeps : PlainMessage → Bool) (ms : List PlainMessage) → MessagesFit w ms → MessagesFit w (filter keeps ms)
+MessagesFit-filtered w keeps = filter-all (MessagesFit w) keeps tt (λ m ms h. h.1) (λ m ms ns h g. (h.0, g))
 
 -- ---- counts and weights
-
-pub total-filtered : {A : Type 0} (weighs : A → ℕ) (keeps : A → Bool) (xs : List A) → total weighs (filter keeps xs) ≤ total weighs xs
-total-filtered weighs keeps [] = omega arith
-total-filtered weighs keeps (x ∷ xs) =
-    let fewer : total weighs (filter keeps xs) ≤ total weighs xs = total-filtered weighs keeps xs in
-    if_both (λ l. total weighs l ≤ weighs x + total weighs xs) (keeps x) (x ∷ filter keeps xs) (filter keeps xs) (omega arith) (omega arith)
-
-pub length-filtered : {A : Type 0} (keeps : A → Bool) (xs : List A) → length (filter keeps xs) ≤ length xs
-length-filtered keeps [] = omega arith
-length-filtered keeps (x ∷ xs) =
-    let fewer : length (filter keeps xs) ≤ length xs = length-filtered keeps xs in
-    if_both (λ l. length l ≤ length (x ∷ xs)) (keeps x) (x ∷ filter keeps xs) (filter keeps xs) (omega arith) (omega arith)
 
 pub due-filtered : (time : ℕ) (keeps : PlainMessage → Bool) (ms : List PlainMessage) → due time (filter keeps ms) ≤ due time ms
 due-filtered time keeps [] = omega arith

@@ -1,13 +1,15 @@
 -- What fields, futures, objects, names and builtins keep of a world.
-use Rattle.std.proofs.Common.{◌≡◌, ℕ, ◌+◌, ◌/◌, ◌≤◌, ◌<◌, Bool, true, false, ◌&&◌, not, ℤ, pos, negsuc, List, [], ◌∷◌, length, Option, Some, None, nat_eq, nat_le, refl, arith, ⊎_elim, if◌then◌else◌, slice_get}
+use Rattle.std.proofs.Common.{◌≡◌, ℕ, ◌+◌, ◌-◌, ◌/◌, ◌≤◌, ◌<◌, Bool, true, false, ◌&&◌, not, ℤ, pos, negsuc, List, [], ◌∷◌, length, map, Option, Some, None, nat_eq, nat_le, refl, arith, ⊎_elim, if◌then◌else◌, slice_get}
 use Rattle.std.specs.Prelude.{⊤, is_some}
 use Rattle.std.proofs.lemmas.Bool.{leb-true, eqb-false, and_cases}
 use Rattle.hex.specs.Hex.{encode_lower}
 use Rattle.seeded_random.specs.Draw.{word_of, state_after, number_below}
-use Rattle.model_value.specs.Plain.{PlainValue, nil, bool, int, text, ref, InBounds, weight}
+use Rattle.model_value.specs.Plain.{PlainValue, nil, bool, int, text, ref, list, InBounds, weight}
+use Rattle.model_value.specs.View.{plains_of}
 use Rattle.model_value.specs.Messages.{PlainMessage}
 use Rattle.model_value.specs.World.{ObjectRecord, WorldRecord, world_weight, most_world_weight}
-use Rattle.model_value.specs.Valid.{Valid, object_at, AllInBounds, IsHeld, most_turns, most_parameters, time_limit}
+use Rattle.model_value.specs.Valid.{Valid, object_at, AllInBounds, IsHeld, TextFits, SubscriptionFits, most_turns, most_parameters, time_limit}
+use Rattle.model_value.specs.declared.message.Subscription.{Subscription}
 use Rattle.model_lang.specs.Tree.{Name}
 use Rattle.model_lang.specs.Names.{IsShort}
 use Rattle.model_check.specs.declared.builtin.Builtin.{Builtin}
@@ -18,15 +20,18 @@ use Rattle.model_builtin.specs.Builtins as without_world
 use Rattle.model_eval.specs.declared.fault.Fault.TheVariants.{BadIndex, NoObject, Instant, Full}
 use Rattle.model_eval.specs.Running.{Running, with_world, Outcome, Gives, Faults, bounded}
 use Rattle.model_eval.specs.Objects.{got, with_fields, with_objects, if_light, put, new_object, has_room_for, with_object, made, without_object, is_held, destroyed, known_by, with_known, made_known}
-use Rattle.model_eval.specs.Futures.{ahead, inserted, has_room, with_message, sent, sent_to, send}
-use Rattle.model_eval.specs.Builtins.{drawn, pure_of, takes_steps, given, pure_answered, on_none, on_int, on_text, on_ref, answered, answered_by}
+use Rattle.model_eval.specs.Futures.{ahead, has_room, with_message, sent, sent_to, send}
+use Rattle.model_eval.specs.Builtins.{drawn, pure_of, takes_steps, given, pure_answered, on_none, on_int, on_text, on_texts, on_ref, answered_alone}
+use Rattle.model_eval.specs.Publishing.{has_room_to, with_subscription, added, subscription, subscribed, unsubscribed, uncalled, cancelled, views_counted, views_told}
+use Rattle.pubsub.specs.Topics.{is_held as is_subscribed, same, without as without_subscription}
+use Rattle.message_queue.specs.Queue.{inserted, calls}
 use Rattle.model_eval.specs.Kept.{Kept, CarriesIf}
 use Rattle.model_eval.proofs.FieldBounds.{nil-in_bounds, value_named-in_bounds, object_at-fits}
 use Rattle.model_eval.proofs.Pending.{short-fits, ahead-is, due-later}
 use Rattle.model_eval.proofs.Destroyed.{due-filtered}
-use Rattle.model_eval.proofs.ValidLaws.{valid-fields, valid-message, valid-object, valid-others, valid-known, valid-random}
+use Rattle.model_eval.proofs.ValidLaws.{valid-fields, valid-message, valid-object, valid-others, valid-known, valid-random, valid-subscription, valid-unsubscribed, valid-cancelled}
 use Rattle.model_eval.proofs.ValueBounds.{PureReplies, bool-in_bounds, int-in_bounds, known_by-in_bounds, applied-in_bounds}
-use Rattle.model_eval.proofs.Carrying.{kept-changed, kept-refl, carries-test, carries-spending, carries-bounded}
+use Rattle.model_eval.proofs.Carrying.{kept-changed, kept-refl, carries-test, carries-spending, carries-bounded, carries-weighed}
 
 -- what is not refused at an instant at which too many ran is to come
 to_come : (time now turns : ℕ) → (nat_eq time now && nat_eq turns most_turns) ≡ false → now ≤ time → turns ≡ most_turns → now < time
@@ -175,22 +180,78 @@ module _ (counts : List ℕ) (H : Type 0) where
   on_ref-carries f (ref id ∷ []) r v h = h id
   on_ref-carries f _ r v h = (kept-refl r, v)
 
-  answered-carries : (f : Builtin) (object : ℕ) (args : List PlainValue) (r : Running) → (H → Valid counts r.world) → (H → AllInBounds args) → CarriesIf H counts InBounds r (answered f object args r)
-  answered-carries builtin.Now object args r valid fit =
-      on_none-carries (λ r. Gives (int (pos (r.world.time / 1000))) r) args r valid (kept-refl r, λ h. (valid h, int-in_bounds (pos (r.world.time / 1000))))
-  answered-carries builtin.Random object args r valid fit = on_int-carries drawn args r valid (λ n. drawn-carries n r valid)
-  answered-carries builtin.SessionId object args r valid fit =
-      on_none-carries (λ r. bounded (text (encode_lower r.world.id)) r) args r valid (carries-bounded counts H r (text (encode_lower r.world.id)) valid)
-  answered-carries builtin.Known object args r valid fit =
-      on_text-carries (λ x r. Gives (known_by x r.world.known) r) args r valid fit (λ x _. (kept-refl r, λ h. (valid h, known_by-in_bounds x r.world.known)))
-  answered-carries builtin.BeKnown object args r valid fit =
-      on_text-carries (made_known object) args r valid fit (λ x bound. made_known-carries x object r valid bound)
-  answered-carries builtin.Exists object args r valid fit =
-      on_ref-carries (λ id r. Gives (bool (is_held id r.world)) r) args r valid (λ id. (kept-refl r, λ h. (valid h, bool-in_bounds (is_held id r.world))))
-  answered-carries builtin.Destroy object args r valid fit = on_ref-carries destroyed args r valid (λ id. destroyed-carries id r valid)
-  answered-carries f object args r valid fit = pure_answered-carries (pure_of f) args r valid
+  on_texts-carries : (f : List ℕ → List ℕ → List ℕ → Running → Outcome PlainValue) (args : List PlainValue) (r : Running)
+      → (H → Valid counts r.world) → (H → AllInBounds args)
+      → ((x y z : List ℕ) → (H → TextFits x × TextFits y × TextFits z) → CarriesIf H counts InBounds r (f x y z r)) → CarriesIf H counts InBounds r (on_texts f args r)
+  on_texts-carries f (text x ∷ text y ∷ text z ∷ []) r v fit h = h x y z (λ g. ((fit g).0.0, (fit g).1.0.0, (fit g).1.1.0.0))
+  on_texts-carries f _ r v fit h = (kept-refl r, v)
 
-  pub answered_by-carries : (f : Option Builtin) (object : ℕ) (args : List PlainValue) (r : Running)
-      → (H → Valid counts r.world) → (H → AllInBounds args) → CarriesIf H counts InBounds r (answered_by f object args r)
-  answered_by-carries None object args r valid fit = (kept-refl r, valid)
-  answered_by-carries (Some f) object args r valid fit = answered-carries f object args r valid fit
+  added-carries : (s : Subscription) (r : Running) → (H → Valid counts r.world) → (H → SubscriptionFits r.world.objects s) → CarriesIf H counts InBounds r (added s r)
+  added-carries s r v fits =
+      let w : WorldRecord = r.world in
+      carries-test counts H InBounds r (is_subscribed s w.subscriptions) (Gives nil r) (if has_room_to w s then Gives nil (with_world r (with_subscription s w)) else Faults Full r)
+      (λ _. (kept-refl r, λ h. (v h, nil-in_bounds)))
+      (λ new. carries-test counts H InBounds r (has_room_to w s) (Gives nil (with_world r (with_subscription s w))) (Faults Full r)
+      (λ room. (
+        kept-changed r r.fuel w.next_object w.next_number w.random w.objects w.known ((with_subscription s w).subscriptions) w.pending (omega arith) (omega arith) (omega arith) (λ _. omega arith),
+        λ h. (valid-subscription counts s w new (fits h) room (v h), nil-in_bounds),
+      ))
+      (λ _. (kept-refl r, v)))
+
+  subscribed-carries : (object : ℕ) (scope event x : Name) (r : Running) → (H → Valid counts r.world) → (H → TextFits scope × TextFits event × TextFits x)
+      → CarriesIf H counts InBounds r (subscribed object scope event x r)
+  subscribed-carries object scope event x r v fit =
+      let w : WorldRecord = r.world in
+      carries-test counts H InBounds r (is_held object w) (added (subscription object scope event x) r) (Faults NoObject r)
+      (λ held. added-carries (subscription object scope event x) r v (λ h. ((fit h).0, (fit h).1, (fit h).2, found-held (object_at w.objects object) held)))
+      (λ _. (kept-refl r, v))
+
+  unsubscribed-carries : (object : ℕ) (scope event x : Name) (r : Running) → (H → Valid counts r.world) → CarriesIf H counts InBounds r (unsubscribed object scope event x r)
+  unsubscribed-carries object scope event x r v =
+      let w : WorldRecord = r.world in
+      let s : Subscription = subscription object scope event x in
+      let left : List Subscription = without_subscription s w.subscriptions in
+      carries-test counts H InBounds r (is_held object w) (Gives nil (with_world r (record w { subscriptions = left }))) (Faults NoObject r)
+      (λ _. (
+        kept-changed r r.fuel w.next_object w.next_number w.random w.objects w.known left w.pending (omega arith) (omega arith) (omega arith) (λ _. omega arith),
+        λ h. (valid-unsubscribed counts (λ t. not (same t s)) w (v h), nil-in_bounds),
+      ))
+      (λ _. (kept-refl r, v))
+
+  cancelled-carries : (object : ℕ) (x : Name) (r : Running) → (H → Valid counts r.world) → CarriesIf H counts InBounds r (cancelled object x r)
+  cancelled-carries object x r v =
+      let w : WorldRecord = r.world in
+      let left : List PlainMessage = uncalled object x w.pending in
+      let n : ℤ = pos (length w.pending - length left) in
+      carries-test counts H InBounds r (is_held object w) (Gives (int n) (with_world r (record w { pending = left }))) (Faults NoObject r)
+      (λ _. (
+        kept-changed r r.fuel w.next_object w.next_number w.random w.objects w.known w.subscriptions left (omega arith) (omega arith) (omega arith)
+            (λ _. due-filtered w.time (λ m. not (calls object x m)) w.pending),
+        λ h. (valid-cancelled counts (λ m. not (calls object x m)) w (v h), int-in_bounds n),
+      ))
+      (λ _. (kept-refl r, v))
+
+  pub answered_alone-carries : (f : Builtin) (object : ℕ) (args : List PlainValue) (r : Running) → (H → Valid counts r.world) → (H → AllInBounds args) → CarriesIf H counts InBounds r (answered_alone f object args r)
+  answered_alone-carries builtin.Now object args r valid fit =
+      on_none-carries (λ r. Gives (int (pos (r.world.time / 1000))) r) args r valid (kept-refl r, λ h. (valid h, int-in_bounds (pos (r.world.time / 1000))))
+  answered_alone-carries builtin.Random object args r valid fit = on_int-carries drawn args r valid (λ n. drawn-carries n r valid)
+  answered_alone-carries builtin.SessionId object args r valid fit =
+      on_none-carries (λ r. bounded (text (encode_lower r.world.id)) r) args r valid (carries-bounded counts H r (text (encode_lower r.world.id)) valid)
+  answered_alone-carries builtin.Known object args r valid fit =
+      on_text-carries (λ x r. Gives (known_by x r.world.known) r) args r valid fit (λ x _. (kept-refl r, λ h. (valid h, known_by-in_bounds x r.world.known)))
+  answered_alone-carries builtin.BeKnown object args r valid fit =
+      on_text-carries (made_known object) args r valid fit (λ x bound. made_known-carries x object r valid bound)
+  answered_alone-carries builtin.Exists object args r valid fit =
+      on_ref-carries (λ id r. Gives (bool (is_held id r.world)) r) args r valid (λ id. (kept-refl r, λ h. (valid h, bool-in_bounds (is_held id r.world))))
+  answered_alone-carries builtin.Destroy object args r valid fit = on_ref-carries destroyed args r valid (λ id. destroyed-carries id r valid)
+  answered_alone-carries builtin.ViewCount object args r valid fit =
+      on_none-carries views_counted args r valid (kept-refl r, λ h. (valid h, int-in_bounds (pos (length r.world.views))))
+  answered_alone-carries builtin.Views object args r valid fit =
+      on_none-carries views_told args r valid (carries-weighed counts H r (list (plains_of (map (λ view. int (pos view)) r.world.views))) valid)
+  answered_alone-carries builtin.Subscribe object args r valid fit =
+      on_texts-carries (subscribed object) args r valid fit (λ scope event x fits. subscribed-carries object scope event x r valid fits)
+  answered_alone-carries builtin.Unsubscribe object args r valid fit =
+      on_texts-carries (unsubscribed object) args r valid fit (λ scope event x _. unsubscribed-carries object scope event x r valid)
+  answered_alone-carries builtin.Cancel object args r valid fit =
+      on_text-carries (cancelled object) args r valid fit (λ x _. cancelled-carries object x r valid)
+  answered_alone-carries f object args r valid fit = pure_answered-carries (pure_of f) args r valid

@@ -1,113 +1,118 @@
--- Fields by their place, and objects with one of theirs changed.
-use Rattle.std.proofs.Common.{◌≡◌, ℕ, zero, suc, ◌+◌, ◌<◌, ◌≤◌, Bool, true, false, cond, List, [], ◌∷◌, map, length, set, get_or, Option, Some, None, refl, sym, ap, subst, ◌∙◌, arith}
-use Rattle.std.specs.Prelude.{nat_eq, nat_le, is_some}
-use Rattle.std.specs.List.{position_from}
-use Rattle.std.proofs.lemmas.Bool.{false≢true}
+-- Fields of objects, and what objects weigh with one of theirs changed.
+use Rattle.std.proofs.Common.{◌≡◌, ℕ, zero, suc, ◌+◌, ◌<◌, ◌≤◌, Bool, true, false, List, [], ◌∷◌, length, set, Option, Some, None, refl, sym, ap, ◌∙◌, ⊎_elim, IsTrue, ◌↔◌, arith}
+use Rattle.std.specs.Prelude.{nat_eq, nat_le, is_some, slice_get, slice_index_or, Result, Ok, Err, if◌then◌else◌}
+use Rattle.std.specs.Borrow.{Bor}
+use Rattle.std.specs.Option.{option_copied, option_map}
+use Rattle.std.proofs.lemmas.Bool.{false≢true, lt-leb, le-leb, cases_lt}
 use Rattle.std.proofs.lemmas.Bool.Decides.{nat_tests}
-use Rattle.std.proofs.lemmas.Option.{none-some}
+use Rattle.std.proofs.lemmas.Option.{none-some, same_Some, slice_get_within}
 use Rattle.std.proofs.lemmas.List.{map-set, set_past, length-map, set-set, set-get_or}
-use Rattle.model_value.specs.Plain.{PlainValue}
+use Rattle.model_value.specs.Plain.{PlainValue, nil, weight}
 use Rattle.model_value.specs.Room.{IsRoomBehind}
-use Rattle.model_value.specs.Valid.{object_at}
-use Rattle.model_value.specs.World.{ObjectRecord, object_record, world_weight, most_world_weight}
+use Rattle.model_value.specs.Valid.{object_at, if_same}
+use Rattle.model_value.specs.World.{ObjectRecord, values_weight, object_weight, total, world_weight, most_world_weight}
+use Rattle.object_store.specs.Store.{with_field, field_of, class_of, HasField}
 use Rattle.model_value.specs.View.{plain, plain_values}
 use Rattle.model_value.specs.declared.value.Value.{Value}
-use Rattle.model_value.specs.declared.world.PlainObject.{PlainObject}
 use Rattle.model_eval.specs.declared.fault.Fault.TheVariants.{Full}
-use Rattle.model_eval.specs.declared.state.State.{State}
-use Rattle.model_eval.specs.declared.state.Budget.{Budget}
-use Rattle.model_eval.specs.Running.{Running, Gives, Faults}
-use Rattle.model_eval.specs.Objects.{with_fields, with_objects, if_light}
-use Rattle.model_eval.specs.Answer.{running}
-use Rattle.model_eval.specs.Places.{place_of, slot_at, with_fields_at}
+use Rattle.model_eval.specs.Running.{Running, Gives, Faults, value, fails}
+use Rattle.model_eval.specs.declared.fault.Stop.{Stop}
+use Rattle.model_eval.specs.declared.fault.Stop.TheVariants.{Fault, WantOfMemory}
+use Rattle.model_eval.specs.Answer.{IsAbsent, Replies}
+use Rattle.model_eval.specs.Slots.{slot_value}
+use Rattle.model_eval.specs.Objects.{with_fields, with_objects, if_light, put}
 
 pub unset : (vs : List Value) (i : ℕ) (v : PlainValue) → length vs ≤ i → set (plain_values vs) i v ≡ plain_values vs
 unset vs i v h = set_past (plain_values vs) i v (omega (arith, length-map vs plain))
 
 pub ruleset by_field = (map-set, unset)
 
--- one object written, and its fields alone differ
-pub written : (os : List PlainObject) (k : ℕ) (o p d : PlainObject) (change : List PlainValue → List PlainValue)
-    → k < length os
-    → o ≡ get_or os k d
-    → p.id ≡ o.id
-    → p.class ≡ o.class
-    → plain_values p.fields ≡ change (plain_values o.fields)
-    → map object_record (set os k p) ≡ with_fields_at k change (map object_record os)
-written [] k o p d change h is id class fields = absurd (omega arith)
-written (q ∷ os) zero o p d change h is id class fields =
-    let e : object_record p ≡ record { id = o.id; class = o.class; fields = change (plain_values o.fields) } = cc in
-    ap (λ (r : ObjectRecord). r ∷ map object_record os) e ∙ ap (λ (r : PlainObject). record { id = r.id; class = r.class; fields = change (plain_values r.fields) } ∷ map object_record os) is
-written (q ∷ os) (suc k) o p d change h is id class fields =
-    ap (λ (rest : List ObjectRecord). object_record q ∷ rest) (written os k o p d change (omega arith) is id class fields)
+-- ---- a field of an object
 
-pub slot_read : (os : List PlainObject) (k : ℕ) (d : PlainObject) (slot : ℕ) (v : PlainValue) → k < length os → slot_at k slot v (map object_record os) ≡ get_or (plain_values (get_or os k d).fields) slot v
-slot_read [] k d slot v h = absurd (omega arith)
-slot_read (q ∷ os) zero d slot v h = refl
-slot_read (q ∷ os) (suc k) d slot v h = slot_read os k d slot v (omega arith)
+set_absent : (vs : List PlainValue) (k : ℕ) (v : PlainValue) → slice_get vs k ≡ None → set vs k v ≡ vs
+set_absent [] k v e = refl
+set_absent (w ∷ vs) zero v e = absurd (none-some w (sym e))
+set_absent (w ∷ vs) (suc k) v e = ap (λ (rest : List PlainValue). w ∷ rest) (set_absent vs k v e)
 
-set-back : (fields : List PlainValue) (slot : ℕ) (v : PlainValue) → set (set fields slot v) slot (get_or fields slot v) ≡ fields
-set-back fields slot v = set-set fields slot v (get_or fields slot v) ∙ set-get_or fields slot v
+absent_if : (same : Bool) (k : ℕ) (v : PlainValue) (o : ObjectRecord) (os changed : List ObjectRecord) (found : Option ObjectRecord) → field_of (if_same same o found) k ≡ None → (field_of found k ≡ None → changed ≡ os)
+    → (if same then record o { fields = set o.fields k v } ∷ os else o ∷ changed) ≡ o ∷ os
+absent_if true k v o os changed found e later = ap (λ (fields : List PlainValue). record { id = o.id; class = o.class; fields = fields } ∷ os) (set_absent o.fields k v e)
+absent_if false k v o os changed found e later = ap (λ (rest : List ObjectRecord). o ∷ rest) (later e)
 
--- what was exchanged, exchanged once more
-pub exchanged_back : (os : List ObjectRecord) (k slot : ℕ) (v : PlainValue) → with_fields_at k (λ fields. set fields slot (slot_at k slot v os)) (with_fields_at k (λ fields. set fields slot v) os) ≡ os
-exchanged_back [] k slot v = refl
-exchanged_back (o ∷ os) zero slot v = ap (λ (fields : List PlainValue). record o { fields = fields } ∷ os) (set-back o.fields slot v)
-exchanged_back (o ∷ os) (suc k) slot v = ap (λ (rest : List ObjectRecord). o ∷ rest) (exchanged_back os k slot v)
+-- one that is not there
+pub with_fields-absent : (os : List ObjectRecord) (id k : ℕ) (v : PlainValue) → field_of (object_at os id) k ≡ None → with_fields id (λ fields. set fields k v) os ≡ os
+with_fields-absent [] id k v e = refl
+with_fields-absent (o ∷ os) id k v e =
+    absent_if (nat_eq o.id id) k v o os (with_fields id (λ fields. set fields k v) os) (object_at os id) e (with_fields-absent os id k v)
 
--- the object at the place that was found
-pub record IsAt (id place : ℕ) (os : List PlainObject) : Type 0 where
-  pub inside : place < length os
-  pub object : ObjectRecord
-  pub found : object_at (map object_record os) id ≡ Some object
-  pub fields : (change : List PlainValue → List PlainValue) → with_fields id change (map object_record os) ≡ with_fields_at place change (map object_record os)
+-- one that is set
+pub with_field-is : (os : List ObjectRecord) (id k : ℕ) (v : PlainValue) → with_field id k v os ≡ with_fields id (λ fields. set fields k v) os
+with_field-is [] id k v = refl
+with_field-is (o ∷ os) id k v =
+    ap (λ (rest : List ObjectRecord). if nat_eq o.id id then record o { fields = set o.fields k v } ∷ os else o ∷ rest) (with_field-is os id k v)
 
-pub record IsPlaced (id first place : ℕ) (os : List PlainObject) : Type 0 where
-  pub behind : ℕ
-  pub is : place ≡ first + behind
-  pub at : IsAt id behind os
+weight-set : (vs : List PlainValue) (k : ℕ) (old v : PlainValue) → slice_get vs k ≡ Some old → values_weight (set vs k v) + weight old ≡ values_weight vs + weight v
+weight-set [] k old v e = absurd (none-some old e)
+weight-set (w ∷ vs) zero old v e = omega (arith, ap weight (same_Some w old e))
+weight-set (w ∷ vs) (suc k) old v e = omega (arith, weight-set vs k old v e)
 
-placed_here : (id first place : ℕ) (o : PlainObject) (os : List PlainObject) (same : Bool) → nat_eq o.id id ≡ same → (position_from (λ (p : PlainObject). nat_eq p.id id) (first + 1) os ≡ Some place → IsPlaced id (first + 1) place os) → cond same (Some first) (position_from (λ (p : PlainObject). nat_eq p.id id) (first + 1) os) ≡ Some place → IsPlaced id first place (o ∷ os)
-placed_here id first place o os true test later e =
-    let here : first ≡ place = cc in
-    record {
-      behind = 0;
-      is = omega arith;
-      at = record { inside = omega arith; object = object_record o; found = rw test refl; fields = λ change. rw test refl };
-    }
-placed_here id first place o os false test later e =
-    let rest = later e in
-    record {
-      behind = suc rest.behind;
-      is = omega arith;
-      at = record {
-        inside = omega arith;
-        object = rest.at.object;
-        found = rw test rest.at.found;
-        fields = λ change. rw test (ap (λ (objects : List ObjectRecord). object_record o ∷ objects) (rest.at.fields change));
-      };
-    }
+weight_if : (same : Bool) (k : ℕ) (old v : PlainValue) (o : ObjectRecord) (os changed : List ObjectRecord) (found : Option ObjectRecord) → field_of (if_same same o found) k ≡ Some old
+    → (field_of found k ≡ Some old → total object_weight changed + weight old ≡ total object_weight os + weight v)
+    → total object_weight (if same then record o { fields = set o.fields k v } ∷ os else o ∷ changed) + weight old ≡ total object_weight (o ∷ os) + weight v
+weight_if true k old v o os changed found e later = omega (arith, weight-set o.fields k old v e)
+weight_if false k old v o os changed found e later = omega (arith, later e)
 
-placed : (id first place : ℕ) (os : List PlainObject) → position_from (λ (p : PlainObject). nat_eq p.id id) first os ≡ Some place → IsPlaced id first place os
-placed id first place [] e = absurd (none-some place e)
-placed id first place (o ∷ os) e = placed_here id first place o os (nat_eq o.id id) refl (placed id (first + 1) place os) e
+-- it weighs in place of what it held
+pub weight-with_fields : (os : List ObjectRecord) (id k : ℕ) (old v : PlainValue) → field_of (object_at os id) k ≡ Some old
+    → total object_weight (with_fields id (λ fields. set fields k v) os) + weight old ≡ total object_weight os + weight v
+weight-with_fields [] id k old v e = absurd (none-some old e)
+weight-with_fields (o ∷ os) id k old v e =
+    weight_if (nat_eq o.id id) k old v o os (with_fields id (λ fields. set fields k v) os) (object_at os id) e (weight-with_fields os id k old v)
 
-pub is_at : (id place : ℕ) (os : List PlainObject) → Some place ≡ place_of id os → IsAt id place os
-is_at id place os e =
-    let p = placed id 0 place os (sym e) in
-    let same : place ≡ p.behind = omega arith in
-    subst (λ (k : ℕ). IsAt id k os) (sym same) p.at
+weight_held : (vs : List PlainValue) (k : ℕ) (v : PlainValue) → slice_get vs k ≡ Some v → weight v ≤ values_weight vs
+weight_held [] k v e = absurd (none-some v e)
+weight_held (w ∷ vs) zero v e = omega (arith, ap weight (same_Some w v e))
+weight_held (w ∷ vs) (suc k) v e = omega (arith, weight_held vs k v e)
 
-nowhere_here : (id : ℕ) (o : PlainObject) (os : List PlainObject) (first : ℕ) (same : Bool) → nat_eq o.id id ≡ same → (position_from (λ (p : PlainObject). nat_eq p.id id) (first + 1) os ≡ None → object_at (map object_record os) id ≡ None) → cond same (Some first) (position_from (λ (p : PlainObject). nat_eq p.id id) (first + 1) os) ≡ None → object_at (map object_record (o ∷ os)) id ≡ None
-nowhere_here id o os first true test later e = absurd (none-some first (sym e))
-nowhere_here id o os first false test later e = rw test (later e)
+held_if : (same : Bool) (k : ℕ) (v : PlainValue) (o : ObjectRecord) (os : List ObjectRecord) (found : Option ObjectRecord) → field_of (if_same same o found) k ≡ Some v → (field_of found k ≡ Some v → weight v ≤ total object_weight os)
+    → weight v ≤ total object_weight (o ∷ os)
+held_if true k v o os found e later = omega (arith, weight_held o.fields k v e)
+held_if false k v o os found e later = omega (arith, later e)
 
-nowhere_from : (id first : ℕ) (os : List PlainObject) → position_from (λ (p : PlainObject). nat_eq p.id id) first os ≡ None → object_at (map object_record os) id ≡ None
-nowhere_from id first [] e = refl
-nowhere_from id first (o ∷ os) e = nowhere_here id o os first (nat_eq o.id id) refl (nowhere_from id (first + 1) os) e
+-- what a field holds is no heavier than all objects
+pub field-weight : (os : List ObjectRecord) (id k : ℕ) (v : PlainValue) → field_of (object_at os id) k ≡ Some v → weight v ≤ total object_weight os
+field-weight [] id k v e = absurd (none-some v e)
+field-weight (o ∷ os) id k v e = held_if (nat_eq o.id id) k v o os (object_at os id) e (field-weight os id k v)
 
-pub nowhere : (id : ℕ) (os : List PlainObject) → None ≡ place_of id os → object_at (map object_record os) id ≡ None
-nowhere id os e = nowhere_from id 0 os (sym e)
+absent_index : (vs : List PlainValue) (k : ℕ) → slice_get vs k ≡ None → slice_index_or vs k nil ≡ nil
+absent_index [] k e = refl
+absent_index (w ∷ vs) zero e = absurd (none-some w (sym e))
+absent_index (w ∷ vs) (suc k) e = absent_index vs k e
+
+-- what is told of a field that is not there is what it holds
+pub absent-replies : (result : Result Value Stop) (found : Option ObjectRecord) (k : ℕ) → field_of found k ≡ None → IsAbsent result found → Replies result (slot_value found k)
+absent-replies (Ok v) None k e h = absurd (false≢true h.1)
+absent-replies (Ok v) (Some o) k e h = ap value (absent_index o.fields k e ∙ sym h.0)
+absent-replies (Err (Fault f)) found k e h = ap (λ (o : Option ObjectRecord). slot_value o k) h.1 ∙ ap fails (sym h.0)
+absent-replies (Err WantOfMemory) found k e h = absurd h
+
+-- a field that is given is there
+pub given_some : (given : Option (Bor Value)) (field : Option PlainValue) → is_some given ≡ true → option_map plain (option_copied given) ≡ field → (old : PlainValue) × (field ≡ Some old)
+given_some None field some e = absurd (false≢true some)
+given_some (Some v) field some e = (plain v.now, sym e)
+
+pub given_none : (given : Option (Bor Value)) (field : Option PlainValue) → is_some given ≡ false → option_map plain (option_copied given) ≡ field → field ≡ None
+given_none None field none e = sym e
+given_none (Some v) field none e = absurd (false≢true (sym none))
+
+pub has_field : (found : Option ObjectRecord) (k : ℕ) (v : PlainValue) → field_of found k ≡ Some v → HasField found k
+has_field None k v e = none-some v e
+has_field (Some o) k v e = slice_get_within o.fields k v e
+
+-- the class of an object that is there
+pub class_of-is : (found : Option ObjectRecord) (class : ℕ) → class_of found ≡ Some class → (o : ObjectRecord) × (found ≡ Some o) × (o.class ≡ class)
+class_of-is None class e = absurd (none-some class e)
+class_of-is (Some o) class e = (o, refl, same_Some o.class class e)
 
 -- ---- weights
 
@@ -125,5 +130,23 @@ light_enough a r changed h =
     let e : nat_le (world_weight changed.world) most_world_weight ≡ true = grind (arith, nat_tests) in
     rw e refl
 
-pub restored : (s : State) (budget : Budget) (objects : List PlainObject) → map object_record objects ≡ map object_record s.world.objects → running (record s { world = record (s.world) { objects = objects } }) budget ≡ running s budget
-restored s budget objects e = ap (with_objects (running s budget)) e
+-- a field of an object that is there is put, if the world stays light
+pub put-heavy : (found : Option ObjectRecord) (id : ℕ) (change : List PlainValue → List PlainValue) (r : Running) → is_some found ≡ true
+    → nat_le (world_weight (with_objects r (with_fields id change r.world.objects)).world) most_world_weight ≡ false → put found id change r ≡ Faults Full r
+put-heavy None id change r there heavy = absurd (false≢true there)
+put-heavy (Some o) id change r there heavy = rw heavy refl
+
+pub put-light : (found : Option ObjectRecord) (id : ℕ) (change : List PlainValue → List PlainValue) (r : Running) → is_some found ≡ true
+    → nat_le (world_weight (with_objects r (with_fields id change r.world.objects)).world) most_world_weight ≡ true → put found id change r ≡ Gives tt (with_objects r (with_fields id change r.world.objects))
+put-light None id change r there light = absurd (false≢true there)
+put-light (Some o) id change r there light = rw light refl
+
+pub room-tells : (left : Option ℕ) (most weight : ℕ) → IsRoomBehind left most weight → is_some left ≡ nat_le weight most
+room-tells None most weight h = sym (lt-leb weight most h)
+room-tells (Some x) most weight h = sym (le-leb weight most (omega (arith, h)))
+
+-- a weight that fits into what is left, as a test of another sum
+pub told-le : (told : Bool) (m n p q : ℕ) → (IsTrue told ↔ (m ≤ n)) → p + n ≡ q + m → told ≡ nat_le p q
+told-le true m n p q h e = let fits : m ≤ n = h.0 refl in sym (le-leb p q (omega (arith, e)))
+told-le false m n p q h e =
+    ⊎_elim (λ over. sym (lt-leb p q (omega (arith, over, e)))) (λ fits. absurd (false≢true (h.1 fits))) (cases_lt n m)

@@ -1,8 +1,8 @@
 -- What a method keeps of a world, row by row.
 use Rattle.std.proofs.Common.{◌≡◌, ℕ, zero, suc, ◌+◌, ◌-◌, true, false, List, [], ◌∷◌, ◌++◌, length, Option, Some, None, nat_eq, refl, subst, arith, if◌then◌else◌, slice_get, bytes_eq}
-use Rattle.std.specs.Prelude.{⊤, is_some}
+use Rattle.std.specs.Prelude.{is_some}
 use Rattle.std.proofs.lemmas.List.{length_push}
-use Rattle.model_value.specs.Plain.{PlainValue, bool, text, ref, list, InBounds}
+use Rattle.model_value.specs.Plain.{PlainValue, nil, bool, text, ref, list, InBounds}
 use Rattle.model_value.specs.View.{plains_of}
 use Rattle.model_value.specs.World.{ObjectRecord}
 use Rattle.model_value.specs.Valid.{Valid, object_at, AllInBounds}
@@ -15,25 +15,26 @@ use Rattle.model_lang.specs.Names.{HasShortNames, AllHaveShortNames, NamesAreSho
 use Rattle.model_check.specs.Builtins.{builtin_named}
 use Rattle.model_check.specs.Methods.{method_named}
 use Rattle.model_eval.specs.declared.fault.Fault.TheVariants.{Arity, Depth}
-use Rattle.model_eval.specs.Running.{Running, Outcome, Gives, Faults, and_then, weighed, replying, truth, deciding}
+use Rattle.model_eval.specs.Running.{Running, Outcome, Gives, Faults, and_then, entering, weighed, replying, truth, deciding}
 use Rattle.model_eval.specs.Operators.{operated, truly, operating, unary_operated}
-use Rattle.model_eval.specs.Objects.{with_named, made}
+use Rattle.model_eval.specs.Objects.{with_named, made, is_held}
 use Rattle.model_eval.specs.Futures.{send}
-use Rattle.model_eval.specs.Builtins.{answered_by}
+use Rattle.model_eval.specs.Builtins.{on_event, answered, answered_by}
+use Rattle.model_eval.specs.Publishing.{handled_by, handled, told, with_outgoing, published}
+use Rattle.pubsub.specs.Topics.{handlers_of}
+use Rattle.pubsub.specs.declared.handler.Handler.{Handler}
+use Rattle.model_check.specs.declared.builtin.Builtin.{Builtin}
+use Rattle.model_check.specs.declared.builtin.Builtin.TheVariants as builtin_name
 use Rattle.model_eval.specs.Meaning.{Here, Local, locals_of, Flow, next, returned, follow, behind, value_of, set_named, Evaluate, Execute, Start, evaluated, in_turn, block, otherwise, looped, called_on, init, initialised, created, created_by, number_of, expression_row, statement_row, performed, starts_in, starts_on, starting, evaluate, execute, starts}
-use Rattle.model_eval.specs.Kept.{field_counts, CarriesIf, Carries}
+use Rattle.model_eval.specs.Kept.{field_counts, Anything, CarriesIf, Carries}
 use Rattle.model_eval.proofs.FieldBounds.{nil-in_bounds, with_named-in_bounds, length-with_named}
 use Rattle.model_eval.proofs.Pending.{if_either}
 use Rattle.model_eval.proofs.Created.{get-mapped}
 use Rattle.model_eval.proofs.ValueBounds.{bool-in_bounds, int-in_bounds, ref-in_bounds, AllInBounds-push, operated-in_bounds, unary_operated-in_bounds, LocalsFit, local_value-in_bounds, with_local-fit, declared-fit, locals_of-fit, FlowFits, behind-fits, value_of-fits}
-use Rattle.model_eval.proofs.Carrying.{kept-refl, carries-if, carries-more, carries-then, carries-next, carries-test, carries-entering, carries-deciding, carries-replying, carries-bounded, carries-weighed}
-use Rattle.model_eval.proofs.Doing.{got-carries, put-carries, send-carries, made-carries, answered_by-carries}
+use Rattle.model_eval.proofs.Carrying.{kept-refl, kept-published, carries-after, carries-if, carries-more, carries-then, carries-next, carries-test, carries-entering, carries-deciding, carries-replying, carries-bounded, carries-weighed}
+use Rattle.model_eval.proofs.Doing.{got-carries, put-carries, send-carries, made-carries, answered_alone-carries}
 
 -- ---- the table
-
--- what is given is of no concern
-abbrev pub Anything : {A : Type 0} → A → Type 0
-Anything _ = ⊤
 
 -- values in bounds, as many as a number says
 abbrev pub AreMany : ℕ → List PlainValue → Type 0
@@ -104,6 +105,47 @@ module _ (program : ProgramTree) (ev : Evaluate) (start : Start) (keeps : Evalua
       (λ x. (valid x, (fit x, tt))) (begins id init (v ∷ []) r) (λ _ s. (kept-refl s, λ x. (x.1, ref-in_bounds id))))
       (λ _. (kept-refl r, λ x. (valid x, ref-in_bounds id)))
 
+  -- handlers, each of which starts with the value
+  handled_by-carries : (H : Type 0) (v : PlainValue) (h : Handler) (r : Running)
+      → (H → Valid (field_counts program) r.world) → (H → InBounds v) → CarriesIf H (field_counts program) Anything r (handled_by start v h r)
+  handled_by-carries H v h r valid fit =
+      let r1 : Running = record r { fuel = r.fuel - 1 } in
+      carries-test (field_counts program) H Anything r (is_held h.object r.world) (entering r (λ s. and_then (start h.object h.method (v ∷ []) s) (λ _. Gives tt))) (Gives tt r)
+      (λ _. carries-entering (field_counts program) H Anything r (λ s. and_then (start h.object h.method (v ∷ []) s) (λ _. Gives tt)) valid
+      (carries-next (field_counts program) H (Valid (field_counts program) r1.world × AllInBounds (v ∷ [])) InBounds Anything r1 (start h.object h.method (v ∷ []) r1) (λ _. Gives tt)
+      (λ x. (valid x, (fit x, tt))) (begins h.object h.method (v ∷ []) r1) (λ _ s. (kept-refl s, λ x. (x.1, tt)))))
+      (λ _. (kept-refl r, λ x. (valid x, tt)))
+
+  pub handled-carries : (H : Type 0) (v : PlainValue) (hs : List Handler) (r : Running)
+      → (H → Valid (field_counts program) r.world) → (H → InBounds v) → CarriesIf H (field_counts program) Anything r (handled start v hs r)
+  handled-carries H v [] r valid fit = (kept-refl r, λ x. (valid x, tt))
+  handled-carries H v (h ∷ hs) r valid fit =
+      carries-then (field_counts program) H Anything Anything r (handled_by start v h r) (λ _. handled start v hs) (handled_by-carries H v h r valid fit)
+      (λ u s. handled-carries (H × Valid (field_counts program) s.world × Anything u) v hs s (λ x. x.1) (λ x. fit x.0))
+
+  published-carries : (H : Type 0) (scope event : Name) (v : PlainValue) (r : Running)
+      → (H → Valid (field_counts program) r.world) → (H → InBounds v) → CarriesIf H (field_counts program) InBounds r (published start scope event v r)
+  published-carries H scope event v r valid fit =
+      let s : Running = with_outgoing scope event v r in
+      carries-after (field_counts program) H H InBounds r s (published start scope event v r) (kept-published r (record { time = r.world.time; scope = scope; event = event; value = v } ∷ [])) (λ x. x)
+      (carries-then (field_counts program) H Anything InBounds s (told start scope event v s) (λ _. Gives nil)
+      (handled-carries H v (handlers_of scope event s.world.subscriptions) s valid fit) (λ _ t. (kept-refl t, λ x. (x.1, nil-in_bounds))))
+
+  on_event-carries : (H : Type 0) (args : List PlainValue) (r : Running)
+      → (H → Valid (field_counts program) r.world) → (H → AllInBounds args) → CarriesIf H (field_counts program) InBounds r (on_event (published start) args r)
+  on_event-carries H (text scope ∷ text event ∷ v ∷ []) r valid fit = published-carries H scope event v r valid (λ x. (fit x).1.1.0)
+  on_event-carries H _ r valid fit = (kept-refl r, valid)
+
+  answered-carries : (H : Type 0) (f : Builtin) (object : ℕ) (args : List PlainValue) (r : Running)
+      → (H → Valid (field_counts program) r.world) → (H → AllInBounds args) → CarriesIf H (field_counts program) InBounds r (answered start f object args r)
+  answered-carries H builtin_name.Publish object args r valid fit = on_event-carries H args r valid fit
+  answered-carries H f object args r valid fit = answered_alone-carries (field_counts program) H f object args r valid fit
+
+  answered_by-carries : (H : Type 0) (f : Option Builtin) (object : ℕ) (args : List PlainValue) (r : Running)
+      → (H → Valid (field_counts program) r.world) → (H → AllInBounds args) → CarriesIf H (field_counts program) InBounds r (answered_by start f object args r)
+  answered_by-carries H None object args r valid fit = (kept-refl r, valid)
+  answered_by-carries H (Some f) object args r valid fit = answered-carries H f object args r valid fit
+
   created-carries : (H : Type 0) (n : ℕ) (c : Option ClassTree) (v : PlainValue) (r : Running)
       → (H → Valid (field_counts program) r.world) → (H → InBounds v) → slice_get program n ≡ c → CarriesIf H (field_counts program) InBounds r (created start n c v r)
   created-carries H n None v r valid fit e = (kept-refl r, valid)
@@ -165,8 +207,8 @@ module _ (program : ProgramTree) (ev : Evaluate) (start : Start) (keeps : Evalua
       part-carries (Ready (field_counts program) locals r) here a locals r (λ v. operating o v (ev here b locals)) (λ x. x) few.0 short.0
       (λ v s. operating-carries (field_counts program) ev keeps _ here o v b locals s (λ x. (x.1, x.0.1)) few.1 short.1)
   expression-carries here (builtin x args) locals r few short =
-      arguments-carry (Ready (field_counts program) locals r) here args locals r (answered_by (builtin_named x) here.object) (λ y. y) few short.1
-      (λ vs s. answered_by-carries (field_counts program) _ (builtin_named x) here.object vs s (λ y. y.1) (λ y. y.2.0))
+      arguments-carry (Ready (field_counts program) locals r) here args locals r (answered_by start (builtin_named x) here.object) (λ y. y) few short.1
+      (λ vs s. answered_by-carries _ (builtin_named x) here.object vs s (λ y. y.1) (λ y. y.2.0))
   expression-carries here (call object x args) locals r few short =
       part-carries (Ready (field_counts program) locals r) here object locals r _ (λ y. y) few.0 short.0
       (λ o s. arguments-carry (Ready (field_counts program) locals r × Valid (field_counts program) s.world × InBounds o) here args locals s (called_on start o x) (λ y. (y.1, y.0.1)) few.1.1 short.2
@@ -329,3 +371,11 @@ pub starts-kept : (program : ProgramTree) (room object : ℕ) (x : Name) (args :
 starts-kept program room object x args r fit short bounds =
     carries-if (field_counts program) (Valid (field_counts program) r.world) (Valid (field_counts program) r.world × AllInBounds args) InBounds r (starts program room object x args r)
     (λ v. (v, bounds)) (starts-carries program room object x args r fit short)
+
+-- models that are told of an event
+pub told-kept : (program : ProgramTree) (room : ℕ) (scope event : Name) (v : PlainValue) (r : Running)
+    → ClassesFit program → ClassNamesAreShort program → InBounds v → Carries (field_counts program) Anything r (told (starts program room) scope event v r)
+told-kept program room scope event v r fit short bounds =
+    let below = row-kept program room fit short in
+    handled-carries program (evaluate program room) (starts program room) below.0 (starting-begins (field_counts program) (execute program room) below.1 program fit short)
+    (Valid (field_counts program) r.world) v (handlers_of scope event r.world.subscriptions) r (λ x. x) (λ _. bounds)

@@ -18,3 +18,4 @@ pub mod Texts
 pub mod InitLaws
 pub mod Steps
 pub mod Standing
+pub mod Published

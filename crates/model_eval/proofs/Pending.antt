@@ -1,75 +1,17 @@
 -- What one more message keeps of the pending ones.
-use Rattle.std.proofs.Common.{◌≡◌, ℕ, ◌+◌, ◌*◌, ◌≤◌, ◌<◌, inl, inr, Bool, true, false, ◌&&◌, ◌||◌, ℤ, pos, negsuc, List, [], ◌∷◌, length, Some, None, nat_eq, nat_lt, nat_le, refl, sym, ap, ◌∙◌, arith, if◌then◌else◌, encode_utf8_all, encode_utf8, length-append}
-use Rattle.std.proofs.lemmas.Bool.{ltb-true, ltb-false, lt-leb, eqb-true, eqb-false}
+use Rattle.std.proofs.Common.{◌≡◌, ℕ, ◌+◌, ◌*◌, ◌≤◌, ◌<◌, ℤ, pos, negsuc, List, [], ◌∷◌, length, Some, None, nat_lt, nat_le, refl, ap, ◌∙◌, arith, if◌then◌else◌, encode_utf8_all, encode_utf8, length-append}
+use Rattle.std.proofs.lemmas.Bool.{ltb-true, lt-leb}
 use Rattle.std.proofs.lemmas.Str.{length-encode, len_utf8_bounds}
-use Rattle.model_value.specs.World.{WorldRecord, total}
+use Rattle.model_value.specs.World.{WorldRecord}
 use Rattle.model_value.specs.Messages.{PlainMessage}
-use Rattle.model_value.specs.Valid.{TextFits, Precedes, PrecedesAll, AreInOrder, IsUnused, NumbersDiffer, MessageFits, MessagesFit, time_limit}
+use Rattle.model_value.specs.Valid.{TextFits, IsUnused, MessageFits, MessagesFit, time_limit}
 use Rattle.model_lang.specs.Tree.{Name}
 use Rattle.model_lang.specs.Names.{IsShort}
 use Rattle.model_eval.specs.Kept.{due}
-use Rattle.model_eval.specs.Futures.{ahead, precedes, inserted}
+pub use Rattle.message_queue.proofs.Order.{if_either, AreInOrder-inserted, NumbersDiffer-inserted, length-inserted, total-inserted}
+use Rattle.message_queue.specs.Queue.{precedes, inserted}
+use Rattle.model_eval.specs.Futures.{ahead}
 use Rattle.model_eval.proofs.FieldBounds.{StillHeld}
-
--- what holds in each branch, by its test, holds of a test
-pub if_either : {A : Type 0} (P : A → Type 0) (b : Bool) (x y : A) → (b ≡ true → P x) → (b ≡ false → P y) → P (if b then x else y)
-if_either P true x y h g = h refl
-if_either P false x y h g = g refl
-
--- ---- the order
-
-precedes-tells : (b c d : Bool) (m n : PlainMessage) → (b ≡ true → m.time < n.time) → (c ≡ true → m.time ≡ n.time) → (d ≡ true → m.number < n.number) → (b || c && d) ≡ true → Precedes m n
-precedes-tells true c d m n f g h e = inl (f refl)
-precedes-tells false true true m n f g h e = inr (g refl, h refl)
-precedes-tells false true false m n f g h e = absurd cc
-precedes-tells false false d m n f g h e = absurd cc
-
-precedes-true : (m n : PlainMessage) → precedes m n ≡ true → Precedes m n
-precedes-true m n e = precedes-tells (nat_lt m.time n.time) (nat_eq m.time n.time) (nat_lt m.number n.number) m n (ltb-true m.time n.time) (eqb-true m.time n.time) (ltb-true m.number n.number) e
-
-follows-tells : (b c d : Bool) (m n : PlainMessage) → (b ≡ false → n.time ≤ m.time) → (c ≡ false → ¬ (m.time ≡ n.time)) → (c ≡ true → m.time ≡ n.time) → (d ≡ false → n.number ≤ m.number) → ¬ (m.number ≡ n.number) → (b || c && d) ≡ false → Precedes n m
-follows-tells true c d m n f g k h u e = absurd cc
-follows-tells false true true m n f g k h u e = absurd cc
-follows-tells false true false m n f g k h u e = let at : m.time ≡ n.time = k refl in let above : n.number ≤ m.number = h refl in inr (sym at, omega (arith, u))
-follows-tells false false d m n f g k h u e = let behind : n.time ≤ m.time = f refl in let apart : ¬ (m.time ≡ n.time) = g refl in inl (omega (arith, apart))
-
-precedes-false : (m n : PlainMessage) → ¬ (m.number ≡ n.number) → precedes m n ≡ false → Precedes n m
-precedes-false m n u e =
-    follows-tells (nat_lt m.time n.time) (nat_eq m.time n.time) (nat_lt m.number n.number) m n (ltb-false m.time n.time) (eqb-false m.time n.time) (eqb-true m.time n.time) (ltb-false m.number n.number) u e
-
-Precedes-trans : (l m n : PlainMessage) → Precedes l m → Precedes m n → Precedes l n
-Precedes-trans l m n (inl h) (inl g) = inl (omega arith)
-Precedes-trans l m n (inl h) (inr g) = inl (omega arith)
-Precedes-trans l m n (inr h) (inl g) = inl (omega arith)
-Precedes-trans l m n (inr h) (inr g) = inr (h.0 ∙ g.0, omega arith)
-
-PrecedesAll-trans : (l m : PlainMessage) (ns : List PlainMessage) → Precedes l m → PrecedesAll m ns → PrecedesAll l ns
-PrecedesAll-trans l m [] h g = tt
-PrecedesAll-trans l m (n ∷ ns) h g = (Precedes-trans l m n h g.0, PrecedesAll-trans l m ns h g.1)
-
-PrecedesAll-inserted : (l m : PlainMessage) (ns : List PlainMessage) → Precedes l m → PrecedesAll l ns → PrecedesAll l (inserted m ns)
-PrecedesAll-inserted l m [] h g = (h, tt)
-PrecedesAll-inserted l m (n ∷ ns) h g =
-    if_either (PrecedesAll l) (precedes m n) (m ∷ n ∷ ns) (n ∷ inserted m ns) (λ _. (h, g)) (λ _. (g.0, PrecedesAll-inserted l m ns h g.1))
-
-pub AreInOrder-inserted : (m : PlainMessage) (ns : List PlainMessage) → IsUnused m.number ns → AreInOrder ns → AreInOrder (inserted m ns)
-AreInOrder-inserted m [] u h = (tt, tt)
-AreInOrder-inserted m (n ∷ ns) u h =
-    if_either AreInOrder (precedes m n) (m ∷ n ∷ ns) (n ∷ inserted m ns)
-    (λ e. let first : Precedes m n = precedes-true m n e in ((first, PrecedesAll-trans m n ns first h.0), h))
-    (λ e. (PrecedesAll-inserted n m ns (precedes-false m n u.0 e) h.0, AreInOrder-inserted m ns u.1 h.1))
-
--- ---- the numbers
-
-IsUnused-inserted : (k : ℕ) (m : PlainMessage) (ns : List PlainMessage) → ¬ (k ≡ m.number) → IsUnused k ns → IsUnused k (inserted m ns)
-IsUnused-inserted k m [] h g = (h, tt)
-IsUnused-inserted k m (n ∷ ns) h g =
-    if_either (IsUnused k) (precedes m n) (m ∷ n ∷ ns) (n ∷ inserted m ns) (λ _. (h, g)) (λ _. (g.0, IsUnused-inserted k m ns h g.1))
-
-pub NumbersDiffer-inserted : (m : PlainMessage) (ns : List PlainMessage) → IsUnused m.number ns → NumbersDiffer ns → NumbersDiffer (inserted m ns)
-NumbersDiffer-inserted m [] u h = (tt, tt)
-NumbersDiffer-inserted m (n ∷ ns) u h =
-    if_either NumbersDiffer (precedes m n) (m ∷ n ∷ ns) (n ∷ inserted m ns) (λ _. (u, h)) (λ _. (IsUnused-inserted n.number m ns (λ e. u.0 (sym e)) h.0, NumbersDiffer-inserted m ns u.1 h.1))
 
 -- a world's next number is new
 pub next_number-unused : (w : WorldRecord) (ns : List PlainMessage) → MessagesFit w ns → IsUnused w.next_number ns
@@ -91,16 +33,6 @@ MessagesFit-later w v (m ∷ ms) t n held h =
     ((omega arith, h.0.1, omega arith, held m.object h.0.3, h.0.4, h.0.5, h.0.6), MessagesFit-later w v ms t n held h.1)
 
 -- ---- counts and weights
-
-pub length-inserted : (m : PlainMessage) (ns : List PlainMessage) → length (inserted m ns) ≡ length ns + 1
-length-inserted m [] = refl
-length-inserted m (n ∷ ns) =
-    if_either (λ l. length l ≡ length (n ∷ ns) + 1) (precedes m n) (m ∷ n ∷ ns) (n ∷ inserted m ns) (λ _. omega arith) (λ _. omega (arith, length-inserted m ns))
-
-pub total-inserted : (weighs : PlainMessage → ℕ) (m : PlainMessage) (ns : List PlainMessage) → total weighs (inserted m ns) ≡ weighs m + total weighs ns
-total-inserted weighs m [] = refl
-total-inserted weighs m (n ∷ ns) =
-    if_either (λ l. total weighs l ≡ weighs m + total weighs (n ∷ ns)) (precedes m n) (m ∷ n ∷ ns) (n ∷ inserted m ns) (λ _. refl) (λ _. omega (arith, total-inserted weighs m ns))
 
 pub due-inserted : (time : ℕ) (m : PlainMessage) (ns : List PlainMessage) → due time (inserted m ns) ≡ (if nat_le m.time time then 1 else 0) + due time ns
 due-inserted time m [] = refl

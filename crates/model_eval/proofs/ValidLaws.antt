@@ -1,21 +1,26 @@
 -- Worlds stay valid.
-use Rattle.std.proofs.Common.{◌≡◌, ℕ, ◌+◌, ◌-◌, ◌^◌, ◌≤◌, ◌<◌, ◌&&◌, true, List, [], ◌∷◌, ◌++◌, length, Some, refl, sym, ap, ◌∙◌, subst, arith, nat_eq, nat_lt, nat_le, slice_get, Bool, not}
+use Rattle.std.proofs.Common.{◌≡◌, ℕ, ◌+◌, ◌≤◌, ◌<◌, ◌&&◌, true, false, List, [], ◌∷◌, ◌++◌, length, Some, refl, sym, ap, ◌∙◌, subst, arith, nat_eq, nat_lt, nat_le, slice_get, Bool, not}
+use Rattle.std.specs.List.{filter}
 use Rattle.std.proofs.lemmas.Bool.{ltb-true, leb-true, and_parts}
 use Rattle.std.proofs.lemmas.List.{length_push, length-replicate}
 use Rattle.model_value.specs.Plain.{PlainValue, nil}
 use Rattle.model_value.specs.Messages.{PlainMessage}
 use Rattle.model_value.specs.World.{ObjectRecord, WorldRecord, object_weight, message_weight, subscription_weight, known_weight, world_weight, most_world_weight}
-use Rattle.model_value.specs.Valid.{Valid, RiseFrom, AllInBounds, IsHeld, ObjectFits, TextFits, MessageFits, IsUnused, most_objects, most_pending}
+use Rattle.model_value.specs.Valid.{Valid, RiseFrom, AllInBounds, IsHeld, ObjectFits, TextFits, SubscriptionFits, MessageFits, IsUnused, most_objects, most_pending}
 use Rattle.model_value.specs.declared.message.Subscription.{Subscription}
 use Rattle.model_value.specs.declared.world.Known.{Known}
 use Rattle.model_lang.specs.Tree.{Name}
 use Rattle.model_eval.specs.Running.{Running}
 use Rattle.model_eval.specs.Objects.{with_fields, with_objects, new_object, has_room_for, with_object, last_id, without_object, with_known}
 use Rattle.model_eval.specs.Futures.{with_message, has_room}
+use Rattle.model_eval.specs.Publishing.{has_room_to, with_subscription}
+use Rattle.message_queue.specs.Queue.{last_number}
+use Rattle.pubsub.specs.Topics.{is_held}
+use Rattle.pubsub.proofs.Subscriptions.{SubscriptionsDiffer-appended}
 use Rattle.model_eval.proofs.FieldBounds.{StillHeld, Alike, with_fields-alike, Alike-ids, Alike-length, Alike-held, with_fields-fit, KnownFit-held, SubscriptionsFit-held, nil-in_bounds}
 use Rattle.model_eval.proofs.Pending.{AreInOrder-inserted, NumbersDiffer-inserted, next_number-unused, MessagesFit-inserted, MessagesFit-later, length-inserted, total-inserted}
-use Rattle.model_eval.proofs.Created.{ids-appended, ObjectsFit-appended, appended-held, replicate-in_bounds, total-appended}
-use Rattle.model_eval.proofs.Destroyed.{ids-filtered, ObjectsFit-filtered, KnownRise-filtered, SubscriptionsDiffer-filtered, AreInOrder-filtered, NumbersDiffer-filtered, total-filtered, length-filtered, KnownFit-others, SubscriptionsFit-others, MessagesFit-others}
+use Rattle.model_eval.proofs.Created.{ids-appended, ObjectsFit-appended, appended-held, replicate-in_bounds, total-appended, SubscriptionsFit-appended}
+use Rattle.model_eval.proofs.Destroyed.{ids-filtered, ObjectsFit-filtered, KnownRise-filtered, SubscriptionsDiffer-filtered, SubscriptionsFit-filtered, MessagesFit-filtered, AreInOrder-filtered, NumbersDiffer-filtered, total-filtered, length-filtered, KnownFit-others, SubscriptionsFit-others, MessagesFit-others}
 use Rattle.model_eval.proofs.KnownOrder.{KnownRise-with_known, KnownFit-with_known}
 
 -- with other fields in one object, if it is light
@@ -58,8 +63,8 @@ pub valid-message : (counts : List ℕ) (m : PlainMessage) (r : Running) → m.n
     → Valid counts r.world → Valid counts ((with_message r m).world)
 valid-message counts m r new fits room v =
     let ms = r.world.pending in
-    let parts = and_parts (nat_lt (length ms) most_pending && nat_lt r.world.next_number (2 ^ 64 - 1)) (nat_le (world_weight r.world + message_weight m) most_world_weight) room in
-    let few : length ms < most_pending = ltb-true (length ms) most_pending (and_parts (nat_lt (length ms) most_pending) (nat_lt r.world.next_number (2 ^ 64 - 1)) parts.0).0 in
+    let parts = and_parts (nat_lt (length ms) most_pending && nat_lt r.world.next_number last_number) (nat_le (world_weight r.world + message_weight m) most_world_weight) room in
+    let few : length ms < most_pending = ltb-true (length ms) most_pending (and_parts (nat_lt (length ms) most_pending) (nat_lt r.world.next_number last_number) parts.0).0 in
     let light : world_weight r.world + message_weight m ≤ most_world_weight = leb-true (world_weight r.world + message_weight m) most_world_weight parts.1 in
     let unused : IsUnused m.number ms = subst (λ k. IsUnused k ms) (sym new) (next_number-unused r.world ms v.pending) in
     record {
@@ -195,3 +200,75 @@ valid-random counts random w v =
       pending_fit = v.pending_fit;
       weight = v.weight;
     }
+
+filter-true : {A : Type 0} (xs : List A) → filter (λ (x : A). true) xs ≡ xs
+filter-true [] = refl
+filter-true (x ∷ xs) = ap (λ (rest : List _). x ∷ rest) (filter-true xs)
+
+-- with one more subscription, which is new, if there is room for it
+pub valid-subscription : (counts : List ℕ) (s : Subscription) (w : WorldRecord) → is_held s w.subscriptions ≡ false → SubscriptionFits w.objects s → has_room_to w s ≡ true
+    → Valid counts w → Valid counts (with_subscription s w)
+valid-subscription counts s w new fits room v =
+    let ss = w.subscriptions in
+    let parts = and_parts (nat_lt (length ss) most_pending) (nat_le (world_weight w + subscription_weight s) most_world_weight) room in
+    let few : length ss < most_pending = ltb-true (length ss) most_pending parts.0 in
+    let light : world_weight w + subscription_weight s ≤ most_world_weight = leb-true (world_weight w + subscription_weight s) most_world_weight parts.1 in
+    record {
+      time = v.time;
+      next_object = v.next_object;
+      turns = v.turns;
+      views = v.views;
+      views_fit = v.views_fit;
+      ids = v.ids;
+      objects = v.objects;
+      objects_fit = v.objects_fit;
+      known_order = v.known_order;
+      known = v.known;
+      subscriptions_differ = SubscriptionsDiffer-appended s ss new v.subscriptions_differ;
+      subscriptions = SubscriptionsFit-appended w.objects ss s v.subscriptions fits;
+      subscriptions_fit = omega (arith, length_push ss s, few);
+      order = v.order;
+      numbers_differ = v.numbers_differ;
+      pending = MessagesFit-later w (with_subscription s w) w.pending refl (omega arith) (λ id held. held) v.pending;
+      pending_fit = v.pending_fit;
+      weight = omega (arith, total-appended subscription_weight ss s, light);
+    }
+
+-- with fewer subscriptions and fewer messages to come
+pub valid-fewer : (counts : List ℕ) (keeps : Subscription → Bool) (keeps_too : PlainMessage → Bool) (w : WorldRecord)
+    → Valid counts w → Valid counts (record w { subscriptions = filter keeps w.subscriptions; pending = filter keeps_too w.pending })
+valid-fewer counts keeps keeps_too w v =
+    let left : WorldRecord = record w { subscriptions = filter keeps w.subscriptions; pending = filter keeps_too w.pending } in
+    record {
+      time = v.time;
+      next_object = v.next_object;
+      turns = v.turns;
+      views = v.views;
+      views_fit = v.views_fit;
+      ids = v.ids;
+      objects = v.objects;
+      objects_fit = v.objects_fit;
+      known_order = v.known_order;
+      known = v.known;
+      subscriptions_differ = SubscriptionsDiffer-filtered keeps w.subscriptions v.subscriptions_differ;
+      subscriptions = SubscriptionsFit-filtered w.objects keeps w.subscriptions v.subscriptions;
+      subscriptions_fit = omega (arith, length-filtered keeps w.subscriptions, v.subscriptions_fit);
+      order = AreInOrder-filtered keeps_too w.pending v.order;
+      numbers_differ = NumbersDiffer-filtered keeps_too w.pending v.numbers_differ;
+      pending =
+          MessagesFit-filtered left keeps_too w.pending (MessagesFit-later w left w.pending refl (omega arith) (λ id held. held) v.pending);
+      pending_fit = omega (arith, length-filtered keeps_too w.pending, v.pending_fit);
+      weight = omega (arith, v.weight, total-filtered message_weight keeps_too w.pending, total-filtered subscription_weight keeps w.subscriptions);
+    }
+
+-- without some subscriptions
+pub valid-unsubscribed : (counts : List ℕ) (keeps : Subscription → Bool) (w : WorldRecord) → Valid counts w → Valid counts (record w { subscriptions = filter keeps w.subscriptions })
+valid-unsubscribed counts keeps w v =
+    let all : filter (λ (m : PlainMessage). true) w.pending ≡ w.pending = filter-true w.pending in
+    subst (λ (ms : List PlainMessage). Valid counts (record w { subscriptions = filter keeps w.subscriptions; pending = ms })) all (valid-fewer counts keeps (λ _. true) w v)
+
+-- without some messages to come
+pub valid-cancelled : (counts : List ℕ) (keeps : PlainMessage → Bool) (w : WorldRecord) → Valid counts w → Valid counts (record w { pending = filter keeps w.pending })
+valid-cancelled counts keeps w v =
+    let all : filter (λ (s : Subscription). true) w.subscriptions ≡ w.subscriptions = filter-true w.subscriptions in
+    subst (λ (ss : List Subscription). Valid counts (record w { subscriptions = ss; pending = filter keeps w.pending })) all (valid-fewer counts (λ _. true) keeps w v)

@@ -1,14 +1,20 @@
 -- What the evaluator answers, beside what a program means.
-use Rattle.std.specs.Prelude.{◌≡◌, ℕ, ℤ, List, Vec, map, Bool, Option, Some, None, is_some, true, false, Result, Ok, Err, ⊤}
+use Rattle.std.specs.Prelude.{◌≡◌, ◌-◌, ℕ, nat_eq, ℤ, List, Vec, map, Bool, Option, Some, None, is_some, true, false, Result, Ok, Err, ⊤}
 use Rattle.std.specs.declared.alloc.Global.{Global}
-use Rattle.model_value.specs.Plain.{PlainValue, int}
+use Rattle.model_value.specs.Plain.{PlainValue, nil, int}
 use Rattle.model_value.specs.View.{plain, plain_values}
 use Rattle.model_value.specs.Messages.{plain_outgoing}
-use Rattle.model_value.specs.World.{world_record}
+use Rattle.model_value.specs.World.{ObjectRecord, WorldRecord}
 use Rattle.model_value.specs.declared.value.Value.{Value}
 use Rattle.model_builtin.specs.declared.fault.BuiltinStop.{BuiltinStop}
 use Rattle.model_builtin.specs.declared.fault.BuiltinStop.TheVariants as builtin_stop
-use Rattle.model_eval.specs.declared.fault.Fault.TheVariants.{BadKind, BadIndex, Size}
+use Rattle.object_store.specs.declared.refusal.StoreRefusal.{StoreRefusal}
+use Rattle.object_store.specs.declared.refusal.StoreRefusal.TheVariants as store_refusal
+use Rattle.message_queue.specs.declared.refusal.QueueRefusal.{QueueRefusal}
+use Rattle.message_queue.specs.declared.refusal.QueueRefusal.TheVariants as queue_refusal
+use Rattle.pubsub.specs.declared.refusal.TopicRefusal.{TopicRefusal}
+use Rattle.pubsub.specs.declared.refusal.TopicRefusal.TheVariants as topic_refusal
+use Rattle.model_eval.specs.declared.fault.Fault.TheVariants.{BadKind, BadIndex, NoObject, Fuel, Size, Full}
 use Rattle.model_eval.specs.declared.fault.Stop.{Stop}
 use Rattle.model_eval.specs.declared.fault.Stop.TheVariants as stop
 use Rattle.model_eval.specs.declared.evaluator.Flow.{Flow as Held}
@@ -21,9 +27,26 @@ use Rattle.model_lang.specs.Tree.{Name, ClassTree}
 use Rattle.model_check.specs.Methods.{method_named}
 use Rattle.model_eval.specs.Meaning.{Flow, next, returned, init}
 
+-- the world that a state holds
+abbrev pub world_of : State → WorldRecord
+world_of s = record {
+  id = s.id.0;
+  time = s.time;
+  next_object = s.objects.next;
+  next_number = s.pending.next;
+  random = s.random;
+  turns = s.turns;
+  faults = s.faults;
+  views = s.views;
+  objects = s.objects.objects;
+  known = s.known;
+  subscriptions = s.topics;
+  pending = s.pending.messages;
+}
+
 -- what a contract sees of what runs
 abbrev pub running : State → Budget → Running
-running state budget = record { fuel = budget.fuel; world = world_record state.world; published = map plain_outgoing state.published }
+running state budget = record { fuel = budget.fuel; world = world_of state; published = map plain_outgoing state.published }
 
 -- a fault of what needs no world
 abbrev pub stop_of : BuiltinStop → Stop
@@ -31,6 +54,21 @@ stop_of builtin_stop.BadKind = stop.Fault BadKind
 stop_of builtin_stop.BadIndex = stop.Fault BadIndex
 stop_of builtin_stop.Size = stop.Fault Size
 stop_of builtin_stop.WantOfMemory = stop.WantOfMemory
+
+-- what a world holds no more of
+abbrev pub stop_of_store : StoreRefusal → Stop
+stop_of_store (store_refusal.Full count) = stop.Fault Full
+stop_of_store store_refusal.Spent = stop.Fault Full
+stop_of_store store_refusal.WantOfMemory = stop.WantOfMemory
+
+abbrev pub stop_of_queue : QueueRefusal → Stop
+stop_of_queue (queue_refusal.Full count) = stop.Fault Full
+stop_of_queue queue_refusal.Spent = stop.Fault Full
+stop_of_queue queue_refusal.WantOfMemory = stop.WantOfMemory
+
+abbrev pub stop_of_topics : TopicRefusal → Stop
+stop_of_topics (topic_refusal.Full count) = stop.Fault Full
+stop_of_topics topic_refusal.WantOfMemory = stop.WantOfMemory
 
 -- the answer, and what runs after it, are what was meant, unless memory ran out
 abbrev pub Answers : Result Value Stop → State → Budget → Outcome PlainValue → Type 0
@@ -69,6 +107,12 @@ Enters (Ok room) budget meant = (state : State) → meant state ≡ Gives room (
 Enters (Err (stop.Fault f)) budget meant = (state : State) → meant state ≡ Faults f (running state budget)
 Enters (Err stop.WantOfMemory) budget meant = ⊥
 
+-- a step is taken, or there was none
+abbrev pub Steps : Result ⊤ Stop → Budget → Budget → Type 0
+Steps (Ok u) old new = (nat_eq old.fuel 0 ≡ false) × (new ≡ record old { fuel = old.fuel - 1 })
+Steps (Err (stop.Fault f)) old new = (f ≡ Fuel) × (nat_eq old.fuel 0 ≡ true) × (new ≡ old)
+Steps (Err stop.WantOfMemory) old new = ⊥
+
 -- the same of what takes steps alone
 abbrev pub Spends : Result Value Stop → Budget → (State → Outcome PlainValue) → Type 0
 Spends (Ok v) budget meant = (state : State) → meant state ≡ Gives (plain v) (running state budget)
@@ -80,6 +124,12 @@ abbrev pub Replies : Result Value Stop → Reply → Type 0
 Replies (Ok v) meant = meant ≡ value (plain v)
 Replies (Err (stop.Fault f)) meant = meant ≡ fails f
 Replies (Err stop.WantOfMemory) meant = Unit {0}
+
+-- a field that is not there: the object has no such field, or it is gone
+abbrev pub IsAbsent : Result Value Stop → Option ObjectRecord → Type 0
+IsAbsent (Ok v) found = (plain v ≡ nil) × (is_some found ≡ true)
+IsAbsent (Err (stop.Fault f)) found = (f ≡ NoObject) × (found ≡ None)
+IsAbsent (Err stop.WantOfMemory) found = ⊥
 
 -- two values are Ints, or what needs two Ints fails
 abbrev pub AreInts : Result (ℤ × ℤ) Stop → PlainValue → PlainValue → Type 0

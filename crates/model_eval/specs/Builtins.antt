@@ -10,8 +10,9 @@ use Rattle.model_builtin.specs.Builtins.{applied}
 use Rattle.model_builtin.specs.Builtins as without_world
 use Rattle.seeded_random.specs.Draw.{word_of, state_after, number_below}
 use Rattle.model_eval.specs.declared.fault.Fault.TheVariants.{BadKind, BadIndex, Size}
-use Rattle.model_eval.specs.Running.{Running, with_world, Outcome, Gives, Faults, spending, bounded}
+use Rattle.model_eval.specs.Running.{Running, with_world, Outcome, Gives, Faults, spending, bounded, Start}
 use Rattle.model_eval.specs.Objects.{is_held, destroyed, known_by, made_known}
+use Rattle.model_eval.specs.Publishing.{published, subscribed, unsubscribed, cancelled, views_counted, views_told}
 
 -- a number below this one; a word is drawn from the world's source
 abbrev pub drawn : ℤ → Running → Outcome PlainValue
@@ -54,7 +55,7 @@ abbrev pub pure_answered : Option Pure → List PlainValue → Running → Outco
 pure_answered None args r = Faults BadKind r
 pure_answered (Some f) args r = given (takes_steps f) (applied f args) r
 
--- the arguments that a builtin takes: none, one Int, one Text, or one Ref
+-- the arguments that a builtin takes: none, one Int, one Text, three Texts, two Texts and a value, or one Ref
 abbrev pub on_none : (Running → Outcome PlainValue) → List PlainValue → Running → Outcome PlainValue
 on_none f [] r = f r
 on_none f _ r = Faults BadKind r
@@ -66,6 +67,14 @@ on_int f _ r = Faults BadKind r
 abbrev pub on_text : (List ℕ → Running → Outcome PlainValue) → List PlainValue → Running → Outcome PlainValue
 on_text f (text x ∷ []) r = f x r
 on_text f _ r = Faults BadKind r
+
+abbrev pub on_texts : (List ℕ → List ℕ → List ℕ → Running → Outcome PlainValue) → List PlainValue → Running → Outcome PlainValue
+on_texts f (text x ∷ text y ∷ text z ∷ []) r = f x y z r
+on_texts f _ r = Faults BadKind r
+
+abbrev pub on_event : (List ℕ → List ℕ → PlainValue → Running → Outcome PlainValue) → List PlainValue → Running → Outcome PlainValue
+on_event f (text x ∷ text y ∷ v ∷ []) r = f x y v r
+on_event f _ r = Faults BadKind r
 
 abbrev pub on_ref : (ℕ → Running → Outcome PlainValue) → List PlainValue → Running → Outcome PlainValue
 on_ref f (ref id ∷ []) r = f id r
@@ -83,18 +92,27 @@ known_told x r = Gives (known_by x r.world.known) r
 abbrev pub held_told : ℕ → Running → Outcome PlainValue
 held_told id r = Gives (bool (is_held id r.world)) r
 
--- What a builtin answers that a method of this object calls. What publishes, subscribes, cancels or tells of views has no
--- meaning yet.
-abbrev pub answered : Builtin → ℕ → List PlainValue → Running → Outcome PlainValue
-answered builtin.Now object = on_none time_told
-answered builtin.Random object = on_int drawn
-answered builtin.SessionId object = on_none id_told
-answered builtin.Known object = on_text known_told
-answered builtin.BeKnown object = on_text (made_known object)
-answered builtin.Exists object = on_ref held_told
-answered builtin.Destroy object = on_ref destroyed
-answered f object = pure_answered (pure_of f)
+-- what a builtin answers that starts no method, where a method of this object calls it
+abbrev pub answered_alone : Builtin → ℕ → List PlainValue → Running → Outcome PlainValue
+answered_alone builtin.Now object = on_none time_told
+answered_alone builtin.Random object = on_int drawn
+answered_alone builtin.ViewCount object = on_none views_counted
+answered_alone builtin.Views object = on_none views_told
+answered_alone builtin.SessionId object = on_none id_told
+answered_alone builtin.Known object = on_text known_told
+answered_alone builtin.BeKnown object = on_text (made_known object)
+answered_alone builtin.Exists object = on_ref held_told
+answered_alone builtin.Destroy object = on_ref destroyed
+answered_alone builtin.Subscribe object = on_texts (subscribed object)
+answered_alone builtin.Unsubscribe object = on_texts (unsubscribed object)
+answered_alone builtin.Cancel object = on_text (cancelled object)
+answered_alone f object = pure_answered (pure_of f)
 
-abbrev pub answered_by : Option Builtin → ℕ → List PlainValue → Running → Outcome PlainValue
-answered_by None object args r = Faults BadKind r
-answered_by (Some f) object args r = answered f object args r
+-- what a builtin answers; publishing alone starts methods
+abbrev pub answered : Start → Builtin → ℕ → List PlainValue → Running → Outcome PlainValue
+answered start builtin.Publish object = on_event (published start)
+answered start f object = answered_alone f object
+
+abbrev pub answered_by : Start → Option Builtin → ℕ → List PlainValue → Running → Outcome PlainValue
+answered_by start None object args r = Faults BadKind r
+answered_by start (Some f) object args r = answered start f object args r

@@ -1,6 +1,6 @@
 -- What a part of a method keeps of a world.
-use Rattle.std.specs.Prelude.{◌≡◌, ℕ, ◌+◌, ◌≤◌, List, [], ◌∷◌, length, map, nat_le, if◌then◌else◌}
-use Rattle.model_value.specs.Messages.{PlainMessage}
+use Rattle.std.specs.Prelude.{◌≡◌, ℕ, ◌+◌, ◌≤◌, List, [], ◌∷◌, ◌++◌, length, map, nat_le, if◌then◌else◌, ⊤}
+use Rattle.model_value.specs.Messages.{PlainMessage, PlainOutgoing}
 use Rattle.model_value.specs.World.{WorldRecord}
 use Rattle.model_value.specs.Valid.{Valid, most_turns}
 use Rattle.model_lang.specs.Tree.{ProgramTree}
@@ -26,13 +26,18 @@ pub record Kept (r s : Running) : Type 0 where
   pub turns : s.world.turns ≡ r.world.turns
   pub faults : s.world.faults ≡ r.world.faults
   pub views : s.world.views ≡ r.world.views
-  pub published : s.published ≡ r.published
+  -- what was published stays, and more may stand behind it
+  pub published : (more : List PlainOutgoing) × (s.published ≡ r.published ++ more)
   pub fuel : s.fuel ≤ r.fuel
   -- ids and numbers are not used again
   pub next_object : r.world.next_object ≤ s.world.next_object
   pub next_number : r.world.next_number ≤ s.world.next_number
   -- no message is added to an instant at which too many ran
   pub calm : r.world.turns ≡ most_turns → now_due s.world ≤ now_due r.world
+
+-- what is given is of no concern
+abbrev pub Anything : {A : Type 0} → A → Type 0
+Anything _ = ⊤
 
 -- what stays from r to the end of an outcome; and if H, then the world is valid there, and what is given is as P says
 abbrev pub CarriesIf : {A : Type 0} → Type 0 → List ℕ → (A → Type 0) → Running → Outcome A → Type 0

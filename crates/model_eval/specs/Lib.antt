@@ -2,6 +2,7 @@ pub mod Running
 pub mod Operators
 pub mod Objects
 pub mod Futures
+pub mod Publishing
 pub mod Builtins
 pub mod Meaning
 pub mod Kept

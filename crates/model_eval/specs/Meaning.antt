@@ -11,6 +11,7 @@ use Rattle.model_check.specs.Builtins.{builtin_named}
 use Rattle.model_check.specs.Faults.{class_names}
 use Rattle.model_check.specs.Methods.{method_named}
 use Rattle.model_eval.specs.declared.fault.Fault.TheVariants.{BadKind, NoObject, NoMethod, Arity, Fuel, Depth}
+pub use Rattle.model_eval.specs.Running.{Start}
 use Rattle.model_eval.specs.Running.{Running, Outcome, Gives, Faults, and_then, entering, bounded, weighed, replying, truth, deciding}
 use Rattle.model_eval.specs.Operators.{operating, unary_operated}
 use Rattle.model_eval.specs.Objects.{got, put, with_named, made}
@@ -79,10 +80,6 @@ Evaluate = Here → Expression → List Local → Running → Outcome PlainValue
 abbrev pub Execute : Type 0
 Execute = Here → Statement → List Local → Running → Outcome (Flow (List Local))
 
--- a method of an object starts
-abbrev pub Start : Type 0
-Start = ℕ → Name → List PlainValue → Running → Outcome PlainValue
-
 -- a list of parts, left to right, behind the values so far
 abbrev pub evaluated : Evaluate → Here → Expressions → List Local → List PlainValue → Running → Outcome (List PlainValue)
 evaluated ev here no_expressions locals values r = Gives values r
@@ -150,7 +147,7 @@ expression_row program ev start here (field x) locals r = get_field here x r
 expression_row program ev start here (tree.list items) locals r = and_then (evaluated ev here items locals [] r) (λ vs. weighed (list (plains_of vs)))
 expression_row program ev start here (unary o e) locals r = and_then (ev here e locals r) (λ v. replying (unary_operated o v))
 expression_row program ev start here (binary o a b) locals r = and_then (ev here a locals r) (λ v. operating o v (ev here b locals))
-expression_row program ev start here (builtin x args) locals r = and_then (evaluated ev here args locals [] r) (answered_by (builtin_named x) here.object)
+expression_row program ev start here (builtin x args) locals r = and_then (evaluated ev here args locals [] r) (answered_by start (builtin_named x) here.object)
 expression_row program ev start here (call object x args) locals r =
     and_then (ev here object locals r) (λ o r1. and_then (evaluated ev here args locals [] r1) (called_on start o x))
 expression_row program ev start here (future object delay x args) locals r =

@@ -60,3 +60,9 @@ truth _ = None
 abbrev pub deciding : {A : Type 0} → Option Bool → (Bool → Running → Outcome A) → Running → Outcome A
 deciding (Some b) next r = next b r
 deciding None next r = Faults BadKind r
+
+-- ---- methods
+
+-- how a method of an object starts: by the object, the method's name and its arguments
+abbrev pub Start : Type 0
+Start = ℕ → List ℕ → List PlainValue → Running → Outcome PlainValue

@@ -9,12 +9,12 @@ use Rattle.model_lang.specs.Tree.{ProgramTree}
 use Rattle.model_check.specs.SolvedTree.{SolvedExpression, this, local, field, unary, binary, builtin, call, future, create, SolvedExpressions, no_expressions, expression, SolvedStatement, declare, assign, set_field, when, while, give, do_, SolvedStatements, no_statements, statement, SolvedOtherwise, no_else, else_block, SolvedMethod}
 use Rattle.model_check.specs.SolvedTree as solved
 use Rattle.model_eval.specs.declared.fault.Fault.TheVariants.{NoObject, Fuel, Depth, Arity}
-use Rattle.model_eval.specs.Running.{Running, Outcome, Gives, Faults, and_then, entering, bounded, weighed, Reply, value, fails, replying, truth, deciding}
+use Rattle.model_eval.specs.Running.{Running, Outcome, Gives, Faults, and_then, entering, bounded, weighed, Reply, value, fails, replying, truth, deciding, Start}
 use Rattle.model_eval.specs.Operators.{operating, unary_operated}
 use Rattle.model_eval.specs.Objects.{put}
 use Rattle.model_eval.specs.Futures.{send}
 use Rattle.model_eval.specs.Builtins.{answered}
-use Rattle.model_eval.specs.Meaning.{Start, Flow, next, returned, follow, behind, value_of, called_on, created, starts}
+use Rattle.model_eval.specs.Meaning.{Flow, next, returned, follow, behind, value_of, called_on, created, starts}
 
 abbrev pub slot_value : Option ObjectRecord → ℕ → Reply
 slot_value None slot = fails NoObject
@@ -68,7 +68,7 @@ expression_row program ev start object (field slot) locals r = get_slot object s
 expression_row program ev start object (solved.list items) locals r = and_then (evaluated ev object items locals [] r) (λ vs. weighed (list (plains_of vs)))
 expression_row program ev start object (unary o e) locals r = and_then (ev object e locals r) (λ v. replying (unary_operated o v))
 expression_row program ev start object (binary o a b) locals r = and_then (ev object a locals r) (λ v. operating o v (ev object b locals))
-expression_row program ev start object (builtin f args) locals r = and_then (evaluated ev object args locals [] r) (answered f object)
+expression_row program ev start object (builtin f args) locals r = and_then (evaluated ev object args locals [] r) (answered start f object)
 expression_row program ev start object (call target x args) locals r =
     and_then (ev object target locals r) (λ o r1. and_then (evaluated ev object args locals [] r1) (called_on start o x))
 expression_row program ev start object (future target delay x args) locals r =

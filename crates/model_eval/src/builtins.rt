@@ -2,25 +2,28 @@
 ghost use Rattle.std.specs.Prelude.{◌≡◌, ◌∷◌, [], length, IfOk};
 ghost use Rattle.hex.specs.Hex.{encode_lower};
 ghost use Rattle.model_value.specs.View.{plain, plain_values};
-ghost use Rattle.model_eval.specs.Builtins.{answered, pure_answered, pure_of as pure_builtin, takes_steps as is_dear, drawn, time_told, id_told, known_told, held_told, on_none, on_int, on_text, on_ref};
+ghost use Rattle.model_eval.specs.Builtins.{answered_alone, pure_answered, pure_of as pure_builtin, takes_steps as is_dear, drawn, time_told, id_told, known_told, held_told, on_none, on_int, on_text, on_texts, on_ref};
+ghost use Rattle.model_eval.specs.Publishing.{cancelled, subscribed, unsubscribed, views_counted, views_told};
 ghost use Rattle.model_eval.specs.Objects.{made_known, destroyed};
 ghost use Rattle.model_eval.specs.Answer.{Answers, Spends, running};
 ghost use Rattle.model_eval.specs.declared.state.State.{State};
 ghost use Rattle.model_eval.specs.declared.state.Budget.{Budget};
 
+use crate::events::{subscribe, unsubscribe, view_count, views};
 use crate::fault::{Fault, Stop};
 use crate::known::{be_known, known_object};
+use crate::messages::cancel;
 use crate::objects::{destroy, is_held};
 use crate::state::{Budget, State};
-use crate::values::weigh;
+use crate::values::{list_of, weigh};
 use model_builtin::{Pure, apply};
 use model_check::Builtin;
 use model_value::{Value, Values};
 use seeded_random::Source64;
 use std::alloc::Global;
-use tea_base::{Text, WantOfMemory};
+use tea_base::{SessionId, Text, WantOfMemory};
 
-/// What a builtin answers that a method of this object calls.
+/// What a builtin answers that starts no method, where a method of this object calls it.
 pub fn answer(
     alloc: Global,
     builtin: Builtin,
@@ -29,22 +32,22 @@ pub fn answer(
     state: &mut State,
     budget: &mut Budget,
 ) -> Result<Value, Stop>
-    ensures { Answers result state.new budget.new (answered builtin object (plain_values args.now) (running state.old budget.old)) }
+    ensures { Answers result state.new budget.new (answered_alone builtin object (plain_values args.now) (running state.old budget.old)) }
 {
     match builtin {
         Builtin::Now => now(args.as_slice(), state),
         Builtin::Random => random(args.as_slice(), state),
+        Builtin::ViewCount => count_views(args.as_slice(), state),
+        Builtin::Views => tell_views(alloc, args.as_slice(), state, budget),
         Builtin::SessionId => session_id(alloc, args.as_slice(), state),
         Builtin::Known => known(args.as_slice(), state),
         Builtin::BeKnown => make_known(alloc, args.as_slice(), object, state),
         Builtin::Exists => exists(args.as_slice(), state),
         Builtin::Destroy => take_away(alloc, args.as_slice(), state),
-        Builtin::ViewCount
-        | Builtin::Views
-        | Builtin::Publish
-        | Builtin::Subscribe
-        | Builtin::Unsubscribe
-        | Builtin::Cancel
+        Builtin::Subscribe => make_handler(args.as_slice(), object, state),
+        Builtin::Unsubscribe => drop_handler(args.as_slice(), object, state),
+        Builtin::Cancel => cancel_calls(args.as_slice(), object, state),
+        Builtin::Publish
         | Builtin::Length
         | Builtin::At
         | Builtin::Put
@@ -62,7 +65,32 @@ fn now(args: &[Value], state: &State) -> Result<Value, Stop>
     ensures { (budget : Budget) → Answers result state.now budget (on_none time_told (plain_values args.now) (running state.now budget)) }
 {
     match args {
-        [] => Ok(Value::Int((state.world.time / 1000).cast_signed())),
+        [] => Ok(Value::Int((state.time / 1000).cast_signed())),
+        _ => Err(Stop::Fault(Fault::BadKind)),
+    }
+}
+
+// How many views are here.
+fn count_views(args: &[Value], state: &State) -> Result<Value, Stop>
+    ensures { (budget : Budget) → Answers result state.now budget (on_none views_counted (plain_values args.now) (running state.now budget)) }
+{
+    match args {
+        [] => Ok(view_count(state.views.as_slice())),
+        _ => Err(Stop::Fault(Fault::BadKind)),
+    }
+}
+
+// The numbers of the views that are here.
+fn tell_views(
+    alloc: Global,
+    args: &[Value],
+    state: &State,
+    budget: &mut Budget,
+) -> Result<Value, Stop>
+    ensures { Answers result state.now budget.new (on_none views_told (plain_values args.now) (running state.now budget.old)) }
+{
+    match args {
+        [] => list_of(views(alloc, state.views.as_slice())?, budget),
         _ => Err(Stop::Fault(Fault::BadKind)),
     }
 }
@@ -92,9 +120,9 @@ fn draw_below(limit: i64, state: &mut State) -> Result<Value, Stop>
     if limit < 1 {
         return Err(Stop::Fault(Fault::BadIndex));
     }
-    let mut source = Source64::from_state(state.world.random);
+    let mut source = Source64::from_state(state.random);
     let number = source.below(limit.cast_unsigned());
-    state.world.random = source.state();
+    state.random = source.state();
     Ok(Value::Int(number.cast_signed()))
 }
 
@@ -110,7 +138,15 @@ fn session_id(alloc: Global, args: &[Value], state: &State) -> Result<Value, Sto
 fn spelled_id(alloc: Global, state: &State) -> Result<Value, Stop>
     ensures { (budget : Budget) → Answers result state.now budget (id_told (running state.now budget)) }
 {
-    Ok(Value::Text(digits(alloc, &state.world.id.0)?))
+    Ok(Value::Text(session_text(alloc, &state.id)?))
+}
+
+/// The id of a session as models see it: its 64 hexadecimal digits, letters in lower case.
+pub fn session_text(alloc: Global, id: &SessionId) -> Result<Text, WantOfMemory>
+    ensures digits { IfOk result (λ text. text ≡ encode_lower id.now.0) }
+    ensures bytes { length id.now.0 ≡ 32 }
+{
+    digits(alloc, &id.0)
 }
 
 // The bytes of an id in hexadecimal digits.
@@ -135,7 +171,7 @@ fn find_known(name: &Value, state: &State) -> Result<Value, Stop>
     ensures { (budget : Budget) → Answers result state.now budget (on_text known_told (plain name.now ∷ []) (running state.now budget)) }
 {
     match name {
-        Value::Text(name) => Ok(known_object(state.world.known.as_slice(), name)),
+        Value::Text(name) => Ok(known_object(state.known.as_slice(), name)),
         _ => Err(Stop::Fault(Fault::BadKind)),
     }
 }
@@ -190,6 +226,76 @@ fn take_away_one(alloc: Global, object: &Value, state: &mut State) -> Result<Val
 {
     match object {
         Value::Ref(id) => destroy(alloc, state, *id),
+        _ => Err(Stop::Fault(Fault::BadKind)),
+    }
+}
+
+fn make_handler(args: &[Value], object: u32, state: &mut State) -> Result<Value, Stop>
+    ensures { (budget : Budget) → Answers result state.new budget (on_texts (subscribed object) (plain_values args.now) (running state.old budget)) }
+{
+    match args {
+        [scope, event, method] => make_handler_of(scope, event, method, object, state),
+        _ => Err(Stop::Fault(Fault::BadKind)),
+    }
+}
+
+fn make_handler_of(
+    scope: &Value,
+    event: &Value,
+    method: &Value,
+    object: u32,
+    state: &mut State,
+) -> Result<Value, Stop>
+    ensures { (budget : Budget) → Answers result state.new budget (on_texts (subscribed object) (plain scope.now ∷ plain event.now ∷ plain method.now ∷ []) (running state.old budget)) }
+{
+    match (scope, event, method) {
+        (Value::Text(scope), Value::Text(event), Value::Text(method)) => {
+            subscribe(scope, event, method, object, state)
+        }
+        _ => Err(Stop::Fault(Fault::BadKind)),
+    }
+}
+
+fn drop_handler(args: &[Value], object: u32, state: &mut State) -> Result<Value, Stop>
+    ensures { (budget : Budget) → Answers result state.new budget (on_texts (unsubscribed object) (plain_values args.now) (running state.old budget)) }
+{
+    match args {
+        [scope, event, method] => drop_handler_of(scope, event, method, object, state),
+        _ => Err(Stop::Fault(Fault::BadKind)),
+    }
+}
+
+fn drop_handler_of(
+    scope: &Value,
+    event: &Value,
+    method: &Value,
+    object: u32,
+    state: &mut State,
+) -> Result<Value, Stop>
+    ensures { (budget : Budget) → Answers result state.new budget (on_texts (unsubscribed object) (plain scope.now ∷ plain event.now ∷ plain method.now ∷ []) (running state.old budget)) }
+{
+    match (scope, event, method) {
+        (Value::Text(scope), Value::Text(event), Value::Text(method)) => {
+            unsubscribe(scope, event, method, object, state)
+        }
+        _ => Err(Stop::Fault(Fault::BadKind)),
+    }
+}
+
+fn cancel_calls(args: &[Value], object: u32, state: &mut State) -> Result<Value, Stop>
+    ensures { (budget : Budget) → Answers result state.new budget (on_text (cancelled object) (plain_values args.now) (running state.old budget)) }
+{
+    match args {
+        [method] => cancel_calls_of(method, object, state),
+        _ => Err(Stop::Fault(Fault::BadKind)),
+    }
+}
+
+fn cancel_calls_of(method: &Value, object: u32, state: &mut State) -> Result<Value, Stop>
+    ensures { (budget : Budget) → Answers result state.new budget (on_text (cancelled object) (plain method.now ∷ []) (running state.old budget)) }
+{
+    match method {
+        Value::Text(method) => cancel(object, method, state),
         _ => Err(Stop::Fault(Fault::BadKind)),
     }
 }

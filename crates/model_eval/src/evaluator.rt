@@ -7,23 +7,27 @@ ghost use Rattle.model_value.specs.Plain.{ref};
 ghost use Rattle.model_value.specs.View.{plain, plain_values};
 ghost use Rattle.model_eval.specs.Running.{and_then, Gives};
 ghost use Rattle.model_eval.specs.Operators.{operating, truly as truth_of_right};
+ghost use Rattle.model_eval.specs.Builtins.{answered, on_event};
+ghost use Rattle.model_eval.specs.Publishing.{handled, handled_by, published, told};
 ghost use Rattle.model_eval.specs.Meaning.{called_on, created, initialised, starts};
 ghost use Rattle.model_eval.specs.Slots.{block as block_of, entered, evaluate as evaluates, evaluated, execute as executes, expression_row as row_of_expression, in_turn, looped, performed, statement_row as row_of_statement};
-ghost use Rattle.model_eval.specs.Answer.{Answers, AnswersAll, Enters, Flows, running};
+ghost use Rattle.model_eval.specs.Answer.{Answers, AnswersAll, Did, Enters, Flows, Steps, running};
 ghost use Rattle.model_eval.specs.declared.state.State.{State};
 
 use crate::builtins::answer;
+use crate::events::announce;
 use crate::fault::{Fault, Stop};
 use crate::locals::{assign, declare, get_local};
 use crate::messages::send;
 use crate::methods::init_of;
-use crate::objects::{find_object, get_slot, make, set_slot};
+use crate::objects::{get_slot, is_held, make, set_slot};
 use crate::operator::{operate, operate_on_one, truth};
 use crate::state::{Budget, State};
 use crate::values::{list_of, literal, only};
-use model_check::{Checked, Solved, SolvedExpr, SolvedStmt};
+use model_check::{Builtin, Checked, Solved, SolvedExpr, SolvedStmt};
 use model_lang::BinaryOp;
-use model_value::{Value, Values};
+use model_value::{Value, Values, copy};
+use pubsub::Handler;
 use std::alloc::Global;
 use tea_base::{List, Text};
 
@@ -93,7 +97,7 @@ fn expression_row(
         }
         SolvedExpr::Builtin { name, args } => {
             let values = evaluate_all(alloc, program, room, object, args, locals, state, budget)?;
-            answer(alloc, *name, object, &values, state, budget)
+            answer_builtin(alloc, program, room, *name, object, &values, state, budget)
         }
         SolvedExpr::Call {
             object: target,
@@ -113,7 +117,7 @@ fn expression_row(
             let target = evaluate(alloc, program, room, object, target, locals, state, budget)?;
             let delay = evaluate(alloc, program, room, object, delay, locals, state, budget)?;
             let values = evaluate_all(alloc, program, room, object, args, locals, state, budget)?;
-            send(alloc, state, &target, &delay, name, values)
+            send(state, &target, &delay, name, values)
         }
         SolvedExpr::Create { class, options } => {
             let options = evaluate(alloc, program, room, object, options, locals, state, budget)?;
@@ -197,6 +201,160 @@ fn evaluate_all(
         values.push(value)?;
     }
     Ok(values)
+}
+
+// What a builtin answers that a method of this object calls. Publishing alone starts methods.
+#[cycle(evaluate)]
+fn answer_builtin(
+    alloc: Global,
+    program: &Checked,
+    room: u32,
+    builtin: Builtin,
+    object: u32,
+    args: &Values,
+    state: &mut State,
+    budget: &mut Budget,
+) -> Result<Value, Stop>
+    ensures { Answers result state.new budget.new (answered (starts (program_tree program.now) room) builtin object (plain_values args.now) (running state.old budget.old)) }
+{
+    match builtin {
+        Builtin::Publish => { publish(alloc, program, room, args.as_slice(), state, budget) }
+        _ => answer(alloc, builtin, object, args, state, budget),
+    }
+}
+
+#[cycle(evaluate)]
+fn publish(
+    alloc: Global,
+    program: &Checked,
+    room: u32,
+    args: &[Value],
+    state: &mut State,
+    budget: &mut Budget,
+) -> Result<Value, Stop>
+    ensures { Answers result state.new budget.new (on_event (published (starts (program_tree program.now) room)) (plain_values args.now) (running state.old budget.old)) }
+{
+    match args {
+        [scope, event, value] => {
+            publish_to(alloc, program, room, scope, event, value, state, budget)
+        }
+        _ => Err(Stop::Fault(Fault::BadKind)),
+    }
+}
+
+#[cycle(evaluate)]
+fn publish_to(
+    alloc: Global,
+    program: &Checked,
+    room: u32,
+    scope: &Value,
+    event: &Value,
+    value: &Value,
+    state: &mut State,
+    budget: &mut Budget,
+) -> Result<Value, Stop>
+    ensures { Answers result state.new budget.new (on_event (published (starts (program_tree program.now) room)) (plain scope.now ∷ plain event.now ∷ plain value.now ∷ []) (running state.old budget.old)) }
+{
+    match (scope, event) {
+        (Value::Text(scope), Value::Text(event)) => {
+            publish_event(alloc, program, room, scope, event, value, state, budget)
+        }
+        _ => Err(Stop::Fault(Fault::BadKind)),
+    }
+}
+
+// An event stands behind all that was published, and models are told of it.
+#[cycle(evaluate)]
+fn publish_event(
+    alloc: Global,
+    program: &Checked,
+    room: u32,
+    scope: &Text,
+    event: &Text,
+    value: &Value,
+    state: &mut State,
+    budget: &mut Budget,
+) -> Result<Value, Stop>
+    ensures { Answers result state.new budget.new (published (starts (program_tree program.now) room) scope.now event.now (plain value.now) (running state.old budget.old)) }
+{
+    announce(alloc, scope, event, value, state)?;
+    tell(alloc, program, room, scope, event, value, state, budget)?;
+    Ok(Value::Nil)
+}
+
+/// Tells models of an event: the methods that are subscribed to it now start with the value, in order, each unless its object
+/// is gone, where so many statements and expressions may be open.
+#[cycle(evaluate)]
+pub fn tell(
+    alloc: Global,
+    program: &Checked,
+    room: u32,
+    scope: &Text,
+    event: &Text,
+    value: &Value,
+    state: &mut State,
+    budget: &mut Budget,
+) -> Result<(), Stop>
+    ensures { Did result state.new budget.new (told (starts (program_tree program.now) room) scope.now event.now (plain value.now) (running state.old budget.old)) }
+{
+    let handlers = state.topics.handlers(scope, event)?;
+    tell_all(
+        alloc,
+        program,
+        room,
+        handlers.as_slice(),
+        value,
+        state,
+        budget,
+    )
+}
+
+#[cycle(evaluate)]
+fn tell_all(
+    alloc: Global,
+    program: &Checked,
+    room: u32,
+    handlers: &[Handler],
+    value: &Value,
+    state: &mut State,
+    budget: &mut Budget,
+) -> Result<(), Stop>
+    ensures { Did result state.new budget.new (handled (starts (program_tree program.now) room) (plain value.now) handlers.now (running state.old budget.old)) }
+{
+    for handler in handlers {
+        tell_one(alloc, program, room, handler, value, state, budget)?;
+    }
+    Ok(())
+}
+
+#[cycle(evaluate)]
+fn tell_one(
+    alloc: Global,
+    program: &Checked,
+    room: u32,
+    handler: &Handler,
+    value: &Value,
+    state: &mut State,
+    budget: &mut Budget,
+) -> Result<(), Stop>
+    ensures { Did result state.new budget.new (handled_by (starts (program_tree program.now) room) (plain value.now) handler.now (running state.old budget.old)) }
+{
+    if !is_held(state, handler.object) {
+        return Ok(());
+    }
+    take_step(budget)?;
+    let args = only(alloc, copy(alloc, value)?)?;
+    start(
+        alloc,
+        program,
+        room,
+        handler.object,
+        &handler.method,
+        args,
+        state,
+        budget,
+    )?;
+    Ok(())
 }
 
 #[cycle(evaluate)]
@@ -292,9 +450,9 @@ pub fn start(
 ) -> Result<Value, Stop>
     ensures { Answers result state.new budget.new (starts (program_tree program.now) room object method.now (plain_values args) (running state.old budget.old)) }
 {
-    let class = match find_object(state.world.objects.as_slice(), object) {
+    let class = match state.objects.class(object) {
         None => return Err(Stop::Fault(Fault::NoObject)),
-        Some(object) => object.class,
+        Some(class) => class,
     };
     match program.method(class, method) {
         None => Err(Stop::Fault(Fault::NoMethod)),
@@ -379,7 +537,7 @@ fn statement_row(
         }
         SolvedStmt::SetField { slot, value } => {
             let value = evaluate(alloc, program, room, object, value, locals, state, budget)?;
-            set_slot(alloc, state, object, *slot, value)?;
+            set_slot(state, object, *slot, value)?;
             Ok(Flow::Next)
         }
         SolvedStmt::If { test, yes, no } => {
@@ -491,12 +649,20 @@ fn enter(room: u32, budget: &mut Budget) -> Result<u32, Stop>
     ensures answers { Enters result budget.new (λ (state : State). entered room (running state budget.old)) }
     ensures less { IfOk result (λ inside. inside < room) }
 {
-    if budget.fuel == 0 {
-        return Err(Stop::Fault(Fault::Fuel));
-    }
-    budget.fuel -= 1;
+    take_step(budget)?;
     if room == 0 {
         return Err(Stop::Fault(Fault::Depth));
     }
     Ok(room - 1)
+}
+
+// Takes a step of fuel.
+fn take_step(budget: &mut Budget) -> Result<(), Stop>
+    ensures { Steps result budget.old budget.new }
+{
+    if budget.fuel == 0 {
+        return Err(Stop::Fault(Fault::Fuel));
+    }
+    budget.fuel -= 1;
+    Ok(())
 }

@@ -1,6 +1,9 @@
 //! How a message ends before its time.
 
+use message_queue::QueueRefusal;
 use model_builtin::BuiltinStop;
+use object_store::StoreRefusal;
+use pubsub::TopicRefusal;
 use std::alloc::{AllocError, AllocFailed};
 use tea_base::WantOfMemory;
 
@@ -88,6 +91,48 @@ impl From<BuiltinStop> for Stop {
             BuiltinStop::BadIndex => Stop::Fault(Fault::BadIndex),
             BuiltinStop::Size => Stop::Fault(Fault::Size),
             BuiltinStop::WantOfMemory => Stop::WantOfMemory,
+        }
+    }
+}
+
+impl From<StoreRefusal> for Stop {
+    ghost use Rattle.std.specs.Prelude.{◌≡◌};
+    ghost use Rattle.model_eval.specs.Answer.{stop_of_store};
+
+    ghost from_gives = { λ refusal r. r ≡ stop_of_store refusal };
+
+    fn from(refusal: StoreRefusal) -> Stop {
+        match refusal {
+            StoreRefusal::Full { .. } | StoreRefusal::Spent => Stop::Fault(Fault::Full),
+            StoreRefusal::WantOfMemory => Stop::WantOfMemory,
+        }
+    }
+}
+
+impl From<QueueRefusal> for Stop {
+    ghost use Rattle.std.specs.Prelude.{◌≡◌};
+    ghost use Rattle.model_eval.specs.Answer.{stop_of_queue};
+
+    ghost from_gives = { λ refusal r. r ≡ stop_of_queue refusal };
+
+    fn from(refusal: QueueRefusal) -> Stop {
+        match refusal {
+            QueueRefusal::Full { .. } | QueueRefusal::Spent => Stop::Fault(Fault::Full),
+            QueueRefusal::WantOfMemory => Stop::WantOfMemory,
+        }
+    }
+}
+
+impl From<TopicRefusal> for Stop {
+    ghost use Rattle.std.specs.Prelude.{◌≡◌};
+    ghost use Rattle.model_eval.specs.Answer.{stop_of_topics};
+
+    ghost from_gives = { λ refusal r. r ≡ stop_of_topics refusal };
+
+    fn from(refusal: TopicRefusal) -> Stop {
+        match refusal {
+            TopicRefusal::Full { .. } => Stop::Fault(Fault::Full),
+            TopicRefusal::WantOfMemory => Stop::WantOfMemory,
         }
     }
 }

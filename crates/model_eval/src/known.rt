@@ -2,18 +2,18 @@
 ghost use Rattle.std.specs.Prelude.{◌≡◌, ◌+◌, ◌<◌, ◌≤◌, OnOk, nat_le, length, insert, slice_set};
 ghost use Rattle.model_value.specs.Plain.{nil};
 ghost use Rattle.model_value.specs.View.{plain};
-ghost use Rattle.model_value.specs.World.{world_record, world_weight, known_weight, most_world_weight};
+ghost use Rattle.model_value.specs.World.{world_weight, known_weight, most_world_weight};
 ghost use Rattle.model_eval.specs.Running.{with_world};
 ghost use Rattle.model_eval.specs.Objects.{known_by, comes_before as before, if_light, made_known};
 ghost use Rattle.model_eval.specs.Places.{IsKnownAt, IsPlaceFor};
-ghost use Rattle.model_eval.specs.Answer.{Answers, running};
+ghost use Rattle.model_eval.specs.Answer.{Answers, running, world_of};
 ghost use Rattle.model_eval.specs.declared.state.Budget.{Budget};
 
 use crate::fault::{Fault, Stop};
 use crate::objects::{is_held, take_items};
 use crate::state::State;
 use model_builtin::order;
-use model_value::{Known, KnownNames, PlainWorld, Value, known_fits, room};
+use model_value::{Known, KnownNames, Value, known_fits};
 use std::alloc::Global;
 use tea_base::{List, Text, WantOfMemory};
 
@@ -41,7 +41,7 @@ pub fn be_known(alloc: Global, name: &Text, object: u32, state: &mut State) -> R
         name: name.clone()?,
         object,
     };
-    match place_for(state.world.known.as_slice(), name) {
+    match place_for(state.known.as_slice(), name) {
         Place::Held(place) => hand_over(alloc, state, place, known),
         Place::Free(place) => add(alloc, state, place, known),
     }
@@ -78,14 +78,14 @@ fn comes_before(text: &Text, other: &Text) -> bool
 
 // The name at this place is known already, so the world becomes no heavier.
 fn hand_over(alloc: Global, state: &mut State, place: usize, known: Known) -> Result<Value, Stop>
-    requires { IsKnownAt place known.name state.old.world.known }
+    requires { IsKnownAt place known.name state.old.known }
     ensures { (budget : Budget) → let r = running state.old budget in
         Answers result state.new budget (if_light nil r (with_world r (record (r.world) { known = slice_set r.world.known place known }))) }
 {
-    if room(&state.world).is_none() {
+    if state.room().is_none() {
         return Err(Stop::Fault(Fault::Full));
     }
-    replace(alloc, &mut state.world.known, place, known);
+    replace(alloc, &mut state.known, place, known);
     Ok(Value::Nil)
 }
 
@@ -99,14 +99,14 @@ fn replace(alloc: Global, known: &mut KnownNames, place: usize, new: Known)
 }
 
 fn add(alloc: Global, state: &mut State, place: usize, known: Known) -> Result<Value, Stop>
-    requires { place ≤ length state.old.world.known }
+    requires { place ≤ length state.old.known }
     ensures { (budget : Budget) → let r = running state.old budget in
         Answers result state.new budget (if_light nil r (with_world r (record (r.world) { known = insert r.world.known place known }))) }
 {
-    if !has_room_for_name(&state.world, &known) {
+    if !has_room_for_name(state, &known) {
         return Err(Stop::Fault(Fault::Full));
     }
-    put_at(alloc, &mut state.world.known, place, known)?;
+    put_at(alloc, &mut state.known, place, known)?;
     Ok(Value::Nil)
 }
 
@@ -126,10 +126,10 @@ fn put_at(
     Ok(())
 }
 
-fn has_room_for_name(world: &PlainWorld, known: &Known) -> bool
-    ensures { result ≡ nat_le (world_weight (world_record world.now) + known_weight known.now) most_world_weight }
+fn has_room_for_name(state: &State, known: &Known) -> bool
+    ensures { result ≡ nat_le (world_weight (world_of state.now) + known_weight known.now) most_world_weight }
 {
-    match room(world) {
+    match state.room() {
         None => false,
         Some(left) => known_fits(left, known),
     }

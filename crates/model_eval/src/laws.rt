@@ -7,13 +7,19 @@ ghost use Rattle.model_lang.specs.Tree.{Name, Expression, Statements, while, Pro
 ghost use Rattle.model_lang.specs.Bounds.{HasFewArguments};
 ghost use Rattle.model_lang.specs.Names.{NamesAreShort};
 ghost use Rattle.model_eval.specs.Running.{Running};
-ghost use Rattle.model_eval.specs.Kept.{Carries, field_counts};
+ghost use Rattle.model_eval.specs.Publishing.{told};
+ghost use Rattle.model_eval.specs.Kept.{Carries, Anything, field_counts};
 ghost use Rattle.model_eval.specs.Meaning.{Here, Local, looped, goes_round, evaluate, execute, starts};
 
 /// A method that ends, with a value or a fault, leaves a valid world valid, and its value is in bounds, where its arguments
 /// are. It leaves as they were the world's time, its turns, its counts of faults, its views and all else that `Kept` names.
 pub fn method_keeps()
     ensures { (program : ProgramTree) (room object : ℕ) (x : Name) (args : List PlainValue) (r : Running) → IsProgram program → AllInBounds args → Carries (field_counts program) InBounds r (starts program room object x args r) }
+{}
+
+/// Models that are told of an event leave a valid world valid too, where its value is in bounds, and keep all that a method keeps.
+pub fn telling_keeps()
+    ensures { (program : ProgramTree) (room : ℕ) (scope event : Name) (v : PlainValue) (r : Running) → IsProgram program → InBounds v → Carries (field_counts program) Anything r (told (starts program room) scope event v r) }
 {}
 
 /// The bound on the turns of a loop is never met. A loop is its test and, where that is true, its block and then the loop

@@ -3,6 +3,7 @@
 
 mod builtins;
 mod evaluator;
+mod events;
 mod fault;
 mod known;
 mod laws;
@@ -17,7 +18,8 @@ mod state;
 mod tests;
 mod values;
 
+pub use builtins::session_text;
 pub use fault::{Fault, Stop};
-pub use laws::{loops_end_by_fuel_alone, method_keeps};
-pub use method::run_method;
+pub use laws::{loops_end_by_fuel_alone, method_keeps, telling_keeps};
+pub use method::{run_method, tell_models};
 pub use state::{Budget, State};

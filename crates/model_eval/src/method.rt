@@ -1,11 +1,12 @@
 //! Methods, started on objects.
 ghost use Rattle.std.specs.Prelude.{◌≡◌};
-ghost use Rattle.model_value.specs.View.{plain_values};
+ghost use Rattle.model_value.specs.View.{plain, plain_values};
 ghost use Rattle.model_lang.specs.TreeView.{program_tree};
 ghost use Rattle.model_eval.specs.Meaning.{starts};
-ghost use Rattle.model_eval.specs.Answer.{Answers, running};
+ghost use Rattle.model_eval.specs.Publishing.{told};
+ghost use Rattle.model_eval.specs.Answer.{Answers, Did, running};
 
-use crate::evaluator::start;
+use crate::evaluator::{start, tell};
 use crate::fault::Stop;
 use crate::state::{Budget, State};
 use model_check::Checked;
@@ -19,8 +20,7 @@ use tea_base::Text;
 /// has another number of parameters; then what the method gives. A fault leaves what was done until then, and the fuel that
 /// is left. After `WantOfMemory` nothing is known of the state.
 ///
-/// A builtin that has no meaning yet gives BadKind in its place; `model_check::is_built` tells which programs have none. That
-/// a valid world stays valid is the law `method_keeps`.
+/// That a valid world stays valid is the law `method_keeps`.
 pub fn run_method(
     alloc: Global,
     program: &Checked,
@@ -35,6 +35,31 @@ pub fn run_method(
 {
     let room = budget.room;
     let outcome = start(alloc, program, room, object, method, args, state, budget);
+    // All that was opened is closed again.
+    budget.room = room;
+    outcome
+}
+
+/// Tells models of an event that no model published: the methods that are subscribed to it now start with the value, in order,
+/// each unless its object is gone when its turn comes, and each takes a step of fuel. The event is not added to what was
+/// published.
+///
+/// A fault ends it and leaves what was done until then, and the fuel that is left. After `WantOfMemory` nothing is known of the
+/// state.
+pub fn tell_models(
+    alloc: Global,
+    program: &Checked,
+    state: &mut State,
+    scope: &Text,
+    event: &Text,
+    value: &Value,
+    budget: &mut Budget,
+) -> Result<(), Stop>
+    ensures tells { Did result state.new budget.new (told (starts (program_tree program.now) budget.old.room) scope.now event.now (plain value.now) (running state.old budget.old)) }
+    ensures room { budget.new.room ≡ budget.old.room }
+{
+    let room = budget.room;
+    let outcome = tell(alloc, program, room, scope, event, value, state, budget);
     // All that was opened is closed again.
     budget.room = room;
     outcome

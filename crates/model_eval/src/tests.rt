@@ -1,4 +1,5 @@
 //! Programs run on worlds made by hand, compared with what the tables of forms and builtins make of them.
+mod events;
 mod expressions;
 mod objects;
 mod programs;
@@ -6,9 +7,14 @@ mod steps;
 mod world;
 
 use super::*;
+use message_queue::Queue;
 use model_check::{Checked, check};
 use model_lang::parse;
-use model_value::{Message, PlainObject, PlainWorld, Subscription, Value};
+use model_value::{
+    MOST_WORLD_WEIGHT, Message, Outgoing, PlainObject, Subscription, Value, object_fits,
+};
+use object_store::Store;
+use pubsub::Topics;
 use std::alloc::Global;
 use std::test::Fail;
 use tea_base::{List, SessionId, Text, WantOfMemory};
@@ -25,30 +31,29 @@ fn checked(alloc: Global, text: &str) -> Result<Checked, Fail> {
     Ok(check(alloc, program)?)
 }
 
+/// The objects of a world: the one object 1, of this class, with this in its fields, where the next one gets this id.
+fn one_object(alloc: Global, class: u16, fields: List<Value>, next: u32) -> Result<Store, Fail> {
+    let mut objects = Store::resume(alloc, next);
+    if next < 2 || !object_fits(MOST_WORLD_WEIGHT, &fields) {
+        return Err("no object of a world")?;
+    }
+    objects.put_back(1, class, fields)?;
+    Ok(objects)
+}
+
 /// A world at 2,500 microseconds with the one object 1, of this class, with this in its fields.
-fn founded(alloc: Global, class: u16, fields: List<Value>) -> Result<State, WantOfMemory> {
-    let mut objects = List::new(alloc);
-    objects.push(PlainObject {
-        id: 1,
-        class,
-        fields,
-    })?;
-    let world = PlainWorld {
+fn founded(alloc: Global, class: u16, fields: List<Value>) -> Result<State, Fail> {
+    Ok(State {
         id: SESSION,
         time: 2500,
-        next_object: 2,
-        next_number: 7,
         random: 0,
         turns: 1,
         faults: [0; 14],
         views: List::new(alloc),
-        objects,
+        objects: one_object(alloc, class, fields, 2)?,
         known: List::new(alloc),
-        subscriptions: List::new(alloc),
-        pending: List::new(alloc),
-    };
-    Ok(State {
-        world,
+        topics: Topics::new(alloc),
+        pending: Queue::resume(alloc, 7),
         published: List::new(alloc),
     })
 }
@@ -63,7 +68,7 @@ fn opened(alloc: Global, program: &Checked) -> Result<State, Fail> {
     for _ in 0..count {
         fields.push(Value::Nil)?;
     }
-    Ok(founded(alloc, class, fields)?)
+    founded(alloc, class, fields)
 }
 
 /// What the method `m` of object 1 gives of no arguments.
@@ -155,8 +160,15 @@ fn write_subscription(
     Ok(())
 }
 
-/// What models can change in a world but its random numbers.
-fn world_text(alloc: Global, world: &PlainWorld) -> Result<String, Fail> {
+fn write_outgoing(alloc: Global, out: &mut String, outgoing: &Outgoing) -> Result<(), Fail> {
+    let (scope, event) = (outgoing.scope.as_str(), outgoing.event.as_str());
+    out.push_str(format!(in alloc; "; published at {} {scope}.{event} ", outgoing.time)?.as_str())?;
+    write_value(alloc, out, &outgoing.value)
+}
+
+/// What models can change in a world but its random numbers, and what they published.
+fn world_text(alloc: Global, state: &State) -> Result<String, Fail> {
+    let world = state.to_plain(alloc)?;
     let mut out = format!(in alloc; "next #{} {}", world.next_object, world.next_number)?;
     for object in world.objects.as_slice() {
         write_object(alloc, &mut out, object)?;
@@ -170,6 +182,9 @@ fn world_text(alloc: Global, world: &PlainWorld) -> Result<String, Fail> {
     }
     for message in world.pending.as_slice() {
         write_message(alloc, &mut out, message)?;
+    }
+    for outgoing in state.published.as_slice() {
+        write_outgoing(alloc, &mut out, outgoing)?;
     }
     Ok(out)
 }

@@ -31,4 +31,4 @@ mutual
   greatest_depth-le_weight no_items = omega arith
   greatest_depth-le_weight (item v rest) = omega (arith, depth-le_weight v, greatest_depth-le_weight rest)
 
-pub ruleset by_weight = (weight_of_all-plains_of, greatest_depth-le_weight)
+pub ruleset by_weight = (weight_of_all-plains_of, greatest_depth-le_weight, depth-le_weight)

@@ -1,7 +1,7 @@
 -- Payloads: what an event carries, and its one spelling.
-use Rattle.std.specs.Prelude.{◌≡◌, ◌<◌, ◌^◌, ℕ, true, List, ◌++◌, length, encode_utf8_all}
+use Rattle.std.specs.Prelude.{◌≡◌, ◌<◌, ◌^◌, ℕ, true, List, ◌++◌, length, Option, encode_utf8_all}
 use Rattle.std.specs.Str.{all_scalars}
-use Rattle.byte_fields.specs.Fields.{Reading, text_at, paired_at, made_at}
+use Rattle.byte_fields.specs.Fields.{Reading, text_at, paired_at, made_at, whole}
 use Rattle.tea_base.specs.declared.text.Text.{Text}
 use Rattle.model_value.specs.Plain.{PlainValue, InBounds}
 use Rattle.model_value.specs.Reading.{bounded_at}
@@ -34,3 +34,7 @@ pub record IsPayload (p : PlainPayload) : Type 0 where
 -- reading a payload
 unfoldable pub payload_at : Reading PlainPayload
 payload_at = made_at (λ p. record { scope = p.0; event = p.1.0; value = p.1.1 }) (paired_at text_at (paired_at text_at bounded_at))
+
+-- the payload that bytes spell, if they spell one
+abbrev pub payload_of : List ℕ → Option PlainPayload
+payload_of = whole payload_at

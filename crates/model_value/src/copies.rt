@@ -93,7 +93,8 @@ pub fn copy_world(alloc: Global, world: &PlainWorld) -> Result<PlainWorld, WantO
     })
 }
 
-fn copy_numbers(alloc: Global, numbers: &[u32]) -> Result<Numbers, WantOfMemory>
+/// The same numbers.
+pub fn copy_numbers(alloc: Global, numbers: &[u32]) -> Result<Numbers, WantOfMemory>
     ensures { IfOk result (λ new. new ≡ numbers.now) }
 {
     Ok(List::from_vec(Vec::from_slice(alloc, numbers)?))
@@ -109,7 +110,8 @@ fn copy_objects(alloc: Global, objects: &[PlainObject]) -> Result<PlainObjects, 
     Ok(List::from_vec(copies))
 }
 
-fn copy_known_names(alloc: Global, known: &[Known]) -> Result<KnownNames, WantOfMemory>
+/// The same known names.
+pub fn copy_known_names(alloc: Global, known: &[Known]) -> Result<KnownNames, WantOfMemory>
     ensures { IfOk result (λ new. new ≡ known.now) }
 {
     let mut copies = Vec::with_capacity(alloc, known.len())?;
@@ -119,7 +121,8 @@ fn copy_known_names(alloc: Global, known: &[Known]) -> Result<KnownNames, WantOf
     Ok(List::from_vec(copies))
 }
 
-fn copy_subscriptions(
+/// The same subscriptions.
+pub fn copy_subscriptions(
     alloc: Global,
     subscriptions: &[Subscription],
 ) -> Result<Subscriptions, WantOfMemory>
@@ -132,7 +135,8 @@ fn copy_subscriptions(
     Ok(List::from_vec(copies))
 }
 
-fn copy_messages(alloc: Global, messages: &[Message]) -> Result<Messages, WantOfMemory>
+/// The same messages.
+pub fn copy_messages(alloc: Global, messages: &[Message]) -> Result<Messages, WantOfMemory>
     ensures { IfOk result (λ new. map plain_message new ≡ map plain_message messages.now) }
 {
     let mut copies = Vec::with_capacity(alloc, messages.len())?;

@@ -15,7 +15,8 @@ mod world;
 mod writing;
 
 pub use copies::{
-    copy_known, copy_message, copy_object, copy_subscription, copy_values, copy_world,
+    copy_known, copy_known_names, copy_message, copy_messages, copy_numbers, copy_object,
+    copy_subscription, copy_subscriptions, copy_values, copy_world,
 };
 pub use fault::ValueFault;
 pub use measure::{MOST_DEPTH, MOST_WEIGHT, depth, in_bounds, weight};
@@ -23,6 +24,9 @@ pub use message::{Message, Messages, Outgoing, Published, Subscription, Subscrip
 pub use payloads::{payload, read_payload};
 pub use reading::decode;
 pub use value::{Value, Values, copy, copy_all, same};
-pub use weights::{MOST_WORLD_WEIGHT, known_fits, message_fits, object_fits, room};
+pub use weights::{
+    MOST_WORLD_WEIGHT, known_fits, message_fits, object_fits, room, room_behind_known,
+    subscription_fits, value_fits,
+};
 pub use world::{Known, KnownNames, PlainObject, PlainObjects, PlainWorld};
 pub use writing::{encode, put_value};

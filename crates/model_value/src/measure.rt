@@ -72,7 +72,7 @@ pub fn in_bounds(value: &Value) -> bool
 
 /// What a value's weight leaves of the room, or None where the weight is greater or lists nest deeper than the levels.
 #[cycle(room_behind)]
-fn room_behind(value: &Value, room: usize, levels: u32) -> Option<usize>
+pub(crate) fn room_behind(value: &Value, room: usize, levels: u32) -> Option<usize>
     ensures { Leaves result room (weight_of (plain value.now)) levels (depth_of (plain value.now)) }
 {
     match value {

@@ -1,7 +1,7 @@
 //! Payloads: what an event carries from a view to the models.
 ghost use Rattle.std.specs.Prelude.{◌≡◌, ◌≢◌, ◌<◌, ◌^◌, IfOk, Err, length, encode_utf8_all};
-ghost use Rattle.byte_fields.specs.Fields.{Gives, whole};
-ghost use Rattle.model_value.specs.Payload.{PlainPayload, plain_payload, payload_spelling, payload_at, IsPayload};
+ghost use Rattle.byte_fields.specs.Fields.{Gives};
+ghost use Rattle.model_value.specs.Payload.{PlainPayload, plain_payload, payload_spelling, payload_of, IsPayload};
 ghost use Rattle.model_value.specs.Plain.{weight as weight_of, InBounds};
 ghost use Rattle.model_value.specs.View.{plain};
 
@@ -40,6 +40,7 @@ pub fn payload(
 /// `BadValue` comes exactly where no payload has this spelling: it comes too where bytes follow the value, or where the
 /// value is not in bounds. As in [`decode`](crate::decode), no length and no count is trusted.
 pub fn read_payload(alloc: Global, bytes: &[u8]) -> Result<(Text, Text, Value), ValueFault>
+    ensures read { Gives ValueFault.BadValue plain_payload result (payload_of bytes.now) }
     // What is read is spelled so, and its value is in bounds.
     ensures spelled { IfOk result (λ read. bytes.now ≡ payload_spelling (plain_payload read)) }
     ensures bounds { IfOk result (λ read. InBounds (plain read.2)) }
@@ -53,7 +54,7 @@ pub fn read_payload(alloc: Global, bytes: &[u8]) -> Result<(Text, Text, Value), 
 
 #[tactic(auto, unfolding(crate::specs::Payload::payload_at))]
 fn read_all(alloc: Global, bytes: &[u8]) -> Result<(Text, Text, Value), ValueFault>
-    ensures { Gives ValueFault.BadValue plain_payload result (whole payload_at bytes.now) }
+    ensures { Gives ValueFault.BadValue plain_payload result (payload_of bytes.now) }
 {
     let (scope, rest) = owned_text_at(alloc, bytes)?;
     let (event, rest) = owned_text_at(alloc, rest)?;

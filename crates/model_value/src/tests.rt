@@ -350,10 +350,24 @@ fn a_world_weighs_with_all_that_it_holds(rt: HostRuntime) -> Result<(), Fail> {
 }
 
 #[test]
-fn a_message_fits_into_its_weight(rt: HostRuntime) -> Result<(), Fail> {
-    let message = tick(rt.alloc())?;
-    for room in 0..10 {
-        assert_eq!(rt; message_fits(room, &message), room >= 7, "at {room}");
+fn what_is_added_fits_into_its_weight(rt: HostRuntime) -> Result<(), Fail> {
+    let alloc = rt.alloc();
+    let message = tick(alloc)?;
+    let subscription = subscription(alloc)?;
+    let known = only(alloc, clock(alloc)?)?;
+    let value = text(alloc, "abcdefghijklmnopq")?;
+    for room in 0..12 {
+        let fits = message_fits(room, &message.method, &message.args);
+        assert_eq!(rt; fits, room >= 7, "at {room}");
+        assert_eq!(rt; object_fits(room, &message.args), room >= 4, "at {room}");
+        assert_eq!(rt; value_fits(room, &value), room >= 3, "at {room}");
+        assert_eq!(rt;
+            subscription_fits(room, &subscription),
+            room >= 8,
+            "at {room}"
+        );
+        let behind = room_behind_known(known.as_slice(), room);
+        assert_eq!(rt; behind, room.checked_sub(3), "at {room}");
     }
     Ok(())
 }

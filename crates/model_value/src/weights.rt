@@ -1,13 +1,14 @@
 //! The weight of a world, and what may still be added to it.
-ghost use Rattle.std.specs.Prelude.{◌≤◌, ◌↔◌, map, IsTrue};
+ghost use Rattle.std.specs.Prelude.{◌≤◌, ◌↔◌, ◌+◌, map, IsTrue};
 ghost use Rattle.model_value.specs.Messages.{plain_message};
+ghost use Rattle.model_value.specs.Plain.{weight as weight_of};
 ghost use Rattle.model_value.specs.Room.{IsRoomBehind};
-ghost use Rattle.model_value.specs.View.{plain_values};
+ghost use Rattle.model_value.specs.View.{plain, plain_values};
 ghost use Rattle.model_value.specs.World.{object_record, world_record, text_weight, values_weight, object_weight, message_weight, subscription_weight, known_weight, total, world_weight, most_world_weight};
 
-use crate::measure::room_behind_all;
+use crate::measure::{room_behind, room_behind_all};
 use crate::message::{Message, Subscription};
-use crate::value::Values;
+use crate::value::{Value, Values};
 use crate::world::{Known, PlainObject, PlainWorld};
 use tea_base::Text;
 
@@ -29,18 +30,44 @@ pub fn room(world: &PlainWorld) -> Option<u32>
     room_behind_known(world.known.as_slice(), left)
 }
 
-/// Whether a message fits into so much room: it weighs 3, its method's name and its arguments.
-pub fn message_fits(room: u32, message: &Message) -> bool
-    ensures { IsTrue result ↔ message_weight (plain_message message.now) ≤ room }
+/// What the weights of known names leave of the room, or None where they are greater. Each name weighs 1 and its text.
+pub fn room_behind_known(known: &[Known], room: u32) -> Option<u32>
+    ensures { IsRoomBehind result room (total known_weight known.now) }
 {
-    room_behind_message(message, room).is_some()
+    let mut left = room;
+    for one in known {
+        left = room_behind_name(one, left)?;
+    }
+    Some(left)
 }
 
-/// Whether an object fits into so much room: it weighs 2 and its fields.
-pub fn object_fits(room: u32, object: &PlainObject) -> bool
-    ensures { IsTrue result ↔ object_weight (object_record object.now) ≤ room }
+/// Whether a value fits into so much room: it weighs no more. Any value may be asked about.
+pub fn value_fits(room: u32, value: &Value) -> bool
+    ensures { IsTrue result ↔ weight_of (plain value.now) ≤ room }
 {
-    room_behind_object(object, room).is_some()
+    room_behind_value(value, room).is_some()
+}
+
+/// Whether an object with these fields fits into so much room: it weighs 2 and its fields.
+pub fn object_fits(room: u32, fields: &Values) -> bool
+    ensures { IsTrue result ↔ 2 + values_weight (plain_values fields.now) ≤ room }
+{
+    room_behind_fields(fields, room).is_some()
+}
+
+/// Whether a message with this method and these arguments fits into so much room: it weighs 3, its method's name and its
+/// arguments.
+pub fn message_fits(room: u32, method: &Text, args: &Values) -> bool
+    ensures { IsTrue result ↔ 3 + text_weight method.now + values_weight (plain_values args.now) ≤ room }
+{
+    room_behind_call(method, args, room).is_some()
+}
+
+/// Whether a subscription fits into so much room: it weighs 2 and its three texts.
+pub fn subscription_fits(room: u32, subscription: &Subscription) -> bool
+    ensures { IsTrue result ↔ subscription_weight subscription.now ≤ room }
+{
+    room_behind_subscription(subscription, room).is_some()
 }
 
 /// Whether a known name fits into so much room: it weighs 1 and its text.
@@ -67,10 +94,19 @@ fn room_behind_values(values: &Values, room: u32) -> Option<u32>
     Some(left as u32)
 }
 
-fn room_behind_object(object: &PlainObject, room: u32) -> Option<u32>
-    ensures { IsRoomBehind result room (object_weight (object_record object.now)) }
+#[tactic(auto, using(crate::proofs::Totals::by_weight))]
+fn room_behind_value(value: &Value, room: u32) -> Option<u32>
+    ensures { IsRoomBehind result room (weight_of (plain value.now)) }
 {
-    room_behind_values(&object.fields, room.checked_sub(2)?)
+    // Lists nest no deeper than their weight.
+    let left = room_behind(value, room as usize, room)?;
+    Some(left as u32)
+}
+
+fn room_behind_fields(fields: &Values, room: u32) -> Option<u32>
+    ensures { IsRoomBehind result room (2 + values_weight (plain_values fields.now)) }
+{
+    room_behind_values(fields, room.checked_sub(2)?)
 }
 
 fn room_behind_objects(objects: &[PlainObject], room: u32) -> Option<u32>
@@ -78,16 +114,16 @@ fn room_behind_objects(objects: &[PlainObject], room: u32) -> Option<u32>
 {
     let mut left = room;
     for object in objects {
-        left = room_behind_object(object, left)?;
+        left = room_behind_fields(&object.fields, left)?;
     }
     Some(left)
 }
 
-fn room_behind_message(message: &Message, room: u32) -> Option<u32>
-    ensures { IsRoomBehind result room (message_weight (plain_message message.now)) }
+fn room_behind_call(method: &Text, args: &Values, room: u32) -> Option<u32>
+    ensures { IsRoomBehind result room (3 + text_weight method.now + values_weight (plain_values args.now)) }
 {
-    let left = room_behind_text(&message.method, room.checked_sub(3)?)?;
-    room_behind_values(&message.args, left)
+    let left = room_behind_text(method, room.checked_sub(3)?)?;
+    room_behind_values(args, left)
 }
 
 fn room_behind_messages(messages: &[Message], room: u32) -> Option<u32>
@@ -95,7 +131,7 @@ fn room_behind_messages(messages: &[Message], room: u32) -> Option<u32>
 {
     let mut left = room;
     for message in messages {
-        left = room_behind_message(message, left)?;
+        left = room_behind_call(&message.method, &message.args, left)?;
     }
     Some(left)
 }
@@ -114,16 +150,6 @@ fn room_behind_subscriptions(subscriptions: &[Subscription], room: u32) -> Optio
     let mut left = room;
     for subscription in subscriptions {
         left = room_behind_subscription(subscription, left)?;
-    }
-    Some(left)
-}
-
-fn room_behind_known(known: &[Known], room: u32) -> Option<u32>
-    ensures { IsRoomBehind result room (total known_weight known.now) }
-{
-    let mut left = room;
-    for one in known {
-        left = room_behind_name(one, left)?;
     }
     Some(left)
 }

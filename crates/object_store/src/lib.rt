@@ -7,5 +7,6 @@ mod store;
 #[cfg(test)]
 mod tests;
 
+pub use object::Object;
 pub use refusal::StoreRefusal;
 pub use store::{MOST_OBJECTS, Store};

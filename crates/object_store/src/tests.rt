@@ -23,9 +23,15 @@ fn objects_are_found_by_their_ids(rt: HostRuntime) -> Result<(), Fail> {
     let alloc = rt.alloc();
     let mut store = Store::new(alloc);
     assert!(rt; store.weight() == 0);
+    assert!(rt; store.is_empty() && store.next() == 1);
     assert!(rt; store.create(3, fields(alloc, 7)?) == Ok(1));
     assert!(rt; store.create(5, List::new(alloc)) == Ok(2));
     assert!(rt; store.weight() == 6);
+    assert!(rt; store.len() == 2 && store.next() == 3);
+    assert!(rt; store.holds(2) && !store.holds(3));
+    assert!(rt;
+        matches!(store.objects().get(1), Some(object) if object.id == 2 && object.class == 5)
+    );
     assert!(rt; store.class(1) == Some(3));
     assert!(rt; store.class(2) == Some(5));
     assert!(rt; store.class(3).is_none());

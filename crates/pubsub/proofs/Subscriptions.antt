@@ -1,19 +1,23 @@
 -- Subscriptions compared, lists with one more or fewer, and the bounds of weights.
 use Rattle.std.proofs.Common.{◌≡◌, ℕ, zero, suc, ◌*◌, ◌<◌, ◌≤◌, Bool, true, false, cond, List, [], ◌∷◌, ◌++◌, length, get_or, drop, refl, sym, ap, subst, ◌∙◌, arith}
-use Rattle.std.specs.Prelude.{◌||◌, Result, Ok, Err, is_ok, is_err}
+use Rattle.std.specs.Prelude.{◌&&◌, ◌||◌, nat_eq, bytes_eq, Result, Ok, Err, is_ok, is_err}
 use Rattle.std.specs.List.{filter}
 use Rattle.std.proofs.lemmas.Bool.{false≢true}
 use Rattle.std.proofs.lemmas.List.{length-append}
 use Rattle.std.specs.Cmp.{unsigned_Decides}
 use Rattle.std.proofs.lemmas.Slice.Eq.{bytes_eq-Decides}
-use Rattle.model_value.specs.Valid.{IsNew, SubscriptionsDiffer, most_pending}
+use Rattle.model_value.specs.Valid.{TextFits, IsNew, SubscriptionsDiffer, most_pending}
 use Rattle.model_value.specs.World.{subscription_weight, total}
 use Rattle.model_value.specs.declared.message.Subscription.{Subscription}
-use Rattle.pubsub.specs.Topics.{AreTopics, AllTextsFit, TextsFit, is_held, same}
+use Rattle.pubsub.specs.Topics.{AreTopics, AllLight, IsLight, is_held, same}
 
 pub ruleset by_texts = (bytes_eq-Decides)
 
 -- ---- a subscription more
+
+both : (a b : Bool) → (a && b) ≡ true → (a ≡ true) × (b ≡ true)
+both true b e = (refl, e)
+both false b e = absurd (false≢true e)
 
 neither : (a b : Bool) → (a || b) ≡ false → (a ≡ false) × (b ≡ false)
 neither true b e = absurd (false≢true (sym e))
@@ -27,19 +31,35 @@ same_self s =
     let object = (unsigned_Decides s.object s.object).1 refl in
     rw (scope, event, object, method) refl
 
+-- those that are the same are equal
+pub same-true : (s t : Subscription) → same s t ≡ true → s ≡ t
+same-true s t e =
+    let topic = both (bytes_eq s.scope t.scope && bytes_eq s.event t.event) (nat_eq s.object t.object && bytes_eq s.method t.method) e in
+    let names = both (bytes_eq s.scope t.scope) (bytes_eq s.event t.event) topic.0 in
+    let who = both (nat_eq s.object t.object) (bytes_eq s.method t.method) topic.1 in
+    let scope : s.scope ≡ t.scope = (bytes_eq-Decides s.scope t.scope).0 names.0 in
+    let event : s.event ≡ t.event = (bytes_eq-Decides s.event t.event).0 names.1 in
+    let object : s.object ≡ t.object = (unsigned_Decides s.object t.object).0 who.0 in
+    let method : s.method ≡ t.method = (bytes_eq-Decides s.method t.method).0 who.1 in
+    let by_scope : List ℕ → Subscription = λ x. record { scope = x; event = s.event; object = s.object; method = s.method } in
+    let by_event : List ℕ → Subscription = λ x. record { scope = t.scope; event = x; object = s.object; method = s.method } in
+    let by_object : ℕ → Subscription = λ n. record { scope = t.scope; event = t.event; object = n; method = s.method } in
+    let by_method : List ℕ → Subscription = λ x. record { scope = t.scope; event = t.event; object = t.object; method = x } in
+    ap by_scope scope ∙ ap by_event event ∙ ap by_object object ∙ ap by_method method
+
 new_push : (t s : Subscription) (ts : List Subscription) → IsNew t ts → ¬ (t ≡ s) → IsNew t (ts ++ s ∷ [])
 new_push t s [] h e = (e, tt)
 new_push t s (u ∷ ts) h e = (h.0, new_push t s ts h.1 e)
 
-differ_push : (s : Subscription) (ts : List Subscription) → SubscriptionsDiffer ts → is_held s ts ≡ false → SubscriptionsDiffer (ts ++ s ∷ [])
-differ_push s [] h e = (tt, tt)
-differ_push s (t ∷ ts) h e =
+pub SubscriptionsDiffer-appended : (s : Subscription) (ts : List Subscription) → is_held s ts ≡ false → SubscriptionsDiffer ts → SubscriptionsDiffer (ts ++ s ∷ [])
+SubscriptionsDiffer-appended s [] e h = (tt, tt)
+SubscriptionsDiffer-appended s (t ∷ ts) e h =
     let no = neither (same t s) (is_held s ts) e in
-    (new_push t s ts h.0 (λ is. false≢true (sym no.0 ∙ subst (λ u. same t u ≡ true) is (same_self t))), differ_push s ts h.1 no.1)
+    (new_push t s ts h.0 (λ is. false≢true (sym no.0 ∙ subst (λ u. same t u ≡ true) is (same_self t))), SubscriptionsDiffer-appended s ts no.1 h.1)
 
-texts_push : (s : Subscription) (ts : List Subscription) → AllTextsFit ts → TextsFit s → AllTextsFit (ts ++ s ∷ [])
-texts_push s [] h e = (e, tt)
-texts_push s (t ∷ ts) h e = (h.0, texts_push s ts h.1 e)
+light_push : (s : Subscription) (ts : List Subscription) → AllLight ts → IsLight s → AllLight (ts ++ s ∷ [])
+light_push s [] h e = (e, tt)
+light_push s (t ∷ ts) h e = (h.0, light_push s ts h.1 e)
 
 added : {X T E : Type 0} (r : Result T E) (new old more : List X) → new ≡ cond (is_ok r) more old → is_err r ≡ false → new ≡ more
 added (Ok _) new old more e h = e
@@ -51,13 +71,13 @@ pub pushed : {T E : Type 0} (r : Result T E) (s : Subscription) (new old : List 
     → AreTopics old
     → is_held s old ≡ false
     → length old < most_pending
-    → TextsFit s
+    → IsLight s
     → AreTopics new
-pushed r s new old is ok topics absent room texts =
+pushed r s new old is ok topics absent room light =
     let e = added r new old (old ++ s ∷ []) is ok in
     record {
-      differ = rw e (differ_push s old topics.differ absent);
-      texts = rw e (texts_push s old topics.texts texts);
+      differ = rw e (SubscriptionsDiffer-appended s old absent topics.differ);
+      light = rw e (light_push s old topics.light light);
       few = omega (arith, room, ap length e, length-append old (s ∷ []));
     }
 
@@ -73,42 +93,48 @@ new_filter test t (u ∷ ts) h =
     let rest = new_filter test t ts h.1 in
     either (IsNew t) (test u) (u ∷ filter test ts) (filter test ts) (h.0, rest) rest
 
-differ_filter : (test : Subscription → Bool) (ts : List Subscription) → SubscriptionsDiffer ts → SubscriptionsDiffer (filter test ts)
-differ_filter test [] h = tt
-differ_filter test (t ∷ ts) h =
-    let rest = differ_filter test ts h.1 in
+pub SubscriptionsDiffer-filtered : (test : Subscription → Bool) (ts : List Subscription) → SubscriptionsDiffer ts → SubscriptionsDiffer (filter test ts)
+SubscriptionsDiffer-filtered test [] h = tt
+SubscriptionsDiffer-filtered test (t ∷ ts) h =
+    let rest = SubscriptionsDiffer-filtered test ts h.1 in
     either SubscriptionsDiffer (test t) (t ∷ filter test ts) (filter test ts) (new_filter test t ts h.0, rest) rest
 
-texts_filter : (test : Subscription → Bool) (ts : List Subscription) → AllTextsFit ts → AllTextsFit (filter test ts)
-texts_filter test [] h = tt
-texts_filter test (t ∷ ts) h =
-    let rest = texts_filter test ts h.1 in
-    either AllTextsFit (test t) (t ∷ filter test ts) (filter test ts) (h.0, rest) rest
+light_filter : (test : Subscription → Bool) (ts : List Subscription) → AllLight ts → AllLight (filter test ts)
+light_filter test [] h = tt
+light_filter test (t ∷ ts) h =
+    let rest = light_filter test ts h.1 in
+    either AllLight (test t) (t ∷ filter test ts) (filter test ts) (h.0, rest) rest
 
-pub few_filter : (test : Subscription → Bool) (ts : List Subscription) → length (filter test ts) ≤ length ts
-few_filter test [] = omega arith
-few_filter test (t ∷ ts) =
-    let rest = few_filter test ts in
+pub length-filtered : (test : Subscription → Bool) (ts : List Subscription) → length (filter test ts) ≤ length ts
+length-filtered test [] = omega arith
+length-filtered test (t ∷ ts) =
+    let rest = length-filtered test ts in
     either (λ xs. length xs ≤ length (t ∷ ts)) (test t) (t ∷ filter test ts) (filter test ts) (omega (arith, rest)) (omega (arith, rest))
 
 pub filtered : (test : Subscription → Bool) (new old : List Subscription) → new ≡ filter test old → AreTopics old → AreTopics new
 filtered test new old e topics =
     record {
-      differ = rw e (differ_filter test old topics.differ);
-      texts = rw e (texts_filter test old topics.texts);
-      few = omega (arith, ap length e, few_filter test old, topics.few);
+      differ = rw e (SubscriptionsDiffer-filtered test old topics.differ);
+      light = rw e (light_filter test old topics.light);
+      few = omega (arith, ap length e, length-filtered test old, topics.few);
     }
+
+-- a filter adds no weight
+pub total-filtered : (test : Subscription → Bool) (ts : List Subscription) → total subscription_weight (filter test ts) ≤ total subscription_weight ts
+total-filtered test [] = omega arith
+total-filtered test (t ∷ ts) =
+    let rest = total-filtered test ts in
+    either (λ xs. total subscription_weight xs ≤ total subscription_weight (t ∷ ts)) (test t) (t ∷ filter test ts) (filter test ts) (omega (arith, rest)) (omega (arith, rest))
+
+-- three texts that fit weigh no more than a world may
+pub IsLight-fits : (s : Subscription) → TextFits s.scope → TextFits s.event → TextFits s.method → IsLight s
+IsLight-fits s scope event method = omega (arith, scope, event, method)
 
 -- ---- weights
 
-pub texts_at : (ss : List Subscription) (i : ℕ) (d : Subscription) → i < length ss → AllTextsFit (drop i ss) → TextsFit (get_or ss i d)
-texts_at [] i d inside h = absurd (omega arith)
-texts_at (s ∷ ss) zero d inside h = h.0
-texts_at (s ∷ ss) (suc i) d inside h = texts_at ss i d (omega arith) h
-
-pub total_bound : (ss : List Subscription) → AllTextsFit ss → total subscription_weight ss ≤ length ss * 12290
+pub total_bound : (ss : List Subscription) → AllLight ss → total subscription_weight ss ≤ length ss * 131072
 total_bound [] h = omega arith
-total_bound (s ∷ ss) h = omega (arith, h.0.0, h.0.1, h.0.2, total_bound ss h.1)
+total_bound (s ∷ ss) h = omega (arith, h.0, total_bound ss h.1)
 
 pub weight_at : (ss : List Subscription) (i : ℕ) (d : Subscription) → i < length ss → subscription_weight (get_or ss i d) ≤ total subscription_weight (drop i ss)
 weight_at [] i d inside = absurd (omega arith)

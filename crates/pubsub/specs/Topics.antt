@@ -1,24 +1,25 @@
 -- Subscriptions in order, and what each call makes of them.
 use Rattle.std.specs.Prelude.{◌≡◌, ◌≤◌, ◌<◌, ◌++◌, ℕ, Bool, true, false, ◌&&◌, ◌||◌, List, [], ◌∷◌, length, nat_eq, bytes_eq, if◌then◌else◌, not, Result, Ok, Err}
 use Rattle.std.specs.List.{filter}
-use Rattle.model_value.specs.Valid.{TextFits, SubscriptionsDiffer, most_pending}
+use Rattle.model_value.specs.Valid.{SubscriptionsDiffer, most_pending}
+use Rattle.model_value.specs.World.{subscription_weight, most_world_weight}
 use Rattle.model_value.specs.declared.message.Subscription.{Subscription}
 use Rattle.pubsub.specs.declared.handler.Handler.{Handler}
 use Rattle.pubsub.specs.declared.refusal.TopicRefusal.{TopicRefusal}
 use Rattle.pubsub.specs.declared.refusal.TopicRefusal.TheVariants.{Full, WantOfMemory}
 
--- what the texts of a subscription may weigh
-abbrev pub TextsFit : Subscription → Type 0
-TextsFit s = TextFits s.scope × TextFits s.event × TextFits s.method
+-- what a subscription may weigh: as much as a world may
+abbrev pub IsLight : Subscription → Type 0
+IsLight s = subscription_weight s ≤ most_world_weight
 
-abbrev pub AllTextsFit : List Subscription → Type 0
-AllTextsFit [] = Unit {0}
-AllTextsFit (s ∷ ss) = TextsFit s × AllTextsFit ss
+abbrev pub AllLight : List Subscription → Type 0
+AllLight [] = Unit {0}
+AllLight (s ∷ ss) = IsLight s × AllLight ss
 
 -- what is true of all topics
 pub record AreTopics (ss : List Subscription) : Type 0 where
   pub differ : SubscriptionsDiffer ss
-  pub texts : AllTextsFit ss
+  pub light : AllLight ss
   pub few : length ss ≤ most_pending
 
 -- whether a subscription is to this event in this scope

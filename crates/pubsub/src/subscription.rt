@@ -1,8 +1,8 @@
 //! Subscriptions compared, searched and weighed.
 ghost use Rattle.std.specs.Prelude.{◌≡◌, ◌≤◌, length, IfOk};
-ghost use Rattle.model_value.specs.Valid.{TextFits, most_pending};
-ghost use Rattle.model_value.specs.World.{text_weight as weight_of_text, subscription_weight as weight_of_subscription, total};
-ghost use Rattle.pubsub.specs.Topics.{TextsFit, AllTextsFit, is_to as goes_to, same, is_held as holds, without, without_object, handlers_of};
+ghost use Rattle.model_value.specs.Valid.{most_pending};
+ghost use Rattle.model_value.specs.World.{text_weight as weight_of_text, subscription_weight as weight_of_subscription, total, most_world_weight};
+ghost use Rattle.pubsub.specs.Topics.{IsLight, AllLight, is_to as goes_to, same, is_held as holds, without, without_object, handlers_of};
 
 use crate::handler::{Handler, Handlers};
 use model_value::Subscription;
@@ -75,7 +75,7 @@ pub fn handlers(
 
 /// How much subscriptions weigh together.
 pub fn weight_of(subscriptions: &[Subscription]) -> u64
-    requires texts { AllTextsFit subscriptions.now }
+    requires light { AllLight subscriptions.now }
     requires few { length subscriptions.now ≤ most_pending }
     ensures { result ≡ total weight_of_subscription subscriptions.now }
 {
@@ -87,7 +87,7 @@ pub fn weight_of(subscriptions: &[Subscription]) -> u64
 }
 
 fn subscription_weight(subscription: &Subscription) -> u64
-    requires { TextsFit subscription.now }
+    requires { IsLight subscription.now }
     ensures { result ≡ weight_of_subscription subscription.now }
 {
     2 + text_weight(&subscription.scope)
@@ -96,7 +96,7 @@ fn subscription_weight(subscription: &Subscription) -> u64
 }
 
 fn text_weight(text: &Text) -> u64
-    requires { TextFits text.now }
+    requires { weight_of_text text.now ≤ most_world_weight }
     ensures { result ≡ weight_of_text text.now }
 {
     (1 + text.bytes().len().div_ceil(16)) as u64

@@ -1,7 +1,7 @@
 //! The topics of a world.
-ghost use Rattle.std.specs.Prelude.{◌≡◌, ◌+◌, [], length, IfOk};
+ghost use Rattle.std.specs.Prelude.{◌≡◌, ◌↔◌, ◌+◌, [], length, IfOk, IsTrue};
 ghost use Rattle.model_value.specs.World.{subscription_weight, total};
-ghost use Rattle.pubsub.specs.Topics.{AreTopics, Subscribes, TextsFit, handlers_of, is_held as holds, without, without_object};
+ghost use Rattle.pubsub.specs.Topics.{AreTopics, IsLight, Subscribes, handlers_of, is_held as holds, without, without_object};
 
 use crate::handler::Handlers;
 use crate::refusal::TopicRefusal;
@@ -48,12 +48,13 @@ impl Topics {
         }
     }
 
-    /// Adds a subscription behind all others, and tells whether it is new. Each of its texts weighs at most 4,096.
+    /// Adds a subscription behind all others, and tells whether it is new. It weighs at most 131,072, as much as a world
+    /// may, which three texts of values in bounds do.
     ///
     /// Where an equal one is held, nothing changes. Otherwise `Full` comes where 16,384 are held. A refusal changes
     /// nothing but that the subscription is dropped.
     pub fn subscribe(&mut self, s: Subscription) -> Result<bool, TopicRefusal>
-        requires { TextsFit s }
+        requires { IsLight s }
         ensures { Subscribes result s self.old self.new }
     {
         if is_held(&self.held, &s) {
@@ -70,12 +71,40 @@ impl Topics {
         Ok(true)
     }
 
+    /// How many subscriptions are held. Takes no memory.
+    pub fn len(&self) -> usize
+        ensures { result ≡ length self.now }
+    {
+        self.held.len()
+    }
+
+    /// Whether no subscription is held. Takes no memory.
+    pub fn is_empty(&self) -> bool
+        ensures { IsTrue result ↔ (self.now ≡ []) }
+    {
+        self.held.is_empty()
+    }
+
+    /// The subscriptions in order. Takes no memory.
+    pub fn subscriptions(&self) -> &[Subscription]
+        ensures { result.now ≡ self.now }
+    {
+        &self.held
+    }
+
+    /// Whether an equal subscription is held. Takes no memory.
+    pub fn holds(&self, s: &Subscription) -> bool
+        ensures { result ≡ holds s.now self.now }
+    {
+        is_held(&self.held, s)
+    }
+
     /// Takes away the subscription equal to this one, and tells whether it was held. Takes no memory.
     pub fn unsubscribe(&mut self, s: &Subscription) -> bool
         ensures held { result ≡ holds s.now self.old }
         ensures topics { self.new ≡ without s.now self.old }
     {
-        let held = is_held(&self.held, s);
+        let held = self.holds(s);
         remove(&mut self.held, s);
         held
     }
@@ -99,7 +128,7 @@ impl Topics {
 
     /// How much the subscriptions weigh together: each 2 and its three texts. Takes no memory.
     ///
-    /// In all topics subscriptions differ, their texts are as `subscribe` wants them, and at most 16,384 are held.
+    /// In all topics subscriptions differ, each is as `subscribe` wants it, and at most 16,384 are held.
     pub fn weight(&self) -> u64
         ensures weight { result ≡ total subscription_weight self.now }
         ensures topics { AreTopics self.now }

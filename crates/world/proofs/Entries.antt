@@ -1,5 +1,5 @@
 -- What an entry of the log leaves valid.
-use Rattle.std.proofs.Common.{◌≡◌, ℕ, suc, ◌<◌, ◌≤◌, Bool, true, false, if◌then◌else◌, ◌||◌, nat_eq, nat_lt, List, [], ◌∷◌, length, refl, sym, arith}
+use Rattle.std.proofs.Common.{◌≡◌, ℕ, suc, ◌<◌, ◌≤◌, Bool, true, false, if◌then◌else◌, ◌||◌, nat_eq, nat_lt, pos, List, [], ◌∷◌, length, Option, Some, None, refl, sym, arith}
 use Rattle.std.proofs.lemmas.Bool.{eqb-false, ltb-true, ltb-false}
 use Rattle.tea_base.specs.declared.entry.Entry.{Entry}
 use Rattle.tea_base.specs.declared.entry.What.{What}
@@ -7,10 +7,14 @@ use Rattle.tea_base.specs.declared.entry.What.TheVariants.{Join, Exit, Event}
 use Rattle.model_value.specs.Messages.{PlainMessage}
 use Rattle.model_value.specs.World.{WorldRecord}
 use Rattle.model_value.specs.Valid.{Valid, MessagesFit, RiseFrom, most_views, time_limit}
-use Rattle.model_lang.specs.Tree.{ProgramTree}
+use Rattle.model_value.specs.Plain.{int}
+use Rattle.model_value.specs.Payload.{PlainPayload, payload_of}
+use Rattle.model_value.proofs.PayloadCodec.{payload_of-in_bounds}
+use Rattle.model_lang.specs.Tree.{Name, ProgramTree}
+use Rattle.model_eval.proofs.ValueBounds.{int-in_bounds}
 use Rattle.model_eval.specs.declared.fault.Fault.TheVariants.{Full}
-use Rattle.world.specs.Worlds.{Scene, begun, counted, advance, is_among, with_view, without_view, came, went, entered, external}
-use Rattle.world.proofs.Running.{Fits, counted-valid, begun-valid}
+use Rattle.world.specs.Worlds.{Scene, with_world, begun, counted, bad_event, advance, session_scope, view_join, view_exit, told_of, is_among, with_view, without_view, came, went, heard, entered, external}
+use Rattle.world.proofs.Running.{Fits, with_count-valid, counted-valid, begun-valid, informed-valid}
 use Rattle.world.proofs.Advancing.{advance-valid}
 
 views-valid : (counts : List ℕ) (views : List ℕ) (w : WorldRecord) → RiseFrom 0 views → length views ≤ most_views → Valid counts w → Valid counts (record w { views = views })
@@ -63,18 +67,24 @@ length-with : (view : ℕ) (xs : List ℕ) → length (with_view view xs) ≡ su
 length-with view [] = refl
 length-with view (x ∷ xs) = length_if (nat_lt view x) view x xs (with_view view xs) (length-with view xs)
 
-came_if : (counts : List ℕ) (none here few : Bool) (view : ℕ) (w : WorldRecord) → none ≡ nat_eq view 0 → here ≡ is_among view w.views → few ≡ nat_lt (length w.views) most_views → Valid counts w
-    → Valid counts (if none || here then w else (if few then record w { views = with_view view w.views } else counted Full w))
-came_if counts true here few view w n h f v = v
-came_if counts false true few view w n h f v = v
-came_if counts false false true view w n h f v =
+told_of-valid : (counts : List ℕ) (program : ProgramTree) (event : Name) (view : ℕ) (s : Scene) → Fits counts program → Valid counts s.world → Valid counts (told_of program event view s).world
+told_of-valid counts program event view s fits v = informed-valid counts program (session_scope s.world) event (int (pos view)) s fits (int-in_bounds (pos view)) v
+
+came_if : (counts : List ℕ) (program : ProgramTree) (none here few : Bool) (view : ℕ) (s : Scene) → Fits counts program → none ≡ nat_eq view 0 → here ≡ is_among view s.world.views → few ≡ nat_lt (length s.world.views) most_views → Valid counts s.world
+    → Valid counts (if none || here then s else (if few then told_of program view_join view (with_world s (record (s.world) { views = with_view view s.world.views })) else with_world s (counted Full s.world))).world
+came_if counts program true here few view s fits n h f v = v
+came_if counts program false true few view s fits n h f v = v
+came_if counts program false false true view s fits n h f v =
+    let w = s.world in
     let above : ¬ (view ≡ 0) = eqb-false view 0 (sym n) in
     let room : length w.views < most_views = ltb-true (length w.views) most_views (sym f) in
-    views-valid counts (with_view view w.views) w (rise-with 0 view w.views (omega (arith, above)) (sym h) v.views) (omega (arith, length-with view w.views, room)) v
-came_if counts false false false view w n h f v = counted-valid counts Full w v
+    told_of-valid counts program view_join view (with_world s (record w { views = with_view view w.views })) fits
+    (views-valid counts (with_view view w.views) w (rise-with 0 view w.views (omega (arith, above)) (sym h) v.views) (omega (arith, length-with view w.views, room)) v)
+came_if counts program false false false view s fits n h f v = counted-valid counts Full s.world v
 
-pub came-valid : (counts : List ℕ) (view : ℕ) (w : WorldRecord) → Valid counts w → Valid counts (came view w)
-came-valid counts view w v = came_if counts (nat_eq view 0) (is_among view w.views) (nat_lt (length w.views) most_views) view w refl refl refl v
+pub came-valid : (counts : List ℕ) (program : ProgramTree) (view : ℕ) (s : Scene) → Fits counts program → Valid counts s.world → Valid counts (came program view s).world
+came-valid counts program view s fits v =
+    came_if counts program (nat_eq view 0) (is_among view s.world.views) (nat_lt (length s.world.views) most_views) view s fits refl refl refl v
 
 -- ---- a view that goes
 
@@ -98,14 +108,29 @@ shorter : (view : ℕ) (xs : List ℕ) → length (without_view view xs) ≤ len
 shorter view [] = omega arith
 shorter view (x ∷ xs) = shorter_if (nat_eq view x) x xs (without_view view xs) (shorter view xs)
 
-pub went-valid : (counts : List ℕ) (view : ℕ) (w : WorldRecord) → Valid counts w → Valid counts (went view w)
-went-valid counts view w v = views-valid counts (without_view view w.views) w (rise-without 0 view w.views v.views) (omega (arith, shorter view w.views, v.views_fit)) v
+went_if : (counts : List ℕ) (program : ProgramTree) (here : Bool) (view : ℕ) (s : Scene) → Fits counts program → Valid counts s.world
+    → Valid counts (if here then told_of program view_exit view (with_world s (record (s.world) { views = without_view view s.world.views })) else s).world
+went_if counts program true view s fits v =
+    let w = s.world in
+    told_of-valid counts program view_exit view (with_world s (record w { views = without_view view w.views })) fits
+    (views-valid counts (without_view view w.views) w (rise-without 0 view w.views v.views) (omega (arith, shorter view w.views, v.views_fit)) v)
+went_if counts program false view s fits v = v
 
-pub entered-valid : (counts : List ℕ) (what : What) (view : ℕ) (w : WorldRecord) → Valid counts w → Valid counts (entered what view w)
-entered-valid counts Join view w v = came-valid counts view w v
-entered-valid counts Exit view w v = went-valid counts view w v
-entered-valid counts (Event number payload) view w v = v
+pub went-valid : (counts : List ℕ) (program : ProgramTree) (view : ℕ) (s : Scene) → Fits counts program → Valid counts s.world → Valid counts (went program view s).world
+went-valid counts program view s fits v = went_if counts program (is_among view s.world.views) view s fits v
+
+-- ---- an event
+
+heard_by : (counts : List ℕ) (program : ProgramTree) (bytes : List ℕ) (read : Option PlainPayload) (s : Scene) → Fits counts program → payload_of bytes ≡ read → Valid counts s.world → Valid counts (heard program read s).world
+heard_by counts program bytes None s fits e v = with_count-valid counts bad_event s.world v
+heard_by counts program bytes (Some p) s fits e v = informed-valid counts program p.scope p.event p.value s fits (payload_of-in_bounds bytes p e) v
+
+pub entered-valid : (counts : List ℕ) (program : ProgramTree) (what : What) (view : ℕ) (s : Scene) → Fits counts program → Valid counts s.world → Valid counts (entered program what view s).world
+entered-valid counts program Join view s fits v = came-valid counts program view s fits v
+entered-valid counts program Exit view s fits v = went-valid counts program view s fits v
+entered-valid counts program (Event number payload) view s fits v = heard_by counts program payload (payload_of payload) s fits refl v
 
 pub external-valid : (counts : List ℕ) (program : ProgramTree) (e : Entry) (s : Scene) → Fits counts program → e.time < time_limit → Valid counts s.world → Valid counts (external program e s).world
 external-valid counts program e s fits below v =
-    entered-valid counts e.what e.view (begun (advance program e.time s).world) (begun-valid counts (advance program e.time s).world (advance-valid counts program e.time s fits below v))
+    let a : Scene = advance program e.time s in
+    entered-valid counts program e.what e.view (with_world a (begun a.world)) fits (begun-valid counts a.world (advance-valid counts program e.time s fits below v))

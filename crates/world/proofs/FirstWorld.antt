@@ -13,7 +13,7 @@ use Rattle.model_eval.proofs.FieldBounds.{nil-in_bounds}
 use Rattle.world.specs.Worlds.{Scene, empty_world, begun, rooted, root_from, field_counts, first_with, first, ran, init, model_root}
 use Rattle.world.proofs.Running.{Fits, ran-keeps}
 
-nils-fit : (n : ℕ) → AllInBounds (replicate n nil)
+pub nils-fit : (n : ℕ) → AllInBounds (replicate n nil)
 nils-fit zero = tt
 nils-fit (suc n) = (nil-in_bounds, nils-fit n)
 
@@ -63,7 +63,7 @@ root_found : (k n : ℕ) (d : ClassTree) (cs : ProgramTree) → root_from k cs �
 root_found k n d [] h = absurd (none-some (n, d) h)
 root_found k n d (c ∷ cs) h = found_if (bytes_eq c.name root_name) k n c d cs (root_found (k + 1) n d cs) h
 
-few_fields : (j : ℕ) (cs : ProgramTree) (d : ClassTree) → ClassesFit cs → slice_get cs j ≡ Some d → length d.fields ≤ most_members
+pub few_fields : (j : ℕ) (cs : ProgramTree) (d : ClassTree) → ClassesFit cs → slice_get cs j ≡ Some d → length d.fields ≤ most_members
 few_fields j [] d fit h = absurd (none-some d h)
 few_fields zero (c ∷ cs) d fit h = subst (λ (k : ClassTree). length k.fields ≤ most_members) (same_Some c d h) fit.0.0
 few_fields (suc j) (c ∷ cs) d fit h = few_fields j cs d fit.1 h

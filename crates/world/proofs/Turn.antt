@@ -1,7 +1,6 @@
 -- One turn of the loop that advances a world, and its end.
 use Rattle.std.proofs.Common.{◌≡◌, ℕ, ◌<◌, List, Some, None, refl, sym, ap, ◌∙◌, subst}
 use Rattle.model_value.specs.Messages.{PlainMessage}
-use Rattle.model_value.specs.World.{WorldRecord}
 use Rattle.model_value.specs.Valid.{Valid}
 use Rattle.model_lang.specs.Tree.{ProgramTree}
 use Rattle.model_lang.specs.Program.{IsProgram}
@@ -16,8 +15,8 @@ pub program-fits : (program : ProgramTree) → IsProgram program → Fits (field
 program-fits program p = record { counted = refl; classes = (passed-fits program p.1.spelled.fits).1; names = program-names program p }
 
 -- the scene that a turn leaves
-pub turned : (program : ProgramTree) (m : PlainMessage) (rest : List PlainMessage) (s after : Scene) (w : WorldRecord) → w ≡ record (s.world) { pending = rest } → after ≡ ran program m.object m.method m.args (with_world s (begun (moved m.time w))) → after ≡ handled program m rest s
-turned program m rest s after w e h = h ∙ ap (λ (v : WorldRecord). ran program m.object m.method m.args (with_world s (begun (moved m.time v)))) e
+pub turned : (program : ProgramTree) (m : PlainMessage) (rest : List PlainMessage) (s taken after : Scene) → taken ≡ with_world s (record (s.world) { pending = rest }) → after ≡ ran program m.object m.method m.args (with_world taken (begun (moved m.time taken.world))) → after ≡ handled program m rest s
+turned program m rest s taken after e h = h ∙ ap (λ (u : Scene). ran program m.object m.method m.args (with_world u (begun (moved m.time u.world)))) e
 
 pub turn-valid : (program : ProgramTree) (t : ℕ) (m : PlainMessage) (rest : List PlainMessage) (s after : Scene) → IsProgram program → Valid (field_counts program) s.world → due t s.world.pending ≡ Some (m, rest) → after ≡ handled program m rest s → Valid (field_counts program) after.world
 turn-valid program t m rest s after p v d e =

@@ -7,23 +7,23 @@ use Rattle.model_value.specs.WorldCode.{coded_world}
 use Rattle.model_value.specs.declared.message.Message.{Message}
 use Rattle.model_value.specs.declared.world.PlainWorld.{PlainWorld}
 use Rattle.model_eval.specs.declared.state.State.{State}
-use Rattle.tea_base.specs.declared.entry.What.{What}
-use Rattle.tea_base.specs.declared.entry.What.TheVariants.{Join, Exit, Event}
+use Rattle.model_eval.specs.Answer.{world_of}
 use Rattle.model_value.specs.Valid.{Valid}
 use Rattle.model_lang.specs.declared.tree.Class.{Class}
 use Rattle.model_lang.specs.TreeView.{program_tree}
 use Rattle.model_lang.specs.Program.{IsProgram}
 use Rattle.world.specs.declared.fault.WorldFault.{WorldFault}
 use Rattle.world.specs.declared.fault.WorldFault.TheVariants as fault
-use Rattle.world.specs.Worlds.{Scene, due, without_view, field_counts}
+use Rattle.world.specs.Worlds.{Scene, with_world, due, without_view, field_counts}
 
 abbrev pub scene : State → Scene
-scene state = record { world = world_record state.world; published = map plain_outgoing state.published }
+scene state = record { world = world_of state; published = map plain_outgoing state.published }
 
 -- the message that is due, and the world without it
-abbrev pub Takes : Option Message → ℕ → WorldRecord → WorldRecord → Type 0
-Takes None t before after = (due t before.pending ≡ None) × (after ≡ before)
-Takes (Some m) t before after = (rest : List PlainMessage) × (due t before.pending ≡ Some (plain_message m, rest)) × (after ≡ record before { pending = rest })
+abbrev pub Takes : Option Message → ℕ → Scene → Scene → Type 0
+Takes None t before after = (due t before.world.pending ≡ None) × (after ≡ before)
+Takes (Some m) t before after =
+    (rest : List PlainMessage) × (due t before.world.pending ≡ Some (plain_message m, rest)) × (after ≡ with_world before (record (before.world) { pending = rest }))
 
 -- each message is of a later time
 abbrev pub AreBehind : ℕ → List PlainMessage → Type 0
@@ -69,9 +69,3 @@ Copies (Ok plain) w = (w.broken ≡ false) × (world_record plain ≡ w.scene.wo
 Copies (Err fault.Broken) w = w.broken ≡ true
 Copies (Err (fault.Back time)) w = ⊥
 Copies (Err fault.WantOfMemory) w = w.broken ≡ false
-
--- what an entry may record so far
-abbrev pub IsInput : What → Type 0
-IsInput Join = Unit {0}
-IsInput Exit = Unit {0}
-IsInput (Event number payload) = ⊥

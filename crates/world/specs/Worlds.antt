@@ -1,10 +1,12 @@
 -- Worlds: the first one of a session, what a message does, how a world advances, and what an entry of the log does to it.
-use Rattle.std.specs.Prelude.{ℕ, zero, suc, ◌+◌, ◌-◌, ◌*◌, ◌^◌, min, Bool, true, false, nat_eq, nat_lt, nat_le, if◌then◌else◌, ◌||◌, List, [], ◌∷◌, length, map, replicate, take, Option, Some, None, is_some, slice_index_or, slice_set, bytes_eq, codes}
+use Rattle.std.specs.Prelude.{ℕ, zero, suc, ◌+◌, ◌-◌, ◌*◌, ◌^◌, min, Bool, true, false, nat_eq, nat_lt, nat_le, if◌then◌else◌, ◌||◌, List, [], ◌∷◌, length, replicate, take, Option, Some, None, is_some, slice_index_or, slice_set, bytes_eq, codes, pos}
 use Rattle.std.specs.Int.{from_le_bytes, w64}
+use Rattle.hex.specs.Hex.{encode_lower}
 use Rattle.tea_base.specs.declared.entry.Entry.{Entry}
 use Rattle.tea_base.specs.declared.entry.What.{What}
 use Rattle.tea_base.specs.declared.entry.What.TheVariants.{Join, Exit, Event}
-use Rattle.model_value.specs.Plain.{PlainValue, nil}
+use Rattle.model_value.specs.Plain.{PlainValue, nil, int}
+use Rattle.model_value.specs.Payload.{PlainPayload, payload_of}
 use Rattle.model_value.specs.Messages.{PlainMessage, PlainOutgoing}
 use Rattle.model_value.specs.World.{WorldRecord}
 use Rattle.model_value.specs.Valid.{most_turns, most_views, most_pending}
@@ -16,6 +18,7 @@ use Rattle.model_eval.specs.Kept.{now_due}
 use Rattle.model_eval.specs.Running.{Running, Outcome, Gives, Faults}
 pub use Rattle.model_eval.specs.Meaning.{init}
 use Rattle.model_eval.specs.Meaning.{starts, most_open, most_fuel}
+use Rattle.model_eval.specs.Publishing.{told}
 use Rattle.model_check.specs.Methods.{method_named}
 
 -- a world, and what its models published
@@ -44,11 +47,16 @@ fault_number fault.Instant = 10
 fault_number fault.Time = 11
 fault_number fault.Full = 12
 
+-- an event that cannot be read, behind them
+abbrev pub bad_event : ℕ
+bad_event = 13
+
 -- a count stops at the last number of 64 bits
+abbrev pub with_count : ℕ → WorldRecord → WorldRecord
+with_count k w = record w { faults = slice_set w.faults k (min (slice_index_or w.faults k 0 + 1) (2 ^ 64 - 1)) }
+
 abbrev pub counted : Fault → WorldRecord → WorldRecord
-counted f w =
-    let k = fault_number f in
-    record w { faults = slice_set w.faults k (min (slice_index_or w.faults k 0 + 1) (2 ^ 64 - 1)) }
+counted f = with_count (fault_number f)
 
 -- a message begins: one more turn
 abbrev pub begun : WorldRecord → WorldRecord
@@ -166,25 +174,51 @@ abbrev pub without_view : ℕ → List ℕ → List ℕ
 without_view view [] = []
 without_view view (v ∷ vs) = if nat_eq view v then vs else v ∷ without_view view vs
 
-abbrev pub came : ℕ → WorldRecord → WorldRecord
-came view w =
-    if nat_eq view 0 || is_among view w.views then w
-    else (if nat_lt (length w.views) most_views then record w { views = with_view view w.views } else counted fault.Full w)
+-- models alone are told of an event, as a message of its own: with all steps and nothing open
+abbrev pub informed : ProgramTree → Name → Name → PlainValue → Scene → Scene
+informed program scope event v s = ended (told (starts program most_open) scope event v (running s))
 
-abbrev pub went : ℕ → WorldRecord → WorldRecord
-went view w = record w { views = without_view view w.views }
+-- the scope of what the session tells of its views: its id in hexadecimal digits
+abbrev pub session_scope : WorldRecord → Name
+session_scope w = encode_lower w.id
 
--- an Event is no input yet
-abbrev pub entered : What → ℕ → WorldRecord → WorldRecord
-entered Join view w = came view w
-entered Exit view w = went view w
-entered (Event number payload) view w = w
+abbrev pub view_join : Name
+view_join = codes "view-join"
+
+abbrev pub view_exit : Name
+view_exit = codes "view-exit"
+
+-- models are told of a view, by its number
+abbrev pub told_of : ProgramTree → Name → ℕ → Scene → Scene
+told_of program event view s = informed program (session_scope s.world) event (int (pos view)) s
+
+abbrev pub came : ProgramTree → ℕ → Scene → Scene
+came program view s =
+    let w = s.world in
+    if nat_eq view 0 || is_among view w.views then s
+    else (if nat_lt (length w.views) most_views then told_of program view_join view (with_world s (record w { views = with_view view w.views }))
+    else with_world s (counted fault.Full w))
+
+abbrev pub went : ProgramTree → ℕ → Scene → Scene
+went program view s =
+    let w = s.world in
+    if is_among view w.views then told_of program view_exit view (with_world s (record w { views = without_view view w.views })) else s
+
+-- an event of a view, by the payload that its bytes spell
+abbrev pub heard : ProgramTree → Option PlainPayload → Scene → Scene
+heard program None s = with_world s (with_count bad_event s.world)
+heard program (Some p) s = informed program p.scope p.event p.value s
+
+abbrev pub entered : ProgramTree → What → ℕ → Scene → Scene
+entered program Join view s = came program view s
+entered program Exit view s = went program view s
+entered program (Event number payload) view s = heard program (payload_of payload) s
 
 -- an entry of the log is one message, at its time
 abbrev pub external : ProgramTree → Entry → Scene → Scene
 external program e s =
     let a = advance program e.time s in
-    with_world a (entered e.what e.view (begun a.world))
+    entered program e.what e.view (with_world a (begun a.world))
 
 -- the entries with a time of at most t, and then the world advances to t
 abbrev pub replayed : ProgramTree → ℕ → List Entry → Scene → Scene

@@ -12,5 +12,4 @@ mod world;
 
 pub use fault::WorldFault;
 pub use laws::{advance_rests, advance_steps, advance_twice};
-pub use opening::built;
 pub use world::World;

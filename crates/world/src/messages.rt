@@ -1,21 +1,22 @@
 //! Messages of a world, run one after the other.
 ghost use Rattle.std.specs.Prelude.{◌≡◌, OnOk};
 ghost use Rattle.model_value.specs.Messages.{plain_message};
-ghost use Rattle.model_value.specs.View.{plain_values};
-ghost use Rattle.model_value.specs.World.{world_record};
+ghost use Rattle.model_value.specs.View.{plain, plain_values};
 ghost use Rattle.model_lang.specs.TreeView.{program_tree};
-ghost use Rattle.world.specs.Worlds.{ran, counted, begun, moved, with_world, fault_number};
+ghost use Rattle.world.specs.Worlds.{ran, informed, counted, with_count, bad_event, begun, moved, with_world, fault_number};
 ghost use Rattle.world.specs.View.{scene, Takes};
 
 use model_check::Checked;
-use model_eval::{Budget, Fault, State, Stop, run_method};
-use model_value::{Message, PlainWorld, Values};
+use model_eval::{Budget, Fault, State, Stop, run_method, tell_models};
+use model_value::{Message, Value, Values};
 use std::alloc::Global;
-use std::mem;
-use tea_base::{List, Text, WantOfMemory};
+use tea_base::{Text, WantOfMemory};
 
 /// The most turns that are counted at one time.
 const MOST_TURNS: u32 = 1024;
+
+/// Where events that cannot be read are counted, behind the faults.
+const BAD_EVENT: usize = 13;
 
 /// Runs a method of an object as a message of its own. A fault ends it and is counted; what was done until then stays.
 pub fn run(
@@ -32,7 +33,30 @@ pub fn run(
     match run_method(alloc, program, state, object, method, args, &mut budget) {
         Ok(_) => Ok(()),
         Err(Stop::Fault(fault)) => {
-            count(&mut state.world, fault);
+            count(state, fault);
+            Ok(())
+        }
+        Err(Stop::WantOfMemory) => Err(WantOfMemory),
+    }
+}
+
+/// Tells models of an event as a message of its own; it is not added to what was published. A fault ends it and is counted; what
+/// was done until then stays.
+pub fn inform(
+    alloc: Global,
+    program: &Checked,
+    state: &mut State,
+    scope: &Text,
+    event: &Text,
+    value: &Value,
+) -> Result<(), WantOfMemory>
+    ensures { OnOk result (scene state.new ≡ informed (program_tree program.now) scope.now event.now (plain value.now) (scene state.old)) }
+{
+    let mut budget = Budget::new();
+    match tell_models(alloc, program, state, scope, event, value, &mut budget) {
+        Ok(()) => Ok(()),
+        Err(Stop::Fault(fault)) => {
+            count(state, fault);
             Ok(())
         }
         Err(Stop::WantOfMemory) => Err(WantOfMemory),
@@ -40,11 +64,18 @@ pub fn run(
 }
 
 /// Counts a fault. A count stops at the last number of 64 bits.
-pub fn count(world: &mut PlainWorld, fault: Fault)
-    ensures { world_record world.new ≡ counted fault (world_record world.old) }
+pub fn count(state: &mut State, fault: Fault)
+    ensures { scene state.new ≡ with_world (scene state.old) (counted fault (scene state.old).world) }
 {
     let kind = number(fault);
-    world.faults[kind] = world.faults[kind].saturating_add(1);
+    state.faults[kind] = state.faults[kind].saturating_add(1);
+}
+
+/// Counts an event that cannot be read. A count stops at the last number of 64 bits.
+pub fn count_bad_event(state: &mut State)
+    ensures { scene state.new ≡ with_world (scene state.old) (with_count bad_event (scene state.old).world) }
+{
+    state.faults[BAD_EVENT] = state.faults[BAD_EVENT].saturating_add(1);
 }
 
 fn number(fault: Fault) -> usize
@@ -68,33 +99,31 @@ fn number(fault: Fault) -> usize
 }
 
 /// One more message runs at the world's time.
-pub fn begin(world: &mut PlainWorld)
-    ensures { world_record world.new ≡ begun (world_record world.old) }
+pub fn begin(state: &mut State)
+    ensures { scene state.new ≡ with_world (scene state.old) (begun (scene state.old).world) }
 {
-    world.turns = world.turns.saturating_add(1).min(MOST_TURNS);
+    state.turns = state.turns.saturating_add(1).min(MOST_TURNS);
 }
 
 /// Moves the world to a later time, at which no message ran yet.
-pub fn move_to(world: &mut PlainWorld, time: u64)
-    ensures { world_record world.new ≡ moved time (world_record world.old) }
+pub fn move_to(state: &mut State, time: u64)
+    ensures { scene state.new ≡ with_world (scene state.old) (moved time (scene state.old).world) }
 {
-    if world.time < time {
-        world.time = time;
-        world.turns = 0;
+    if state.time < time {
+        state.time = time;
+        state.turns = 0;
     }
 }
 
 /// Takes the least pending message, if its time is at most this one.
-pub fn take_due(alloc: Global, world: &mut PlainWorld, time: u64) -> Option<Message>
-    ensures { Takes result time (world_record world.old) (world_record world.new) }
+pub fn take_due(state: &mut State, time: u64) -> Option<Message>
+    ensures { Takes result time (scene state.old) (scene state.new) }
 {
-    if world.pending.get(0)?.time > time {
+    let (due, _) = state.pending.least()?;
+    if due > time {
         return None;
     }
-    let mut pending = mem::replace(&mut world.pending, List::new(alloc)).into_vec();
-    let first = pending.remove(0);
-    world.pending = List::from_vec(pending);
-    Some(first)
+    state.pending.take_least()
 }
 
 /// Runs a pending message that was taken.
@@ -107,8 +136,8 @@ pub fn handle(
     ensures { let m = plain_message message in
         OnOk result (scene state.new ≡ ran (program_tree program.now) m.object m.method m.args (with_world (scene state.old) (begun (moved m.time (scene state.old).world)))) }
 {
-    move_to(&mut state.world, message.time);
-    begin(&mut state.world);
+    move_to(state, message.time);
+    begin(state);
     let Message {
         object,
         method,

@@ -1,29 +1,24 @@
 //! The first world of a session.
-ghost use Rattle.std.specs.Prelude.{◌≡◌, ◌↔◌, ◌∷◌, [], replicate, length, IfOk, IsTrue, OnOk, Some, slice_get, take};
+ghost use Rattle.std.specs.Prelude.{◌≡◌, ◌≤◌, ◌∷◌, [], replicate, length, IfOk, OnOk, Some, slice_get, take};
 ghost use Rattle.std.specs.Int.{from_le_bytes, w64};
 ghost use Rattle.model_value.specs.Plain.{nil};
 ghost use Rattle.model_value.specs.View.{plain_values};
-ghost use Rattle.model_value.specs.World.{world_record};
 ghost use Rattle.model_lang.specs.Program.{IsProgram};
 ghost use Rattle.model_lang.specs.Tree.{ClassTree};
 ghost use Rattle.model_lang.specs.TreeView.{program_tree};
-ghost use Rattle.model_check.specs.BuiltForms.{IsBuilt};
-ghost use Rattle.world.specs.Worlds.{empty_world, rooted, root_from, first as first_of, initialised, init};
+ghost use Rattle.model_lang.specs.Bounds.{most_members};
+ghost use Rattle.world.specs.Worlds.{empty_world, rooted, with_world, first as first_of, initialised};
 ghost use Rattle.world.specs.View.{scene};
 
 use crate::messages::{begin, run};
-use model_check::{Checked, is_built};
+use message_queue::Queue;
+use model_check::Checked;
 use model_eval::State;
-use model_value::{Known, PlainObject, PlainWorld, Value, Values};
+use model_value::{Known, Value, Values};
+use object_store::Store;
+use pubsub::Topics;
 use std::alloc::Global;
 use tea_base::{List, SessionId, Text, WantOfMemory};
-
-/// Whether all forms of a program have a meaning so far, as the first world wants it. Takes no memory.
-pub fn built(program: &Checked) -> bool
-    ensures { IsTrue result ↔ IsBuilt (program_tree program.now) }
-{
-    is_built(program.program().classes())
-}
 
 /// The first world: one message makes an object of class Root, known as `modelRoot`, and starts its `init`, if it has
 /// one, with nil.
@@ -31,37 +26,32 @@ pub fn first(alloc: Global, program: &Checked, id: SessionId) -> Result<State, W
     ensures first { IfOk result (λ state. scene state ≡ first_of (program_tree program.now) id.0) }
     ensures program { IfOk result (λ _. IsProgram (program_tree program.now)) }
 {
-    let mut world = empty(alloc, id);
-    begin(&mut world);
+    let mut state = empty(alloc, id);
+    begin(&mut state);
     let root = program.root();
     let Some(class) = program.program().classes().get(usize::from(root)) else {
         unreachable!();
     };
-    make_root(alloc, &mut world, root, class.fields.len())?;
-    let mut state = State {
-        world,
-        published: List::new(alloc),
-    };
+    make_root(alloc, &mut state, root, class.fields.len())?;
     initialise(alloc, program, &mut state, root)?;
     Ok(state)
 }
 
-fn empty(alloc: Global, id: SessionId) -> PlainWorld
-    ensures { world_record result ≡ empty_world id.0 }
+fn empty(alloc: Global, id: SessionId) -> State
+    ensures { scene result ≡ record { world = empty_world id.0; published = [] } }
 {
-    PlainWorld {
+    State {
         id,
         time: 0,
-        next_object: 1,
-        next_number: 0,
         random: first_number(&id.0),
         turns: 0,
         faults: [0; 14],
         views: List::new(alloc),
-        objects: List::new(alloc),
+        objects: Store::new(alloc),
         known: List::new(alloc),
-        subscriptions: List::new(alloc),
-        pending: List::new(alloc),
+        topics: Topics::new(alloc),
+        pending: Queue::new(alloc),
+        published: List::new(alloc),
     }
 }
 
@@ -77,25 +67,22 @@ fn first_number(bytes: &[u8; 32]) -> u64
 /// Makes an object of the class Root the only one of a world, with nil in each field.
 fn make_root(
     alloc: Global,
-    world: &mut PlainWorld,
+    state: &mut State,
     class: u16,
     fields: usize,
 ) -> Result<(), WantOfMemory>
-    ensures { (root : ClassTree) → length root.fields ≡ fields → OnOk result (world_record world.new ≡ rooted class root (world_record world.old)) }
+    requires { fields ≤ most_members }
+    ensures { (root : ClassTree) → length root.fields ≡ fields → OnOk result (scene state.new ≡ with_world (scene state.old) (rooted class root (scene state.old).world)) }
 {
     let fields = nils(alloc, fields)?;
-    let root = PlainObject {
-        id: 1,
-        class,
-        fields,
-    };
     let known = Known {
         name: Text::copy(alloc, "modelRoot")?,
         object: 1,
     };
-    world.objects = only(alloc, root)?;
-    world.known = only(alloc, known)?;
-    world.next_object = 2;
+    let mut objects = Store::resume(alloc, 2);
+    objects.put_back(1, class, fields)?;
+    state.objects = objects;
+    state.known = only(alloc, known)?;
     Ok(())
 }
 

@@ -1,20 +1,21 @@
 //! The first world, and how time and entries change a world.
-ghost use Rattle.std.specs.Prelude.{◌≡◌, ◌≤◌, ◌<◌, OnOk, length, insert};
+ghost use Rattle.std.specs.Prelude.{◌≡◌, ◌≤◌, ◌<◌, IfOk, OnOk, length, insert};
 ghost use Rattle.tea_base.specs.declared.entry.Entry.{Entry as Held};
 ghost use Rattle.model_value.specs.Valid.{Valid, time_limit};
-ghost use Rattle.model_value.specs.World.{world_record};
+ghost use Rattle.model_value.specs.Payload.{payload_of};
 ghost use Rattle.model_lang.specs.TreeView.{program_tree};
 ghost use Rattle.model_lang.specs.Program.{IsProgram};
-ghost use Rattle.world.specs.Worlds.{field_counts, advance as advanced, external as entered_by, entered, came, went, is_among, with_view, without_view};
+ghost use Rattle.world.specs.Worlds.{field_counts, advance as advanced, external as entered_by, entered, came, went, heard, told_of, view_join, view_exit, is_among, with_view, without_view};
+ghost use Rattle.model_eval.specs.Answer.{world_of};
 ghost use Rattle.world.specs.View.{scene, IsPlaceOf};
 
-use crate::messages::{begin, count, handle, move_to, take_due};
+use crate::messages::{begin, count, count_bad_event, handle, inform, move_to, take_due};
 use model_check::Checked;
-use model_eval::{Fault, State};
-use model_value::PlainWorld;
+use model_eval::{Fault, State, session_text};
+use model_value::{Value, ValueFault, read_payload};
 use std::alloc::Global;
 use std::mem;
-use tea_base::{Entry, List, Numbers, WantOfMemory, What};
+use tea_base::{Entry, List, Numbers, Text, WantOfMemory, What};
 
 /// The most views that are here.
 const MOST_VIEWS: usize = 1024;
@@ -27,19 +28,19 @@ pub fn advance(
     time: u64,
 ) -> Result<(), WantOfMemory>
     requires program { IsProgram (program_tree program.now) }
-    requires valid { Valid (field_counts (program_tree program.now)) (world_record state.old.world) }
+    requires valid { Valid (field_counts (program_tree program.now)) (world_of state.old) }
     requires time { time < time_limit }
     ensures advanced { OnOk result (scene state.new ≡ advanced (program_tree program.now) time (scene state.old)) }
-    ensures valid { OnOk result (Valid (field_counts (program_tree program.now)) (world_record state.new.world)) }
+    ensures valid { OnOk result (Valid (field_counts (program_tree program.now)) (world_of state.new)) }
 {
-    while let Some(message) = take_due(alloc, &mut state.world, time) {
+    while let Some(message) = take_due(state, time) {
         handle(alloc, program, state, message)?;
     }
-    move_to(&mut state.world, time);
+    move_to(state, time);
     Ok(())
 }
 
-/// What an entry of the log does: the world advances to its time, and one message adds or takes away its view.
+/// What an entry of the log does: the world advances to its time, and one message handles it.
 pub fn external(
     alloc: Global,
     program: &Checked,
@@ -47,47 +48,111 @@ pub fn external(
     entry: &Entry,
 ) -> Result<(), WantOfMemory>
     requires program { IsProgram (program_tree program.now) }
-    requires valid { Valid (field_counts (program_tree program.now)) (world_record state.old.world) }
+    requires valid { Valid (field_counts (program_tree program.now)) (world_of state.old) }
     requires time { entry.now.time < time_limit }
     ensures entered { OnOk result (scene state.new ≡ entered_by (program_tree program.now) entry.now (scene state.old)) }
-    ensures valid { OnOk result (Valid (field_counts (program_tree program.now)) (world_record state.new.world)) }
+    ensures valid { OnOk result (Valid (field_counts (program_tree program.now)) (world_of state.new)) }
 {
     advance(alloc, program, state, entry.time)?;
-    begin(&mut state.world);
-    enter(alloc, &mut state.world, entry)
+    begin(state);
+    enter(alloc, program, state, entry)
 }
 
-fn enter(alloc: Global, world: &mut PlainWorld, entry: &Entry) -> Result<(), WantOfMemory>
-    ensures { OnOk result (world_record world.new ≡ entered entry.now.what entry.now.view (world_record world.old)) }
+fn enter(
+    alloc: Global,
+    program: &Checked,
+    state: &mut State,
+    entry: &Entry,
+) -> Result<(), WantOfMemory>
+    ensures { OnOk result (scene state.new ≡ entered (program_tree program.now) entry.now.what entry.now.view (scene state.old)) }
 {
-    match entry.what {
-        What::Join => come(alloc, world, entry.view)?,
-        What::Exit => go(alloc, world, entry.view),
-        What::Event { .. } => {}
+    match &entry.what {
+        What::Join => come(alloc, program, state, entry.view),
+        What::Exit => go(alloc, program, state, entry.view),
+        What::Event { payload, .. } => hear(alloc, program, state, payload.bytes()),
     }
-    Ok(())
 }
 
-/// Adds a view that is not here, unless too many are: that is a fault.
-fn come(alloc: Global, world: &mut PlainWorld, view: u32) -> Result<(), WantOfMemory>
-    ensures { OnOk result (world_record world.new ≡ came view (world_record world.old)) }
+/// Adds a view that is not here and tells models of it, unless too many are here: that is a fault.
+fn come(alloc: Global, program: &Checked, state: &mut State, view: u32) -> Result<(), WantOfMemory>
+    ensures { OnOk result (scene state.new ≡ came (program_tree program.now) view (scene state.old)) }
 {
-    if view == 0 || is_here(world.views.as_slice(), view) {
+    if view == 0 || is_here(state.views.as_slice(), view) {
         return Ok(());
     }
-    if world.views.len() < MOST_VIEWS {
-        add_view(alloc, &mut world.views, view)?;
-    } else {
-        count(world, Fault::Full);
+    if state.views.len() >= MOST_VIEWS {
+        count(state, Fault::Full);
+        return Ok(());
     }
-    Ok(())
+    add_view(alloc, &mut state.views, view)?;
+    let event = join_event(alloc)?;
+    tell_of(alloc, program, state, &event, view)
 }
 
-/// Takes away a view, if it is here.
-fn go(alloc: Global, world: &mut PlainWorld, view: u32)
-    ensures { world_record world.new ≡ went view (world_record world.old) }
+/// Takes away a view that is here, and tells models of it.
+fn go(alloc: Global, program: &Checked, state: &mut State, view: u32) -> Result<(), WantOfMemory>
+    ensures { OnOk result (scene state.new ≡ went (program_tree program.now) view (scene state.old)) }
 {
-    take_view(alloc, &mut world.views, view);
+    if !is_here(state.views.as_slice(), view) {
+        return Ok(());
+    }
+    take_view(alloc, &mut state.views, view);
+    let event = exit_event(alloc)?;
+    tell_of(alloc, program, state, &event, view)
+}
+
+/// Tells models of an event of a view, or counts one whose payload cannot be read.
+fn hear(
+    alloc: Global,
+    program: &Checked,
+    state: &mut State,
+    payload: &[u8],
+) -> Result<(), WantOfMemory>
+    ensures { OnOk result (scene state.new ≡ heard (program_tree program.now) (payload_of payload.now) (scene state.old)) }
+{
+    match read_payload(alloc, payload) {
+        Ok((scope, event, value)) => inform(alloc, program, state, &scope, &event, &value),
+        Err(ValueFault::BadValue) => {
+            count_bad_event(state);
+            Ok(())
+        }
+        Err(ValueFault::WantOfMemory) => Err(WantOfMemory),
+    }
+}
+
+/// Tells models of what became of a view, in the session's own scope.
+fn tell_of(
+    alloc: Global,
+    program: &Checked,
+    state: &mut State,
+    event: &Text,
+    view: u32,
+) -> Result<(), WantOfMemory>
+    ensures { OnOk result (scene state.new ≡ told_of (program_tree program.now) event.now view (scene state.old)) }
+{
+    let scope = session_text(alloc, &state.id)?;
+    inform(
+        alloc,
+        program,
+        state,
+        &scope,
+        event,
+        &Value::Int(i64::from(view)),
+    )
+}
+
+/// The event of a view that comes.
+fn join_event(alloc: Global) -> Result<Text, WantOfMemory>
+    ensures { IfOk result (λ name. name ≡ view_join) }
+{
+    Text::copy(alloc, "view-join")
+}
+
+/// The event of a view that goes.
+fn exit_event(alloc: Global) -> Result<Text, WantOfMemory>
+    ensures { IfOk result (λ name. name ≡ view_exit) }
+{
+    Text::copy(alloc, "view-exit")
 }
 
 fn is_here(views: &[u32], view: u32) -> bool

@@ -1,12 +1,13 @@
 //! Worlds of small programs, compared with what the rules of messages, of time and of views make of them by hand.
 use super::*;
+use hex::decode;
 use model_check::check;
 use model_lang::parse;
 use model_value::{Value, Values};
 use std::alloc::Global;
 use std::sync::Arc;
 use std::test::Fail;
-use tea_base::{Entry, SessionId, What};
+use tea_base::{Blob, Entry, SessionId, What};
 
 /// A session. The first eight bytes of its id spell 578437695752307201.
 const SESSION: SessionId = SessionId([
@@ -17,18 +18,16 @@ const SESSION: SessionId = SessionId([
 fn first(alloc: Global, text: &str) -> Result<World, Fail> {
     let program = parse(alloc, text.as_bytes())?;
     let checked = check(alloc, program)?;
-    if !built(&checked) {
-        return Err("a form without a meaning")?;
-    }
     Ok(World::first(alloc, Arc::new(alloc, checked)?, SESSION)?)
 }
 
-/// A call that moves a world on: to this time, or by an entry of this time and of this view.
+/// A call that moves a world on: to this time, or by an entry of this time, of this view or with this payload.
 #[derive(Clone, Copy, Debug)]
 enum Step {
     Advance(u32),
     Join(u32, u32),
     Exit(u32, u32),
+    Event(u32, &'static str),
 }
 
 fn advance(world: &mut World, time: u32) -> Result<(), WorldFault> {
@@ -57,11 +56,29 @@ fn exit(world: &mut World, time: u32, view: u32) -> Result<(), WorldFault> {
     })
 }
 
-fn take_step(world: &mut World, step: Step) -> Result<(), WorldFault> {
+/// Hands a world an event of view 7 with the payload that this text spells in hexadecimal digits.
+fn event(alloc: Global, world: &mut World, time: u32, payload: &str) -> Result<(), WorldFault> {
+    let Ok(payload) = decode(alloc, payload.as_bytes()) else {
+        return Err(WorldFault::WantOfMemory);
+    };
+    let what = What::Event {
+        number: 1,
+        payload: Blob::from_vec(payload),
+    };
+    world.external(&Entry {
+        seq: 1,
+        time: u64::from(time),
+        view: 7,
+        what,
+    })
+}
+
+fn take_step(alloc: Global, world: &mut World, step: Step) -> Result<(), WorldFault> {
     match step {
         Step::Advance(time) => advance(world, time),
         Step::Join(time, view) => join(world, time, view),
         Step::Exit(time, view) => exit(world, time, view),
+        Step::Event(time, payload) => event(alloc, world, time, payload),
     }
 }
 
@@ -115,7 +132,7 @@ fn played(alloc: Global, text: &str, steps: &[Step]) -> Result<String, Fail> {
     let mut world = first(alloc, text)?;
     let mut refusals = String::new(alloc);
     for next in steps {
-        match take_step(&mut world, *next) {
+        match take_step(alloc, &mut world, *next) {
             Ok(()) => {}
             Err(WorldFault::Back { time }) => {
                 refusals.push_str(format!(in alloc; "back of {time}; ")?.as_str())?;
@@ -405,5 +422,141 @@ fn crowded(alloc: Global, most: u32) -> Result<(usize, u64), Fail> {
 fn so_many_views_are_here(rt: HostRuntime) -> Result<(), Fail> {
     assert_eq!(rt; crowded(rt.alloc(), 1024)?, (1024, 0));
     assert_eq!(rt; crowded(rt.alloc(), 1026)?, (1024, 2));
+    Ok(())
+}
+
+/// The payload of an event `e` in the scope `s` of nil.
+const EVENT: &str = "0000000173000000016500";
+
+#[test]
+fn events_are_handled_in_the_order_of_time(rt: HostRuntime) -> Result<(), Fail> {
+    let alloc = rt.alloc();
+    let clock =
+        r#"class Root{field n;init(o){this.n=0;subscribe("s","e","h");}h(v){this.n=now();this.future(1).m();}m(){this.n=now();}}"#;
+    let letters =
+        r#"class Root{field n;init(o){this.n=0;this.future(1).a();this.future(1).b();subscribe("s","e","c");}a(){this.n=this.n*10+1;}b(){this.n=this.n*10+2;}c(v){this.n=this.n*10+3;this.future(0).d();}d(){this.n=this.n*10+4;}}"#;
+    let wrong =
+        r#"class Root{field n;init(o){this.n=0;subscribe("s","e","h");subscribe("s","e","g");}h(v){this.n=1;this.n=v+1;}g(v){this.n=3;}}"#;
+    let gone =
+        r#"class Root{field n;init(o){this.n=0;let c=create(Cell,this);subscribe("s","e","h");subscribe("s","e","g");c.wait();}h(v){this.n=1;}g(v){this.n=this.n+1;}}class Cell{field r;init(r){this.r=r;subscribe("s","e","bye");}wait(){subscribe("s","e","late");this.future(1).bye();}bye(v){destroy(this);}late(v){this.r.h(0);}}"#;
+    for (text, steps, wanted) in [
+        // A time in microseconds is told in whole milliseconds, and a future is counted from that of the event.
+        (
+            clock,
+            [Step::Event(2500, EVENT), Step::Advance(3499)],
+            "time 3499 turns 0 next 1 views []; object 1: 2; message 0 at 3500: 1.m",
+        ),
+        (
+            clock,
+            [Step::Event(2500, EVENT), Step::Advance(3500)],
+            "time 3500 turns 1 next 1 views []; object 1: 3",
+        ),
+        // Messages of its time that were there come before it, and those that it sends behind it.
+        (
+            letters,
+            [Step::Join(1, 7), Step::Event(1000, EVENT)],
+            "time 1000 turns 3 next 3 views [7]; object 1: 123; message 2 at 1000: 1.d",
+        ),
+        (
+            letters,
+            [Step::Event(1000, EVENT), Step::Advance(1000)],
+            "time 1000 turns 4 next 3 views []; object 1: 1234",
+        ),
+        // A fault ends the event, and what it changed stays.
+        (
+            wrong,
+            [Step::Event(5, EVENT), Step::Advance(5)],
+            "time 5 turns 1 next 0 views []; object 1: 1; fault 2: 1",
+        ),
+        // An object that a handler destroys gets nothing more: neither of the event nor of its messages.
+        (
+            gone,
+            [Step::Event(5, EVENT), Step::Advance(1000)],
+            "time 1000 turns 0 next 1 views []; object 1: 2",
+        ),
+        // Events in another scope, and of another name, and those that are no events.
+        (
+            clock,
+            [
+                Step::Event(5, "0000000174000000016500"),
+                Step::Event(7, "0000000173000000016600"),
+            ],
+            "time 7 turns 1 next 0 views []; object 1: 0",
+        ),
+        (
+            clock,
+            [Step::Event(5, "6869"), Step::Event(7, "")],
+            "time 7 turns 1 next 0 views []; object 1: 0; fault 13: 2",
+        ),
+        (
+            clock,
+            [
+                Step::Event(5, "000000017300000001650000"),
+                Step::Event(7, EVENT),
+            ],
+            "time 7 turns 1 next 1 views []; object 1: 0; message 0 at 1007: 1.m; fault 13: 1",
+        ),
+    ] {
+        let world = played(alloc, text, &steps)?;
+        assert_eq!(rt; world.as_str(), wanted, "after {steps:?} of {text:?}");
+    }
+    Ok(())
+}
+
+#[test]
+fn models_hear_of_views(rt: HostRuntime) -> Result<(), Fail> {
+    let text =
+        r#"class Root{field n;field c;init(o){this.n=0;this.c=0;subscribe(sessionId(),"view-join","come");subscribe(sessionId(),"view-exit","go");}come(v){this.n=this.n*10+v;this.c=this.c*10+viewCount();}go(v){this.n=this.n*10-v;this.c=this.c*10+viewCount();}}"#;
+    for (steps, wanted) in [
+        (
+            [Step::Join(1, 7), Step::Join(2, 7), Step::Exit(3, 8)],
+            "time 3 turns 1 next 0 views [7]; object 1: 7 1",
+        ),
+        (
+            [Step::Join(1, 7), Step::Exit(2, 7), Step::Exit(3, 7)],
+            "time 3 turns 1 next 0 views []; object 1: 63 10",
+        ),
+        (
+            [Step::Join(1, 7), Step::Exit(2, 7), Step::Join(3, 7)],
+            "time 3 turns 1 next 0 views [7]; object 1: 637 101",
+        ),
+        (
+            [Step::Join(1, 7), Step::Join(2, 5), Step::Exit(3, 7)],
+            "time 3 turns 1 next 0 views [5]; object 1: 743 121",
+        ),
+    ] {
+        let world = played(rt.alloc(), text, &steps)?;
+        assert_eq!(rt; world.as_str(), wanted, "after {steps:?}");
+    }
+    Ok(())
+}
+
+/// A program that counts each second and begins again at the event `reset`. It publishes each count.
+const COUNTER: &str =
+    r#"class Root{field count;init(o){this.count=0;subscribe("counter","reset","reset");this.future(1000).tick();}tick(){this.count=this.count+1;publish("counter","changed",this.count);this.future(1000).tick();}reset(v){this.count=0;publish("counter","changed",this.count);}}"#;
+
+/// The payload of the event `reset` in the scope `counter` of nil.
+const RESET: &str = "00000007636f756e74657200000005726573657400";
+
+#[test]
+fn what_models_publish_is_taken_once(rt: HostRuntime) -> Result<(), Fail> {
+    let alloc = rt.alloc();
+    let mut world = first(alloc, COUNTER)?;
+    join(&mut world, 1, 7)?;
+    event(alloc, &mut world, 2_500_000, RESET)?;
+    world.advance(4_000_000)?;
+    let mut text = String::new(alloc);
+    for told in world.take_out().as_slice() {
+        let Value::Int(count) = told.value else {
+            return Err("not a number")?;
+        };
+        let (scope, name) = (told.scope.as_str(), told.event.as_str());
+        text.push_str(format!(in alloc; "{} {scope} {name} {count}; ", told.time)?.as_str())?;
+    }
+    assert_eq!(rt;
+        text.as_str(),
+        "1000000 counter changed 1; 2000000 counter changed 2; 2500000 counter changed 0; 3000000 counter changed 1; 4000000 counter changed 2; "
+    );
+    assert!(rt; world.take_out().is_empty());
     Ok(())
 }

@@ -5,9 +5,8 @@ ghost use Rattle.model_value.specs.Messages.{plain_outgoing};
 ghost use Rattle.model_value.specs.Valid.{Valid, time_limit};
 ghost use Rattle.model_value.specs.World.{world_record};
 ghost use Rattle.model_lang.specs.TreeView.{program_tree};
-ghost use Rattle.model_check.specs.BuiltForms.{IsBuilt};
 ghost use Rattle.world.specs.Worlds.{field_counts, first as first_of, advance as advanced, external as entered_by};
-ghost use Rattle.world.specs.View.{Moves, Copies, IsInput, IsSound};
+ghost use Rattle.world.specs.View.{Moves, Copies, IsSound};
 
 use crate::fault::WorldFault;
 use crate::{opening, simulation};
@@ -19,7 +18,7 @@ use std::marker::Model;
 use std::mem;
 use std::sync::Arc;
 use tea_base::{Entry, List, SessionId, WantOfMemory};
-use world_plain::{PlainWorld, copy_world};
+use world_plain::PlainWorld;
 
 /// A world of a session: what its models hold at a TeaTime.
 ///
@@ -50,13 +49,12 @@ impl Model for World {
 
 impl World {
     /// The first world of a session: at time 0, one message makes an object of the class Root, known as `modelRoot`, and
-    /// starts its `init` with nil, if it has one. All forms of the program have a meaning, which `built` tells.
+    /// starts its `init` with nil, if it has one.
     pub fn first(
         alloc: Global,
         program: Arc<Checked, Global>,
         id: SessionId,
     ) -> Result<World, WantOfMemory>
-        requires { IsBuilt (program_tree (arc_value program)) }
         ensures { IfOk result (λ w. w ≡ record { program = arc_value program; scene = first_of (program_tree (arc_value program)) id.0; broken = false }) }
     {
         let state = opening::first(alloc, &program, id)?;
@@ -82,9 +80,9 @@ impl World {
         if self.broken {
             return Err(WorldFault::Broken);
         }
-        if time < self.state.world.time {
+        if time < self.state.time {
             return Err(WorldFault::Back {
-                time: self.state.world.time,
+                time: self.state.time,
             });
         }
         match simulation::advance(self.alloc, &self.program, &mut self.state, time) {
@@ -97,25 +95,26 @@ impl World {
         }
     }
 
-    /// Handles an entry of the log: the world advances to its time, and then one message adds or takes away its view.
-    /// The entry's time is in microseconds of TeaTime, below 2^53. So far an entry is a Join or an Exit: events are no
-    /// inputs yet.
+    /// Handles an entry of the log: the world advances to its time, and then one message handles it. A Join adds its view,
+    /// where that is not here, and an Exit takes it away, where it is here; models that are subscribed to `view-join` or
+    /// `view-exit` in the scope `sessionId()` are told of the view's number. An Event is told to the models that are
+    /// subscribed to its scope and its name, with its value; one whose payload cannot be read is counted. The entry's
+    /// time is in microseconds of TeaTime, below 2^53.
     ///
     /// # Errors
     ///
     /// `Broken` exactly where the world is broken, then `Back` exactly where the entry's time is not above the world's;
     /// both change nothing. Want of memory breaks the world.
     pub fn external(&mut self, entry: &Entry) -> Result<(), WorldFault>
-        requires time { entry.now.time < time_limit }
-        requires what { IsInput entry.now.what }
+        requires { entry.now.time < time_limit }
         ensures { Moves result self.old self.new (nat_le entry.now.time self.old.scene.world.time) (entered_by (program_tree self.old.program) entry.now self.old.scene) }
     {
         if self.broken {
             return Err(WorldFault::Broken);
         }
-        if entry.time <= self.state.world.time {
+        if entry.time <= self.state.time {
             return Err(WorldFault::Back {
-                time: self.state.world.time,
+                time: self.state.time,
             });
         }
         match simulation::external(self.alloc, &self.program, &mut self.state, entry) {
@@ -140,7 +139,7 @@ impl World {
         if self.broken {
             return Err(WorldFault::Broken);
         }
-        Ok(copy_world(self.alloc, &self.state.world)?)
+        Ok(self.state.to_plain(self.alloc)?)
     }
 
     /// What models published since the list was last taken. Takes no memory.
@@ -156,7 +155,7 @@ impl World {
         ensures time { result ≡ self.now.scene.world.time }
         ensures sound { IsSound self.now }
     {
-        self.state.world.time
+        self.state.time
     }
 
     /// Whether the world is broken. Takes no memory.

@@ -51,6 +51,19 @@ fn each_step_is_taken_once(rt: HostRuntime) -> Result<(), Fail> {
         (r#"return known("x");"#, "nil", 3, 0),
         ("return exists(this);", "true", 3, 0),
         (r#"beKnown("x");"#, "nil", 3, 0),
+        ("return viewCount();", "0", 2, 0),
+        ("return views();", "[]", 3, 0),
+        (r#"subscribe("s","e","n");"#, "nil", 5, 0),
+        (r#"unsubscribe("s","e","n");"#, "nil", 5, 0),
+        (r#"return cancel("n");"#, "0", 3, 0),
+        (r#"publish("s","e",1);"#, "nil", 5, 0),
+        // A handler takes one, and its method what it takes.
+        (
+            r#"subscribe("s","e","n");publish("s","e",1);"#,
+            "nil",
+            13,
+            0,
+        ),
     ] {
         let text = format!(in rt.alloc();
             "class Root{{field f;m(){{{body}}}n(x){{return x;}}}}class Cell{{init(o){{return o;}}}}class Bare{{}}"

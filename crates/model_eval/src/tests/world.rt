@@ -2,7 +2,7 @@
 use super::*;
 use crate::messages::send;
 use crate::objects::set_slot;
-use model_value::room;
+use model_value::{message_fits, subscription_fits};
 
 /// A world that is near a bound.
 #[derive(Clone, Copy, Debug)]
@@ -15,6 +15,8 @@ enum Near {
     Pending(u32),
     /// The next message gets this number.
     Number(u64),
+    /// So many subscriptions are held.
+    Subscriptions(u32),
     /// It may weigh so much more.
     Room(u32),
 }
@@ -38,29 +40,45 @@ fn heavy(alloc: Global, weight: u32) -> Result<Value, Fail> {
 /// Adds objects without fields behind object 1, until there are so many.
 fn add_objects(alloc: Global, state: &mut State, count: u32) -> Result<(), Fail> {
     for _ in 1..count {
-        let id = state.world.next_object;
-        state.world.objects.push(PlainObject {
-            id,
-            class: 0,
-            fields: List::new(alloc),
-        })?;
-        state.world.next_object = id.saturating_add(1);
+        state
+            .objects
+            .create(0, List::new(alloc))
+            .map_err(|_| "no object")?;
     }
     Ok(())
 }
 
 /// Adds messages to object 1.
 fn add_messages(alloc: Global, state: &mut State, count: u32) -> Result<(), Fail> {
-    for number in 0..count {
-        state.world.pending.push(Message {
-            time: 3500,
-            number: u64::from(number),
-            object: 1,
-            method: Text::copy(alloc, "m")?,
-            args: List::new(alloc),
-        })?;
+    state.pending = Queue::new(alloc);
+    for _ in 0..count {
+        let args = List::new(alloc);
+        let name = Text::copy(alloc, "m")?;
+        if !message_fits(MOST_WORLD_WEIGHT, &name, &args) {
+            return Err("a message is too heavy")?;
+        }
+        state
+            .pending
+            .push(3500, 1, name, args)
+            .map_err(|_| "no message")?;
     }
-    state.world.next_number = u64::from(count);
+    Ok(())
+}
+
+/// Subscribes object 1 to so many events.
+fn add_subscriptions(alloc: Global, state: &mut State, count: u32) -> Result<(), Fail> {
+    for number in 0..count {
+        let new = Subscription {
+            scope: Text::copy(alloc, "")?,
+            event: Text::copy(alloc, format!(in alloc; "{number}")?.as_str())?,
+            object: 1,
+            method: Text::copy(alloc, "")?,
+        };
+        if !subscription_fits(MOST_WORLD_WEIGHT, &new) {
+            return Err("a subscription is too heavy")?;
+        }
+        state.topics.subscribe(new).map_err(|_| "no subscription")?;
+    }
     Ok(())
 }
 
@@ -69,13 +87,17 @@ fn prepared(alloc: Global, program: &Checked, near: Near) -> Result<State, Fail>
     let mut state = opened(alloc, program)?;
     match near {
         Near::Objects(count) => add_objects(alloc, &mut state, count)?,
-        Near::Id(id) => state.world.next_object = id,
+        Near::Id(id) => {
+            let fields = List::from_vec(Vec::from_array(alloc, [Value::Nil, Value::Nil])?);
+            state.objects = one_object(alloc, program.root(), fields, id)?;
+        }
         Near::Pending(count) => add_messages(alloc, &mut state, count)?,
-        Near::Number(number) => state.world.next_number = number,
+        Near::Number(number) => state.pending = Queue::resume(alloc, number),
+        Near::Subscriptions(count) => add_subscriptions(alloc, &mut state, count)?,
         // The object weighs 2 and its fields.
         Near::Room(room) => {
             let text = heavy(alloc, 131_068_u32.saturating_sub(room))?;
-            set_slot(alloc, &mut state, 1, 0, text)?;
+            set_slot(&mut state, 1, 0, text)?;
         }
     }
     Ok(state)
@@ -99,6 +121,20 @@ fn a_full_world_takes_no_more(rt: HostRuntime) -> Result<(), Fail> {
         (Near::Number(u64::MAX - 1), "this.future(1).m();", "nil"),
         (Near::Number(u64::MAX), "this.future(1).m();", "Full"),
         (Near::Number(u64::MAX), "this.future(-1).m();", "Time"),
+        // One that is held already adds nothing.
+        (
+            Near::Subscriptions(16_384),
+            r#"subscribe("","7","");subscribe("","e","");"#,
+            "Full",
+        ),
+        // A subscription weighs 2 and its three texts.
+        (Near::Room(8), r#"subscribe("s","e","m");"#, "nil"),
+        (Near::Room(7), r#"subscribe("s","e","m");"#, "Full"),
+        (
+            Near::Room(8),
+            r#"subscribe("s","e","m");subscribe("s","e","m");"#,
+            "nil",
+        ),
         // An object weighs 2 and its fields.
         (Near::Room(2), "return create(Bare,nil);", "#2"),
         (Near::Room(1), "return create(Bare,nil);", "Full"),
@@ -138,13 +174,13 @@ fn set_twice(
     alloc: Global,
     object: u32,
     counts: (u32, u32),
-) -> Result<(Option<Stop>, Option<Stop>, Option<u32>), WantOfMemory> {
+) -> Result<(Option<Stop>, Option<Stop>, Option<u32>), Fail> {
     let mut fields = List::new(alloc);
     fields.push(Value::Nil)?;
     let mut state = founded(alloc, 0, fields)?;
-    let first = set_slot(alloc, &mut state, object, 0, nils(alloc, counts.0)?).err();
-    let second = set_slot(alloc, &mut state, object, 0, nils(alloc, counts.1)?).err();
-    Ok((first, second, room(&state.world)))
+    let first = set_slot(&mut state, object, 0, nils(alloc, counts.0)?).err();
+    let second = set_slot(&mut state, object, 0, nils(alloc, counts.1)?).err();
+    Ok((first, second, state.room()))
 }
 
 #[test]
@@ -163,14 +199,14 @@ fn a_field_is_set_to_the_greatest_weight(rt: HostRuntime) -> Result<(), Fail> {
 }
 
 /// Why a message to object 1 is not sent, where so many messages ran at the time.
-fn refusal(alloc: Global, time: u64, turns: u32, delay: i64) -> Result<Option<Stop>, WantOfMemory> {
+fn refusal(alloc: Global, time: u64, turns: u32, delay: i64) -> Result<Option<Stop>, Fail> {
     let mut state = founded(alloc, 0, List::new(alloc))?;
-    state.world.time = time;
-    state.world.turns = turns;
+    state.time = time;
+    state.turns = turns;
     let name = Text::copy(alloc, "tick")?;
     let object = Value::Ref(1);
     let delay = Value::Int(delay);
-    Ok(send(alloc, &mut state, &object, &delay, &name, List::new(alloc)).err())
+    Ok(send(&mut state, &object, &delay, &name, List::new(alloc)).err())
 }
 
 #[test]

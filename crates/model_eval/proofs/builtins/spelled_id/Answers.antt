@@ -8,7 +8,7 @@ use Rattle.model_eval.proofs.builtins.spelled_id.Goals as goal
 
 pub returns : goal.returns
 returns c = λ budget.
-    let id = c.args.state.now.world.id.0 in
+    let id = c.args.state.now.id.0 in
     let r = running c.args.state.now budget in
-    let long : length id ≤ 32 = omega (arith, c.digits.ensures.bytes) in
-    digits-given id r long ∙ ap (λ (v : PlainValue). Gives v r) (ap text (sym c.in_ok-digits.ensures.digits) ∙ sym (plain-Text c.in_ok-digits.field-0))
+    let long : length id ≤ 32 = omega (arith, c.session_text.ensures.bytes) in
+    digits-given id r long ∙ ap (λ (v : PlainValue). Gives v r) (ap text (sym c.in_ok-session_text.ensures.digits) ∙ sym (plain-Text c.in_ok-session_text.field-0))

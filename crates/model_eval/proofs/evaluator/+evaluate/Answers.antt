@@ -1,27 +1,33 @@
-use Rattle.std.proofs.Common.{◌≡◌, ◌∙◌, Option, Some, ap, sym, subst}
+use Rattle.std.proofs.Common.{◌∙◌, ℕ, Option, Some, ap, sym, subst}
 use Rattle.model_value.specs.Plain.{PlainValue}
 use Rattle.model_value.specs.View.{plain, plain_values}
 use Rattle.model_value.specs.Valid.{object_at}
-use Rattle.model_value.specs.World.{object_record}
 use Rattle.model_lang.specs.TreeView.{program_tree}
 use Rattle.model_check.specs.Methods.{FindsMethod}
 use Rattle.model_eval.specs.Running.{Outcome, Gives}
 use Rattle.model_eval.specs.Meaning.{starts}
 use Rattle.model_lang.specs.Tree.{Name}
 use Rattle.model_eval.specs.Answer.{Answers, HasInit, running}
-use Rattle.model_eval.proofs.InitLaws.{without-init, with-init, plain-Ref}
+use Rattle.model_eval.proofs.InitLaws.{without-init, with-init, plain-Ref, plain-Nil}
+use Rattle.model_eval.proofs.Published.{answered-alone, published-gives, published-stops}
 use Rattle.model_eval.proofs.Standing.{started}
+use Rattle.model_eval.proofs.Fields.{class_of-is}
 use Rattle.model_eval.proofs.evaluator.+evaluate.Goals as goal
 
 pub start-returns-in-Some-method : goal.start-returns-in-Some-method
 start-returns-in-Some-method t c =
     let tree = program_tree c.args.program.now in
     let r = running c.args.state.now c.args.budget.now in
-    let o = object_record c.in-Some.object.now in
-    let at : object_at r.world.objects c.args.object ≡ Some o = cc (c.in-Some.ensures, c.as_slice.ensures) in
-    let finds : FindsMethod (Some c.in-Some-method.solved) tree o.class c.args.method.now = c.in-Some-method.ensures in
-    let same = started tree c.args.room c.args.object c.args.method.now (plain_values c.args.args) r o c.in-Some-method.solved at finds in
+    let found = class_of-is (object_at r.world.objects c.args.object) c.in-Some.class (sym c.in-Some.ensures) in
+    let finds = subst (λ (class : ℕ). FindsMethod (Some c.in-Some-method.solved) tree class c.args.method.now) (sym found.2) c.in-Some-method.ensures in
+    let same = started tree c.args.room c.args.object c.args.method.now (plain_values c.args.args) r found.0 c.in-Some-method.solved found.1 finds in
     rw same at c.perform.ensures
+
+pub answer_builtin-returns-in_default : goal.answer_builtin-returns-in_default
+answer_builtin-returns-in_default t c =
+    let start = starts (program_tree c.args.program.now) c.args.room in
+    let same = answered-alone start c.args.builtin c.args.object (plain_values c.args.args.now) (running c.args.state.now c.args.budget.now) c.in_default.not-Publish in
+    subst (λ (meant : Outcome PlainValue). Answers c.answer.result c.answer.new.state c.answer.new.budget meant) (sym same) c.answer.ensures
 
 pub initialise-returns-in-None : goal.initialise-returns-in-None
 initialise-returns-in-None t c = λ k e.
@@ -36,3 +42,16 @@ initialise-returns-in-Some t c = λ k e.
     let has = subst (λ (found : Option Name). HasInit found k) c.in-Some.is (c.in_ok-init_of.ensures k e) in
     let same = with-init (starts tree c.args.room) k (plain c.args.options) c.args.id r c.in-Some.init has.0 has.1 in
     subst (λ (meant : Outcome PlainValue). Answers c.start_init.result c.start_init.new.state c.start_init.new.budget meant) (sym same) c.start_init.ensures
+
+pub publish_event-returns-in_err-tell : goal.publish_event-returns-in_err-tell
+publish_event-returns-in_err-tell t c =
+    let start = starts (program_tree c.args.program.now) c.args.room in
+    published-stops c.from_residual-in_err-tell.result c.in_err-tell.field-0.0 c.tell.new.state c.tell.new.budget start c.args.scope.now c.args.event.now (plain c.args.value.now)
+    (running c.args.state.now c.args.budget.now) (running c.announce.new.state c.args.budget.now) c.from_residual-in_err-tell.ensures.1 (c.in_ok-announce.ensures c.args.budget.now) c.in_err-tell.ensures
+
+pub publish_event-returns : goal.publish_event-returns
+publish_event-returns t c =
+    let start = starts (program_tree c.args.program.now) c.args.room in
+    published-gives start c.args.scope.now c.args.event.now (plain c.args.value.now) (running c.args.state.now c.args.budget.now) (running c.announce.new.state c.args.budget.now)
+    (running c.tell.new.state c.tell.new.budget) (c.in_ok-announce.ensures c.args.budget.now) c.in_ok-tell.ensures
+    ∙ ap (λ (v : PlainValue). Gives v (running c.tell.new.state c.tell.new.budget)) (sym plain-Nil)

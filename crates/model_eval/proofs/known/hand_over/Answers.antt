@@ -19,7 +19,7 @@ returns-then-is_none c = λ budget.
     too_heavy nil r changed (subst (λ (n : ℕ). most_world_weight < n) weighs (heavy c.room.result _ _ c.if-is_none.ensures c.room.ensures))
 
 pub replace-requires : goal.replace-requires
-replace-requires c = within c.args.state.now.world.known c.args.place c.requires.0 c.requires.1
+replace-requires c = within c.args.state.now.known c.args.place c.requires.0 c.requires.1
 
 pub returns : goal.returns
 returns c = λ budget.

@@ -1,11 +1,30 @@
-use Rattle.std.proofs.Common.{◌∙◌}
+use Rattle.std.proofs.Common.{◌≡◌, ℕ, ◌≤◌, List, [], ◌∷◌, replicate, sym, ap, ap₂, subst, ◌∙◌, arith}
+use Rattle.std.proofs.lemmas.List.{length-replicate}
+use Rattle.model_value.specs.Plain.{nil}
 use Rattle.model_value.specs.View.{plain_values}
-use Rattle.model_value.specs.World.{world_record}
+use Rattle.model_value.specs.World.{ObjectRecord}
+use Rattle.model_value.specs.declared.world.Known.{Known}
+use Rattle.object_store.specs.Store.{AreFields, StoreRecord, with_object}
+use Rattle.model_eval.specs.Answer.{world_of}
+use Rattle.world.specs.Worlds.{Scene, with_world}
+use Rattle.world.specs.View.{scene}
 use Rattle.world.proofs.Rooted.{made}
 use Rattle.world.proofs.Texts.{root-chars}
+use Rattle.object_store.proofs.Objects.{AreFields-in_bounds}
+use Rattle.world.proofs.FirstWorld.{nils-fit}
 use Rattle.world.proofs.opening.make_root.Goals as goal
+
+nils-held : (n : ℕ) → n ≤ 256 → AreFields (replicate n nil)
+nils-held n few = AreFields-in_bounds (replicate n nil) (omega (arith, length-replicate n nil, few)) (nils-fit n)
+
+pub put_back-requires-clause-fields : goal.put_back-requires-clause-fields
+put_back-requires-clause-fields c = subst AreFields (sym c.in_ok-fields.ensures) (nils-held c.args.fields c.requires)
 
 pub returns : goal.returns
 returns c = λ root e.
-    rw (c.in_ok-world.ensures, c.in_ok-world-2.ensures)
-    (made (world_record c.args.world.now) c.args.class c.args.fields root (plain_values c.in_ok-fields.fields) c.in_ok-copy.field-0 e c.in_ok-fields.ensures (c.in_ok-copy.ensures.characters ∙ root-chars))
+    let st = c.args.state.now in
+    let o : ObjectRecord = record { id = 1; class = c.args.class; fields = plain_values c.in_ok-fields.fields } in
+    let objects : c.put_back.new.self ≡ record { objects = o ∷ []; next = 2 } = c.in_ok-put_back.ensures.ok ∙ ap (with_object o) c.resume-objects.ensures in
+    let after : StoreRecord → List Known → Scene = λ s ks. with_world (scene st) (record (world_of st) { next_object = s.next; objects = s.objects; known = ks }) in
+    ap₂ after objects c.in_ok-state.ensures
+    ∙ ap (with_world (scene st)) (made (world_of st) c.args.class c.args.fields root (plain_values c.in_ok-fields.fields) c.in_ok-copy.field-0 e c.in_ok-fields.ensures (c.in_ok-copy.ensures.characters ∙ root-chars))

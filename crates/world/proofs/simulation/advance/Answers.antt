@@ -1,6 +1,6 @@
 use Rattle.std.proofs.Common.{◌≡◌, ap, ◌∙◌, sym, subst}
 use Rattle.model_value.specs.Messages.{plain_message}
-use Rattle.model_value.specs.World.{WorldRecord, world_record}
+use Rattle.model_eval.specs.Answer.{world_of}
 use Rattle.model_value.specs.Valid.{Valid}
 use Rattle.model_lang.specs.TreeView.{program_tree}
 use Rattle.world.specs.Worlds.{Scene, handled, field_counts, moved, with_world}
@@ -13,7 +13,7 @@ abbrev Turned : goal.In_ok-handle → Type 0
 Turned c = scene c.handle.new.state ≡ handled (program_tree c.args.program.now) (plain_message c.in-Some.message) c.in-Some.ensures.0 (scene c.loop-message.state)
 
 turn : (c : goal.In_ok-handle) → Turned c
-turn c = turned (program_tree c.args.program.now) (plain_message c.in-Some.message) c.in-Some.ensures.0 (scene c.loop-message.state) (scene c.handle.new.state) (world_record c.take_due.new.world) c.in-Some.ensures.2 c.in_ok-handle.ensures
+turn c = turned (program_tree c.args.program.now) (plain_message c.in-Some.message) c.in-Some.ensures.0 (scene c.loop-message.state) (scene c.take_due.new.state) (scene c.handle.new.state) c.in-Some.ensures.2 c.in_ok-handle.ensures
 
 pub loop-message-smaller : goal.loop-message-smaller
 loop-message-smaller c =
@@ -25,16 +25,14 @@ loop-message-preserved c = (
   turn-same (program_tree c.args.program.now) c.args.time (plain_message c.in-Some.message) c.in-Some.ensures.0 (scene c.loop-message.state) (scene c.handle.new.state) c.requires.program c.loop-message.invariant.0 c.in-Some.ensures.1 (turn c) ∙ c.loop-message.invariant.1,
 )
 
-at_end : (c : goal.After-move_to) → world_record c.move_to.new.world ≡ moved c.args.time (world_record c.loop-message.state.world)
-at_end c = c.move_to.ensures ∙ ap (moved c.args.time) c.in_default.ensures.1
+at_end : (c : goal.After-move_to) → scene c.move_to.new.state ≡ with_world (scene c.loop-message.state) (moved c.args.time (scene c.loop-message.state).world)
+at_end c = c.move_to.ensures ∙ ap (λ (s : Scene). with_world s (moved c.args.time s.world)) c.in_default.ensures.1
 
 pub returns-clause-advanced : goal.returns-clause-advanced
 returns-clause-advanced c =
-    let before : Scene = scene c.loop-message.state in
-    let after : Scene = record { world = world_record c.move_to.new.world; published = before.published } in
-    let moved_so : after ≡ with_world before (moved c.args.time before.world) = ap (λ (w : WorldRecord). with_world before w) (at_end c) in
-    arrived (program_tree c.args.program.now) c.args.time before after c.requires.program c.loop-message.invariant.0 c.in_default.ensures.0 moved_so ∙ c.loop-message.invariant.1
+    arrived (program_tree c.args.program.now) c.args.time (scene c.loop-message.state) (scene c.move_to.new.state) c.requires.program c.loop-message.invariant.0 c.in_default.ensures.0 (at_end c) ∙ c.loop-message.invariant.1
 
 pub returns-clause-valid : goal.returns-clause-valid
 returns-clause-valid c =
-    subst (Valid (field_counts (program_tree c.args.program.now))) (sym (at_end c)) (arrived-valid (field_counts (program_tree c.args.program.now)) c.args.time (world_record c.loop-message.state.world) c.requires.time c.in_default.ensures.0 c.loop-message.invariant.0)
+    let counts = field_counts (program_tree c.args.program.now) in
+    subst (λ (s : Scene). Valid counts s.world) (sym (at_end c)) (arrived-valid counts c.args.time (world_of c.loop-message.state) c.requires.time c.in_default.ensures.0 c.loop-message.invariant.0)

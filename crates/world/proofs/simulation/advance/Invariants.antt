@@ -1,6 +1,6 @@
 use Rattle.std.proofs.Common.{◌≡◌}
 use Rattle.model_value.specs.Valid.{Valid}
-use Rattle.model_value.specs.World.{world_record}
+use Rattle.model_eval.specs.Answer.{world_of}
 use Rattle.model_lang.specs.TreeView.{program_tree}
 use Rattle.world.specs.Worlds.{field_counts, enough, advance}
 use Rattle.world.specs.View.{scene}
@@ -8,8 +8,8 @@ use Rattle.world.proofs.simulation.advance.Given as goal
 
 abbrev pub invariant-loop-message : goal.invariant-loop-message
 invariant-loop-message l =
-    Valid (field_counts (program_tree l.program)) (world_record l.state.world)
+    Valid (field_counts (program_tree l.program)) (world_of l.state)
     × (advance (program_tree l.program) l.time (scene l.state) ≡ advance (program_tree l.program) l.time (scene l.fn.state))
 
 abbrev pub decreases-loop-message : goal.decreases-loop-message
-decreases-loop-message l = enough l.time (world_record l.state.world)
+decreases-loop-message l = enough l.time (world_of l.state)

@@ -1,10 +1,12 @@
 use Rattle.std.proofs.Common.{Result, Ok, Err, OnOk, sym, subst}
 use Rattle.std.specs.Prelude.{⊤}
-use Rattle.model_value.specs.World.{world_record}
+use Rattle.model_eval.specs.Answer.{world_of}
 use Rattle.model_value.specs.Valid.{Valid}
 use Rattle.model_lang.specs.TreeView.{program_tree}
 use Rattle.tea_base.specs.declared.want.WantOfMemory.{WantOfMemory}
-use Rattle.world.specs.Worlds.{field_counts}
+use Rattle.world.specs.Worlds.{Scene, field_counts}
+use Rattle.world.specs.View.{scene}
+use Rattle.world.proofs.Turn.{program-fits}
 use Rattle.world.proofs.Running.{begun-valid}
 use Rattle.world.proofs.Entries.{entered-valid}
 use Rattle.world.proofs.simulation.external.Goals as goal
@@ -15,8 +17,10 @@ on_ok (Err e) P Q f h = tt
 
 pub returns-clause-valid : goal.returns-clause-valid
 returns-clause-valid c =
-    let counts = field_counts (program_tree c.args.program.now) in
-    let began : Valid counts (world_record c.begin.new.world) = subst (Valid counts) (sym c.begin.ensures) (begun-valid counts (world_record c.advance.new.state.world) c.in_ok-advance.ensures.valid) in
+    let tree = program_tree c.args.program.now in
+    let counts = field_counts tree in
+    let fits = program-fits tree c.requires.program in
+    let began : Valid counts (scene c.begin.new.state).world = subst (λ (s : Scene). Valid counts s.world) (sym c.begin.ensures) (begun-valid counts (world_of c.advance.new.state) c.in_ok-advance.ensures.valid) in
     on_ok c.enter.result _ _
-    (λ e. subst (Valid counts) (sym e) (entered-valid counts c.args.entry.now.what c.args.entry.now.view (world_record c.begin.new.world) began))
+    (λ e. subst (λ (s : Scene). Valid counts s.world) (sym e) (entered-valid counts tree c.args.entry.now.what c.args.entry.now.view (scene c.begin.new.state) fits began))
     c.enter.ensures

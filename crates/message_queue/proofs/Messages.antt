@@ -1,0 +1,106 @@
+-- Texts compared, lists with a message more or fewer, and the bounds of weights.
+use Rattle.std.proofs.Common.{◌≡◌, ℕ, zero, suc, ◌+◌, ◌*◌, ◌<◌, ◌≤◌, ◌↔◌, Bool, true, false, cond, List, [], ◌∷◌, ◌++◌, length, get_or, remove, refl, sym, ap, ◌∙◌, append_assoc, arith, drop, IsTrue}
+use Rattle.std.specs.List.{filter}
+use Rattle.std.specs.Str.{bytes_eq}
+use Rattle.std.specs.Cmp.Lexicographic.{bytes_decides}
+use Rattle.std.proofs.lemmas.List.{length-map, length-append, map-append}
+use Rattle.model_value.specs.Plain.{weight}
+use Rattle.model_value.specs.Messages.{PlainMessage, plain_message}
+use Rattle.model_value.specs.Valid.{IsUnused, most_pending}
+use Rattle.model_value.specs.declared.message.Message.{Message}
+use Rattle.model_value.specs.declared.value.Value.{Value}
+use Rattle.model_value.specs.World.{values_weight, message_weight, total}
+use Rattle.model_value.specs.View.{plain, plain_values}
+use Rattle.message_queue.specs.Queue.{IsQueue, IsLight, AllLight, inserted}
+use Rattle.message_queue.specs.View.{messages_seen}
+use Rattle.message_queue.proofs.Filtered.{IsQueue-filtered}
+use Rattle.message_queue.proofs.Order.{IsQueue-inserted}
+
+-- ---- texts
+
+told_same : (told same : Bool) (xs ys : List ℕ) → bytes_eq xs ys ≡ same → (IsTrue told ↔ (xs ≡ ys)) → told ≡ same
+told_same true true xs ys e h = refl
+told_same true false xs ys e h = sym (sym e ∙ (bytes_decides xs ys).1 (h.0 refl))
+told_same false true xs ys e h = h.1 ((bytes_decides xs ys).0 e)
+told_same false false xs ys e h = refl
+
+-- what tells whether texts are the same answers as their comparison
+pub is_same : (told : Bool) (xs ys : List ℕ) → (IsTrue told ↔ (xs ≡ ys)) → told ≡ bytes_eq xs ys
+is_same told xs ys h = told_same told (bytes_eq xs ys) xs ys refl h
+
+pub ruleset by_text = (is_same)
+
+-- ---- places
+
+pub ruleset by_place = (map-append, append_assoc)
+
+-- ---- a message more
+
+pub with_one : (ms new : List PlainMessage) (m : PlainMessage) (next more : ℕ)
+    → IsQueue (record { messages = ms; next = next })
+    → new ≡ inserted m ms
+    → IsUnused m.number ms
+    → m.number < more
+    → next ≤ more
+    → length ms < most_pending
+    → IsLight m
+    → IsQueue (record { messages = new; next = more })
+with_one ms new m next more q is unused below later few light =
+    rw is (IsQueue-inserted m (record { messages = ms; next = next }) more q unused below later few light)
+
+-- ---- the first message taken
+
+pub without_first : (ms : List Message) (next : ℕ) → IsQueue (record { messages = messages_seen ms; next = next }) → IsQueue (record { messages = messages_seen (remove ms 0); next = next })
+without_first [] next q = q
+without_first (m ∷ ms) next q = record { order = q.order.1; differ = q.differ.1; next = q.next.1; light = q.light.1; few = omega (arith, q.few) }
+
+-- ---- messages fewer
+
+pub filtered : (test : PlainMessage → Bool) (ms new : List PlainMessage) (next : ℕ)
+    → IsQueue (record { messages = ms; next = next })
+    → new ≡ filter test ms
+    → IsQueue (record { messages = new; next = next })
+filtered test ms new next q e = rw e (IsQueue-filtered test (record { messages = ms; next = next }) q)
+
+kept_one : (b : Bool) (m : Message) (ms : List Message) → messages_seen (cond b (m ∷ ms) ms) ≡ cond b (plain_message m ∷ messages_seen ms) (messages_seen ms)
+kept_one true m ms = refl
+kept_one false m ms = refl
+
+-- the messages kept are seen as those kept of the messages seen
+pub seen_filter : (test : PlainMessage → Bool) (ms : List Message) → messages_seen (filter (λ (m : Message). test (plain_message m)) ms) ≡ filter test (messages_seen ms)
+seen_filter test [] = refl
+seen_filter test (m ∷ ms) =
+    kept_one (test (plain_message m)) m (filter (λ (n : Message). test (plain_message n)) ms)
+    ∙ ap (λ (rest : List PlainMessage). cond (test (plain_message m)) (plain_message m ∷ rest) rest) (seen_filter test ms)
+
+-- ---- weights
+
+pub value_at : (vs : List Value) (i : ℕ) (d : Value) → i < length vs → weight (plain (get_or vs i d)) ≤ values_weight (plain_values (drop i vs))
+value_at [] i d h = absurd (omega arith)
+value_at (v ∷ vs) zero d h = omega arith
+value_at (v ∷ vs) (suc i) d h = value_at vs i d (omega arith)
+
+pub message_at : (ms : List Message) (i : ℕ) (d : Message) → i < length ms → message_weight (plain_message (get_or ms i d)) ≤ total message_weight (messages_seen (drop i ms))
+message_at [] i d h = absurd (omega arith)
+message_at (m ∷ ms) zero d h = omega arith
+message_at (m ∷ ms) (suc i) d h = message_at ms i d (omega arith)
+
+total_bound : (ms : List PlainMessage) → AllLight ms → total message_weight ms ≤ length ms * 131072
+total_bound [] h = omega arith
+total_bound (m ∷ ms) h = omega (arith, h.0, total_bound ms h.1)
+
+pub light_at : (ms : List Message) (i : ℕ) (d : Message) → i < length ms → AllLight (messages_seen (drop i ms)) → IsLight (plain_message (get_or ms i d))
+light_at [] i d inside h = absurd (omega arith)
+light_at (m ∷ ms) zero d inside h = h.0
+light_at (m ∷ ms) (suc i) d inside h = light_at ms i d (omega arith) h
+
+-- what a loop over messages has summed, and the next of them
+pub sum_bound : (ms : List Message) (i sum : ℕ) (d m : Message)
+    → i < length ms
+    → m ≡ get_or ms i d
+    → sum + total message_weight (messages_seen (drop i ms)) ≡ total message_weight (messages_seen ms)
+    → AllLight (messages_seen ms)
+    → length ms ≤ most_pending
+    → sum + message_weight (plain_message m) ≤ 2147483648
+sum_bound ms i sum d m inside is so_far light few =
+    omega (arith, message_at ms i d inside, ap (λ (n : Message). message_weight (plain_message n)) is, so_far, total_bound (messages_seen ms) light, few, length-map ms plain_message)

@@ -1,0 +1,15 @@
+use Rattle.std.proofs.Common.{arith, ap, length, not}
+use Rattle.std.proofs.lemmas.List.{length-map}
+use Rattle.model_value.specs.Messages.{PlainMessage, plain_message}
+use Rattle.message_queue.specs.Queue.{QueueRecord, calls}
+use Rattle.message_queue.specs.View.{messages_seen}
+use Rattle.message_queue.proofs.Messages.{filtered}
+use Rattle.message_queue.proofs.queue.Queue.cancel.Goals as goal
+
+pub invariant_of-self : goal.invariant_of-self
+invariant_of-self c =
+    filtered (λ (m : PlainMessage). not (calls c.args.object c.args.method.now m)) (messages_seen c.self.inside.messages.items) _ c.self.inside.next c.self.invariant c.remove_calls.ensures.kept
+
+pub returns-clause-number : goal.returns-clause-number
+returns-clause-number c =
+    omega (arith, ap (λ (q : QueueRecord). length q.messages) c.self.view_is, c.len-before.ensures, c.len.ensures, c.remove_calls.ensures.fewer, c.self.invariant.few, length-map c.self.inside.messages.items plain_message, length-map c.remove_calls.new.messages.items plain_message)

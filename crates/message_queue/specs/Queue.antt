@@ -1,0 +1,111 @@
+-- Queues as lists of messages by rising time and number, and what each call makes of one.
+use Rattle.std.specs.Prelude.{◌≡◌, ◌≤◌, ◌<◌, ◌+◌, ◌-◌, ◌^◌, ◌&&◌, ◌||◌, ℕ, Bool, List, [], ◌∷◌, length, nat_eq, nat_lt, if◌then◌else◌, not, false, Option, Some, None, Result, Ok, Err, refl}
+use Rattle.std.specs.List.{filter}
+use Rattle.std.specs.Str.{bytes_eq}
+use Rattle.std.specs.Coded.{Coded, code_by, coded×, coded_ℕ, coded_list}
+use Rattle.model_value.specs.Plain.{PlainValue}
+use Rattle.model_value.specs.Messages.{PlainMessage, coded_message}
+use Rattle.model_value.specs.Valid.{AreInOrder, NumbersDiffer, most_pending}
+use Rattle.model_value.specs.World.{message_weight, most_world_weight}
+use Rattle.message_queue.specs.declared.refusal.QueueRefusal.{QueueRefusal}
+use Rattle.message_queue.specs.declared.refusal.QueueRefusal.TheVariants.{Full, Spent, WantOfMemory}
+
+-- the messages that are held, by rising time and number, and the number that the next one gets
+pub record QueueRecord : Type 0 where
+  pub messages : List PlainMessage
+  pub next : ℕ
+
+abbrev pub coded_queue : Coded QueueRecord
+coded_queue =
+    code_by
+    (List PlainMessage × ℕ)
+    (coded× (coded_list coded_message) coded_ℕ)
+    (λ q. (q.messages, q.next))
+    (λ p. record { messages = p.0; next = p.1 })
+    (λ _. refl)
+
+-- the number that no message gets
+abbrev pub last_number : ℕ
+last_number = 2 ^ 64 - 1
+
+-- as much as a world may weigh
+abbrev pub IsLight : PlainMessage → Type 0
+IsLight m = message_weight m ≤ most_world_weight
+
+abbrev pub AllLight : List PlainMessage → Type 0
+AllLight [] = Unit {0}
+AllLight (m ∷ ms) = IsLight m × AllLight ms
+
+-- each number is below this one
+abbrev pub NumbersBelow : ℕ → List PlainMessage → Type 0
+NumbersBelow next [] = Unit {0}
+NumbersBelow next (m ∷ ms) = (m.number < next) × NumbersBelow next ms
+
+-- what is true of each queue; the first message precedes all others
+pub record IsQueue (q : QueueRecord) : Type 0 where
+  pub order : AreInOrder q.messages
+  pub differ : NumbersDiffer q.messages
+  pub next : NumbersBelow q.next q.messages
+  pub light : AllLight q.messages
+  pub few : length q.messages ≤ most_pending
+
+abbrev pub empty : ℕ → QueueRecord
+empty next = record { messages = []; next = next }
+
+abbrev pub precedes : PlainMessage → PlainMessage → Bool
+precedes m n = nat_lt m.time n.time || (nat_eq m.time n.time && nat_lt m.number n.number)
+
+-- in its place by time and number
+abbrev pub inserted : PlainMessage → List PlainMessage → List PlainMessage
+inserted m [] = m ∷ []
+inserted m (n ∷ ns) = if precedes m n then m ∷ n ∷ ns else n ∷ inserted m ns
+
+-- a message more
+abbrev pub with_message : PlainMessage → QueueRecord → QueueRecord
+with_message m q = record q { messages = inserted m q.messages }
+
+-- a call of an object's method, which gets the next number
+abbrev pub new_message : ℕ → ℕ → List ℕ → List PlainValue → QueueRecord → PlainMessage
+new_message time object method args q = record { time = time; number = q.next; object = object; method = method; args = args }
+
+abbrev pub pushed : ℕ → ℕ → List ℕ → List PlainValue → QueueRecord → QueueRecord
+pushed time object method args q =
+    record { messages = inserted (new_message time object method args q) q.messages; next = q.next + 1 }
+
+-- the time and the number of the first message, if there is one
+abbrev pub least_of : List PlainMessage → Option (ℕ × ℕ)
+least_of [] = None
+least_of (m ∷ ms) = Some (m.time, m.number)
+
+-- the first message, and the queue without it
+abbrev pub TakesLeast : Option PlainMessage → QueueRecord → QueueRecord → Type 0
+TakesLeast None old new = (old.messages ≡ []) × (new ≡ old)
+TakesLeast (Some m) old new = (old.messages ≡ m ∷ new.messages) × (new.next ≡ old.next)
+
+-- a call of this method of this object
+abbrev pub calls : ℕ → List ℕ → PlainMessage → Bool
+calls object method m = if nat_eq m.object object then bytes_eq m.method method else false
+
+-- the messages but the calls of a method of an object
+abbrev pub without_calls : ℕ → List ℕ → QueueRecord → QueueRecord
+without_calls object method q = record q { messages = filter (λ m. not (calls object method m)) q.messages }
+
+-- the messages but those to an object
+abbrev pub without_object : ℕ → QueueRecord → QueueRecord
+without_object object q = record q { messages = filter (λ m. not (nat_eq m.object object)) q.messages }
+
+abbrev pub IsFull : QueueRecord → Type 0
+IsFull q = length q.messages ≡ most_pending
+
+-- neither full nor spent
+abbrev pub HasRoom : QueueRecord → Type 0
+HasRoom q = (length q.messages < most_pending) × (q.next < last_number)
+
+-- what a push answers, and what it makes of the queue
+abbrev pub Pushes : Result ℕ QueueRefusal → ℕ → ℕ → List ℕ → List PlainValue → QueueRecord → QueueRecord → Type 0
+Pushes (Ok number) time object method args old new =
+    HasRoom old × (number ≡ old.next) × (new ≡ pushed time object method args old)
+Pushes (Err (Full count)) time object method args old new = IsFull old × (count ≡ length old.messages) × (new ≡ old)
+Pushes (Err Spent) time object method args old new =
+    (length old.messages < most_pending) × (old.next ≡ last_number) × (new ≡ old)
+Pushes (Err WantOfMemory) time object method args old new = HasRoom old × (new ≡ old)

@@ -1,0 +1,110 @@
+//! Messages in memory, in their order: one more of them, and those that are taken away.
+ghost use Rattle.std.specs.Prelude.{◌≡◌, ◌≤◌, ◌+◌, ◌++◌, ◌∷◌, length, take, drop, not, nat_eq, OnOk, OnErr};
+ghost use Rattle.std.specs.List.{filter};
+ghost use Rattle.model_value.specs.Messages.{plain_message};
+ghost use Rattle.model_value.specs.View.{plain_values};
+ghost use Rattle.model_value.specs.Valid.{most_pending};
+ghost use Rattle.model_value.specs.World.{values_weight as weight_of_values, text_weight as weight_of_text, message_weight, total, most_world_weight};
+ghost use Rattle.message_queue.specs.Queue.{AllLight, IsLight, calls, inserted, precedes as is_before};
+ghost use Rattle.message_queue.specs.View.{messages_seen};
+
+use model_value::{Message, Value, weight};
+use tea_base::{Text, WantOfMemory};
+
+/// Whether a message is due before another: at a lower time, or at the same time with a lower number.
+fn precedes(one: &Message, other: &Message) -> bool
+    ensures { result ≡ is_before (plain_message one.now) (plain_message other.now) }
+{
+    one.time < other.time || (one.time == other.time && one.number < other.number)
+}
+
+/// Puts a message in its place. Without memory the messages stay as they were.
+#[tactic(auto, using(crate::proofs::Messages::by_place))]
+pub fn insert(messages: &mut Vec<Message>, message: Message) -> Result<(), WantOfMemory>
+    ensures ok { OnOk result (messages_seen messages.new.items ≡ inserted (plain_message message) (messages_seen messages.old.items)) }
+    ensures err { OnErr result (messages.new.items ≡ messages.old.items) }
+{
+    let place = place_for(messages, &message);
+    messages.insert(place, message)?;
+    Ok(())
+}
+
+/// The place of the first message that comes behind this one, or the end.
+#[tactic(auto, using(crate::proofs::Messages::by_place))]
+fn place_for(messages: &[Message], message: &Message) -> usize
+    ensures bound { result ≤ length messages.now }
+    ensures place { let m = plain_message message.now in
+        inserted m (messages_seen messages.now) ≡ messages_seen (take result messages.now) ++ m ∷ messages_seen (drop result messages.now) }
+{
+    for i in 0..messages.len() {
+        if precedes(message, &messages[i]) {
+            return i;
+        }
+    }
+    messages.len()
+}
+
+/// Takes away the calls of a method of an object.
+pub fn remove_calls(messages: &mut Vec<Message>, object: u32, method: &Text)
+    ensures kept { messages_seen messages.new.items ≡ filter (λ m. not (calls object method.now m)) (messages_seen messages.old.items) }
+    ensures fewer { length messages.new.items ≤ length messages.old.items }
+{
+    messages.retain(|message| !is_call(message, object, method));
+}
+
+/// Whether a message is a call of this method of this object.
+#[tactic(auto, using(crate::proofs::Messages::by_text))]
+fn is_call(message: &Message, object: u32, method: &Text) -> bool
+    ensures { result ≡ calls object method.now (plain_message message.now) }
+{
+    message.object == object && message.method.is_text(method)
+}
+
+/// Takes away the messages to an object.
+pub fn remove_object(messages: &mut Vec<Message>, object: u32)
+    ensures kept { messages_seen messages.new.items ≡ filter (λ m. not (nat_eq m.object object)) (messages_seen messages.old.items) }
+    ensures fewer { length messages.new.items ≤ length messages.old.items }
+{
+    messages.retain(|message| message.object != object);
+}
+
+/// How much messages weigh together.
+pub fn weight_of(messages: &[Message]) -> u64
+    requires light { AllLight (messages_seen messages.now) }
+    requires few { length messages.now ≤ most_pending }
+    ensures { result ≡ total message_weight (messages_seen messages.now) }
+{
+    let mut sum = 0;
+    for message in messages {
+        sum += message_weight_of(message);
+    }
+    sum
+}
+
+/// How much a message weighs: 3, its method's name and its arguments.
+fn message_weight_of(message: &Message) -> u64
+    requires { IsLight (plain_message message.now) }
+    ensures { result ≡ message_weight (plain_message message.now) }
+{
+    3 + text_weight(&message.method) + values_weight(message.args.as_slice())
+}
+
+/// How much a text weighs: 1, and 1 for each 16 bytes begun.
+fn text_weight(text: &Text) -> u64
+    requires { weight_of_text text.now ≤ most_world_weight }
+    ensures { result ≡ weight_of_text text.now }
+{
+    1 + text.bytes().len().div_ceil(16) as u64
+}
+
+/// How much values weigh together.
+fn values_weight(values: &[Value]) -> u64
+    requires { weight_of_values (plain_values values.now) ≤ most_world_weight }
+    ensures { result ≡ weight_of_values (plain_values values.now) }
+{
+    let mut sum = 0;
+    for value in values {
+        sum += u64::from(weight(value));
+    }
+    sum
+}

@@ -1,0 +1,200 @@
+//! The queue of a world's messages.
+ghost use Rattle.std.specs.Prelude.{◌≡◌, ◌<◌, ◌+◌, ◌↔◌, [], length, IsTrue, OnOk, OnErr};
+ghost use Rattle.std.specs.Option.{option_map};
+ghost use Rattle.model_value.specs.Messages.{plain_message};
+ghost use Rattle.model_value.specs.View.{plain_values};
+ghost use Rattle.model_value.specs.Valid.{IsUnused, most_pending};
+ghost use Rattle.model_value.specs.World.{message_weight, total};
+ghost use Rattle.message_queue.specs.Queue.{IsLight, IsQueue, TakesLeast, Pushes, empty, least_of, new_message, with_message, without_calls, without_object};
+ghost use Rattle.message_queue.specs.View.{messages_seen};
+
+use crate::pending::{insert, remove_calls, remove_object, weight_of};
+use crate::refusal::QueueRefusal;
+use model_value::{Message, Values};
+use std::alloc::Global;
+use std::marker::Model;
+use tea_base::{Text, WantOfMemory};
+
+/// The most messages of a world.
+pub const MOST_MESSAGES: usize = 16384;
+
+/// The messages to come of a world. Contracts see them as a list by rising time, and at one time by rising number, with
+/// the number that the next message gets.
+///
+/// The numbers that `push` gives begin at 0, rise, and are not given again when a message is gone; `put_back` alone puts a
+/// message back under its own number.
+#[derive(Drop)]
+pub struct Queue {
+    messages: Vec<Message>,
+    next: u64,
+}
+
+impl Model for Queue {
+    ghost use Rattle.message_queue.specs.Queue.{QueueRecord, coded_queue, IsQueue};
+    ghost use Rattle.message_queue.specs.View.{messages_seen};
+
+    ghost Value = { QueueRecord };
+
+    ghost coded = { coded_queue };
+
+    ghost view = { λ q. record { messages = messages_seen q.messages.items; next = q.next } };
+
+    ghost invariant = { λ q. IsQueue (record { messages = messages_seen q.messages.items; next = q.next }) };
+}
+
+impl Queue {
+    /// The queue of a new world, without messages. The first one gets the number 0. Takes no memory.
+    pub fn new(alloc: Global) -> Queue
+        ensures { result ≡ empty 0 }
+    {
+        Queue::resume(alloc, 0)
+    }
+
+    /// A queue without messages, whose next message gets this number. Takes no memory.
+    pub fn resume(alloc: Global, next: u64) -> Queue
+        ensures { result ≡ empty next }
+    {
+        Queue {
+            messages: Vec::new(alloc),
+            next,
+        }
+    }
+
+    /// Adds a message, in its place, under a number that it had before: below the next one, and of no message that is held.
+    /// Without memory the queue stays as it was.
+    ///
+    /// The message weighs at most 131,072, as much as a world may. One whose name fits, with at most 16 arguments that are
+    /// in bounds, always weighs less.
+    pub fn put_back(&mut self, m: Message) -> Result<(), WantOfMemory>
+        requires below { (plain_message m).number < self.old.next }
+        requires unused { IsUnused (plain_message m).number self.old.messages }
+        requires few { length self.old.messages < most_pending }
+        requires light { IsLight (plain_message m) }
+        ensures ok { OnOk result (self.new ≡ with_message (plain_message m) self.old) }
+        ensures err { OnErr result (self.new ≡ self.old) }
+    {
+        insert(&mut self.messages, m)?;
+        Ok(())
+    }
+
+    /// Adds a call of an object's method, in its place, at a time in microseconds of TeaTime since the session's founding,
+    /// and gives its number.
+    ///
+    /// The call weighs at most 131,072, as much as a world may. One whose name fits, with at most 16 arguments that are in
+    /// bounds, always weighs less.
+    ///
+    /// `Full` comes where 16,384 messages are held, otherwise `Spent` where the next number is 2^64 - 1. A refusal
+    /// changes nothing but that the name and the arguments are dropped.
+    pub fn push(
+        &mut self,
+        time: u64,
+        object: u32,
+        method: Text,
+        args: Values,
+    ) -> Result<u64, QueueRefusal>
+        requires { IsLight (new_message time object method (plain_values args) self.old) }
+        ensures { Pushes result time object method (plain_values args) self.old self.new }
+    {
+        if self.messages.len() == MOST_MESSAGES {
+            return Err(QueueRefusal::Full {
+                count: MOST_MESSAGES as u32,
+            });
+        }
+        if self.next == u64::MAX {
+            return Err(QueueRefusal::Spent);
+        }
+        let number = self.next;
+        let message = Message {
+            time,
+            number,
+            object,
+            method,
+            args,
+        };
+        insert(&mut self.messages, message)?;
+        self.next += 1;
+        Ok(number)
+    }
+
+    /// The number that the next message gets. Takes no memory.
+    pub fn next(&self) -> u64
+        ensures { result ≡ self.now.next }
+    {
+        self.next
+    }
+
+    /// How many messages are held. Takes no memory.
+    pub fn len(&self) -> usize
+        ensures { result ≡ length self.now.messages }
+    {
+        self.messages.len()
+    }
+
+    /// Whether no message is held. Takes no memory.
+    pub fn is_empty(&self) -> bool
+        ensures { IsTrue result ↔ (self.now.messages ≡ []) }
+    {
+        self.messages.is_empty()
+    }
+
+    /// The messages by rising time and number. Takes no memory.
+    pub fn messages(&self) -> &[Message]
+        ensures { messages_seen result.now ≡ self.now.messages }
+    {
+        &self.messages
+    }
+
+    /// The time and the number of the message that is due first: of those of the least time that of the least number.
+    /// None where no message is held. Takes no memory.
+    ///
+    /// In each queue the first message precedes all others.
+    pub fn least(&self) -> Option<(u64, u64)>
+        ensures least { result ≡ least_of self.now.messages }
+        ensures queue { IsQueue self.now }
+    {
+        let first = self.messages.first()?;
+        Some((first.time, first.number))
+    }
+
+    /// Takes out the message that is due first. None where no message is held, and the queue stays as it was. Takes no
+    /// memory.
+    pub fn take_least(&mut self) -> Option<Message>
+        ensures { TakesLeast (option_map plain_message result) self.old self.new }
+    {
+        if self.messages.is_empty() {
+            return None;
+        }
+        Some(self.messages.remove(0))
+    }
+
+    /// Takes away all calls of a method of an object, and gives their number. Takes no memory.
+    pub fn cancel(&mut self, object: u32, method: &Text) -> u32
+        ensures number { result + length self.new.messages ≡ length self.old.messages }
+        ensures queue { self.new ≡ without_calls object method.now self.old }
+    {
+        let before = self.messages.len();
+        remove_calls(&mut self.messages, object, method);
+        (before - self.messages.len()) as u32
+    }
+
+    /// Takes away all messages to an object, and gives their number. Takes no memory.
+    pub fn drop_object(&mut self, object: u32) -> u32
+        ensures number { result + length self.new.messages ≡ length self.old.messages }
+        ensures queue { self.new ≡ without_object object self.old }
+    {
+        let before = self.messages.len();
+        remove_object(&mut self.messages, object);
+        (before - self.messages.len()) as u32
+    }
+
+    /// How much the messages weigh together: each 3, its method's name and its arguments. Takes no memory.
+    ///
+    /// In each queue each message precedes all behind it, numbers differ and are below the next one, at most 16,384
+    /// messages are held, and each weighs at most 131,072.
+    pub fn weight(&self) -> u64
+        ensures weight { result ≡ total message_weight self.now.messages }
+        ensures queue { IsQueue self.now }
+    {
+        weight_of(&self.messages)
+    }
+}

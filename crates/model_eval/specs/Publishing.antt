@@ -1,0 +1,87 @@
+-- Events: what is published, who handles it, and subscriptions.
+use Rattle.std.specs.Prelude.{ℕ, ◌+◌, ◌-◌, pos, Bool, not, nat_lt, nat_le, if◌then◌else◌, ◌&&◌, List, [], ◌∷◌, ◌++◌, length, map, ⊤}
+use Rattle.std.specs.List.{filter}
+use Rattle.model_value.specs.Plain.{PlainValue, nil, int, list}
+use Rattle.model_value.specs.View.{plains_of}
+use Rattle.model_value.specs.Messages.{PlainMessage}
+use Rattle.model_value.specs.World.{WorldRecord, subscription_weight, world_weight, most_world_weight}
+use Rattle.model_value.specs.Valid.{most_pending}
+use Rattle.model_value.specs.declared.message.Subscription.{Subscription}
+use Rattle.pubsub.specs.declared.handler.Handler.{Handler}
+use Rattle.pubsub.specs.Topics.{is_held as is_subscribed, without as without_subscription, handlers_of}
+use Rattle.message_queue.specs.Queue.{calls}
+use Rattle.model_lang.specs.Tree.{Name}
+use Rattle.model_eval.specs.declared.fault.Fault.TheVariants.{NoObject, Full}
+use Rattle.model_eval.specs.Running.{Running, with_world, Outcome, Gives, Faults, and_then, entering, weighed, Start}
+use Rattle.model_eval.specs.Objects.{is_held}
+
+-- ---- publishing
+
+-- a handler takes a step, and its method starts with the value, unless its object is gone
+abbrev pub handled_by : Start → PlainValue → Handler → Running → Outcome ⊤
+handled_by start v h r =
+    if is_held h.object r.world then entering r (λ s. and_then (start h.object h.method (v ∷ []) s) (λ _. Gives tt)) else Gives tt r
+
+abbrev pub handled : Start → PlainValue → List Handler → Running → Outcome ⊤
+handled start v [] r = Gives tt r
+handled start v (h ∷ hs) r = and_then (handled_by start v h r) (λ _. handled start v hs)
+
+-- models are told of an event: its handlers are those that are subscribed now, each in turn
+abbrev pub told : Start → Name → Name → PlainValue → Running → Outcome ⊤
+told start scope event v r = handled start v (handlers_of scope event r.world.subscriptions) r
+
+-- the event stands last in what was published
+abbrev pub with_outgoing : Name → Name → PlainValue → Running → Running
+with_outgoing scope event v r =
+    record r { published = r.published ++ record { time = r.world.time; scope = scope; event = event; value = v } ∷ [] }
+
+abbrev pub published : Start → Name → Name → PlainValue → Running → Outcome PlainValue
+published start scope event v r = and_then (told start scope event v (with_outgoing scope event v r)) (λ _. Gives nil)
+
+-- ---- subscriptions
+
+abbrev pub has_room_to : WorldRecord → Subscription → Bool
+has_room_to w s = nat_lt (length w.subscriptions) most_pending && nat_le (world_weight w + subscription_weight s) most_world_weight
+
+abbrev pub with_subscription : Subscription → WorldRecord → WorldRecord
+with_subscription s w = record w { subscriptions = w.subscriptions ++ s ∷ [] }
+
+-- nothing is done where an equal one is held
+abbrev pub added : Subscription → Running → Outcome PlainValue
+added s r =
+    if is_subscribed s r.world.subscriptions then Gives nil r
+    else (if has_room_to r.world s then Gives nil (with_world r (with_subscription s r.world)) else Faults Full r)
+
+-- an object's method handles an event in a scope
+abbrev pub subscription : ℕ → Name → Name → Name → Subscription
+subscription object scope event x = record { scope = scope; event = event; object = object; method = x }
+
+abbrev pub subscribed : ℕ → Name → Name → Name → Running → Outcome PlainValue
+subscribed object scope event x r =
+    if is_held object r.world then added (subscription object scope event x) r else Faults NoObject r
+
+abbrev pub unsubscribed : ℕ → Name → Name → Name → Running → Outcome PlainValue
+unsubscribed object scope event x r =
+    let w = r.world in
+    if is_held object w then Gives nil (with_world r (record w { subscriptions = without_subscription (subscription object scope event x) w.subscriptions }))
+    else Faults NoObject r
+
+-- ---- messages and views
+
+-- the messages but the calls of this method of this object
+abbrev pub uncalled : ℕ → Name → List PlainMessage → List PlainMessage
+uncalled object x = filter (λ m. not (calls object x m))
+
+-- how many were taken away is told
+abbrev pub cancelled : ℕ → Name → Running → Outcome PlainValue
+cancelled object x r =
+    let w = r.world in
+    let left = uncalled object x w.pending in
+    if is_held object w then Gives (int (pos (length w.pending - length left))) (with_world r (record w { pending = left }))
+    else Faults NoObject r
+
+abbrev pub views_counted : Running → Outcome PlainValue
+views_counted r = Gives (int (pos (length r.world.views))) r
+
+abbrev pub views_told : Running → Outcome PlainValue
+views_told r = weighed (list (plains_of (map (λ view. int (pos view)) r.world.views))) r
