@@ -1,12 +1,12 @@
 -- A reader and a spelling are exact in both directions: what is read is spelled so, and what is spelled so is read.
 use Rattle.std.proofs.Common.{◌≡◌, ℕ, zero, suc, ◌+◌, ◌^◌, ◌<◌, ◌≤◌, Bool, true, false, cond, ltb, eqb, List, [], ◌∷◌, ◌++◌, length, get_or, take, drop, Option, Some, None, refl, sym, ap, subst, ◌∙◌, append_assoc, append-nil, arith, inl, inr}
-use Rattle.std.specs.Int.{Width, w32, w64, byte_len, from_be_bytes, to_be_bytes}
+use Rattle.std.specs.Int.{Width, w16, w32, w64, byte_len, from_be_bytes, to_be_bytes}
 use Rattle.std.specs.List.{flat_map}
 use Rattle.std.specs.Str.{bytes_eq, chars, is_utf8, all_scalars, encode_utf8_all}
 use Rattle.std.proofs.lemmas.Bool.{cases_lt, ltb-false, le-ltb, eqb-true}
 use Rattle.std.proofs.lemmas.List.{nil_from_length, take_at, drop_at, take-append-drop, length-append, length-take, get_or-drop, get_or-take, get_or_past}
 use Rattle.std.proofs.lemmas.List.Concat.{flat_map-cons}
-use Rattle.std.proofs.lemmas.Nat.{be_bytes_4, be_bytes_8, from_be_bytes-to_be_bytes_4, from_be_bytes-to_be_bytes_8}
+use Rattle.std.proofs.lemmas.Nat.{be_bytes_2, be_bytes_4, be_bytes_8, from_be_bytes-to_be_bytes_2, from_be_bytes-to_be_bytes_4, from_be_bytes-to_be_bytes_8}
 use Rattle.std.proofs.lemmas.Slice.Eq.{bytes_eq-Decides}
 use Rattle.std.proofs.lemmas.Str.{chars-encodes, encodes-chars, scalars-chars, is_utf8-from_IsUtf8, IsUtf8-from_is_utf8}
 use Rattle.byte_fields.specs.Fields.{Reading, ◌>>=◌, byte_at, bytes_at, number_at, paired_at, headed_at, mark_at, marked_at, made_at, tested_at, nothing_at, never_at, blob, blob_at, text_at, list_of, items_at, list_at, whole}
@@ -65,6 +65,14 @@ pub record IsWide (w : Width) (limit : ℕ) : Type 0 where
   pub back : (bytes : List ℕ) → length bytes ≡ byte_len w → IsBytes bytes → to_be_bytes w (from_be_bytes w bytes) ≡ bytes
   pub again : (n : ℕ) → n < limit → from_be_bytes w (to_be_bytes w n) ≡ n
   pub below : (bytes : List ℕ) → IsBytes bytes → from_be_bytes w bytes < limit
+
+pub wide16 : IsWide w16 (2 ^ 16)
+wide16 = record {
+  len = λ n. refl;
+  back = λ bytes len fits. be_bytes_2 bytes _ len fits refl;
+  again = λ n lt. from_be_bytes-to_be_bytes_2 n lt;
+  below = λ bytes fits. omega (arith, fits 0, fits 1);
+}
 
 pub wide32 : IsWide w32 (2 ^ 32)
 wide32 = record {

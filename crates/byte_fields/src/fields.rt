@@ -1,7 +1,7 @@
 //! The readers of single fields.
 ghost use Rattle.std.specs.Prelude.{◌≡◌, length, if◌then◌else◌};
 ghost use Rattle.std.specs.Option.{IfSome, option_map};
-ghost use Rattle.std.specs.Int.{w32, w64};
+ghost use Rattle.std.specs.Int.{w16, w32, w64};
 ghost use Rattle.std.specs.Str.{chars, is_utf8};
 ghost use Rattle.byte_fields.specs.Fields.{byte_at, bytes_at, number_at, blob_at, text_at, mark_at};
 
@@ -22,6 +22,15 @@ pub fn u8_at(bytes: &[u8]) -> Option<(u8, &[u8])>
 {
     let (first, rest) = bytes.split_first()?;
     Some((*first, rest))
+}
+
+/// The number of the first two bytes.
+pub fn u16_at(bytes: &[u8]) -> Option<(u16, &[u8])>
+    ensures { option_map (λ x. (x.0, x.1.now)) result ≡ number_at w16 bytes.now }
+{
+    let (front, rest) = bytes_at(bytes, 2)?;
+    let number = u16::from_be_bytes([front[0], front[1]]);
+    Some((number, rest))
 }
 
 /// The number of the first four bytes.

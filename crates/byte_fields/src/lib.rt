@@ -5,4 +5,4 @@
 
 mod fields;
 
-pub use fields::{after_mark, blob_at, bytes_at, text_at, u8_at, u32_at, u64_at};
+pub use fields::{after_mark, blob_at, bytes_at, text_at, u8_at, u16_at, u32_at, u64_at};

@@ -22,12 +22,12 @@ Counted = λ bytes tree verdict. verdict ≡ Done (counts_line tree) []
 pub end_check : {A : Type 0} (one : IsOneReading) (result : Result (String A) Fault) (fault : Fault) (content : Content) (bytes : List ℕ) (verdict : Verdict) → IsErrAnd result (λ found. found ≡ fault) → MayBe content bytes → length bytes ≤ program_limit → ProgramEnd (Err fault) bytes → CheckComes content verdict → WorkEnd result verdict
 end_check one result fault content bytes verdict given held within end comes = end_program one result fault [] Counted content bytes verdict given held within end comes
 
-done_next : (text : List ℕ) (verdict : Verdict) → (verdict ≡ Unknown (input.Program ∷ [])) ⊎ (verdict ≡ Done text []) → IsDoneWith text verdict
+done_next : (text : List ℕ) (verdict : Verdict) → (verdict ≡ Unknown (input.Program ∷ [])) ⊎ (verdict ≡ Done text []) → IsDoneWith text [] verdict
 done_next text verdict (inl is) = rw is tt
 done_next text verdict (inr is) = rw is (refl, refl)
 
 -- a program was read, and its line made
-pub done_check : IsOneReading → (content : Content) (bytes : List ℕ) (tree : ProgramTree) (verdict : Verdict) → MayBe content bytes → length bytes ≤ program_limit → IsSoundProgram bytes tree → CheckComes content verdict → IsDoneWith (counts_line tree) verdict
+pub done_check : IsOneReading → (content : Content) (bytes : List ℕ) (tree : ProgramTree) (verdict : Verdict) → MayBe content bytes → length bytes ≤ program_limit → IsSoundProgram bytes tree → CheckComes content verdict → IsDoneWith (counts_line tree) [] verdict
 done_check one content bytes tree verdict held within sound comes =
     done_next (counts_line tree) verdict (to_next one [] Counted content bytes tree verdict held within sound comes)
 

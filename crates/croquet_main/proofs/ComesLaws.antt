@@ -13,4 +13,4 @@ pub Comes-some : IsSomeReading → (command : Option Command) (held : List ℕ �
 Comes-some always None held none = none BadWords refl
 Comes-some always (Some (Stamp script log)) held none = none (stamp_verdict log (held script)) refl
 Comes-some always (Some (Check program)) held none = some_counted always (held program) none
-Comes-some always (Some (Replay program name log time)) held none = some_replay always name time (held program) (held log) none
+Comes-some always (Some (Replay request)) held none = some_replay always request held none

@@ -19,7 +19,7 @@ use Rattle.croquet_main.specs.declared.status.Input.{Input as InputName}
 use Rattle.croquet_main.specs.declared.status.Input.TheVariants as input
 use Rattle.croquet_main.specs.PrintedText.{check_line}
 use Rattle.croquet_main.specs.Verdict.{Verdict, Refusal, NoProgram, TooLarge, Faulty, IsLineOf, IsRefused, IsRefusedFor, OfCheck, OfReading, OfProgram, ProgramComes, BadWords, Unreadable, BadProgram, BadInput, Unknown, Done, AreKept, IsProgramLine, MayBeBad, MayBeDone, MayBeRead, MayBeRefused, PutsFiles, program_limit}
-use Rattle.croquet_main.specs.Ends.{IsDoneWith, IsLonger, IsSoundProgram, IsUnread, IsUnsound, MayEnd, ProgramEnd, WorkEnd}
+use Rattle.croquet_main.specs.Ends.{IsDoneWith, IsLonger, IsSoundProgram, IsUnread, IsUnsound, MayEnd, ProgramEnd, Stops, WorkEnd}
 
 -- one thing comes of a text: what `model_lang::one_reading` says
 abbrev pub IsOneReading : Type 0
@@ -156,18 +156,18 @@ by_fault P (Ok value) fault given meant = absurd given
 by_fault P (Err found) fault given meant = subst (λ (f : Fault). P (Err f)) (sym given) meant
 
 -- the program was read, and refused
-end_program_err : (A : Type 0) → IsOneReading → (fault : Fault) (others : List InputName) (next : Next) (content : Content) (bytes : List ℕ) (verdict : Verdict) → MayBe content bytes → length bytes ≤ program_limit → ProgramEnd (Err fault) bytes → ProgramComes others next content verdict → WorkEnd {A = A} (Err fault) verdict
-end_program_err A one Usage others next content bytes verdict held within end comes = absurd end
-end_program_err A one (Program line) others next content bytes verdict held within end comes = refused_program one others next content bytes line verdict held within end comes
-end_program_err A one (Input at) others next content bytes verdict held within end comes = absurd end
-end_program_err A one Read others next content bytes verdict held within end comes = absurd end
-end_program_err A one Write others next content bytes verdict held within end comes = absurd end
-end_program_err A one Sink others next content bytes verdict held within end comes = absurd end
-end_program_err A one Memory others next content bytes verdict held within end comes = tt
+pub stops_bad_program : IsOneReading → (fault : Fault) (others : List InputName) (next : Next) (content : Content) (bytes : List ℕ) (verdict : Verdict) → MayBe content bytes → length bytes ≤ program_limit → ProgramEnd (Err fault) bytes → ProgramComes others next content verdict → Stops fault verdict
+stops_bad_program one Usage others next content bytes verdict held within end comes = absurd end
+stops_bad_program one (Program line) others next content bytes verdict held within end comes = refused_program one others next content bytes line verdict held within end comes
+stops_bad_program one (Input at) others next content bytes verdict held within end comes = absurd end
+stops_bad_program one Read others next content bytes verdict held within end comes = absurd end
+stops_bad_program one Write others next content bytes verdict held within end comes = absurd end
+stops_bad_program one Sink others next content bytes verdict held within end comes = absurd end
+stops_bad_program one Memory others next content bytes verdict held within end comes = tt
 
 pub end_program : {A : Type 0} (one : IsOneReading) (result : Result (String A) Fault) (fault : Fault) (others : List InputName) (next : Next) (content : Content) (bytes : List ℕ) (verdict : Verdict) → IsErrAnd result (λ found. found ≡ fault) → MayBe content bytes → length bytes ≤ program_limit → ProgramEnd (Err fault) bytes → ProgramComes others next content verdict → WorkEnd result verdict
 end_program {A = A} one result fault others next content bytes verdict given held within end comes =
-    by_fault (λ r. WorkEnd r verdict) result fault given (end_program_err A one fault others next content bytes verdict held within end comes)
+    by_fault (λ r. WorkEnd r verdict) result fault given (stops_bad_program one fault others next content bytes verdict held within end comes)
 
 -- ---- no file is written
 
@@ -195,7 +195,7 @@ put_none (Ok done) Comes old new end none kept = λ verdict comes. PutsFiles-kep
 put_none (Err fault) Comes old new end none kept = tt
 
 -- the text was not written whole, and no file is to be put
-pub PutsFiles-none : (text : List ℕ) (verdict : Verdict) (old new : List ℕ → Content) → IsDoneWith text verdict → AreKept old new → PutsFiles verdict old new
+pub PutsFiles-none : (text : List ℕ) (verdict : Verdict) (old new : List ℕ → Content) → IsDoneWith text [] verdict → AreKept old new → PutsFiles verdict old new
 PutsFiles-none text BadWords old new done kept = absurd done
 PutsFiles-none text (Unreadable absent) old new done kept = absurd done
 PutsFiles-none text (BadProgram line) old new done kept = absurd done

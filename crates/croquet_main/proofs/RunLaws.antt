@@ -11,11 +11,11 @@ use Rattle.croquet_main.specs.declared.status.Fault.{Fault}
 use Rattle.croquet_main.specs.declared.status.Fault.TheVariants.{Usage, Program, Input, Read, Write, Sink, Memory}
 use Rattle.croquet_main.specs.declared.status.Input.{Input as InputName}
 use Rattle.croquet_main.specs.declared.status.Input.TheVariants as input
-use Rattle.croquet_main.specs.Verdict.{Verdict, BadWords, Unreadable, BadProgram, BadInput, Unknown, Done, AreKept, CheckComes, Comes, PutsFiles, ReplayComes, HasBadWords, HasGoodWords, MayBeRead, inputs_of, optional_write, reads_of, reads_to, writes_of, replied, requests_in, stamp_verdict}
+use Rattle.croquet_main.specs.Verdict.{Verdict, BadWords, Unreadable, BadProgram, BadInput, Unknown, Done, AreKept, CheckComes, Comes, PutsFiles, HasBadWords, HasGoodWords, MayBeRead, inputs_of, optional_write, reads_of, reads_to, writes_of, replied, requests_in, stamp_verdict}
 use Rattle.croquet_main.specs.Ends.{AskedFor, AskedTo, MadeAll, MayEnd, WritesBefore}
 use Rattle.croquet_main.proofs.ProgramLaws.{put_none}
 use Rattle.croquet_main.proofs.CheckLaws.{check_files, check_read}
-use Rattle.croquet_main.proofs.ReplayLaws.{good_words, replay_files, replay_read}
+use Rattle.croquet_main.proofs.ReplayLaws.{good_words, replay_read}
 
 -- ---- stamp
 
@@ -32,6 +32,8 @@ one_read : (at : InputName) (script : List ℕ) → reads_to at ((input.Script, 
 one_read input.Script script = refl
 one_read input.Program script = refl
 one_read input.Log script = refl
+one_read input.Snapshot script = refl
+one_read input.Time script = refl
 
 asked_stamp : {T : Type 0} (result : Result T Fault) (script : List ℕ) (writes : List FileCall) (verdict : Verdict) (old new : Option (List FileCall)) (quiet : Type 0) → MayBeRead input.Script verdict → AskedTo result (call.Read script ∷ []) writes old new quiet → AskedFor result verdict ((input.Script, script) ∷ []) writes old new quiet
 asked_stamp (Ok done) script writes verdict old new quiet may asked = asked
@@ -74,11 +76,6 @@ put_check command result program old new is end kept =
     subst (λ (k : Option Command). OnOk result ((verdict : Verdict) → Comes k old verdict → PutsFiles verdict old new)) (sym is)
     (put_none result (CheckComes (old program)) old new end (check_files (old program)) kept)
 
-pub put_replay : (command : Option Command) (result : Result (Unit {0}) Fault) (program name log : List ℕ) (time : ℕ) (old new : List ℕ → Content) → command ≡ Some (Replay program name log time) → ((verdict : Verdict) → ReplayComes name time (old program) (old log) verdict → MayEnd result verdict) → AreKept old new → OnOk result ((verdict : Verdict) → Comes command old verdict → PutsFiles verdict old new)
-put_replay command result program name log time old new is end kept =
-    subst (λ (k : Option Command). OnOk result ((verdict : Verdict) → Comes k old verdict → PutsFiles verdict old new)) (sym is)
-    (put_none result (ReplayComes name time (old program) (old log)) old new end (replay_files name time (old program) (old log)) kept)
-
 -- ---- the words
 
 not_both_words : (verdict : Verdict) {fact : Type 0} → HasBadWords verdict → HasGoodWords verdict → fact
@@ -96,5 +93,5 @@ no_inputs_of (Some (Stamp script log)) held verdict comes bad =
     not_both_words verdict bad (good_words input.Script verdict (subst (MayBeRead input.Script) (sym comes) (stamp_read log (held script))))
 no_inputs_of (Some (Check program)) held verdict comes bad =
     not_both_words verdict bad (good_words input.Program verdict (check_read (held program) verdict comes))
-no_inputs_of (Some (Replay program name log time)) held verdict comes bad =
-    not_both_words verdict bad (good_words input.Program verdict (replay_read name time (held program) (held log) verdict comes))
+no_inputs_of (Some (Replay request)) held verdict comes bad =
+    not_both_words verdict bad (good_words input.Program verdict (replay_read request held verdict comes))

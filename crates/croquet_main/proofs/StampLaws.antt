@@ -20,7 +20,7 @@ pub grown-append : (told : Option (List FileCall)) (front back : List FileCall) 
 grown-append None front back = refl
 grown-append (Some calls) front back = ap Some (append_assoc calls front back)
 
-then_calls : (reads writes : List FileCall) (old mid new : Option (List FileCall)) → mid ≡ grown old reads → new ≡ grown mid writes → new ≡ grown old (reads ++ writes)
+pub then_calls : (reads writes : List FileCall) (old mid new : Option (List FileCall)) → mid ≡ grown old reads → new ≡ grown mid writes → new ≡ grown old (reads ++ writes)
 then_calls reads writes old mid new read written = written ∙ rw read (grown-append old reads writes)
 
 -- all calls were made, and only the text may be missing
@@ -40,13 +40,13 @@ pub ArePut-one : {T E : Type 0} (result : Result T E) (file : List ℕ × List �
 ArePut-one (Ok done) file old new put = (new, put, λ name. refl)
 ArePut-one (Err error) file old new put = tt
 
--- the log is put under the name that was given
-pub ArePut-given : {T E : Type 0} (result : Result T E) (given : Option (List ℕ)) (name bytes : List ℕ) (log : List Entry) (old new : List ℕ → Content) → given ≡ Some name → bytes ≡ log_spelling log → OnOk result (IsPut (name, bytes) old new) → OnOk result (ArePut (optional_put given log) old new)
-ArePut-given result None name bytes log old new is spells put = absurd cc
-ArePut-given result (Some given) name bytes log old new is spells put =
+-- bytes are put under the name that was given
+pub ArePut-given : {T E : Type 0} (result : Result T E) (given : Option (List ℕ)) (name bytes meant : List ℕ) (old new : List ℕ → Content) → given ≡ Some name → bytes ≡ meant → OnOk result (IsPut (name, bytes) old new) → OnOk result (ArePut (optional_put given meant) old new)
+ArePut-given result None name bytes meant old new is spells put = absurd cc
+ArePut-given result (Some given) name bytes meant old new is spells put =
     let same : name ≡ given = cc in
     let P : List ℕ → List ℕ → Type 0 = λ n b. OnOk result (ArePut ((n, b) ∷ []) old new) in
-    subst (λ n. P n (log_spelling log)) same (subst (P name) spells (ArePut-one result (name, bytes) old new put))
+    subst (λ n. P n meant) same (subst (P name) spells (ArePut-one result (name, bytes) old new put))
 
 -- the files were the same before
 pub ArePut-same : (files : List (List ℕ × List ℕ)) (old mid new : List ℕ → Content) → ((name : List ℕ) → mid name ≡ old name) → ArePut files mid new → ArePut files old new
@@ -54,16 +54,16 @@ ArePut-same [] old mid new same put = λ name. put name ∙ same name
 ArePut-same (file ∷ files) old mid new same put =
     (put.0, record { content = rw (same file.0) at put.1.content; others = λ name differs. put.1.others name differs ∙ same name }, put.2)
 
-PutsFiles-replied : (name : Option (List ℕ)) (read : Option (List Request)) (log : List Entry) (replies : List Reply) (old new : List ℕ → Content) → Answers read log replies → ArePut (optional_put name log) old new → PutsFiles (replied name read) old new
+PutsFiles-replied : (name : Option (List ℕ)) (read : Option (List Request)) (log : List Entry) (replies : List Reply) (old new : List ℕ → Content) → Answers read log replies → ArePut (optional_put name (log_spelling log)) old new → PutsFiles (replied name read) old new
 PutsFiles-replied name None log replies old new answered put = absurd answered
 PutsFiles-replied name (Some requests) log replies old new answered put =
-    let P : List Entry → Type 0 = λ entries. ArePut (optional_put name entries) old new in subst P answered.0 put
+    let P : List Entry → Type 0 = λ entries. ArePut (optional_put name (log_spelling entries)) old new in subst P answered.0 put
 
 requests_in-within : (bytes : List ℕ) → length bytes ≤ script_limit → requests_in bytes ≡ script_of bytes
 requests_in-within bytes within = grind (arith, nat_tests)
 
 -- the log of the script that was read is put
-pub PutsFiles-stamp : (name : Option (List ℕ)) (content : Content) (bytes : List ℕ) (log : List Entry) (replies : List Reply) (old new : List ℕ → Content) → MayBe content bytes → length bytes ≤ script_limit → Answers (script_of bytes) log replies → ArePut (optional_put name log) old new → PutsFiles (stamp_verdict name content) old new
+pub PutsFiles-stamp : (name : Option (List ℕ)) (content : Content) (bytes : List ℕ) (log : List Entry) (replies : List Reply) (old new : List ℕ → Content) → MayBe content bytes → length bytes ≤ script_limit → Answers (script_of bytes) log replies → ArePut (optional_put name (log_spelling log)) old new → PutsFiles (stamp_verdict name content) old new
 PutsFiles-stamp name Untold bytes log replies old new held within answered put = tt
 PutsFiles-stamp name Absent bytes log replies old new held within answered put = absurd held
 PutsFiles-stamp name (Known told) bytes log replies old new held within answered put =

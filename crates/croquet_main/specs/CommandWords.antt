@@ -5,6 +5,7 @@ use Rattle.text_lines.specs.Lines.{number_of}
 use Rattle.croquet_main.specs.declared.words.Parts.{Parts}
 use Rattle.croquet_main.specs.declared.words.Reader.{Reader}
 use Rattle.croquet_main.specs.declared.words.Setting.{Setting}
+use Rattle.croquet_main.specs.declared.words.ReplayRequest.{ReplayRequest}
 use Rattle.croquet_main.specs.declared.words.Command.{Command}
 use Rattle.croquet_main.specs.declared.words.Command.TheVariants.{Stamp, Check, Replay}
 
@@ -87,18 +88,28 @@ most_name = 255
 abbrev pub time_of : Word → Option ℕ
 time_of word = number_of 0 9007199254740991 (encode_utf8_all word)
 
-abbrev pub replay_named : Word → Word → Word → Option ℕ → Option Command
-replay_named program name log time =
-    if nat_le (length (encode_utf8_all name)) most_name then option_map (Replay program name log) time else None
+abbrev pub replay_to : Word → Word → Word → Option Word → Option Word → ℕ → Command
+replay_to program name log from snapshot time =
+    Replay (record { program = program; name = name; log = log; time = time; from = from; snapshot = snapshot })
 
--- `replay` has four positionals, and no setting
-abbrev pub replay_with : List Word → List Setting → Option Command
-replay_with (program ∷ name ∷ log ∷ time ∷ []) [] = replay_named program name log (time_of time)
-replay_with positionals settings = None
+abbrev pub replay_named : Word → Word → Word → Option Word → Option Word → Option ℕ → Option Command
+replay_named program name log from snapshot time =
+    if nat_le (length (encode_utf8_all name)) most_name then option_map (replay_to program name log from snapshot) time else None
 
--- `replay PROGRAM NAME LOG TIME`
+-- `replay` has four positionals, and no setting is left once `--from` and `--snapshot` are taken out
+abbrev pub replay_words : List Word → Option Word → Option Word → Option Command
+replay_words (program ∷ name ∷ log ∷ time ∷ []) from snapshot = replay_named program name log from snapshot (time_of time)
+replay_words positionals from snapshot = None
+
+abbrev pub replay_with : List Setting → List Word → Option Word → Option Word → Option Command
+replay_with [] positionals from snapshot = replay_words positionals from snapshot
+replay_with settings positionals from snapshot = None
+
+-- `replay PROGRAM NAME LOG TIME [--from SNAP] [--snapshot FILE]`
 abbrev pub replay_of : Parts → Option Command
-replay_of parts = replay_with parts.positionals parts.settings
+replay_of parts =
+    let others = without (codes "--from") parts.settings in
+    replay_with (without (codes "--snapshot") others) parts.positionals (value_of (codes "--from") parts.settings) (value_of (codes "--snapshot") others)
 
 -- what the words after the command's name make: one row for each command
 abbrev pub command_named : Word → Parts → Option Command
@@ -114,10 +125,13 @@ command_of [] = None
 command_of (name ∷ words) = option_and_then (command_named name) (parts_of words)
 
 -- a replay has a name of at most so many bytes, and a time below 2 ^ 53
+abbrev pub IsBounded : ReplayRequest → Type 0
+IsBounded request = (length (encode_utf8_all request.name) ≤ most_name) × (request.time < 2 ^ 53)
+
 abbrev pub IsWithinBounds : Command → Type 0
 IsWithinBounds (Stamp script log) = ⊤
 IsWithinBounds (Check program) = ⊤
-IsWithinBounds (Replay program name log time) = (length (encode_utf8_all name) ≤ most_name) × (time < 2 ^ 53)
+IsWithinBounds (Replay request) = IsBounded request
 
 -- what a reader makes of these words, after those that it has read
 abbrev pub read_on : Reader → List Word → Option Parts

@@ -1,9 +1,10 @@
 -- How the parts of a run end.
-use Rattle.std.specs.Prelude.{◌≡◌, ◌≢◌, ◌⊎◌, ℕ, ⊤, ◌≤◌, ◌<◌, ◌++◌, List, [], length, Option, Some, None, Result, Ok, Err, String, string_bytes}
+use Rattle.std.specs.Prelude.{◌≡◌, ◌≢◌, ◌⊎◌, ℕ, ⊤, ◌≤◌, ◌<◌, ◌++◌, ◌∷◌, List, [], length, Option, Some, None, option_map, Result, Ok, Err, String, string_bytes, Contains, false}
 use Rattle.tea_io.specs.Files.{Content, Untold, Absent, Known, MayBe}
 use Rattle.tea_io.specs.Told.{grown}
 use Rattle.tea_io.specs.Sink.{GrowsWithin}
 use Rattle.tea_io.specs.declared.files.FileCall.{FileCall}
+use Rattle.tea_io.specs.declared.files.FileCall.TheVariants as file_call
 use Rattle.reflector_core.specs.Play.{first, after_all, replies_from}
 use Rattle.tea_base.specs.declared.entry.Entry.{Entry}
 use Rattle.reflector_core.specs.declared.request.Request.{Request}
@@ -11,16 +12,27 @@ use Rattle.reflector_core.specs.declared.request.Reply.{Reply}
 use Rattle.session_log.specs.LogState.{LogState}
 use Rattle.session_log.specs.Spelling.{log_spelling}
 use Rattle.tea_base.specs.Legal.{IsLegal}
+use Rattle.model_value.specs.World.{WorldRecord, world_record}
+use Rattle.model_value.specs.declared.world.PlainWorld.{PlainWorld}
 use Rattle.model_lang.specs.declared.tree.Class.{Class}
 use Rattle.model_lang.specs.Tree.{ProgramTree}
 use Rattle.model_lang.specs.TreeView.{program_tree}
 use Rattle.model_lang.specs.declared.fault.LangFault.{LangFault}
 use Rattle.model_lang.specs.declared.fault.LangFault.TheVariants as lang
 use Rattle.model_lang.specs.Program.{IsRead}
-use Rattle.croquet_main.specs.PrintedText.{check_line, syntax_line, too_large_line}
+use Rattle.croquet_main.specs.PrintedText.{check_line, syntax_line, too_large_line, world_line}
 use Rattle.model_check.specs.declared.fault.CheckFault.{CheckFault}
 use Rattle.model_check.specs.declared.fault.CheckFault.TheVariants as check
 use Rattle.model_check.specs.Faults.{first_fault}
+use Rattle.model_check.specs.Methods.{field_counts}
+use Rattle.snapshot_codec.specs.Answer.{IsSnapshot}
+use Rattle.snapshot_codec.specs.Spelling.{world_spelling}
+use Rattle.tea_base.specs.Readings.{count}
+use Rattle.world.specs.View.{WorldView}
+use Rattle.world.specs.Worlds.{first as first_world, replay, resumed, taken_up}
+use Rattle.croquet_main.specs.declared.recording.Recording.{Recording}
+use Rattle.croquet_main.specs.declared.world_run.Told.{Told}
+use Rattle.croquet_main.specs.declared.words.ReplayRequest.{ReplayRequest}
 use Rattle.croquet_main.specs.declared.status.Fault.{Fault}
 use Rattle.croquet_main.specs.declared.status.Fault.TheVariants.{Usage, Program, Input, Read, Write, Sink, Memory}
 use Rattle.croquet_main.specs.declared.status.Input.{Input as InputName}
@@ -28,7 +40,7 @@ use Rattle.croquet_main.specs.declared.status.Status.{Status}
 use Rattle.croquet_main.specs.declared.status.Status.TheVariants.{WriteFault, WantOfMemory}
 use Rattle.croquet_main.specs.declared.status.Status.TheVariants as status
 use Rattle.croquet_main.specs.declared.status.Input.TheVariants as input_name
-use Rattle.croquet_main.specs.Verdict.{Verdict, IsRefused, BadWords, Unreadable, BadProgram, BadInput, Unknown, Done, MayBeRefused, MayBeRead, IsInputLog, reads_in, reads_to, MayBeDone, MayBeBad, HasBadWords, HasGoodWords, AreKept, IsNonEmpty, IsNotDone, OfText, PutsFiles, usage_line, input_line, read_line, write_line, memory_line}
+use Rattle.croquet_main.specs.Verdict.{Verdict, IsRefused, BadWords, Unreadable, BadProgram, BadInput, Unknown, Done, MayBeRefused, MayBeRead, IsInputLog, IsInputSnapshot, StartComes, start_inputs, told_world, optional_put, reads_in, reads_to, MayBeDone, MayBeBad, HasBadWords, HasGoodWords, AreKept, IsNonEmpty, IsNotDone, OfText, PutsFiles, usage_line, input_line, read_line, write_line, memory_line}
 
 -- what stands there is longer
 abbrev pub IsLonger : Content → ℕ → Type 0
@@ -128,6 +140,16 @@ IsReadingFault Write = ⊥
 IsReadingFault Sink = ⊥
 IsReadingFault Memory = ⊤
 
+-- a snapshot is not read, or is of a later time, or memory was wanted
+abbrev pub IsStartFault : Fault → Type 0
+IsStartFault Usage = ⊥
+IsStartFault (Program line) = ⊥
+IsStartFault (Input input) = (input ≡ input_name.Snapshot) ⊎ (input ≡ input_name.Time)
+IsStartFault Read = ⊤
+IsStartFault Write = ⊥
+IsStartFault Sink = ⊥
+IsStartFault Memory = ⊤
+
 -- a script that has no requests is at fault, and else only memory is wanted
 abbrev pub IsScriptFault : {T : Type 0} → Fault → Option T → Type 0
 IsScriptFault Usage reading = ⊥
@@ -212,22 +234,109 @@ LogEnd (Err Write) bytes = ⊥
 LogEnd (Err Sink) bytes = ⊥
 LogEnd (Err Memory) bytes = ⊤
 
--- this text is to be written, and no file, or the files do not tell
-abbrev pub IsDoneWith : List ℕ → Verdict → Type 0
-IsDoneWith text BadWords = ⊥
-IsDoneWith text (Unreadable absent) = ⊥
-IsDoneWith text (BadProgram refusal) = ⊥
-IsDoneWith text (BadInput bad) = ⊥
-IsDoneWith text (Unknown inputs) = ⊤
-IsDoneWith text (Done meant files) = (text ≡ meant) × (files ≡ [])
+-- this text is to be written, and these files, or the files do not tell
+abbrev pub IsDoneWith : List ℕ → List (List ℕ × List ℕ) → Verdict → Type 0
+IsDoneWith text put BadWords = ⊥
+IsDoneWith text put (Unreadable absent) = ⊥
+IsDoneWith text put (BadProgram refusal) = ⊥
+IsDoneWith text put (BadInput bad) = ⊥
+IsDoneWith text put (Unknown inputs) = ⊤
+IsDoneWith text put (Done meant files) = (text ≡ meant) × (files ≡ put)
+
+-- the verdicts at which a fault may come before a command writes
+abbrev pub Stops : Fault → Verdict → Type 0
+Stops Usage verdict = ⊥
+Stops (Program line) verdict = MayBeRefused line verdict
+Stops (Input input) verdict = MayBeBad input verdict
+Stops Read verdict = HasGoodWords verdict
+Stops Write verdict = ⊥
+Stops Sink verdict = ⊥
+Stops Memory verdict = ⊤
 
 -- how the reads and the work of a command end that writes no file
 abbrev pub WorkEnd : {A : Type 0} → Result (String A) Fault → Verdict → Type 0
-WorkEnd (Ok text) verdict = IsDoneWith (string_bytes text) verdict
-WorkEnd (Err Usage) verdict = ⊥
-WorkEnd (Err (Program line)) verdict = MayBeRefused line verdict
-WorkEnd (Err (Input input)) verdict = MayBeBad input verdict
-WorkEnd (Err Read) verdict = HasGoodWords verdict
-WorkEnd (Err Write) verdict = ⊥
-WorkEnd (Err Sink) verdict = ⊥
-WorkEnd (Err Memory) verdict = ⊤
+WorkEnd (Ok text) verdict = IsDoneWith (string_bytes text) [] verdict
+WorkEnd (Err fault) verdict = Stops fault verdict
+
+-- ---- replay
+
+-- these bytes are the snapshot of this world alone
+pub record IsReadSnapshot (tree : ProgramTree) (id bytes : List ℕ) (w : WorldRecord) : Type 0 where
+  pub spells : IsSnapshot (field_counts tree) id bytes w
+  pub only : (other : WorldRecord) → IsSnapshot (field_counts tree) id bytes other → w ≡ other
+
+-- how the reading of a snapshot ends
+abbrev pub SnapshotEnd : Result PlainWorld Fault → ProgramTree → List ℕ → List ℕ → Type 0
+SnapshotEnd (Ok world) tree id bytes = IsReadSnapshot tree id bytes (world_record world)
+SnapshotEnd (Err Usage) tree id bytes = ⊥
+SnapshotEnd (Err (Program line)) tree id bytes = ⊥
+SnapshotEnd (Err (Input input)) tree id bytes = (input ≡ input_name.Snapshot) × ((w : WorldRecord) → ¬ IsInputSnapshot tree id bytes w)
+SnapshotEnd (Err Read) tree id bytes = ⊥
+SnapshotEnd (Err Write) tree id bytes = ⊥
+SnapshotEnd (Err Sink) tree id bytes = ⊥
+SnapshotEnd (Err Memory) tree id bytes = ⊤
+
+-- the files do not tell all, and these inputs are still to come
+abbrev pub IsOpen : List InputName → Verdict → Type 0
+IsOpen later (Unknown inputs) = (input : InputName) → Contains later input → Contains inputs input
+IsOpen later verdict = ⊥
+
+-- what comes where the inputs before these were read
+abbrev pub Remains : List InputName → (Verdict → Type 0) → Verdict → Type 0
+Remains later next verdict = IsOpen later verdict ⊎ next verdict
+
+-- from what a replay begins, once the program and the log were read
+abbrev pub StartRemains : ReplayRequest → Recording → (List ℕ → Content) → Verdict → Type 0
+StartRemains request recording held verdict =
+    Remains (start_inputs request.from) (StartComes request (program_tree recording.program) recording.id.0 recording.log.entries request.from held) verdict
+
+-- how the reading of a program and a log ends
+abbrev pub RecordingEnd : Result Recording Fault → ReplayRequest → (List ℕ → Content) → Verdict → Type 0
+RecordingEnd (Ok recording) request held verdict = StartRemains request recording held verdict
+RecordingEnd (Err fault) request held verdict = Stops fault verdict
+
+-- the world at a time: by the whole log, or from a world that is taken up
+abbrev pub world_at : Recording → ℕ → Option WorldRecord → WorldRecord
+world_at recording time None = (replay (program_tree recording.program) recording.id.0 recording.log.entries time).world
+world_at recording time (Some w) = (resumed (program_tree recording.program) w recording.log.entries time).world
+
+-- a world that is opened: the first one of a session, or one that is taken up
+abbrev pub Opens : WorldView → List Class → List ℕ → Option WorldRecord → Type 0
+Opens world program id None = world ≡ record { program = program; scene = first_world (program_tree program) id; broken = false }
+Opens world program id (Some w) = world ≡ record { program = program; scene = taken_up w; broken = false }
+
+-- how many entries lie at or before the time of a world that is taken up
+abbrev pub skipped : List Entry → Option WorldRecord → ℕ
+skipped entries None = 0
+skipped entries (Some w) = count entries w.time
+
+-- how the reading of a snapshot ends, if one is given
+abbrev pub StartEnd : Result (Option PlainWorld) Fault → ReplayRequest → Recording → Verdict → Type 0
+StartEnd (Ok start) request recording verdict =
+    Remains [] (λ v. v ≡ told_world request.snapshot (world_at recording request.time (option_map world_record start))) verdict
+StartEnd (Err fault) request recording verdict = Stops fault verdict
+
+-- a world's line and its snapshot
+pub record TellsWorld (told : Told) (w : WorldRecord) : Type 0 where
+  pub line : string_bytes told.line ≡ world_line w
+  pub snapshot : told.snapshot ≡ world_spelling w
+
+-- how the reads and the work of a replay end
+abbrev pub ToldEnd : Result Told Fault → Option (List ℕ) → Verdict → Type 0
+ToldEnd (Ok told) name verdict = IsDoneWith (string_bytes told.line) (optional_put name told.snapshot) verdict
+ToldEnd (Err fault) name verdict = Stops fault verdict
+
+-- the calls that were made before a fault of the reads or of the work
+abbrev pub AskedBefore : Fault → Verdict → List (InputName × List ℕ) → Option (List FileCall) → Option (List FileCall) → Type 0
+AskedBefore Usage verdict inputs old new = ⊥
+AskedBefore (Program line) verdict inputs old new = new ≡ grown old (reads_to input_name.Program inputs)
+AskedBefore (Input input) verdict inputs old new = new ≡ grown old (reads_to input inputs)
+AskedBefore Read verdict inputs old new = (input : InputName) × MayBeRead input verdict × (new ≡ grown old (reads_to input inputs))
+AskedBefore Write verdict inputs old new = ⊥
+AskedBefore Sink verdict inputs old new = ⊥
+AskedBefore Memory verdict inputs old new = ((input : InputName) × (new ≡ grown old (reads_to input inputs))) ⊎ (new ≡ old)
+
+-- a file that is read, if one is
+abbrev pub optional_read : Option (List ℕ) → List FileCall
+optional_read None = []
+optional_read (Some name) = file_call.Read name ∷ []

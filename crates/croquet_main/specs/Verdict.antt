@@ -1,5 +1,5 @@
 -- What the words and the told files make of a run, and what may then come of it.
-use Rattle.std.specs.Prelude.{◌≡◌, ◌≢◌, ◌⊎◌, ℕ, ⊤, ◌≤◌, ◌<◌, nat_le, true, false, Bool, if◌then◌else◌, List, [], ◌∷◌, ◌++◌, length, Option, Some, None, codes, Contains}
+use Rattle.std.specs.Prelude.{◌≡◌, ◌≢◌, ◌⊎◌, ℕ, ⊤, ◌≤◌, ◌<◌, nat_le, nat_lt, true, false, Bool, if◌then◌else◌, List, [], ◌∷◌, ◌++◌, length, Option, Some, None, codes, Contains}
 use Rattle.tea_io.specs.Files.{Content, Untold, Absent, Known, Holds}
 use Rattle.session_log.specs.Spelling.{log_spelling}
 use Rattle.tea_io.specs.Told.{grown, Rose}
@@ -9,10 +9,11 @@ use Rattle.tea_io.specs.declared.files.FileCall.TheVariants.{Read, Write}
 use Rattle.tea_base.specs.declared.entry.Entry.{Entry}
 use Rattle.reflector_core.specs.declared.request.Request.{Request}
 use Rattle.reflector_core.specs.Play.{first, after_all, replies_from, TellsItsEvents}
+use Rattle.croquet_main.specs.declared.words.ReplayRequest.{ReplayRequest}
 use Rattle.croquet_main.specs.declared.words.Command.{Command}
 use Rattle.croquet_main.specs.declared.words.Command.TheVariants.{Stamp, Check, Replay}
 use Rattle.croquet_main.specs.declared.status.Input.{Input}
-use Rattle.croquet_main.specs.declared.status.Input.TheVariants.{Script, Program, Log}
+use Rattle.croquet_main.specs.declared.status.Input.TheVariants.{Script, Program, Log, Snapshot, Time}
 use Rattle.croquet_main.specs.declared.status.Status.{Status}
 use Rattle.croquet_main.specs.declared.status.Status.TheVariants as status
 use Rattle.croquet_main.specs.Script.{script_of}
@@ -20,12 +21,17 @@ use Rattle.croquet_main.specs.PrintedText.{text_of, counts_line, world_line, syn
 use Rattle.tea_base.specs.Legal.{IsLegal}
 use Rattle.sha2.specs.Sha256.{sha256}
 use Rattle.model_value.specs.Spelling.{text_field}
+use Rattle.model_value.specs.Valid.{Valid, time_limit}
+use Rattle.model_value.specs.World.{WorldRecord}
 use Rattle.model_lang.specs.Tree.{ProgramTree}
 use Rattle.model_lang.specs.declared.fault.Bound.{Bound}
-use Rattle.model_lang.specs.Program.{IsRead, IsNoProgram, IsTooLarge, Reading, a_program, no_program, too_large, IsReading}
+use Rattle.model_lang.specs.Program.{IsProgram, IsRead, IsNoProgram, IsTooLarge, Reading, a_program, no_program, too_large, IsReading}
 use Rattle.model_check.specs.declared.fault.CheckFault.{CheckFault}
 use Rattle.model_check.specs.Faults.{first_fault}
-use Rattle.world.specs.Worlds.{replay}
+use Rattle.model_check.specs.Methods.{field_counts}
+use Rattle.snapshot_codec.specs.Answer.{IsSnapshot}
+use Rattle.snapshot_codec.specs.Spelling.{world_spelling}
+use Rattle.world.specs.Worlds.{Follows, replay, resumed}
 
 -- why a program is refused
 pub data Refusal : Type 0 where
@@ -67,14 +73,14 @@ requests_in bytes = if nat_le (length bytes) script_limit then script_of bytes e
 abbrev pub stamped_text : List Request → List ℕ
 stamped_text requests = text_of (replies_from first requests)
 
--- the spelling of a log, under the name that was given, if one was
-abbrev pub optional_put : Option (List ℕ) → List Entry → List (List ℕ × List ℕ)
-optional_put None log = []
-optional_put (Some name) log = (name, log_spelling log) ∷ []
+-- these bytes, under the name that was given, if one was
+abbrev pub optional_put : Option (List ℕ) → List ℕ → List (List ℕ × List ℕ)
+optional_put None bytes = []
+optional_put (Some name) bytes = (name, bytes) ∷ []
 
--- the log of the session after the requests
+-- the spelling of the log of the session after the requests
 abbrev pub stamped_files : Option (List ℕ) → List Request → List (List ℕ × List ℕ)
-stamped_files name requests = optional_put name (after_all first requests).log
+stamped_files name requests = optional_put name (log_spelling (after_all first requests).log)
 
 abbrev pub replied : Option (List ℕ) → Option (List Request) → Verdict
 replied log None = BadInput Script
@@ -85,12 +91,15 @@ stamp_verdict log Untold = Unknown (Script ∷ [])
 stamp_verdict log Absent = Unreadable Script
 stamp_verdict log (Known bytes) = replied log (requests_in bytes)
 
--- the most bytes of a program, and of a log
+-- the most bytes of a program, of a log and of a snapshot
 abbrev pub program_limit : ℕ
 program_limit = 65536
 
 abbrev pub log_limit : ℕ
 log_limit = 134217728
+
+abbrev pub snapshot_limit : ℕ
+snapshot_limit = 4194304
 
 -- these bytes are the spelling of this legal log
 pub record IsInputLog (bytes : List ℕ) (log : List Entry) : Type 0 where
@@ -98,20 +107,35 @@ pub record IsInputLog (bytes : List ℕ) (log : List Entry) : Type 0 where
   pub legal : IsLegal log
   pub spelled : bytes ≡ log_spelling log
 
--- the line of the world at a time, of the session of this name and this program's text, whose log this is
-abbrev pub replay_text : List ℕ → ℕ → List ℕ → ProgramTree → List Entry → List ℕ
-replay_text name time text tree log = world_line (replay tree (sha256 (text_field name ++ text)) log time).world
-
--- what comes of a log's bytes, where its entries make this text: they spell one, or they do not
-abbrev pub OfLog : List ℕ → (List Entry → List ℕ) → Verdict → Type 0
-OfLog bytes text verdict =
-    ((log : List Entry) × IsInputLog bytes log × (verdict ≡ Done (text log) []))
+-- what comes of a log's bytes: they spell one, and what is next comes, or they do not
+abbrev pub OfLog : List ℕ → (List Entry → Type 0) → Verdict → Type 0
+OfLog bytes next verdict =
+    ((log : List Entry) × IsInputLog bytes log × next log)
     ⊎ (((log : List Entry) → ¬ IsInputLog bytes log) × (verdict ≡ BadInput Log))
 
-abbrev pub LogComes : Content → (List Entry → List ℕ) → Verdict → Type 0
-LogComes Untold text verdict = verdict ≡ Unknown (Log ∷ [])
-LogComes Absent text verdict = verdict ≡ Unreadable Log
-LogComes (Known bytes) text verdict = OfLog bytes text verdict
+-- What comes of a command that reads a log, and then other inputs: where its bytes spell one, what is `next`.
+abbrev pub LogComes : List Input → (List Entry → Verdict → Type 0) → Content → Verdict → Type 0
+LogComes others next Untold verdict = verdict ≡ Unknown (Log ∷ others)
+LogComes others next Absent verdict = verdict ≡ Unreadable Log
+LogComes others next (Known bytes) verdict = OfLog bytes (λ log. next log verdict) verdict
+
+-- these bytes are the snapshot of this world, which is valid for the program and of the session of this id
+pub record IsInputSnapshot (tree : ProgramTree) (id bytes : List ℕ) (w : WorldRecord) : Type 0 where
+  pub within : length bytes ≤ snapshot_limit
+  pub spells : IsSnapshot (field_counts tree) id bytes w
+
+-- what comes of a snapshot's bytes: they are one, and what is next comes, or they are not
+abbrev pub OfSnapshot : ProgramTree → List ℕ → List ℕ → (WorldRecord → Verdict) → Verdict → Type 0
+OfSnapshot tree id bytes next verdict =
+    ((w : WorldRecord) × IsInputSnapshot tree id bytes w × (verdict ≡ next w))
+    ⊎ (((w : WorldRecord) → ¬ IsInputSnapshot tree id bytes w) × (verdict ≡ BadInput Snapshot))
+
+-- What comes of a command that reads a snapshot last; where the files do not tell, it may be of a later time than the one that is
+-- asked for.
+abbrev pub SnapshotComes : ProgramTree → List ℕ → (WorldRecord → Verdict) → Content → Verdict → Type 0
+SnapshotComes tree id next Untold verdict = verdict ≡ Unknown (Snapshot ∷ Time ∷ [])
+SnapshotComes tree id next Absent verdict = verdict ≡ Unreadable Snapshot
+SnapshotComes tree id next (Known bytes) verdict = OfSnapshot tree id bytes next verdict
 
 -- a fault that was found is told; else it is what follows
 abbrev pub OfCheck : Option CheckFault → Type 0 → Verdict → Type 0
@@ -140,10 +164,43 @@ ProgramComes others next (Known bytes) verdict = OfProgram bytes (λ tree. next 
 abbrev pub CheckComes : Content → Verdict → Type 0
 CheckComes program verdict = ProgramComes [] (λ bytes tree checked. checked ≡ Done (counts_line tree) []) program verdict
 
+-- the id of the session of this name and this program's text
+abbrev pub session_of : List ℕ → List ℕ → List ℕ
+session_of name text = sha256 (text_field name ++ text)
+
+-- a world is told by its line, and its snapshot is put under the name that was given, if one was
+abbrev pub told_world : Option (List ℕ) → WorldRecord → Verdict
+told_world name w = Done (world_line w) (optional_put name (world_spelling w))
+
+-- a world that is taken up goes on over the entries behind its time, if the time that is asked for is not below it
+abbrev pub goes_on : ReplayRequest → ProgramTree → List Entry → WorldRecord → Verdict
+goes_on request tree log w =
+    if nat_lt request.time w.time then BadInput Time else told_world request.snapshot (resumed tree w log request.time).world
+
+-- a snapshot of a world that follows the log leads to what the log leads to from its beginning
+abbrev pub SnapshotsAgree : Type 0
+SnapshotsAgree =
+    (request : ReplayRequest) (tree : ProgramTree) (log : List Entry) (w : WorldRecord)
+    → IsProgram tree → Valid (field_counts tree) w → IsLegal log → w.time ≤ request.time → request.time < time_limit → Follows tree w log
+    → goes_on request tree log w ≡ told_world request.snapshot (replay tree w.id log request.time).world
+
+-- a replay begins with the first world of the session, or with that of a snapshot
+abbrev pub StartComes : ReplayRequest → ProgramTree → List ℕ → List Entry → Option (List ℕ) → (List ℕ → Content) → Verdict → Type 0
+StartComes request tree id log None held verdict = verdict ≡ told_world request.snapshot (replay tree id log request.time).world
+StartComes request tree id log (Some from) held verdict = SnapshotComes tree id (goes_on request tree log) (held from) verdict
+
+-- what may be bad of the snapshot from which a replay begins, if it begins with one
+abbrev pub start_inputs : Option (List ℕ) → List Input
+start_inputs None = []
+start_inputs (Some from) = Snapshot ∷ Time ∷ []
+
 -- a program is run over the log that is read behind it
-abbrev pub ReplayComes : List ℕ → ℕ → Content → Content → Verdict → Type 0
-ReplayComes name time program log verdict =
-    ProgramComes (Log ∷ []) (λ bytes tree replayed. LogComes log (replay_text name time bytes tree) replayed) program verdict
+abbrev pub ReplayComes : ReplayRequest → (List ℕ → Content) → Verdict → Type 0
+ReplayComes request held verdict =
+    let others = start_inputs request.from in
+    ProgramComes (Log ∷ others)
+    (λ bytes tree. LogComes others (λ log. StartComes request tree (session_of request.name bytes) log request.from held) (held request.log))
+    (held request.program) verdict
 
 -- What a run comes to: one row for each command. It is one verdict, but whether bytes are read as a program is no test, so
 -- this is a relation.
@@ -151,14 +208,22 @@ abbrev pub Comes : Option Command → (List ℕ → Content) → Verdict → Typ
 Comes None held verdict = verdict ≡ BadWords
 Comes (Some (Stamp script log)) held verdict = verdict ≡ stamp_verdict log (held script)
 Comes (Some (Check program)) held verdict = CheckComes (held program) verdict
-Comes (Some (Replay program name log time)) held verdict = ReplayComes name time (held program) (held log) verdict
+Comes (Some (Replay request)) held verdict = ReplayComes request held verdict
+
+-- a snapshot that is read, if one is
+abbrev pub snapshot_input : Option (List ℕ) → List (Input × List ℕ)
+snapshot_input None = []
+snapshot_input (Some from) = (Snapshot, from) ∷ []
+
+abbrev pub replay_inputs : ReplayRequest → List (Input × List ℕ)
+replay_inputs request = (Program, request.program) ∷ (Log, request.log) ∷ snapshot_input request.from
 
 -- the inputs that a command reads and the names of their files, in order
 abbrev pub inputs_of : Option Command → List (Input × List ℕ)
 inputs_of None = []
 inputs_of (Some (Stamp script log)) = (Script, script) ∷ []
 inputs_of (Some (Check program)) = (Program, program) ∷ []
-inputs_of (Some (Replay program name log time)) = (Program, program) ∷ (Log, log) ∷ []
+inputs_of (Some (Replay request)) = replay_inputs request
 
 abbrev pub reads_in : List (Input × List ℕ) → List FileCall
 reads_in [] = []
@@ -168,9 +233,11 @@ abbrev pub is_same : Input → Input → Bool
 is_same Script Script = true
 is_same Program Program = true
 is_same Log Log = true
+is_same Snapshot Snapshot = true
+is_same Time Time = true
 is_same input other = false
 
--- the reads up to that of an input
+-- the reads up to that of an input, all where it is the time that is bad
 abbrev pub reads_to : Input → List (Input × List ℕ) → List FileCall
 reads_to input [] = []
 reads_to input (first ∷ inputs) = if is_same input first.0 then Read first.1 ∷ [] else Read first.1 ∷ reads_to input inputs
@@ -188,7 +255,7 @@ abbrev pub writes_of : Option Command → List FileCall
 writes_of None = []
 writes_of (Some (Stamp script log)) = optional_write log
 writes_of (Some (Check program)) = []
-writes_of (Some (Replay program name log time)) = []
+writes_of (Some (Replay request)) = optional_write request.snapshot
 
 -- the requests of a script that is told
 abbrev pub told_requests : Content → Option (List Request)
@@ -201,7 +268,7 @@ abbrev pub requests_of_run : Option Command → (List ℕ → Content) → Optio
 requests_of_run None held = None
 requests_of_run (Some (Stamp script log)) held = told_requests (held script)
 requests_of_run (Some (Check program)) held = None
-requests_of_run (Some (Replay program name log time)) held = None
+requests_of_run (Some (Replay request)) held = None
 
 -- the log of the session after these requests is legal, its times rise, and it has the events that were answered Stamped
 abbrev pub HasItsEvents : Option (List Request) → Type 0
@@ -258,6 +325,7 @@ MayBeRefused line (Done text files) = ⊥
 -- where a run stops at this input, the other was read no later
 abbrev pub IsReadBy : Input → Input → Type 0
 IsReadBy Program other = other ≡ Program
+IsReadBy Log other = (other ≡ Program) ⊎ (other ≡ Log)
 IsReadBy stop other = ⊤
 
 -- the read of this input may fail
@@ -310,6 +378,8 @@ abbrev pub name_of : Input → List ℕ
 name_of Script = codes "script"
 name_of Program = codes "program"
 name_of Log = codes "log"
+name_of Snapshot = codes "snapshot"
+name_of Time = codes "time"
 
 abbrev pub input_line : Input → List ℕ
 input_line input = codes "input " ++ name_of input ++ codes "\n"

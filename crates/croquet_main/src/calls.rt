@@ -3,7 +3,7 @@ ghost use Rattle.std.specs.Prelude.{◌≡◌, ◌≢◌, ℕ, ◌≤◌, List, 
 ghost use Rattle.tea_io.specs.declared.files.FileCall.TheVariants.{Read, Write};
 ghost use Rattle.tea_io.specs.Sink.{GrowsWithin};
 ghost use Rattle.tea_io.specs.Told.{grown, Rose};
-ghost use Rattle.croquet_main.specs.Verdict.{IsPut};
+ghost use Rattle.croquet_main.specs.Verdict.{ArePut, IsNotWritten, IsPut, optional_put, optional_write};
 ghost use Rattle.croquet_main.specs.Ends.{AskedTo, ReadEnd, IsSinkFault, IsWriteFault};
 
 use crate::status::{Fault, Input};
@@ -44,6 +44,25 @@ pub fn write_output<F: Files>(files: &mut F, name: &Text, bytes: &[u8]) -> Resul
         Ok(()) => Ok(()),
         Err(FileFault::WantOfMemory) => Err(Fault::Memory),
         Err(_) => Err(Fault::Write),
+    }
+}
+
+/// Writes a file, where one is given.
+pub fn write_optional<F: Files>(
+    files: &mut F,
+    name: &Option<Text>,
+    bytes: &[u8],
+) -> Result<(), Fault>
+    ensures put { OnOk result (ArePut (optional_put name.now bytes.now) (F.held files.old) (F.held files.new)) }
+    ensures others { (other : List ℕ) → IsNotWritten (optional_write name.now) other → F.held files.new other ≡ F.held files.old other }
+    ensures err { IfErr result IsWriteFault }
+    ensures asked { AskedTo result [] (optional_write name.now) (F.asked files.old) (F.asked files.new) ⊤ }
+    ensures later { F.faults files.old ≤ F.faults files.new }
+    ensures cause { IsErrOf result Fault.Write → Rose (F.faults files.old) (F.faults files.new) }
+{
+    match name {
+        Some(name) => write_output(files, name, bytes),
+        None => Ok(()),
     }
 }
 

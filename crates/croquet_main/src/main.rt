@@ -1,11 +1,13 @@
 //! Replicated worlds. `croquet stamp SCRIPT [--log FILE]` runs a session's requests, prints the replies and writes the log;
 //! `croquet check PROGRAM` tells a program's first fault, or how many classes and methods it has; and
-//! `croquet replay PROGRAM NAME LOG TIME` tells what world the program and a session's log make at a time.
+//! `croquet replay PROGRAM NAME LOG TIME [--from SNAP] [--snapshot FILE]` tells what world the program and a session's log make
+//! at a time, from the session's beginning or from a snapshot, and writes its snapshot.
 #![tactic(auto)]
 
 mod calls;
 mod check;
 mod program;
+mod recording;
 mod replay;
 mod script;
 mod stamp;

@@ -25,7 +25,7 @@ const SCRIPT_LIMIT: u64 = 16777216;
 
 /// Writes a session's log, where a file for it is given.
 fn write_log<F: Files>(files: &mut F, name: &Option<Text>, session: &Session) -> Result<(), Fault>
-    ensures put { OnOk result (ArePut (optional_put name.now session.now.plain.log) (F.held files.old) (F.held files.new)) }
+    ensures put { OnOk result (ArePut (optional_put name.now (log_spelling session.now.plain.log)) (F.held files.old) (F.held files.new)) }
     ensures others { (other : List ℕ) → IsNotWritten (optional_write name.now) other → F.held files.new other ≡ F.held files.old other }
     ensures err { IfErr result IsWriteFault }
     ensures asked { AskedTo result [] (optional_write name.now) (F.asked files.old) (F.asked files.new) ⊤ }

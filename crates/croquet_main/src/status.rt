@@ -59,6 +59,9 @@ pub enum Input {
     Script,
     Program,
     Log,
+    Snapshot,
+    /// The time that a replay is asked for, below that of its snapshot.
+    Time,
 }
 
 /// Why a command stopped.

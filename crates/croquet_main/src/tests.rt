@@ -555,6 +555,14 @@ const RESET: &[u8] = b"TEALOG01\x00\x00\x00\x02\
     \x00\x00\x00\x00\x00\x26\x25\xa0\x00\x00\x00\x07\x03\x00\x00\x00\x01\x00\x00\x00\x15\
     \x00\x00\x00\x07counter\x00\x00\x00\x05reset\x00";
 
+/// The world of the session `n` of that program and that log at three seconds.
+const AT_THREE: &str =
+    "time 3000000 objects 1 pending 1 subscriptions 1 faults 0 digest 113de60ebac430cf7364760ffec58d4c703454ccc9bc83905abca344c0ddb01c\n";
+
+/// The same at four seconds.
+const AT_FOUR: &str =
+    "time 4000000 objects 1 pending 1 subscriptions 1 faults 0 digest 3963205d743fdefdeb8e2185c89845663a52076db3a7e9cc1d3cd34107ef770d\n";
+
 #[test]
 fn the_entries_of_a_log_are_handled(rt: HostRuntime) -> Result<(), Fail> {
     for (program, log, name, time, text) in [
@@ -586,20 +594,8 @@ fn the_entries_of_a_log_are_handled(rt: HostRuntime) -> Result<(), Fail> {
             "2500000",
             "time 2500000 objects 1 pending 1 subscriptions 1 faults 0 digest 2e813ae6d6f2d9bc5c29846249a7b184b5cac3c706d9345a341268c0ee4b88af\n",
         ),
-        (
-            COUNTER,
-            RESET,
-            "n",
-            "3000000",
-            "time 3000000 objects 1 pending 1 subscriptions 1 faults 0 digest 113de60ebac430cf7364760ffec58d4c703454ccc9bc83905abca344c0ddb01c\n",
-        ),
-        (
-            COUNTER,
-            RESET,
-            "n",
-            "4000000",
-            "time 4000000 objects 1 pending 1 subscriptions 1 faults 0 digest 3963205d743fdefdeb8e2185c89845663a52076db3a7e9cc1d3cd34107ef770d\n",
-        ),
+        (COUNTER, RESET, "n", "3000000", AT_THREE),
+        (COUNTER, RESET, "n", "4000000", AT_FOUR),
     ] {
         let (status, written) = replayed(
             rt.alloc(),
@@ -610,6 +606,88 @@ fn the_entries_of_a_log_are_handled(rt: HostRuntime) -> Result<(), Fail> {
         )?;
         assert_eq!(rt; written.as_str(), text, "at {time} of {program}");
         assert_eq!(rt; status, Status::Ok);
+    }
+    Ok(())
+}
+
+/// What `replay p NAME l TIME` answers, with more words, where the files `p` and `l` hold the counter and its log, and `s` a
+/// snapshot. The program, the log and the snapshot are read by the calls 3, 4 and 5 of the files, and 6 writes.
+fn gone_on(
+    alloc: Global,
+    snapshot: &[u8],
+    (name, time): (&str, &str),
+    more: &[&str],
+    fail: (u32, u32),
+) -> Result<Outcome, Fail> {
+    let mut files = one_file(alloc, "p", Blob::copy(alloc, COUNTER.as_bytes())?, fail.0)?;
+    for (file, bytes) in [("l", RESET), ("s", snapshot)] {
+        files
+            .write(&Text::copy(alloc, file)?, bytes)
+            .map_err(|_| "not written")?;
+    }
+    let mut words = ["replay", "p", name, "l", time].to_vec(alloc)?;
+    for word in more {
+        words.push(*word)?;
+    }
+    ran_over(alloc, &words, files, fail.1)
+}
+
+/// The snapshot of the session `n` of the counter at a time.
+fn put_away(alloc: Global, time: &str) -> Result<Blob, Fail> {
+    let Outcome { file, .. } = gone_on(alloc, b"", ("n", time), &["--snapshot", "f"], (0, 0))?;
+    Ok(file.ok_or("no file")?)
+}
+
+#[test]
+fn a_replay_goes_on_from_a_snapshot(rt: HostRuntime) -> Result<(), Fail> {
+    let alloc = rt.alloc();
+    let whole = put_away(alloc, "4000000")?;
+    let more = ["--snapshot", "f", "--from", "s"];
+    // Before all entries, at the time of each, and behind them.
+    for time in ["0", "1", "2500000", "3000000", "4000000"] {
+        let snapshot = put_away(alloc, time)?;
+        let from = gone_on(alloc, snapshot.bytes(), ("n", "4000000"), &more, (0, 0))?;
+        assert_eq!(rt; from.text.as_str(), AT_FOUR, "from {time}");
+        assert!(rt; whole.is_bytes(from.file.ok_or("no file")?.bytes()));
+    }
+    Ok(())
+}
+
+#[test]
+fn a_snapshot_may_be_at_fault(rt: HostRuntime) -> Result<(), Fail> {
+    let alloc = rt.alloc();
+    let snapshot = put_away(alloc, "3000000")?;
+    let bytes = snapshot.bytes();
+    let from = ["--from", "s", "--snapshot", "f"];
+    for (bytes, at, text) in [
+        (bytes, ("n", "2999999"), "input time\n"),
+        (bytes, ("m", "4000000"), "input snapshot\n"),
+        (&bytes[1..], ("n", "4000000"), "input snapshot\n"),
+        (b"".as_slice(), ("n", "4000000"), "input snapshot\n"),
+    ] {
+        let ended = gone_on(alloc, bytes, at, &from, (0, 0))?;
+        assert_eq!(rt; ended.text.as_str(), text);
+        assert_eq!(rt; ended.status, Status::Input);
+        assert!(rt; ended.file.is_none());
+    }
+    Ok(())
+}
+
+#[test]
+fn what_a_replay_calls_may_fail(rt: HostRuntime) -> Result<(), Fail> {
+    let alloc = rt.alloc();
+    let snapshot = put_away(alloc, "3000000")?;
+    let from = ["--from", "s", "--snapshot", "f"];
+    for (fail, status, text) in [
+        ((3, 0), Status::ReadFault, "read-fault\n"),
+        ((4, 0), Status::ReadFault, "read-fault\n"),
+        ((5, 0), Status::ReadFault, "read-fault\n"),
+        ((6, 0), Status::WriteFault, "write-fault\n"),
+        ((0, 1), Status::WriteFault, ""),
+    ] {
+        let ended = gone_on(alloc, snapshot.bytes(), ("n", "4000000"), &from, fail)?;
+        assert_eq!(rt; ended.text.as_str(), text, "at {fail:?}");
+        assert_eq!(rt; ended.status, status);
     }
     Ok(())
 }
@@ -634,75 +712,31 @@ fn a_message_may_send_thousands(rt: HostRuntime) -> Result<(), Fail> {
 }
 
 #[test]
-fn a_program_may_be_refused(rt: HostRuntime) -> Result<(), Fail> {
-    let alloc = rt.alloc();
-    for (program, text) in [
-        ("class Root{init(o){this.x=1;}}", "no-field x\n"),
-        ("class Root{field x;field x;}", "twice x\n"),
-        ("class Root{m(){a&b;}}", "syntax 17\n"),
-        ("class Root{m(){return 1 2;}}", "syntax 24\n"),
-        ("class A{}", "no-root\n"),
-        ("class Root{m(){cancel(1);this.x=1;}}", "no-field x\n"),
-        ("class Root{m(){publish(1,2);}}", "count publish\n"),
-        (
-            "class Root{m(){(((((((((((((((((((((((((((((((1",
-            "too-large brackets 33\n",
-        ),
-        (
-            "class Root{m(a,a,a,a,a,a,a,a,a,a,a,a,a,a,a,a,a){}}",
-            "too-large parameters 17\n",
-        ),
-    ] {
-        let (status, written) = replayed(
-            alloc,
-            program.as_bytes(),
-            WITH_EVENT,
-            ("a", "0"),
-            (3, 0),
-        )?;
-        assert_eq!(rt; written.as_str(), text, "of {program}");
-        assert_eq!(rt; status, Status::Program);
-    }
-    Ok(())
-}
-
-#[test]
 fn what_a_replay_reads_may_be_at_fault(rt: HostRuntime) -> Result<(), Fail> {
     let alloc = rt.alloc();
     let long = vec![in alloc; b' '; 65537]?;
-    for (program, log, fail, status, text) in [
+    for (program, log, status, text) in [
         (
             long.as_slice(),
             WITH_EVENT,
-            (3, 0),
             Status::Input,
             "input program\n",
         ),
         (
             SMALL.as_bytes(),
             b"TEALOG01".as_slice(),
-            (0, 0),
             Status::Input,
             "input log\n",
         ),
         (
-            SMALL.as_bytes(),
-            NO_ENTRIES,
-            (2, 0),
-            Status::ReadFault,
-            "read-fault\n",
+            b"class A{}".as_slice(),
+            WITH_EVENT,
+            Status::Program,
+            "no-root\n",
         ),
-        (
-            SMALL.as_bytes(),
-            NO_ENTRIES,
-            (3, 0),
-            Status::ReadFault,
-            "read-fault\n",
-        ),
-        (SMALL.as_bytes(), NO_ENTRIES, (0, 1), Status::WriteFault, ""),
     ] {
-        let (ended, written) = replayed(alloc, program, log, ("a", "0"), fail)?;
-        assert_eq!(rt; written.as_str(), text, "at {fail:?}");
+        let (ended, written) = replayed(alloc, program, log, ("a", "0"), (0, 0))?;
+        assert_eq!(rt; written.as_str(), text);
         assert_eq!(rt; ended, status);
     }
     Ok(())

@@ -4,7 +4,7 @@ ghost use Rattle.tea_io.specs.declared.files.FileCall.{FileCall};
 ghost use Rattle.tea_io.specs.Sink.{GrowsWithin};
 ghost use Rattle.tea_io.specs.Told.{grown, Rose};
 ghost use Rattle.croquet_main.specs.CommandWords.{command_of};
-ghost use Rattle.croquet_main.specs.Verdict.{Verdict, Comes, inputs_of, reads_of, writes_of, requests_of_run, Asked, FileFailed, HasItsEvents, IsNonEmpty, IsNotWritten, Leaves, MayAnswer, MayBeDone, OfText, PutsFiles, RoseAfter, TellsPart, Writes, input_line, memory_line};
+ghost use Rattle.croquet_main.specs.Verdict.{Verdict, Comes, inputs_of, reads_of, writes_of, requests_of_run, Asked, FileFailed, HasItsEvents, IsNonEmpty, IsNotWritten, Leaves, MayAnswer, MayBeDone, OfText, PutsFiles, RoseAfter, SnapshotsAgree, TellsPart, Writes, input_line, memory_line};
 ghost use Rattle.croquet_main.specs.Ends.{AskedFor, MadeAll, IsTold, LeavesBefore, MayEnd, Tells, WritesBefore};
 
 use crate::check::check;
@@ -15,6 +15,7 @@ use crate::words::{Command, read_command};
 use std::alloc::Global;
 use tea_base::Words;
 use tea_io::{Files, Sink, SinkFault};
+use world::resumed_follows;
 
 /// Runs what the words ask for.
 fn run<F: Files, W: Sink>(
@@ -52,14 +53,7 @@ fn run<F: Files, W: Sink>(
     match read_command(alloc, words)? {
         Some(Command::Stamp { script, log }) => stamp(alloc, &script, &log, files, out),
         Some(Command::Check { program }) => check(alloc, &program, files, out),
-        Some(
-            Command::Replay {
-                program,
-                name,
-                log,
-                time,
-            },
-        ) => replay(alloc, &program, &name, &log, time, files, out),
+        Some(Command::Replay(request)) => replay(alloc, &request, files, out),
         None => Err(Fault::Usage),
     }
 }
@@ -72,6 +66,8 @@ fn input_line(input: Input) -> &'static str
         Input::Script => "input script\n",
         Input::Program => "input program\n",
         Input::Log => "input log\n",
+        Input::Snapshot => "input snapshot\n",
+        Input::Time => "input time\n",
     }
 }
 
@@ -143,6 +139,9 @@ pub fn croquet<F: Files, W: Sink>(
     ensures other_files { (name : List ℕ) → IsNotWritten (writes_of (command_of words.now)) name → F.held files.new name ≡ F.held files.old name }
     ensures events { result ≡ Status.Ok → HasItsEvents (requests_of_run (command_of words.now) (F.held files.old)) }
 
+    // Where the snapshot of a replay is of a world that follows the log, the same comes of it as without it.
+    ensures agree { SnapshotsAgree }
+
     // A fault of the outside comes only where its count rose.
     ensures read_fault { result ≡ Status.ReadFault → Rose (F.faults files.old) (F.faults files.new) }
     ensures write_fault { result ≡ Status.WriteFault →
@@ -150,6 +149,8 @@ pub fn croquet<F: Files, W: Sink>(
         files.old files.new (W.written out.old) (W.written out.new)
         ⊎ Rose (W.faults out.old) (W.faults out.new) }
 {
+    // It is a law of worlds.
+    resumed_follows();
     match run(alloc, words, files, out) {
         Ok(()) => Status::Ok,
         Err(fault) => end(fault, out),

@@ -2,7 +2,7 @@
 ghost use Rattle.std.specs.Prelude.{◌≡◌, ◌<◌, ℕ, [], ◌∷◌, true, None, IfOk, IfSome, IfNone, MatchBool, IsTrue, ◌↔◌, nat_lt};
 ghost use Rattle.std.specs.List.{list_all};
 ghost use Rattle.std.specs.Str.{bytes_eq};
-ghost use Rattle.croquet_main.specs.CommandWords.{command_of, command_named, stamp_of, check_of, replay_of, parts_of, is_empty, is_option, value_of, without, IsFirstOf, IsWithinBounds, HasNone};
+ghost use Rattle.croquet_main.specs.CommandWords.{command_of, command_named, stamp_of, check_of, replay_of, replay_words, parts_of, is_empty, is_option, value_of, without, IsFirstOf, IsWithinBounds, HasNone};
 
 use std::alloc::Global;
 use tea_base::{List, Text, WantOfMemory, Words};
@@ -18,21 +18,26 @@ const LAST_TIME: u64 = 9007199254740991;
 #[derive(Drop)]
 pub enum Command {
     /// `stamp SCRIPT [--log FILE]`
-    Stamp {
-        script: Text,
-        log: Option<Text>,
-    },
+    Stamp { script: Text, log: Option<Text> },
     /// `check PROGRAM`
-    Check {
-        program: Text,
-    },
-    /// `replay PROGRAM NAME LOG TIME`
-    Replay {
-        program: Text,
-        name: Text,
-        log: Text,
-        time: u64,
-    },
+    Check { program: Text },
+    /// `replay PROGRAM NAME LOG TIME [--from SNAP] [--snapshot FILE]`
+    Replay(ReplayRequest),
+}
+
+/// What a replay is asked for.
+#[derive(Drop)]
+pub struct ReplayRequest {
+    pub program: Text,
+    /// The name of the session, of at most 255 bytes.
+    pub name: Text,
+    pub log: Text,
+    /// Microseconds of TeaTime, below 2^53.
+    pub time: u64,
+    /// The snapshot from which it begins.
+    pub from: Option<Text>,
+    /// Where the snapshot of the world is put.
+    pub snapshot: Option<Text>,
 }
 
 /// An option and its value.
@@ -204,7 +209,7 @@ fn check(parts: Parts) -> Option<Command>
     }
 }
 
-/// `replay PROGRAM NAME LOG TIME`
+/// `replay PROGRAM NAME LOG TIME [--from SNAP] [--snapshot FILE]`
 fn replay(parts: Parts) -> Option<Command>
     ensures read { result ≡ replay_of parts }
     ensures bounds { IfSome result IsWithinBounds }
@@ -213,21 +218,37 @@ fn replay(parts: Parts) -> Option<Command>
         positionals,
         settings,
     } = parts;
+    let mut settings = settings.into_vec();
+    let from = take_setting(&mut settings, "--from");
+    let snapshot = take_setting(&mut settings, "--snapshot");
+    if !settings.is_empty() {
+        return None;
+    }
+    replay_words(positionals, from, snapshot)
+}
+
+/// The replay that four positionals and the values of the options ask for.
+fn replay_words(positionals: Words, from: Option<Text>, snapshot: Option<Text>) -> Option<Command>
+    ensures read { result ≡ replay_words positionals from snapshot }
+    ensures bounds { IfSome result IsWithinBounds }
+{
     let mut positionals = positionals.into_vec();
     let time = positionals.pop()?;
     let log = positionals.pop()?;
     let name = positionals.pop()?;
     let program = positionals.pop()?;
-    if !positionals.is_empty() || !settings.is_empty() || name.bytes().len() > MOST_NAME {
+    if !positionals.is_empty() || name.bytes().len() > MOST_NAME {
         return None;
     }
     let time = number(time.as_str(), 0, LAST_TIME)?;
-    Some(Command::Replay {
+    Some(Command::Replay(ReplayRequest {
         program,
         name,
         log,
         time,
-    })
+        from,
+        snapshot,
+    }))
 }
 
 /// The command of this name, where the words after it follow its rules.

@@ -1,5 +1,5 @@
 -- The classes and the methods of a program.
-use Rattle.std.specs.Prelude.{◌≡◌, ℕ, List, length, find, bytes_eq, Option, Some, None, option_map, option_and_then, slice_get}
+use Rattle.std.specs.Prelude.{◌≡◌, ℕ, List, length, map, find, bytes_eq, Option, Some, None, option_map, option_and_then, slice_get}
 use Rattle.std.specs.Borrow.{Bor}
 use Rattle.model_lang.specs.Tree.{Name, MethodTree, ClassTree, ProgramTree, root_name}
 use Rattle.model_check.specs.Faults.{class_names, first_fault}
@@ -11,6 +11,10 @@ use Rattle.model_check.specs.declared.solved.Solved.{Solved}
 -- how many fields a class has. Classes are numbered from 0, in the order of the text
 abbrev pub field_count : ProgramTree → ℕ → Option ℕ
 field_count tree n = option_map (λ c. length c.fields) (slice_get tree n)
+
+-- how many fields each class has
+abbrev pub field_counts : ProgramTree → List ℕ
+field_counts = map (λ c. length c.fields)
 
 abbrev pub method_named : Name → List MethodTree → Option MethodTree
 method_named x ms = find (λ m. bytes_eq x m.name) ms

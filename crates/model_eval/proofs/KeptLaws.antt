@@ -13,7 +13,7 @@ use Rattle.model_lang.specs.declared.tree.BinaryOp.TheVariants as op
 use Rattle.model_lang.specs.Bounds.{how_many, FewArguments, AllFewArguments, HasFewArguments, AllHaveFewArguments, ElseHasFewArguments, MethodsFit, ClassesFit}
 use Rattle.model_lang.specs.Names.{HasShortNames, AllHaveShortNames, NamesAreShort, AllNamesAreShort, ElseNamesAreShort, MethodNamesAreShort, ClassNamesAreShort}
 use Rattle.model_check.specs.Builtins.{builtin_named}
-use Rattle.model_check.specs.Methods.{method_named}
+use Rattle.model_check.specs.Methods.{field_counts, method_named}
 use Rattle.model_eval.specs.declared.fault.Fault.TheVariants.{Arity, Depth}
 use Rattle.model_eval.specs.Running.{Running, Outcome, Gives, Faults, and_then, entering, weighed, replying, truth, deciding}
 use Rattle.model_eval.specs.Operators.{operated, truly, operating, unary_operated}
@@ -26,7 +26,7 @@ use Rattle.pubsub.specs.declared.handler.Handler.{Handler}
 use Rattle.model_check.specs.declared.builtin.Builtin.{Builtin}
 use Rattle.model_check.specs.declared.builtin.Builtin.TheVariants as builtin_name
 use Rattle.model_eval.specs.Meaning.{Here, Local, locals_of, Flow, next, returned, follow, behind, value_of, set_named, Evaluate, Execute, Start, evaluated, in_turn, block, otherwise, looped, called_on, init, initialised, created, created_by, number_of, expression_row, statement_row, performed, starts_in, starts_on, starting, evaluate, execute, starts}
-use Rattle.model_eval.specs.Kept.{field_counts, Anything, CarriesIf, Carries}
+use Rattle.model_eval.specs.Kept.{Anything, CarriesIf, Carries}
 use Rattle.model_eval.proofs.FieldBounds.{nil-in_bounds, with_named-in_bounds, length-with_named}
 use Rattle.model_eval.proofs.Pending.{if_either}
 use Rattle.model_eval.proofs.Created.{get-mapped}

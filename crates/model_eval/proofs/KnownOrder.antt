@@ -3,6 +3,7 @@ use Rattle.std.proofs.Common.{◌≡◌, ◌⊎◌, ℕ, ◌<◌, inl, inr, Bool
 use Rattle.std.proofs.lemmas.Bool.{ltb-true, ltb-false, eqb-true, eqb-false, both_ways}
 use Rattle.std.proofs.lemmas.Slice.Eq.{bytes_eq-Decides}
 use Rattle.model_value.specs.World.{ObjectRecord}
+use Rattle.model_value.proofs.Order.{IsBefore-trans, IsBeforeAll-trans}
 use Rattle.model_value.specs.Valid.{IsHeld, TextFits, IsBefore, IsBeforeAll, KnownRise, KnownFit}
 use Rattle.model_value.specs.declared.world.Known.{Known}
 use Rattle.model_lang.specs.Tree.{Name}
@@ -37,21 +38,6 @@ comes_before-false [] (d ∷ ds) apart e = absurd cc
 comes_before-false (c ∷ cs) (d ∷ ds) apart e =
     after-tells (nat_lt c d) (nat_eq c d) (comes_before cs ds) c d (IsBefore ds cs) (λ b below. let least = ltb-false c d b in omega (arith, least)) (eqb-true c d) (eqb-false c d)
     (λ b same. comes_before-false cs ds (λ rest. apart (ap₂ (λ x xs. x ∷ xs) same rest)) b) e
-
-IsBefore-trans : (x y z : Name) → IsBefore x y → IsBefore y z → IsBefore x z
-IsBefore-trans [] [] z h g = absurd h
-IsBefore-trans [] (d ∷ ds) [] h g = absurd g
-IsBefore-trans [] (d ∷ ds) (e ∷ es) h g = tt
-IsBefore-trans (c ∷ cs) [] z h g = absurd h
-IsBefore-trans (c ∷ cs) (d ∷ ds) [] h g = absurd g
-IsBefore-trans (c ∷ cs) (d ∷ ds) (e ∷ es) (inl h) (inl g) = inl (omega arith)
-IsBefore-trans (c ∷ cs) (d ∷ ds) (e ∷ es) (inl h) (inr g) = inl (omega (arith, g.0))
-IsBefore-trans (c ∷ cs) (d ∷ ds) (e ∷ es) (inr h) (inl g) = inl (omega (arith, h.0))
-IsBefore-trans (c ∷ cs) (d ∷ ds) (e ∷ es) (inr h) (inr g) = inr (h.0 ∙ g.0, IsBefore-trans cs ds es h.1 g.1)
-
-IsBeforeAll-trans : (x y : Name) (ks : List Known) → IsBefore x y → IsBeforeAll y ks → IsBeforeAll x ks
-IsBeforeAll-trans x y [] h g = tt
-IsBeforeAll-trans x y (k ∷ ks) h g = (IsBefore-trans x y k.name h g.0, IsBeforeAll-trans x y ks h g.1)
 
 -- ---- known names
 

@@ -7,7 +7,8 @@ use Rattle.model_lang.specs.Names.{HasShortNames, NamesAreShort, ClassNamesAreSh
 use Rattle.model_eval.specs.declared.fault.Fault.TheVariants.{Fuel, Depth}
 use Rattle.model_eval.specs.Running.{Running, Outcome, Gives, Faults, and_then, truth, deciding}
 use Rattle.model_eval.specs.Meaning.{Here, Local, Flow, next, returned, follow, block, looped, expression_row, starting, evaluate, execute, goes_round}
-use Rattle.model_eval.specs.Kept.{CarriesIf, field_counts}
+use Rattle.model_check.specs.Methods.{field_counts}
+use Rattle.model_eval.specs.Kept.{CarriesIf}
 use Rattle.model_eval.proofs.ValueBounds.{FlowFits}
 use Rattle.model_eval.proofs.KeptLaws.{Ready, expression-carries, starting-begins, row-kept, block-carries}
 

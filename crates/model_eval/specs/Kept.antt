@@ -1,14 +1,9 @@
 -- What a part of a method keeps of a world.
-use Rattle.std.specs.Prelude.{◌≡◌, ℕ, ◌+◌, ◌≤◌, List, [], ◌∷◌, ◌++◌, length, map, nat_le, if◌then◌else◌, ⊤}
+use Rattle.std.specs.Prelude.{◌≡◌, ℕ, ◌+◌, ◌≤◌, List, [], ◌∷◌, ◌++◌, nat_le, if◌then◌else◌, ⊤}
 use Rattle.model_value.specs.Messages.{PlainMessage, PlainOutgoing}
 use Rattle.model_value.specs.World.{WorldRecord}
 use Rattle.model_value.specs.Valid.{Valid, most_turns}
-use Rattle.model_lang.specs.Tree.{ProgramTree}
 use Rattle.model_eval.specs.Running.{Running, Outcome, Gives, Faults}
-
--- how many fields each class has
-abbrev pub field_counts : ProgramTree → List ℕ
-field_counts = map (λ c. length c.fields)
 
 -- how many messages are due by a time
 abbrev pub due : ℕ → List PlainMessage → ℕ

@@ -35,7 +35,8 @@ pub enum Fault {
     /// A message is sent to a time before the world's, or to 2^53 microseconds of TeaTime or later.
     Time,
     /// The world holds no more: 4,096 objects are held, 16,384 messages are pending, the ids of the one or the numbers of
-    /// the other are spent, or it would weigh more than 131,072. Of a view that comes: 1,024 are here.
+    /// the other are spent, 16,384 subscriptions are held, or it would weigh more than 131,072. Of a view that comes: 1,024
+    /// are here.
     Full,
 }
 

@@ -6,9 +6,10 @@ ghost use Rattle.model_lang.specs.Program.{IsProgram};
 ghost use Rattle.model_lang.specs.Tree.{Name, Expression, Statements, while, ProgramTree};
 ghost use Rattle.model_lang.specs.Bounds.{HasFewArguments};
 ghost use Rattle.model_lang.specs.Names.{NamesAreShort};
+ghost use Rattle.model_check.specs.Methods.{field_counts};
 ghost use Rattle.model_eval.specs.Running.{Running};
 ghost use Rattle.model_eval.specs.Publishing.{told};
-ghost use Rattle.model_eval.specs.Kept.{Carries, Anything, field_counts};
+ghost use Rattle.model_eval.specs.Kept.{Carries, Anything};
 ghost use Rattle.model_eval.specs.Meaning.{Here, Local, looped, goes_round, evaluate, execute, starts};
 
 /// A method that ends, with a value or a fault, leaves a valid world valid, and its value is in bounds, where its arguments

@@ -1,7 +1,8 @@
--- The order of pending messages is transitive.
-use Rattle.std.proofs.Common.{inl, inr, List, [], ◌∷◌, ◌∙◌, arith}
+-- The orders of pending messages and of known names are transitive.
+use Rattle.std.proofs.Common.{ℕ, inl, inr, List, [], ◌∷◌, ◌∙◌, arith}
 use Rattle.model_value.specs.Messages.{PlainMessage}
-use Rattle.model_value.specs.Valid.{Precedes, PrecedesAll, AreInOrder}
+use Rattle.model_value.specs.Valid.{IsBefore, IsBeforeAll, Precedes, PrecedesAll, AreInOrder}
+use Rattle.model_value.specs.declared.world.Known.{Known}
 
 pub Precedes-trans : (m n p : PlainMessage) → Precedes m n → Precedes n p → Precedes m p
 Precedes-trans m n p (inl a) (inl b) = inl (omega arith)
@@ -20,3 +21,18 @@ AreInOrder-before m n ns before order = (before, PrecedesAll-trans m n ns before
 -- and with it they are in order
 pub AreInOrder-cons : (m n : PlainMessage) (ns : List PlainMessage) → Precedes m n → AreInOrder (n ∷ ns) → AreInOrder (m ∷ n ∷ ns)
 AreInOrder-cons m n ns before order = (AreInOrder-before m n ns before order, order)
+
+pub IsBefore-trans : (x y z : List ℕ) → IsBefore x y → IsBefore y z → IsBefore x z
+IsBefore-trans [] [] z h g = absurd h
+IsBefore-trans [] (d ∷ ds) [] h g = absurd g
+IsBefore-trans [] (d ∷ ds) (e ∷ es) h g = tt
+IsBefore-trans (c ∷ cs) [] z h g = absurd h
+IsBefore-trans (c ∷ cs) (d ∷ ds) [] h g = absurd g
+IsBefore-trans (c ∷ cs) (d ∷ ds) (e ∷ es) (inl h) (inl g) = inl (omega arith)
+IsBefore-trans (c ∷ cs) (d ∷ ds) (e ∷ es) (inl h) (inr g) = inl (omega (arith, g.0))
+IsBefore-trans (c ∷ cs) (d ∷ ds) (e ∷ es) (inr h) (inl g) = inl (omega (arith, h.0))
+IsBefore-trans (c ∷ cs) (d ∷ ds) (e ∷ es) (inr h) (inr g) = inr (h.0 ∙ g.0, IsBefore-trans cs ds es h.1 g.1)
+
+pub IsBeforeAll-trans : (x y : List ℕ) (ks : List Known) → IsBefore x y → IsBeforeAll y ks → IsBeforeAll x ks
+IsBeforeAll-trans x y [] h g = tt
+IsBeforeAll-trans x y (k ∷ ks) h g = (IsBefore-trans x y k.name h g.0, IsBeforeAll-trans x y ks h g.1)

@@ -22,7 +22,7 @@ pub use fault::ValueFault;
 pub use measure::{MOST_DEPTH, MOST_WEIGHT, depth, in_bounds, weight};
 pub use message::{Message, Messages, Outgoing, Published, Subscription, Subscriptions};
 pub use payloads::{payload, read_payload};
-pub use reading::decode;
+pub use reading::{bounded_at, decode, owned_text_at};
 pub use value::{Value, Values, copy, copy_all, same};
 pub use weights::{
     MOST_WORLD_WEIGHT, known_fits, message_fits, object_fits, room, room_behind_known,

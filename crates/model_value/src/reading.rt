@@ -40,8 +40,10 @@ fn read_all(alloc: Global, bytes: &[u8]) -> Result<Value, ValueFault>
     Ok(value)
 }
 
-/// The value in bounds at the front, and the bytes behind it.
-pub(crate) fn bounded_at(alloc: Global, bytes: &[u8]) -> Result<(Value, &[u8]), ValueFault>
+/// The value in bounds at the front, in memory of its own, and the bytes behind it.
+///
+/// `BadValue` comes exactly where the bytes begin with no such value, as [`decode`] reads it.
+pub fn bounded_at(alloc: Global, bytes: &[u8]) -> Result<(Value, &[u8]), ValueFault>
     ensures { Gives ValueFault.BadValue (λ x. (plain x.0, x.1.now)) result (bounded_at bytes.now) }
 {
     let (value, rest) = value_at(alloc, MOST_DEPTH, bytes)?;
@@ -128,8 +130,11 @@ fn items_of(
     Ok((items, rest))
 }
 
-/// A text field, in memory of its own, and the bytes behind it.
-pub(crate) fn owned_text_at(alloc: Global, bytes: &[u8]) -> Result<(Text, &[u8]), ValueFault>
+/// A text field, in memory of its own, and the bytes behind it: a length of four bytes, and so many bytes of UTF-8 (RFC
+/// 3629).
+///
+/// `BadValue` comes exactly where the bytes begin with no such field.
+pub fn owned_text_at(alloc: Global, bytes: &[u8]) -> Result<(Text, &[u8]), ValueFault>
     ensures { Gives ValueFault.BadValue (λ x. (x.0, x.1.now)) result (text_field_at bytes.now) }
 {
     let (text, rest) = text_at(bytes).ok_or(ValueFault::BadValue)?;

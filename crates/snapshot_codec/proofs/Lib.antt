@@ -1,2 +1,5 @@
 pub mod Sizes
 pub mod Rows
+pub mod WorldCodec
+pub mod Fitting
+pub mod Snapshots

@@ -1,5 +1,5 @@
 //! Digests that are known, and worlds spelled by hand: the first world of a program, and one with something of each
-//! kind.
+//! kind; snapshots that are read, cut, spoiled, or of another session.
 ghost use Rattle.std.specs.Prelude.{map, IsTrue};
 ghost use Rattle.std.specs.List.{AllByRecursion};
 ghost use Rattle.model_value.specs.Messages.{plain_message};
@@ -7,6 +7,8 @@ ghost use Rattle.snapshot_codec.specs.Conditions.{HasFewArguments};
 
 use super::*;
 use crate::writing::put_world;
+use model_check::{Checked, check};
+use model_lang::parse;
 use model_value::{Message, Subscription, Value, Values};
 use std::alloc::Global;
 use std::test::Fail;
@@ -24,6 +26,55 @@ const ID: [u8; 32] = *b"\x05\x50\xd4\x05\x31\xb8\x43\x2a\x28\x0f\x45\x4c\x30\xa6
 /// The digest of the snapshot of that session's first world.
 const FIRST_DIGEST: [u8; 32] = *b"\x61\x05\x26\x0a\x83\x8b\xed\x44\x2c\x56\x5f\xf2\x45\xfd\x69\xae\
     \x15\xbd\x6c\x88\x75\x05\xbe\x4a\x92\x74\x8d\x5c\x75\xae\x7d\xa1";
+
+/// The snapshot of that world, by hand.
+const FIRST: &[u8] = b"\x05\x50\xd4\x05\x31\xb8\x43\x2a\x28\x0f\x45\x4c\x30\xa6\xb7\x47\
+    \xd3\x20\x7b\x8e\xfc\x0e\xef\xc2\x65\x3a\x82\x6a\xd1\xf2\x6b\xec\
+    \0\0\0\0\0\0\0\0\
+    \0\0\0\x02\
+    \0\0\0\0\0\0\0\0\
+    \x2a\x43\xb8\x31\x05\xd4\x50\x05\
+    \0\0\0\x01\
+    \0\0\0\0\0\0\0\0\0\0\0\0\0\0\0\0\
+    \0\0\0\0\0\0\0\0\0\0\0\0\0\0\0\0\
+    \0\0\0\0\0\0\0\0\0\0\0\0\0\0\0\0\
+    \0\0\0\0\0\0\0\0\0\0\0\0\0\0\0\0\
+    \0\0\0\0\0\0\0\0\0\0\0\0\0\0\0\0\
+    \0\0\0\0\0\0\0\0\0\0\0\0\0\0\0\0\
+    \0\0\0\0\0\0\0\0\0\0\0\0\0\0\0\0\
+    \0\0\0\0\
+    \0\0\0\x01\0\0\0\x01\0\0\
+    \0\0\0\x01\0\0\0\x09modelRoot\0\0\0\x01\
+    \0\0\0\0\
+    \0\0\0\0";
+
+/// The snapshot of the world that `full` makes, by hand.
+const FULL: &[u8] = b"\x07\x07\x07\x07\x07\x07\x07\x07\x07\x07\x07\x07\x07\x07\x07\x07\
+    \x07\x07\x07\x07\x07\x07\x07\x07\x07\x07\x07\x07\x07\x07\x07\x07\
+    \0\0\0\0\0\0\x01\x02\
+    \0\0\0\x06\
+    \0\0\0\0\0\0\0\x09\
+    \0\0\0\0\0\0\0\x0a\
+    \0\0\0\x0b\
+    \0\0\0\0\0\0\0\0\0\0\0\0\0\0\0\x01\
+    \0\0\0\0\0\0\0\x02\0\0\0\0\0\0\0\x03\
+    \0\0\0\0\0\0\0\x04\0\0\0\0\0\0\0\x05\
+    \0\0\0\0\0\0\0\x06\0\0\0\0\0\0\0\x07\
+    \0\0\0\0\0\0\0\x08\0\0\0\0\0\0\0\x09\
+    \0\0\0\0\0\0\0\x0a\0\0\0\0\0\0\0\x0b\
+    \0\0\0\0\0\0\0\x0c\0\0\0\0\0\0\0\x0d\
+    \0\0\0\x02\0\0\0\x03\0\0\x01\x02\
+    \0\0\0\x01\0\0\0\x04\0\x05\x03\xff\xff\xff\xff\xff\xff\xff\xff\
+    \0\0\0\x01\0\0\0\x01a\0\0\0\x04\
+    \0\0\0\x01\0\0\0\x01s\0\0\0\x02\xc3\xa9\0\0\0\x04\0\0\0\x02on\
+    \0\0\0\x01\0\0\0\0\0\0\x01\x03\0\0\0\0\0\0\0\x08\0\0\0\x04\0\0\0\x02go\
+    \x07\0\x01\x02\x03\0\0\0\0\0\0\0\x01\x04\0\0\0\x01x\x05\0\0\0\x04\x06\0\0\0\x01\0";
+
+/// The program of the first world.
+const SMALL: &str = "class Root{init(o){}}";
+
+/// A program whose class of the number 5 has one field.
+const SIX: &str = "class A{}class B{}class C{}class D{}class Root{}class F{field f;}";
 
 #[test]
 fn digests_are_those_of_the_standard(rt: HostRuntime) -> Result<(), Fail> {
@@ -88,26 +139,7 @@ fn the_first_world_is_spelled(rt: HostRuntime) -> Result<(), Fail> {
     };
     let bytes = spelled(alloc, &world)?;
     assert_eq!(rt; bytes.len(), 219);
-    let by_hand = b"\x05\x50\xd4\x05\x31\xb8\x43\x2a\x28\x0f\x45\x4c\x30\xa6\xb7\x47\
-        \xd3\x20\x7b\x8e\xfc\x0e\xef\xc2\x65\x3a\x82\x6a\xd1\xf2\x6b\xec\
-        \0\0\0\0\0\0\0\0\
-        \0\0\0\x02\
-        \0\0\0\0\0\0\0\0\
-        \x2a\x43\xb8\x31\x05\xd4\x50\x05\
-        \0\0\0\x01\
-        \0\0\0\0\0\0\0\0\0\0\0\0\0\0\0\0\
-        \0\0\0\0\0\0\0\0\0\0\0\0\0\0\0\0\
-        \0\0\0\0\0\0\0\0\0\0\0\0\0\0\0\0\
-        \0\0\0\0\0\0\0\0\0\0\0\0\0\0\0\0\
-        \0\0\0\0\0\0\0\0\0\0\0\0\0\0\0\0\
-        \0\0\0\0\0\0\0\0\0\0\0\0\0\0\0\0\
-        \0\0\0\0\0\0\0\0\0\0\0\0\0\0\0\0\
-        \0\0\0\0\
-        \0\0\0\x01\0\0\0\x01\0\0\
-        \0\0\0\x01\0\0\0\x09modelRoot\0\0\0\x01\
-        \0\0\0\0\
-        \0\0\0\0";
-    assert!(rt; bytes.is_bytes(by_hand));
+    assert!(rt; bytes.is_bytes(FIRST));
     assert!(rt; digest(bytes.bytes()) == FIRST_DIGEST);
     Ok(())
 }
@@ -181,26 +213,86 @@ fn full(alloc: Global) -> Result<PlainWorld, WantOfMemory> {
 #[test]
 fn a_full_world_is_spelled(rt: HostRuntime) -> Result<(), Fail> {
     let bytes = spelled(rt.alloc(), &full(rt.alloc())?)?;
-    let by_hand = b"\x07\x07\x07\x07\x07\x07\x07\x07\x07\x07\x07\x07\x07\x07\x07\x07\
-        \x07\x07\x07\x07\x07\x07\x07\x07\x07\x07\x07\x07\x07\x07\x07\x07\
-        \0\0\0\0\0\0\x01\x02\
-        \0\0\0\x06\
-        \0\0\0\0\0\0\0\x09\
-        \0\0\0\0\0\0\0\x0a\
-        \0\0\0\x0b\
-        \0\0\0\0\0\0\0\0\0\0\0\0\0\0\0\x01\
-        \0\0\0\0\0\0\0\x02\0\0\0\0\0\0\0\x03\
-        \0\0\0\0\0\0\0\x04\0\0\0\0\0\0\0\x05\
-        \0\0\0\0\0\0\0\x06\0\0\0\0\0\0\0\x07\
-        \0\0\0\0\0\0\0\x08\0\0\0\0\0\0\0\x09\
-        \0\0\0\0\0\0\0\x0a\0\0\0\0\0\0\0\x0b\
-        \0\0\0\0\0\0\0\x0c\0\0\0\0\0\0\0\x0d\
-        \0\0\0\x02\0\0\0\x03\0\0\x01\x02\
-        \0\0\0\x01\0\0\0\x04\0\x05\x03\xff\xff\xff\xff\xff\xff\xff\xff\
-        \0\0\0\x01\0\0\0\x01a\0\0\0\x04\
-        \0\0\0\x01\0\0\0\x01s\0\0\0\x02\xc3\xa9\0\0\0\x04\0\0\0\x02on\
-        \0\0\0\x01\0\0\0\0\0\0\x01\x03\0\0\0\0\0\0\0\x08\0\0\0\x04\0\0\0\x02go\
-        \x07\0\x01\x02\x03\0\0\0\0\0\0\0\x01\x04\0\0\0\x01x\x05\0\0\0\x04\x06\0\0\0\x01\0";
-    assert!(rt; bytes.is_bytes(by_hand));
+    assert!(rt; bytes.is_bytes(FULL));
+    Ok(())
+}
+
+/// A program that was read and checked.
+fn checked(alloc: Global, text: &str) -> Result<Checked, Fail> {
+    let program = parse(alloc, text.as_bytes())?;
+    Ok(check(alloc, program)?)
+}
+
+/// Why bytes are no snapshot of a session, if they are none.
+fn refused(alloc: Global, program: &Checked, id: [u8; 32], bytes: &[u8]) -> Option<SnapFault> {
+    unsnap(alloc, program, &SessionId(id), bytes).err()
+}
+
+#[test]
+fn a_snapshot_is_read_as_the_world_it_spells(rt: HostRuntime) -> Result<(), Fail> {
+    let alloc = rt.alloc();
+    for (text, id, bytes) in [(SMALL, ID, FIRST), (SIX, [7; 32], FULL)] {
+        let program = checked(alloc, text)?;
+        let world = unsnap(alloc, &program, &SessionId(id), bytes)?;
+        assert!(rt; spelled(alloc, &world)?.is_bytes(bytes));
+    }
+    Ok(())
+}
+
+#[test]
+fn a_snapshot_is_read_to_its_end(rt: HostRuntime) -> Result<(), Fail> {
+    let alloc = rt.alloc();
+    let program = checked(alloc, SMALL)?;
+    for length in 0..FIRST.len() {
+        let fault = refused(alloc, &program, ID, &FIRST[..length]);
+        assert_eq!(rt; fault, Some(SnapFault::Bad), "of {length} bytes");
+    }
+    let mut longer = FIRST.to_vec(alloc)?;
+    longer.push(0)?;
+    let fault = refused(alloc, &program, ID, &longer);
+    assert_eq!(rt; fault, Some(SnapFault::Bad));
+    Ok(())
+}
+
+#[test]
+fn a_snapshot_is_of_its_session_and_its_program(rt: HostRuntime) -> Result<(), Fail> {
+    let alloc = rt.alloc();
+    let small = checked(alloc, SMALL)?;
+    let found = SessionId(ID);
+    let other = SnapFault::OtherSession { found };
+    for length in [32, FIRST.len()] {
+        let fault = refused(alloc, &small, [7; 32], &FIRST[..length]);
+        assert_eq!(rt; fault, Some(other));
+    }
+    let fault = refused(alloc, &small, [7; 32], &FIRST[..31]);
+    assert_eq!(rt; fault, Some(SnapFault::Bad));
+    let six = checked(alloc, SIX)?;
+    assert_eq!(rt; refused(alloc, &six, ID, FIRST), None);
+    let fault = refused(alloc, &small, [7; 32], FULL);
+    assert_eq!(rt; fault, Some(SnapFault::Bad));
+    Ok(())
+}
+
+/// Places of the full snapshot, each with a byte that makes it none: the time is 2^53, the id of the next object is that of one,
+/// the turns are above 1,024, a view is 0, a known object is gone, and the greatest count of objects is not trusted.
+const SPOILED: [(usize, u8); 6] = [
+    (33, 0x20),
+    (43, 4),
+    (62, 4),
+    (183, 0),
+    (219, 5),
+    (188, 0xff),
+];
+
+#[test]
+fn what_is_not_valid_is_refused(rt: HostRuntime) -> Result<(), Fail> {
+    let alloc = rt.alloc();
+    let program = checked(alloc, SIX)?;
+    for (place, byte) in SPOILED {
+        let mut bytes = FULL.to_vec(alloc)?;
+        bytes[place] = byte;
+        let fault = refused(alloc, &program, [7; 32], &bytes);
+        assert_eq!(rt; fault, Some(SnapFault::Bad), "at {place}");
+    }
     Ok(())
 }

@@ -9,3 +9,8 @@ pub mod Rooted
 pub mod Initial
 pub mod Roots
 pub mod FirstWorld
+pub mod Silent
+pub mod ByWorld
+pub mod Following
+pub mod Replays
+pub mod PutBack

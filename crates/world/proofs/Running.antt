@@ -10,7 +10,8 @@ use Rattle.model_eval.specs.declared.fault.Fault.{Fault}
 use Rattle.model_eval.specs.Running.{Outcome, Gives, Faults}
 use Rattle.model_eval.specs.Meaning.{starts, most_open}
 use Rattle.model_eval.specs.Publishing.{told}
-use Rattle.model_eval.specs.Kept.{now_due, field_counts, Anything, CarriesIf}
+use Rattle.model_check.specs.Methods.{field_counts}
+use Rattle.model_eval.specs.Kept.{now_due, Anything, CarriesIf}
 use Rattle.model_eval.proofs.KeptLaws.{starts-carries, told-kept}
 use Rattle.world.specs.Worlds.{Scene, fault_number, with_count, counted, begun, running, ended, ran, informed}
 
@@ -63,14 +64,15 @@ begun-valid counts w v = record {
 
 -- what a message keeps, from one scene to the next; and if H, then the world is valid behind it
 pub record Keeps (H : Type 0) (counts : List ℕ) (s t : Scene) : Type 0 where
+  pub id : t.world.id ≡ s.world.id
   pub time : t.world.time ≡ s.world.time
   pub turns : t.world.turns ≡ s.world.turns
   pub calm : s.world.turns ≡ most_turns → now_due t.world ≤ now_due s.world
   pub valid : H → Valid counts t.world
 
 ended-keeps : {A : Type 0} (P : A → Type 0) (H : Type 0) (counts : List ℕ) (s : Scene) (o : Outcome A) → CarriesIf H counts P (running s) o → Keeps H counts s (ended o)
-ended-keeps P H counts s (Gives v r) h = record { time = h.0.time; turns = h.0.turns; calm = h.0.calm; valid = λ valid. (h.1 valid).0 }
-ended-keeps P H counts s (Faults f r) h = record { time = h.0.time; turns = h.0.turns; calm = h.0.calm; valid = λ valid. counted-valid counts f r.world (h.1 valid) }
+ended-keeps P H counts s (Gives v r) h = record { id = h.0.id; time = h.0.time; turns = h.0.turns; calm = h.0.calm; valid = λ valid. (h.1 valid).0 }
+ended-keeps P H counts s (Faults f r) h = record { id = h.0.id; time = h.0.time; turns = h.0.turns; calm = h.0.calm; valid = λ valid. counted-valid counts f r.world (h.1 valid) }
 
 -- a program within the bounds, whose classes have so many fields
 pub record Fits (counts : List ℕ) (program : ProgramTree) : Type 0 where
@@ -83,11 +85,15 @@ ran-keeps counts program object x args s fits =
     subst (λ (cs : List ℕ). Keeps (Valid cs s.world × AllInBounds args) cs s (ran program object x args s)) (sym fits.counted)
     (ended-keeps InBounds (Valid (field_counts program) s.world × AllInBounds args) (field_counts program) s (starts program most_open object x args (running s)) (starts-carries program most_open object x args (running s) fits.classes fits.names))
 
--- models that are told of an event leave a valid world valid
+-- models that are told of an event
+pub informed-keeps : (program : ProgramTree) (scope event : Name) (v : PlainValue) (s : Scene) → Fits (field_counts program) program → InBounds v → Keeps (Valid (field_counts program) s.world) (field_counts program) s (informed program scope event v s)
+informed-keeps program scope event v s fits bound =
+    ended-keeps Anything (Valid (field_counts program) s.world) (field_counts program) s (told (starts program most_open) scope event v (running s)) (told-kept program most_open scope event v (running s) fits.classes fits.names bound)
+
+-- they leave a valid world valid
 pub informed-valid : (counts : List ℕ) (program : ProgramTree) (scope event : Name) (v : PlainValue) (s : Scene) → Fits counts program → InBounds v → Valid counts s.world → Valid counts (informed program scope event v s).world
 informed-valid counts program scope event v s fits bound valid =
     let counted = fits.counted in
     let here : Valid (field_counts program) s.world = subst (λ (cs : List ℕ). Valid cs s.world) counted valid in
-    let kept : Keeps (Valid (field_counts program) s.world) (field_counts program) s (informed program scope event v s) =
-    ended-keeps Anything (Valid (field_counts program) s.world) (field_counts program) s (told (starts program most_open) scope event v (running s)) (told-kept program most_open scope event v (running s) fits.classes fits.names bound) in
-    subst (λ (cs : List ℕ). Valid cs (informed program scope event v s).world) (sym counted) (kept.valid here)
+    let own : Fits (field_counts program) program = subst (λ (cs : List ℕ). Fits cs program) counted fits in
+    subst (λ (cs : List ℕ). Valid cs (informed program scope event v s).world) (sym counted) ((informed-keeps program scope event v s own bound).valid here)

@@ -1,6 +1,8 @@
--- Worlds: the first one of a session, what a message does, how a world advances, and what an entry of the log does to it.
-use Rattle.std.specs.Prelude.{ℕ, zero, suc, ◌+◌, ◌-◌, ◌*◌, ◌^◌, min, Bool, true, false, nat_eq, nat_lt, nat_le, if◌then◌else◌, ◌||◌, List, [], ◌∷◌, length, replicate, take, Option, Some, None, is_some, slice_index_or, slice_set, bytes_eq, codes, pos}
+-- Worlds: the first one of a session, what a message does, how a world advances, what an entry of the log does to it, and how
+-- one that was put away goes on.
+use Rattle.std.specs.Prelude.{◌≡◌, ℕ, zero, suc, ◌+◌, ◌-◌, ◌*◌, ◌^◌, min, Bool, true, false, nat_eq, nat_lt, nat_le, if◌then◌else◌, ◌||◌, List, [], ◌∷◌, length, replicate, take, Option, Some, None, is_some, slice_index_or, slice_set, bytes_eq, codes, pos}
 use Rattle.std.specs.Int.{from_le_bytes, w64}
+use Rattle.std.specs.List.{filter}
 use Rattle.hex.specs.Hex.{encode_lower}
 use Rattle.tea_base.specs.declared.entry.Entry.{Entry}
 use Rattle.tea_base.specs.declared.entry.What.{What}
@@ -13,7 +15,7 @@ use Rattle.model_value.specs.Valid.{most_turns, most_views, most_pending}
 use Rattle.model_lang.specs.Tree.{Name, ClassTree, ProgramTree, root_name}
 use Rattle.model_eval.specs.declared.fault.Fault.{Fault}
 use Rattle.model_eval.specs.declared.fault.Fault.TheVariants as fault
-pub use Rattle.model_eval.specs.Kept.{field_counts}
+pub use Rattle.model_check.specs.Methods.{field_counts}
 use Rattle.model_eval.specs.Kept.{now_due}
 use Rattle.model_eval.specs.Running.{Running, Outcome, Gives, Faults}
 pub use Rattle.model_eval.specs.Meaning.{init}
@@ -227,3 +229,21 @@ replayed program t (e ∷ es) s = replayed program t es (if nat_le e.time t then
 
 abbrev pub replay : ProgramTree → List ℕ → List Entry → ℕ → Scene
 replay program id entries t = replayed program t entries (first program id)
+
+-- ---- going on from a world
+
+-- a world on which nothing was published yet
+abbrev pub taken_up : WorldRecord → Scene
+taken_up w = record { world = w; published = [] }
+
+-- the entries behind a time
+abbrev pub behind : ℕ → List Entry → List Entry
+behind t = filter (λ e. nat_lt t e.time)
+
+-- a world that is taken up: the entries behind its time with a time of at most t, and then it advances to t
+abbrev pub resumed : ProgramTree → WorldRecord → List Entry → ℕ → Scene
+resumed program w entries t = replayed program t (behind w.time entries) (taken_up w)
+
+-- a world follows a log: once it has advanced to its own time it is the replay of the log to that time
+abbrev pub Follows : ProgramTree → WorldRecord → List Entry → Type 0
+Follows program w entries = (advance program w.time (taken_up w)).world ≡ (replay program w.id entries w.time).world

@@ -5,11 +5,12 @@ mod fault;
 mod laws;
 mod messages;
 mod opening;
+mod resuming;
 mod simulation;
 #[cfg(test)]
 mod tests;
 mod world;
 
 pub use fault::WorldFault;
-pub use laws::{advance_rests, advance_steps, advance_twice};
+pub use laws::{advance_rests, advance_steps, advance_twice, replay_follows, resumed_follows};
 pub use world::World;

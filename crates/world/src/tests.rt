@@ -560,3 +560,41 @@ fn what_models_publish_is_taken_once(rt: HostRuntime) -> Result<(), Fail> {
     assert!(rt; world.take_out().is_empty());
     Ok(())
 }
+
+/// A program that each millisecond draws a digit and makes an object of it. An event begins its number anew.
+const DIGITS: &str =
+    r#"class Root{field n;init(o){this.n=0;subscribe("s","e","h");this.future(1).draw();}h(v){this.n=0;}draw(){let d=random(10);this.n=this.n*10+d;create(Digit,d);this.future(1).draw();}}class Digit{field d;init(d){this.d=d;}}"#;
+
+/// The world of that program to which view 7 came at 2,500, as it goes on from plain data.
+fn resumed(alloc: Global) -> Result<World, Fail> {
+    let checked = check(alloc, parse(alloc, DIGITS.as_bytes())?)?;
+    let program = Arc::new(alloc, checked)?;
+    let mut world = World::first(alloc, program.clone()?, SESSION)?;
+    world.external(&Entry {
+        seq: 1,
+        time: 2500,
+        view: 7,
+        what: What::Join,
+    })?;
+    let plain = world.to_plain()?;
+    Ok(World::from_plain(alloc, program, &plain)?)
+}
+
+#[test]
+fn a_world_goes_on_from_plain_data(rt: HostRuntime) -> Result<(), Fail> {
+    let alloc = rt.alloc();
+    for (time, other) in [(2500, 9999), (9999, 12_000)] {
+        let steps = [
+            Step::Join(2500, 7),
+            Step::Advance(time),
+            Step::Event(other, EVENT),
+        ];
+        let whole = played(alloc, DIGITS, &steps)?;
+        let mut world = resumed(alloc)?;
+        advance(&mut world, time)?;
+        event(alloc, &mut world, other, EVENT)?;
+        let printed = printed(alloc, &world)?;
+        assert_eq!(rt; printed.as_str(), whole.as_str(), "at {time} and {other}");
+    }
+    Ok(())
+}

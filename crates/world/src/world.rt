@@ -5,11 +5,11 @@ ghost use Rattle.model_value.specs.Messages.{plain_outgoing};
 ghost use Rattle.model_value.specs.Valid.{Valid, time_limit};
 ghost use Rattle.model_value.specs.World.{world_record};
 ghost use Rattle.model_lang.specs.TreeView.{program_tree};
-ghost use Rattle.world.specs.Worlds.{field_counts, first as first_of, advance as advanced, external as entered_by};
+ghost use Rattle.world.specs.Worlds.{field_counts, first as first_of, advance as advanced, external as entered_by, taken_up};
 ghost use Rattle.world.specs.View.{Moves, Copies, IsSound};
 
 use crate::fault::WorldFault;
-use crate::{opening, simulation};
+use crate::{opening, resuming, simulation};
 use model_check::Checked;
 use model_eval::State;
 use model_value::Published;
@@ -58,6 +58,27 @@ impl World {
         ensures { IfOk result (λ w. w ≡ record { program = arc_value program; scene = first_of (program_tree (arc_value program)) id.0; broken = false }) }
     {
         let state = opening::first(alloc, &program, id)?;
+        Ok(World {
+            alloc,
+            program,
+            state,
+            broken: false,
+        })
+    }
+
+    /// The world that plain data tells, on which nothing was published yet. The data is valid for the program, as `to_plain`
+    /// gives it of a world of the same program. Fails for want of memory alone.
+    pub fn from_plain(
+        alloc: Global,
+        program: Arc<Checked, Global>,
+        plain: &PlainWorld,
+    ) -> Result<World, WantOfMemory>
+        requires { Valid (field_counts (program_tree (arc_value program))) (world_record plain.now) }
+        ensures { IfOk result (λ w. w ≡ record { program = arc_value program; scene = taken_up (world_record plain.now); broken = false }) }
+    {
+        let state = resuming::from_plain(alloc, plain)?;
+        // The classes tell what a world wants of its program: that it is one.
+        let _classes = program.program().classes();
         Ok(World {
             alloc,
             program,

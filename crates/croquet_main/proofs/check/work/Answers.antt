@@ -1,4 +1,4 @@
-use Rattle.std.proofs.Common.{sym, subst, List, ℕ}
+use Rattle.std.proofs.Common.{sym, subst, List, [], ℕ}
 use Rattle.model_lang.specs.TreeView.{program_tree}
 use Rattle.croquet_main.specs.Ends.{IsDoneWith}
 use Rattle.croquet_main.proofs.CheckLaws.{check_verdict, done_check, end_check}
@@ -11,7 +11,7 @@ returns-in_err-program-clause-end g c verdict comes =
 
 pub returns-clause-end : goal.returns-clause-end
 returns-clause-end g c verdict comes =
-    subst (λ (text : List ℕ). IsDoneWith text verdict) (sym c.in_ok-counts_line.ensures)
+    subst (λ (text : List ℕ). IsDoneWith text [] verdict) (sym c.in_ok-counts_line.ensures)
     (done_check c.one_reading.ensures.one (g.F.Files.held c.args.files.now c.args.program.now) c.in_ok-text.text (program_tree c.in_ok-program.program) verdict
     c.in_ok-text.ensures.end.0 c.in_ok-text.ensures.end.1 (rw c.bytes.ensures at c.in_ok-program.ensures) comes)
 

@@ -3,6 +3,7 @@ use Rattle.croquet_main.specs.CommandWords.{command_of}
 use Rattle.croquet_main.specs.Verdict.{inputs_of, reads_of, writes_of}
 use Rattle.tea_io.specs.Told.{Rose}
 use Rattle.croquet_main.proofs.VerdictLaws.{Writes-told, Asked-told, Leaves-told, FileFailed-told, Rose-earlier, Rose-later}
+use Rattle.croquet_main.proofs.ReplayLaws.{snapshots-agree}
 use Rattle.croquet_main.proofs.RunLaws.{no_inputs_of}
 use Rattle.croquet_main.proofs.top.croquet.Goals as goal
 
@@ -39,3 +40,10 @@ returns-in-Err-clause-write_fault g c is =
     c.end.ensures.told is (λ same. c.in-Err.ensures.write_cause (ap Err same)) (λ same. c.in-Err.ensures.write (ap Err same))
     (Rose-earlier (g.W.Sink.faults c.args.out.now) (g.W.Sink.faults c.run.new.out) (g.W.Sink.faults c.end.new.out) c.in-Err.ensures.sink_later)
     (λ same. Rose-later (g.W.Sink.faults c.args.out.now) (g.W.Sink.faults c.run.new.out) (g.W.Sink.faults c.end.new.out) (c.in-Err.ensures.sink_cause (ap Err same)) c.end.ensures.later)
+
+-- the snapshot of a world that follows the log
+pub returns-in-Ok-clause-agree : goal.returns-in-Ok-clause-agree
+returns-in-Ok-clause-agree g c = snapshots-agree c.resumed_follows.ensures
+
+pub returns-in-Err-clause-agree : goal.returns-in-Err-clause-agree
+returns-in-Err-clause-agree g c = snapshots-agree c.resumed_follows.ensures

@@ -1,10 +1,10 @@
 use Rattle.std.proofs.Common.{◌≡◌, ◌∙◌, Some, sym, ap}
 use Rattle.croquet_main.specs.declared.status.Fault.{Fault}
-use Rattle.croquet_main.specs.declared.words.Command.TheVariants.{Stamp, Check, Replay}
+use Rattle.croquet_main.specs.declared.words.Command.TheVariants.{Stamp, Check}
 use Rattle.croquet_main.specs.CommandWords.{command_of}
 use Rattle.croquet_main.specs.Verdict.{stamp_verdict}
 use Rattle.croquet_main.proofs.VerdictLaws.{IfErr-all, WritesBefore-nothing}
-use Rattle.croquet_main.proofs.RunLaws.{asked_command, put_check, put_replay, write_command}
+use Rattle.croquet_main.proofs.RunLaws.{asked_command, put_check, write_command}
 use Rattle.croquet_main.proofs.top.run.Goals as goal
 
 pub returns-in_err-script-clause-part : goal.returns-in_err-script-clause-part
@@ -28,10 +28,3 @@ returns-in-Some-Check-clause-put g c =
     let is : command_of c.args.words.now ≡ Some (Check c.in-Some-Check.program) = sym c.in_ok-script.ensures.read ∙ c.in-Some-Check.is ∙ ap Some c.in-Some-Check.field-0-is in
     put_check (command_of c.args.words.now) c.check.result c.in-Some-Check.program
     (g.F.Files.held c.args.files.now) (g.F.Files.held c.check.new.files) is c.check.ensures.end c.check.ensures.others
-
-pub returns-in-Some-Replay-clause-put : goal.returns-in-Some-Replay-clause-put
-returns-in-Some-Replay-clause-put g c =
-    let is : command_of c.args.words.now ≡ Some (Replay c.in-Some-Replay.program c.in-Some-Replay.name c.in-Some-Replay.log c.in-Some-Replay.time) =
-    sym c.in_ok-script.ensures.read ∙ c.in-Some-Replay.is ∙ ap Some c.in-Some-Replay.field-0-is in
-    put_replay (command_of c.args.words.now) c.replay.result c.in-Some-Replay.program c.in-Some-Replay.name c.in-Some-Replay.log c.in-Some-Replay.time
-    (g.F.Files.held c.args.files.now) (g.F.Files.held c.replay.new.files) is c.replay.ensures.end c.replay.ensures.others

@@ -1,0 +1,208 @@
+-- A world is read exactly where one has its spelling.
+use Rattle.std.proofs.Common.{◌≡◌, ℕ, ◌^◌, ◌<◌, List, [], ◌∷◌, ◌++◌, length, Option, Some, None, refl, sym, ap, subst, append_assoc, slice_get}
+use Rattle.std.specs.Int.{w16, w32, w64, to_be_bytes}
+use Rattle.std.specs.List.{flat_map, AllByRecursion}
+use Rattle.std.proofs.lemmas.Option.{none-some, same_Some}
+use Rattle.byte_fields.specs.Fields.{Reading, byte_at, headed_at, made_at, items_at, list_at}
+use Rattle.byte_fields.proofs.Codecs.{Codec, EachFits, FitsText, wide16, wide32, wide64, byte_codec, bytes_codec, number_codec, text_codec, paired_codec, headed_codec, made_codec, said_codec, never_codec, items_codec, list_codec}
+use Rattle.model_value.specs.Messages.{PlainMessage}
+use Rattle.model_value.specs.Plain.{PlainValue}
+use Rattle.model_value.specs.Reading.{bounded_at}
+use Rattle.model_value.specs.Spelling.{value_spelling}
+use Rattle.model_value.specs.World.{ObjectRecord, WorldRecord}
+use Rattle.model_value.specs.declared.message.Subscription.{Subscription}
+use Rattle.model_value.specs.declared.world.Known.{Known}
+use Rattle.model_value.proofs.ValueCodec.{FitsBounds, bounded_codec}
+use Rattle.snapshot_codec.specs.Reading.{values_at, fields_at, classed_at, object_at, known_at, subscription_at, message_at, Rows, singles_at, rows_at, world_at}
+use Rattle.snapshot_codec.specs.Spelling.{list_field, object_spelling, known_spelling, subscription_spelling, message_spelling, world_spelling}
+
+-- ---- items that are read each as the others
+
+each-all : {A : Type 0} (F : A → Type 0) (before xs : List A) → EachFits (λ _. F) before xs → AllByRecursion F xs
+each-all F before [] fits = tt
+each-all F before (x ∷ xs) fits = (fits.0, each-all F (before ++ x ∷ []) xs fits.1)
+
+all-each : {A : Type 0} (F : A → Type 0) (before xs : List A) → AllByRecursion F xs → EachFits (λ _. F) before xs
+all-each F before [] fits = tt
+all-each F before (x ∷ xs) fits = (fits.0, all-each F (before ++ x ∷ []) xs fits.1)
+
+-- so many items
+abbrev FitsCount : {A : Type 0} → (A → Type 0) → ℕ → List A → Type 0
+FitsCount F count xs = (length xs ≡ count) × AllByRecursion F xs
+
+-- a list field
+abbrev pub FitsList : {A : Type 0} → (A → Type 0) → List A → Type 0
+FitsList F xs = (length xs < 2 ^ 32) × AllByRecursion F xs
+
+count_codec : {A : Type 0} (s : A → List ℕ) (F : A → Type 0) (r : Reading A) → Codec A s F r → (count : ℕ) → Codec (List A) (flat_map s) (FitsCount F count) (items_at (λ _. r) [] count)
+count_codec s F r codec count =
+    said_codec (flat_map s) (FitsCount F count) (λ xs _. refl) (λ xs fits. (fits.0, each-all F [] xs fits.1)) (λ xs fits. (fits.0, all-each F [] xs fits.1))
+    (items_codec s (λ _. F) (λ _. r) (λ _. codec) count)
+
+all_codec : {A : Type 0} (s : A → List ℕ) (F : A → Type 0) (r : Reading A) → Codec A s F r → Codec (List A) (list_field s) (FitsList F) (list_at (λ _. r))
+all_codec s F r codec =
+    said_codec (list_field s) (FitsList F) (λ xs _. refl) (λ xs fits. (fits.0, each-all F [] xs fits.1)) (λ xs fits. (fits.0, all-each F [] xs fits.1))
+    (list_codec s (λ _. F) (λ _. r) (λ _. codec))
+
+-- ---- objects
+
+fields_codec : (found : Option ℕ) → Codec (List PlainValue) (flat_map value_spelling) (λ vs. (found ≡ Some (length vs)) × AllByRecursion FitsBounds vs) (fields_at found)
+fields_codec None =
+    never_codec (flat_map value_spelling) (λ vs. (None ≡ Some (length vs)) × AllByRecursion FitsBounds vs) (λ vs fits. none-some (length vs) fits.0)
+fields_codec (Some count) =
+    said_codec (flat_map value_spelling) (λ vs. (Some count ≡ Some (length vs)) × AllByRecursion FitsBounds vs)
+    (λ vs _. refl) (λ vs fits. (ap Some (sym fits.0), fits.1)) (λ vs fits. (sym (same_Some count (length vs) fits.0), fits.1))
+    (count_codec value_spelling FitsBounds bounded_at bounded_codec count)
+
+-- as many fields as the class has, each of which has a spelling
+abbrev FitsClass : List ℕ → ℕ × List PlainValue → Type 0
+FitsClass counts p = (slice_get counts p.0 ≡ Some (length p.1)) × AllByRecursion FitsBounds p.1
+
+of_class : (counts : List ℕ) (class : ℕ) → Codec (ℕ × List PlainValue) (λ p. flat_map value_spelling p.1) (λ p. (p.0 ≡ class) × FitsClass counts p) (made_at (λ fields. (class, fields)) (fields_at (slice_get counts class)))
+of_class counts class =
+    made_codec (λ fields. (class, fields)) (λ p. flat_map value_spelling p.1) (λ p. (p.0 ≡ class) × FitsClass counts p) (fields_codec (slice_get counts class))
+    (λ p fits. (p.1, ap (λ c. (c, p.1)) fits.0, subst (λ c. FitsClass counts (c, p.1)) fits.0 fits.1))
+    (λ fields fits. (refl, fits))
+    (λ fields _. refl)
+
+classed_codec : (counts : List ℕ) → Codec (ℕ × List PlainValue) (λ p. to_be_bytes w16 p.0 ++ flat_map value_spelling p.1) (λ p. (p.0 < 2 ^ 16) × FitsClass counts p) (classed_at counts)
+classed_codec counts =
+    headed_codec (λ p. p.0) (λ p. flat_map value_spelling p.1) (FitsClass counts) (λ class. made_at (λ fields. (class, fields)) (fields_at (slice_get counts class)))
+    (number_codec w16 (2 ^ 16) wide16) (λ class _. of_class counts class)
+
+abbrev pub FitsObject : List ℕ → ObjectRecord → Type 0
+FitsObject counts o = (o.id < 2 ^ 32) × ((o.class < 2 ^ 16) × FitsClass counts (o.class, o.fields))
+
+object_codec : (counts : List ℕ) → Codec ObjectRecord object_spelling (FitsObject counts) (object_at counts)
+unfolding object_at object_spelling
+object_codec counts =
+    made_codec (λ p. record { id = p.0; class = p.1.0; fields = p.1.1 }) object_spelling (FitsObject counts)
+    (paired_codec (number_codec w32 (2 ^ 32) wide32) (classed_codec counts))
+    (λ o fits. ((o.id, (o.class, o.fields)), refl, fits))
+    (λ p fits. fits)
+    (λ p _. simp append_assoc refl)
+
+-- ---- known names, subscriptions and messages
+
+abbrev pub FitsKnown : Known → Type 0
+FitsKnown k = FitsText k.name × (k.object < 2 ^ 32)
+
+known_codec : Codec Known known_spelling FitsKnown known_at
+unfolding known_at known_spelling
+known_codec =
+    made_codec (λ p. record { name = p.0; object = p.1 }) known_spelling FitsKnown
+    (paired_codec text_codec (number_codec w32 (2 ^ 32) wide32))
+    (λ k fits. ((k.name, k.object), refl, fits))
+    (λ p fits. fits)
+    (λ p _. refl)
+
+abbrev pub FitsSubscription : Subscription → Type 0
+FitsSubscription s = FitsText s.scope × (FitsText s.event × ((s.object < 2 ^ 32) × FitsText s.method))
+
+subscription_codec : Codec Subscription subscription_spelling FitsSubscription subscription_at
+unfolding subscription_at subscription_spelling
+subscription_codec =
+    made_codec (λ p. record { scope = p.0; event = p.1.0; object = p.1.1.0; method = p.1.1.1 }) subscription_spelling FitsSubscription
+    (paired_codec text_codec (paired_codec text_codec (paired_codec (number_codec w32 (2 ^ 32) wide32) text_codec)))
+    (λ s fits. ((s.scope, (s.event, (s.object, s.method))), refl, fits))
+    (λ p fits. fits)
+    (λ p _. simp append_assoc refl)
+
+-- at most so many as one byte can count
+abbrev FitsArguments : List PlainValue → Type 0
+FitsArguments args = (length args < 256) × AllByRecursion FitsBounds args
+
+arguments_codec : Codec (List PlainValue) (λ args. length args ∷ flat_map value_spelling args) FitsArguments (headed_at byte_at values_at)
+arguments_codec =
+    headed_codec length (flat_map value_spelling) (AllByRecursion FitsBounds) values_at byte_codec (λ count _. count_codec value_spelling FitsBounds bounded_at bounded_codec count)
+
+abbrev pub FitsMessage : PlainMessage → Type 0
+FitsMessage m = (m.time < 2 ^ 64) × ((m.number < 2 ^ 64) × ((m.object < 2 ^ 32) × (FitsText m.method × FitsArguments m.args)))
+
+message_codec : Codec PlainMessage message_spelling FitsMessage message_at
+unfolding message_at message_spelling
+message_codec =
+    made_codec (λ p. record { time = p.0; number = p.1.0; object = p.1.1.0; method = p.1.1.1.0; args = p.1.1.1.1 }) message_spelling FitsMessage
+    (paired_codec (number_codec w64 (2 ^ 64) wide64) (paired_codec (number_codec w64 (2 ^ 64) wide64) (paired_codec (number_codec w32 (2 ^ 32) wide32) (paired_codec text_codec arguments_codec))))
+    (λ m fits. ((m.time, (m.number, (m.object, (m.method, m.args)))), refl, fits))
+    (λ p fits. fits)
+    (λ p _. simp append_assoc refl)
+
+-- ---- worlds
+
+abbrev FitsSingles : ℕ × (ℕ × (ℕ × (ℕ × ℕ))) → Type 0
+FitsSingles p = (p.0 < 2 ^ 64) × ((p.1.0 < 2 ^ 32) × ((p.1.1.0 < 2 ^ 64) × ((p.1.1.1.0 < 2 ^ 64) × (p.1.1.1.1 < 2 ^ 32))))
+
+abbrev singles_spelling : ℕ × (ℕ × (ℕ × (ℕ × ℕ))) → List ℕ
+singles_spelling p = to_be_bytes w64 p.0 ++ (to_be_bytes w32 p.1.0 ++ (to_be_bytes w64 p.1.1.0 ++ (to_be_bytes w64 p.1.1.1.0 ++ to_be_bytes w32 p.1.1.1.1)))
+
+singles_codec : Codec (ℕ × (ℕ × (ℕ × (ℕ × ℕ)))) singles_spelling FitsSingles singles_at
+unfolding singles_at
+singles_codec =
+    paired_codec (number_codec w64 (2 ^ 64) wide64) (paired_codec (number_codec w32 (2 ^ 32) wide32) (paired_codec (number_codec w64 (2 ^ 64) wide64) (paired_codec (number_codec w64 (2 ^ 64) wide64) (number_codec w32 (2 ^ 32) wide32))))
+
+abbrev FitsRows : List ℕ → Rows → Type 0
+FitsRows counts p =
+    FitsList (λ n. n < 2 ^ 32) p.0
+    × (FitsList (FitsObject counts) p.1.0
+    × (FitsList FitsKnown p.1.1.0
+    × (FitsList FitsSubscription p.1.1.1.0
+    × FitsList FitsMessage p.1.1.1.1)))
+
+abbrev rows_spelling : Rows → List ℕ
+rows_spelling p =
+    list_field (to_be_bytes w32) p.0
+    ++ (list_field object_spelling p.1.0
+    ++ (list_field known_spelling p.1.1.0
+    ++ (list_field subscription_spelling p.1.1.1.0
+    ++ list_field message_spelling p.1.1.1.1)))
+
+rows_codec : (counts : List ℕ) → Codec Rows rows_spelling (FitsRows counts) (rows_at counts)
+unfolding rows_at
+rows_codec counts =
+    paired_codec (all_codec (to_be_bytes w32) (λ n. n < 2 ^ 32) _ (number_codec w32 (2 ^ 32) wide32))
+    (paired_codec (all_codec object_spelling (FitsObject counts) (object_at counts) (object_codec counts))
+    (paired_codec (all_codec known_spelling FitsKnown known_at known_codec)
+    (paired_codec (all_codec subscription_spelling FitsSubscription subscription_at subscription_codec)
+    (all_codec message_spelling FitsMessage message_at message_codec))))
+
+-- the world has a spelling that is read, by the number of fields of each class
+abbrev pub FitsWorld : List ℕ → WorldRecord → Type 0
+FitsWorld counts w =
+    (length w.id ≡ 32)
+    × (FitsSingles (w.time, (w.next_object, (w.next_number, (w.random, w.turns))))
+    × (FitsCount (λ n. n < 2 ^ 64) 14 w.faults
+    × FitsRows counts (w.views, (w.objects, (w.known, (w.subscriptions, w.pending))))))
+
+pub world_codec : (counts : List ℕ) → Codec WorldRecord world_spelling (FitsWorld counts) (world_at counts)
+unfolding world_at world_spelling
+world_codec counts =
+    made_codec
+    (λ p. record {
+      id = p.0;
+      time = p.1.0.0;
+      next_object = p.1.0.1.0;
+      next_number = p.1.0.1.1.0;
+      random = p.1.0.1.1.1.0;
+      turns = p.1.0.1.1.1.1;
+      faults = p.1.1.0;
+      views = p.1.1.1.0;
+      objects = p.1.1.1.1.0;
+      known = p.1.1.1.1.1.0;
+      subscriptions = p.1.1.1.1.1.1.0;
+      pending = p.1.1.1.1.1.1.1;
+    })
+    world_spelling (FitsWorld counts)
+    (paired_codec (bytes_codec 32) (paired_codec singles_codec (paired_codec (count_codec (to_be_bytes w64) (λ n. n < 2 ^ 64) _ (number_codec w64 (2 ^ 64) wide64) 14) (rows_codec counts))))
+    (λ w fits. ((w.id, ((w.time, (w.next_object, (w.next_number, (w.random, w.turns)))), (w.faults, (w.views, (w.objects, (w.known, (w.subscriptions, w.pending))))))), refl, fits))
+    (λ p fits. fits)
+    (λ p _. simp append_assoc refl)
+
+-- its spelling begins with the id of its session
+pub begins_with_id : (w : WorldRecord) → (rest : List ℕ) × (world_spelling w ≡ w.id ++ rest)
+unfolding world_spelling
+begins_with_id w = (
+  singles_spelling (w.time, (w.next_object, (w.next_number, (w.random, w.turns))))
+      ++ (flat_map (to_be_bytes w64) w.faults ++ rows_spelling (w.views, (w.objects, (w.known, (w.subscriptions, w.pending))))),
+  simp append_assoc refl,
+)

@@ -1,0 +1,158 @@
+-- The replay of a log to a time is a valid world of its session at that time, and follows the log.
+use Rattle.std.proofs.Common.{◌≡◌, ℕ, zero, suc, ◌<◌, ◌≤◌, Bool, true, false, if◌then◌else◌, ◌||◌, nat_eq, nat_le, nat_lt, List, [], ◌∷◌, length, Option, Some, None, refl, sym, ap, subst, ◌∙◌, arith}
+use Rattle.std.specs.Prelude.{pos, is_some}
+use Rattle.std.proofs.lemmas.Bool.{leb-true}
+use Rattle.tea_base.specs.Legal.{IsLegal, TimesRiseAfter}
+use Rattle.tea_base.specs.declared.entry.Entry.{Entry}
+use Rattle.tea_base.specs.declared.entry.What.{What}
+use Rattle.tea_base.specs.declared.entry.What.TheVariants.{Join, Exit, Event}
+use Rattle.tea_base.proofs.LogLaws.{TimesRise-legal}
+use Rattle.model_value.specs.Plain.{PlainValue, nil, int}
+use Rattle.model_value.specs.Messages.{PlainMessage}
+use Rattle.model_value.specs.Payload.{PlainPayload, payload_of}
+use Rattle.model_value.specs.Valid.{Valid, most_views, time_limit}
+use Rattle.model_value.specs.World.{WorldRecord}
+use Rattle.model_value.proofs.PayloadCodec.{payload_of-in_bounds}
+use Rattle.model_check.specs.Methods.{method_named}
+use Rattle.model_lang.specs.Tree.{Name, ClassTree, ProgramTree}
+use Rattle.model_eval.specs.declared.fault.Fault.TheVariants.{Full}
+use Rattle.model_eval.proofs.ValueBounds.{int-in_bounds}
+use Rattle.world.specs.Worlds.{Scene, with_world, counted, field_counts, begun, ran, init, empty_world, rooted, root_from, first_with, first, moved, due, handled, on_due, advance_within, advance, enough, is_among, with_view, without_view, told_of, session_scope, view_join, view_exit, came, went, heard, entered, external, replayed, replay, taken_up, Follows}
+use Rattle.world.proofs.Running.{Fits, ran-keeps, informed-keeps}
+use Rattle.world.proofs.Advancing.{advance-valid, advance-arrives, advance-twice}
+use Rattle.world.proofs.Entries.{external-valid}
+use Rattle.world.proofs.ByWorld.{advance-by_world}
+
+-- ---- the session and the time of a world
+
+-- both stay
+record Stays (v w : WorldRecord) : Type 0 where
+  id : w.id ≡ v.id
+  time : w.time ≡ v.time
+
+stays-on : (u v w : WorldRecord) → Stays u v → Stays v w → Stays u w
+stays-on u v w first second = record { id = second.id ∙ first.id; time = second.time ∙ first.time }
+
+here : (w : WorldRecord) → Stays w w
+here w = record { id = refl; time = refl }
+
+either : (b : Bool) (v : WorldRecord) (x y : Scene) → Stays v x.world → Stays v y.world → Stays v (if b then x else y).world
+either true v x y first second = first
+either false v x y first second = second
+
+module _ (program : ProgramTree) (fits : Fits (field_counts program) program) where
+  ran-stays : (object : ℕ) (x : Name) (args : List PlainValue) (s : Scene) → Stays s.world (ran program object x args s).world
+  ran-stays object x args s = let k = ran-keeps (field_counts program) program object x args s fits in record { id = k.id; time = k.time }
+
+  told_of-stays : (event : Name) (view : ℕ) (s : Scene) → Stays s.world (told_of program event view s).world
+  told_of-stays event view s = let k = informed-keeps program (session_scope s.world) event (int (pos view)) s fits (int-in_bounds (pos view)) in record { id = k.id; time = k.time }
+
+  came-stays : (view : ℕ) (s : Scene) → Stays s.world (came program view s).world
+  came-stays view s =
+      let w : WorldRecord = s.world in
+      let with : Scene = with_world s (record w { views = with_view view w.views }) in
+      let full : Scene = with_world s (counted Full w) in
+      either (nat_eq view 0 || is_among view w.views) w s (if nat_lt (length w.views) most_views then told_of program view_join view with else full) (here w)
+      (either (nat_lt (length w.views) most_views) w (told_of program view_join view with) full
+      (stays-on w with.world (told_of program view_join view with).world (record { id = refl; time = refl }) (told_of-stays view_join view with)) (record { id = refl; time = refl }))
+
+  went-stays : (view : ℕ) (s : Scene) → Stays s.world (went program view s).world
+  went-stays view s =
+      let w : WorldRecord = s.world in
+      let left : Scene = with_world s (record w { views = without_view view w.views }) in
+      either (is_among view w.views) w (told_of program view_exit view left) s
+      (stays-on w left.world (told_of program view_exit view left).world (record { id = refl; time = refl }) (told_of-stays view_exit view left)) (here w)
+
+  heard-stays : (bytes : List ℕ) (read : Option PlainPayload) (s : Scene) → payload_of bytes ≡ read → Stays s.world (heard program read s).world
+  heard-stays bytes None s e = record { id = refl; time = refl }
+  heard-stays bytes (Some p) s e = let k = informed-keeps program p.scope p.event p.value s fits (payload_of-in_bounds bytes p e) in record { id = k.id; time = k.time }
+
+  entered-stays : (what : What) (view : ℕ) (s : Scene) → Stays s.world (entered program what view s).world
+  entered-stays Join view s = came-stays view s
+  entered-stays Exit view s = went-stays view s
+  entered-stays (Event number payload) view s = heard-stays payload (payload_of payload) s refl
+
+  -- ---- advancing
+
+  moved-id : (later : Bool) (t : ℕ) (w : WorldRecord) → (if later then record w { time = t; turns = 0 } else w).id ≡ w.id
+  moved-id true t w = refl
+  moved-id false t w = refl
+
+  on_due-id : (n t : ℕ) (d : Option (PlainMessage × List PlainMessage)) (s : Scene) → ((u : Scene) → (advance_within program n t u).world.id ≡ u.world.id) → (on_due program t (advance_within program n t) d s).world.id ≡ s.world.id
+  on_due-id n t None s more = moved-id (nat_lt s.world.time t) t s.world
+  on_due-id n t (Some d) s more =
+      let w : WorldRecord = record (s.world) { pending = d.1 } in
+      let u : Scene = with_world s (begun (moved d.0.time w)) in
+      more (handled program d.0 d.1 s) ∙ (ran-stays d.0.object d.0.method d.0.args u).id ∙ moved-id (nat_lt w.time d.0.time) d.0.time w
+
+  within-id : (n t : ℕ) (s : Scene) → (advance_within program n t s).world.id ≡ s.world.id
+  within-id zero t s = moved-id (nat_lt s.world.time t) t s.world
+  within-id (suc n) t s = on_due-id n t (due t s.world.pending) s (λ u. within-id n t u)
+
+  advance-id : (t : ℕ) (s : Scene) → (advance program t s).world.id ≡ s.world.id
+  advance-id t s = within-id (enough t s.world) t s
+
+  -- ---- entries and replays
+
+  -- an entry leaves the session, and the world is at its time
+  external-id : (e : Entry) (s : Scene) → (external program e s).world.id ≡ s.world.id
+  external-id e s =
+      let a : Scene = advance program e.time s in
+      (entered-stays e.what e.view (with_world a (begun a.world))).id ∙ advance-id e.time s
+
+  external-time : (e : Entry) (s : Scene) → Valid (field_counts program) s.world → s.world.time ≤ e.time → (external program e s).world.time ≡ e.time
+  external-time e s v le =
+      let a : Scene = advance program e.time s in
+      (entered-stays e.what e.view (with_world a (begun a.world))).time ∙ advance-arrives (field_counts program) program e.time fits s v le
+
+  -- a valid world of this session at this time, which has come to it
+  pub record Stands (id : List ℕ) (t : ℕ) (s : Scene) : Type 0 where
+    pub valid : Valid (field_counts program) s.world
+    pub session : s.world.id ≡ id
+    pub time : s.world.time ≡ t
+    pub rests : advance program t s ≡ s
+
+  step : (b : Bool) (t : ℕ) (id : List ℕ) (e : Entry) (es : List Entry) (s : Scene) → nat_le e.time t ≡ b → t < time_limit → TimesRiseAfter e.time es → Valid (field_counts program) s.world → s.world.id ≡ id → s.world.time ≤ t → s.world.time ≤ e.time
+      → ((u : Scene) → Valid (field_counts program) u.world → u.world.id ≡ id → u.world.time ≤ t → u.world.time ≤ e.time → Stands id t (replayed program t es u)) → Stands id t (replayed program t es (if b then external program e s else s))
+  step true t id e es s is below rise v same le early more =
+      let reached : e.time ≤ t = leb-true e.time t is in
+      let time = external-time e s v early in
+      more (external program e s) (external-valid (field_counts program) program e s fits (omega (arith, reached, below)) v) (external-id e s ∙ same) (omega (arith, time, reached)) (omega (arith, time))
+  step false t id e es s is below rise v same le early more = more s v same le early
+
+  stands : (t low : ℕ) (id : List ℕ) (es : List Entry) (s : Scene) → t < time_limit → TimesRiseAfter low es → Valid (field_counts program) s.world → s.world.id ≡ id → s.world.time ≤ t → s.world.time ≤ low → Stands id t (replayed program t es s)
+  stands t low id [] s below rise v same le early = record {
+    valid = advance-valid (field_counts program) program t s fits below v;
+    session = advance-id t s ∙ same;
+    time = advance-arrives (field_counts program) program t fits s v le;
+    rests = advance-twice (field_counts program) program t t fits (omega arith) below s v;
+  }
+  stands t low id (e ∷ es) s below rise v same le early =
+      step (nat_le e.time t) t id e es s refl below rise.1 v same le (omega (arith, early, rise.0)) (λ u valid own less before. stands t e.time id es u below rise.1 valid own less before)
+
+  -- ---- the first world
+
+  first-stays : (has : Bool) (w : WorldRecord) (s : Scene) → Stays w s.world → Stays w (if has then ran program 1 init (nil ∷ []) s else s).world
+  first-stays true w s stays = stays-on w s.world (ran program 1 init (nil ∷ []) s).world stays (ran-stays 1 init (nil ∷ []) s)
+  first-stays false w s stays = stays
+
+  first_with-stays : (id : List ℕ) (root : Option (ℕ × ClassTree)) → Stays (empty_world id) (first_with program root (begun (empty_world id))).world
+  first_with-stays id None = record { id = refl; time = refl }
+  first_with-stays id (Some r) =
+      first-stays (is_some (method_named init r.1.methods)) (empty_world id) (record { world = rooted r.0 r.1 (begun (empty_world id)); published = [] }) (record { id = refl; time = refl })
+
+  pub replay-stands : (id : List ℕ) (entries : List Entry) (t : ℕ) → Valid (field_counts program) (first program id).world → IsLegal entries → t < time_limit → Stands id t (replay program id entries t)
+  replay-stands id entries t begins legal below =
+      let stays = first_with-stays id (root_from 0 program) in
+      let zero_is = stays.time in
+      stands t 0 id entries (first program id) below (TimesRise-legal entries legal) begins stays.id (omega (arith, zero_is)) (omega (arith, zero_is))
+
+  follows-if : (t : ℕ) (id : List ℕ) (entries : List Entry) (s : Scene) → s ≡ replay program id entries t → Stands id t s → Follows program s.world entries
+  follows-if t id entries s is stands =
+      let P : ℕ → List ℕ → Type 0 = λ u i. (advance program u (taken_up s.world)).world ≡ (replay program i entries u).world in
+      let Q : ℕ → Type 0 = λ u. P u s.world.id in
+      subst Q (sym stands.time) (subst (P t) (sym stands.session)
+      (sym (advance-by_world program t s) ∙ ap (λ (x : Scene). x.world) (stands.rests ∙ is)))
+
+  pub replay-follows : (id : List ℕ) (entries : List Entry) (t : ℕ) → Valid (field_counts program) (first program id).world → IsLegal entries → t < time_limit → Follows program (replay program id entries t).world entries
+  replay-follows id entries t begins legal below = follows-if t id entries (replay program id entries t) refl (replay-stands id entries t begins legal below)

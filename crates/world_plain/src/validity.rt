@@ -1,0 +1,125 @@
+//! Which worlds are valid for a program.
+ghost use Rattle.std.specs.Prelude.{◌≤◌, ◌<◌, ◌↔◌, length, map, IsTrue};
+ghost use Rattle.model_lang.specs.TreeView.{program_tree};
+ghost use Rattle.model_check.specs.Methods.{field_counts};
+ghost use Rattle.model_value.specs.Valid.{time_limit, most_turns, most_views, most_objects, most_pending, RiseFrom, ObjectsFit, KnownRise, KnownFit, SubscriptionsDiffer, SubscriptionsFit, AreInOrder, NumbersDiffer, MessagesFit, Valid};
+ghost use Rattle.model_value.specs.Messages.{plain_message};
+ghost use Rattle.model_value.specs.World.{object_record, world_record, world_weight, most_world_weight};
+ghost use Rattle.world_plain.specs.Ids.{HaveRisingIds};
+
+use crate::messages::{are_in_order, messages_fit, numbers_differ};
+use crate::objects::{ids_rise, names_fit, names_rise, objects_fit};
+use crate::subscriptions::{subscriptions_differ, subscriptions_fit};
+use model_check::Checked;
+use model_value::{PlainWorld, room};
+
+/// The times of a world are below this many microseconds.
+pub(crate) const TIME_LIMIT: u64 = 1 << 53;
+
+/// How far turns are counted.
+const MOST_TURNS: u32 = 1024;
+
+const MOST_VIEWS: usize = 1024;
+
+const MOST_OBJECTS: usize = 4096;
+
+/// The most pending messages, and the most subscriptions.
+const MOST_PENDING: usize = 16_384;
+
+/// Whether a world is valid for a program. Any world may be asked about, and it takes no memory.
+///
+/// - Its time is below 2^53 microseconds, the next object's number is at least 1, and at most 1,024 turns are counted.
+/// - Its views rise, and none is 0. There are at most 1,024.
+/// - Its objects stand by rising number from 1, each below the next object's number. There are at most 4,096. Each is of
+///   a class of the program, has as many fields as that declares, and holds values in bounds.
+/// - Its known names rise by their characters, and each names an object that is held.
+/// - Its subscriptions differ from each other, and each is of an object that is held. There are at most 16,384.
+/// - Its pending messages stand by rising time and number. There are at most 16,384. None is due before the world's time,
+///   or at 2^53 or later. Their numbers differ from each other, and are below the next message's number. Each is for an
+///   object that is held, and has at most 16 arguments, each in bounds.
+/// - Each text weighs at most 4,096, and the world at most 131,072.
+pub fn valid(world: &PlainWorld, program: &Checked) -> bool
+    ensures { IsTrue result ↔ Valid (field_counts (program_tree program.now)) (world_record world.now) }
+{
+    // The counts and the weight come first, since what compares each with each would take too long on more.
+    has_few_parts(world)
+        && is_light(world)
+        && has_fit_numbers(world)
+        && rise(world.views.as_slice())
+        && has_fit_objects(world, program)
+        && has_fit_names(world)
+        && has_fit_subscriptions(world)
+        && has_fit_messages(world)
+}
+
+/// Whether there are no more views, objects, subscriptions and pending messages than there may be.
+fn has_few_parts(world: &PlainWorld) -> bool
+    ensures { let w = world_record world.now in
+        IsTrue result ↔ ((length w.views ≤ most_views) × (length w.objects ≤ most_objects) × (length w.subscriptions ≤ most_pending) × (length w.pending ≤ most_pending)) }
+{
+    world.views.len() <= MOST_VIEWS
+        && world.objects.len() <= MOST_OBJECTS
+        && world.subscriptions.len() <= MOST_PENDING
+        && world.pending.len() <= MOST_PENDING
+}
+
+fn has_fit_numbers(world: &PlainWorld) -> bool
+    ensures { let w = world_record world.now in
+        IsTrue result ↔ ((w.time < time_limit) × (1 ≤ w.next_object) × (w.turns ≤ most_turns)) }
+{
+    world.time < TIME_LIMIT && 1 <= world.next_object && world.turns <= MOST_TURNS
+}
+
+fn is_light(world: &PlainWorld) -> bool
+    ensures { IsTrue result ↔ world_weight (world_record world.now) ≤ most_world_weight }
+{
+    room(world).is_some()
+}
+
+/// Whether numbers rise from 1 at least.
+fn rise(numbers: &[u32]) -> bool
+    ensures { IsTrue result ↔ RiseFrom 0 numbers.now }
+{
+    let mut last = 0;
+    for number in numbers {
+        if *number <= last {
+            return false;
+        }
+        last = *number;
+    }
+    true
+}
+
+fn has_fit_objects(world: &PlainWorld, program: &Checked) -> bool
+    ensures { let objects = map object_record world.now.objects in
+        IsTrue result ↔ (HaveRisingIds objects × ObjectsFit (field_counts (program_tree program.now)) world.now.next_object objects) }
+{
+    let objects = world.objects.as_slice();
+    ids_rise(objects) && objects_fit(objects, world.next_object, program)
+}
+
+fn has_fit_names(world: &PlainWorld) -> bool
+    requires { HaveRisingIds (map object_record world.now.objects) }
+    ensures { IsTrue result ↔ (KnownRise world.now.known × KnownFit (map object_record world.now.objects) world.now.known) }
+{
+    let known = world.known.as_slice();
+    names_rise(known) && names_fit(known, world.objects.as_slice())
+}
+
+fn has_fit_subscriptions(world: &PlainWorld) -> bool
+    requires { HaveRisingIds (map object_record world.now.objects) }
+    ensures { IsTrue result ↔ (SubscriptionsDiffer world.now.subscriptions × SubscriptionsFit (map object_record world.now.objects) world.now.subscriptions) }
+{
+    let subscriptions = world.subscriptions.as_slice();
+    subscriptions_differ(subscriptions)
+        && subscriptions_fit(subscriptions, world.objects.as_slice())
+}
+
+fn has_fit_messages(world: &PlainWorld) -> bool
+    requires { HaveRisingIds (map object_record world.now.objects) }
+    ensures { let messages = map plain_message world.now.pending in
+        IsTrue result ↔ (AreInOrder messages × NumbersDiffer messages × MessagesFit (world_record world.now) messages) }
+{
+    let messages = world.pending.as_slice();
+    are_in_order(messages) && numbers_differ(messages) && messages_fit(world, messages)
+}
