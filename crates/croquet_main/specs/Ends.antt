@@ -27,9 +27,8 @@ use Rattle.model_check.specs.Faults.{first_fault}
 use Rattle.model_check.specs.Methods.{field_counts}
 use Rattle.snapshot_codec.specs.Answer.{IsSnapshot}
 use Rattle.snapshot_codec.specs.Spelling.{world_spelling}
-use Rattle.tea_base.specs.Readings.{count}
 use Rattle.world.specs.View.{WorldView}
-use Rattle.world.specs.Worlds.{first as first_world, replay, resumed, taken_up}
+use Rattle.world.specs.Worlds.{Scene, first as first_world, replay, resumed, taken_up}
 use Rattle.croquet_main.specs.declared.recording.Recording.{Recording}
 use Rattle.croquet_main.specs.declared.world_run.Told.{Told}
 use Rattle.croquet_main.specs.declared.words.ReplayRequest.{ReplayRequest}
@@ -300,15 +299,20 @@ abbrev pub world_at : Recording → ℕ → Option WorldRecord → WorldRecord
 world_at recording time None = (replay (program_tree recording.program) recording.id.0 recording.log.entries time).world
 world_at recording time (Some w) = (resumed (program_tree recording.program) w recording.log.entries time).world
 
--- a world that is opened: the first one of a session, or one that is taken up
-abbrev pub Opens : WorldView → List Class → List ℕ → Option WorldRecord → Type 0
-Opens world program id None = world ≡ record { program = program; scene = first_world (program_tree program) id; broken = false }
-Opens world program id (Some w) = world ≡ record { program = program; scene = taken_up w; broken = false }
+-- what a replay begins with: the first world of a session, or one that is taken up
+abbrev pub opened : ProgramTree → List ℕ → Option WorldRecord → Scene
+opened tree id None = first_world tree id
+opened tree id (Some w) = taken_up w
 
--- how many entries lie at or before the time of a world that is taken up
-abbrev pub skipped : List Entry → Option WorldRecord → ℕ
-skipped entries None = 0
-skipped entries (Some w) = count entries w.time
+-- its time
+abbrev pub start_time : Option WorldRecord → ℕ
+start_time None = 0
+start_time (Some w) = w.time
+
+-- a world that is opened, and not broken
+pub record Opens (world : WorldView) (program : List Class) (id : List ℕ) (start : Option WorldRecord) : Type 0 where
+  pub opened : world ≡ record { program = program; scene = opened (program_tree program) id start; broken = false }
+  pub time : world.scene.world.time ≡ start_time start
 
 -- how the reading of a snapshot ends, if one is given
 abbrev pub StartEnd : Result (Option PlainWorld) Fault → ReplayRequest → Recording → Verdict → Type 0

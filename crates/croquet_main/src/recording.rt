@@ -111,6 +111,7 @@ pub fn read_start<F: Files>(
         StartComes request.now (program_tree recording.now.program) recording.now.id.0 recording.now.log.entries request.now.from (F.held files.old) verdict ×
         MayBeDone verdict) }
     ensures valid { IfOk result (λ start. IfSome start (λ world. Valid (field_counts (program_tree recording.now.program)) (world_record world))) }
+    ensures early { IfOk result (λ start. IfSome start (λ world. world.time ≤ request.now.time)) }
     ensures asked { AskedTo result (optional_read request.now.from) [] (F.asked files.old) (F.asked files.new) ⊤ }
     ensures err { IfErr result IsStartFault }
     ensures same { AreKept (F.held files.old) (F.held files.new) }

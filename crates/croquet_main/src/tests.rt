@@ -658,11 +658,12 @@ fn a_snapshot_may_be_at_fault(rt: HostRuntime) -> Result<(), Fail> {
     let alloc = rt.alloc();
     let snapshot = put_away(alloc, "3000000")?;
     let bytes = snapshot.bytes();
+    let (_, rest) = bytes.split_first().ok_or("no snapshot")?;
     let from = ["--from", "s", "--snapshot", "f"];
     for (bytes, at, text) in [
         (bytes, ("n", "2999999"), "input time\n"),
         (bytes, ("m", "4000000"), "input snapshot\n"),
-        (&bytes[1..], ("n", "4000000"), "input snapshot\n"),
+        (rest, ("n", "4000000"), "input snapshot\n"),
         (b"".as_slice(), ("n", "4000000"), "input snapshot\n"),
     ] {
         let ended = gone_on(alloc, bytes, at, &from, (0, 0))?;

@@ -100,7 +100,7 @@ module _ (program : ProgramTree) (fits : Fits (field_counts program) program) wh
       let a : Scene = advance program e.time s in
       (entered-stays e.what e.view (with_world a (begun a.world))).id ∙ advance-id e.time s
 
-  external-time : (e : Entry) (s : Scene) → Valid (field_counts program) s.world → s.world.time ≤ e.time → (external program e s).world.time ≡ e.time
+  pub external-time : (e : Entry) (s : Scene) → Valid (field_counts program) s.world → s.world.time ≤ e.time → (external program e s).world.time ≡ e.time
   external-time e s v le =
       let a : Scene = advance program e.time s in
       (entered-stays e.what e.view (with_world a (begun a.world))).time ∙ advance-arrives (field_counts program) program e.time fits s v le
@@ -140,6 +140,9 @@ module _ (program : ProgramTree) (fits : Fits (field_counts program) program) wh
   first_with-stays id None = record { id = refl; time = refl }
   first_with-stays id (Some r) =
       first-stays (is_some (method_named init r.1.methods)) (empty_world id) (record { world = rooted r.0 r.1 (begun (empty_world id)); published = [] }) (record { id = refl; time = refl })
+
+  pub first-begins : (id : List ℕ) → (first program id).world.time ≡ 0
+  first-begins id = (first_with-stays id (root_from 0 program)).time
 
   pub replay-stands : (id : List ℕ) (entries : List Entry) (t : ℕ) → Valid (field_counts program) (first program id).world → IsLegal entries → t < time_limit → Stands id t (replay program id entries t)
   replay-stands id entries t begins legal below =

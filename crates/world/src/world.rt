@@ -1,5 +1,5 @@
 //! Worlds.
-ghost use Rattle.std.specs.Prelude.{◌≡◌, ◌≢◌, ◌<◌, [], map, nat_lt, nat_le, IfOk, false};
+ghost use Rattle.std.specs.Prelude.{◌≡◌, ◌≢◌, ◌<◌, [], map, nat_lt, nat_le, IfOk, OnOk, false};
 ghost use Rattle.std.specs.Arc.{arc_value};
 ghost use Rattle.model_value.specs.Messages.{plain_outgoing};
 ghost use Rattle.model_value.specs.Valid.{Valid, time_limit};
@@ -55,7 +55,8 @@ impl World {
         program: Arc<Checked, Global>,
         id: SessionId,
     ) -> Result<World, WantOfMemory>
-        ensures { IfOk result (λ w. w ≡ record { program = arc_value program; scene = first_of (program_tree (arc_value program)) id.0; broken = false }) }
+        ensures first { IfOk result (λ w. w ≡ record { program = arc_value program; scene = first_of (program_tree (arc_value program)) id.0; broken = false }) }
+        ensures begins { IfOk result (λ w. w.scene.world.time ≡ 0) }
     {
         let state = opening::first(alloc, &program, id)?;
         Ok(World {
@@ -96,7 +97,8 @@ impl World {
     /// nothing. Want of memory breaks the world.
     pub fn advance(&mut self, time: u64) -> Result<(), WorldFault>
         requires { time < time_limit }
-        ensures { Moves result self.old self.new (nat_lt time self.old.scene.world.time) (advanced (program_tree self.old.program) time self.old.scene) }
+        ensures moves { Moves result self.old self.new (nat_lt time self.old.scene.world.time) (advanced (program_tree self.old.program) time self.old.scene) }
+        ensures arrives { OnOk result (self.new.scene.world.time ≡ time) }
     {
         if self.broken {
             return Err(WorldFault::Broken);
@@ -128,7 +130,8 @@ impl World {
     /// both change nothing. Want of memory breaks the world.
     pub fn external(&mut self, entry: &Entry) -> Result<(), WorldFault>
         requires { entry.now.time < time_limit }
-        ensures { Moves result self.old self.new (nat_le entry.now.time self.old.scene.world.time) (entered_by (program_tree self.old.program) entry.now self.old.scene) }
+        ensures moves { Moves result self.old self.new (nat_le entry.now.time self.old.scene.world.time) (entered_by (program_tree self.old.program) entry.now self.old.scene) }
+        ensures arrives { OnOk result (self.new.scene.world.time ≡ entry.now.time) }
     {
         if self.broken {
             return Err(WorldFault::Broken);

@@ -11,10 +11,10 @@ use Rattle.croquet_main.proofs.world_run.replayed.Goals as goal
 pub returns : goal.returns
 returns c =
     let start : Option WorldRecord = option_map world_record c.args.start in
-    let world : world_record c.in-Ok.plain ≡ world_at c.args.recording c.args.time start =
-    c.in-Ok.ensures.copy.1
-    ∙ gone_on c.in_ok-world.world c.go_on.new.world c.args.recording start c.args.time c.entries_before.result c.in_ok-world.ensures c.entries_before.ensures c.in_ok-go_on.ensures.legal c.in_ok-go_on.ensures.goes in
+    let world : world_record c.in_ok-plain.plain ≡ world_at c.args.recording c.args.time start =
+    c.in_ok-plain.ensures.copy
+    ∙ gone_on c.in_ok-world.world c.go_on.new.world c.args.recording start c.args.time c.in_ok-world.ensures c.in_ok-go_on.ensures.legal c.in_ok-go_on.ensures.goes in
     record {
-      line = c.in_ok-line.ensures ∙ ap (digested_line (world_record c.in-Ok.plain)) (c.digest.ensures ∙ ap sha256 (c.bytes.ensures ∙ c.in_ok-snapshot.ensures.spelled)) ∙ ap world_line world;
+      line = c.in_ok-line.ensures ∙ ap (digested_line (world_record c.in_ok-plain.plain)) (c.digest.ensures ∙ ap sha256 (c.bytes.ensures ∙ c.in_ok-snapshot.ensures.spelled)) ∙ ap world_line world;
       snapshot = c.in_ok-snapshot.ensures.spelled ∙ ap world_spelling world;
     }

@@ -1,4 +1,4 @@
-use Rattle.std.proofs.Common.{◌≡◌, List, ℕ, false, sym, subst}
+use Rattle.std.proofs.Common.{◌≡◌, ◌∙◌, List, ℕ, false, ap, sym, subst}
 use Rattle.std.specs.Arc.{arc_value}
 use Rattle.model_value.specs.Valid.{Valid}
 use Rattle.model_lang.specs.Program.{IsProgram}
@@ -7,6 +7,7 @@ use Rattle.model_lang.specs.declared.tree.Class.{Class}
 use Rattle.world.specs.Worlds.{Scene, first, field_counts}
 use Rattle.world.specs.View.{scene, IsSound}
 use Rattle.world.proofs.FirstWorld.{first-valid}
+use Rattle.world.proofs.Replays.{first-begins}
 use Rattle.world.proofs.Turn.{program-fits}
 use Rattle.world.proofs.world.World.first.Goals as goal
 
@@ -19,3 +20,8 @@ sound program id s p e = record {
 
 pub invariant_of-result : goal.invariant_of-result
 invariant_of-result c = sound (arc_value c.args.program) c.args.id.0 (scene c.in_ok-state.state) (rw (← c.deref.ensures) c.in_ok-state.ensures.program) (rw (← c.deref.ensures) c.in_ok-state.ensures.first)
+
+pub returns-clause-begins : goal.returns-clause-begins
+returns-clause-begins c =
+    let tree = program_tree c.deref.result.now in
+    ap (λ (s : Scene). s.world.time) c.in_ok-state.ensures.first ∙ first-begins tree (program-fits tree c.in_ok-state.ensures.program) c.args.id.0
