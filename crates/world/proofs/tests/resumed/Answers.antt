@@ -12,5 +12,5 @@ use Rattle.world.proofs.tests.resumed.Goals as goal
 pub from_plain-requires : goal.from_plain-requires
 from_plain-requires c =
     let program : WorldView → List Class = λ w. w.program in
-    let same : program c.external.new.self ≡ arc_value c.in_ok-program.program = ap program c.in_ok-external.ensures.2 ∙ ap program c.in_ok-world.ensures ∙ c.in_ok-clone.ensures.cases in
+    let same : program c.external.new.self ≡ arc_value c.in_ok-program.program = ap program c.in_ok-external.ensures.moves.2 ∙ ap program c.in_ok-world.ensures.first ∙ c.in_ok-clone.ensures.cases in
     subst (λ (classes : List Class). Valid (field_counts (program_tree classes)) (world_record c.in_ok-plain.plain)) same c.in_ok-plain.ensures.valid
