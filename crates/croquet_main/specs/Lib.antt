@@ -1,7 +1,1 @@
-pub mod CommandWords
-pub mod Script
-pub mod PrintedText
-pub mod Verdict
-pub mod Ends
 pub mod System
-pub mod Status

@@ -4,8 +4,6 @@
 mod pending;
 mod queue;
 mod refusal;
-#[cfg(test)]
-mod tests;
 
 pub use queue::{MOST_MESSAGES, Queue};
 pub use refusal::QueueRefusal;

@@ -6,8 +6,6 @@ mod fault;
 mod laws;
 mod numbers;
 mod parts;
-#[cfg(test)]
-mod tests;
 mod texts;
 
 pub use builtin::{Pure, apply};

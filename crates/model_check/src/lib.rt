@@ -7,14 +7,14 @@ mod checked;
 mod class;
 mod expression;
 mod fault;
+mod laws;
 mod names;
 mod scope;
 mod solved;
 mod statement;
-#[cfg(test)]
-mod tests;
 
 pub use builtin::Builtin;
 pub use checked::{Checked, check};
 pub use fault::CheckFault;
+pub use laws::checked_crosses_threads;
 pub use solved::{Solved, SolvedExpr, SolvedStmt};

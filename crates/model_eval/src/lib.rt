@@ -14,8 +14,6 @@ mod methods;
 mod objects;
 mod operator;
 mod state;
-#[cfg(test)]
-mod tests;
 mod values;
 
 pub use builtins::session_text;

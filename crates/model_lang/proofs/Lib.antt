@@ -1,3 +1,4 @@
+pub mod Heads
 pub mod Turns
 pub mod Counts
 pub mod Fronts

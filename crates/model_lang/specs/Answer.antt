@@ -6,12 +6,11 @@ use Rattle.std.specs.declared.alloc.AllocError.{AllocError}
 use Rattle.model_tokens.specs.declared.token.Token.{Token}
 use Rattle.model_lang.specs.declared.tree.Class.{Class}
 use Rattle.model_lang.specs.declared.tree.Expr.{Expr}
-use Rattle.model_lang.specs.declared.tree.BinaryOp.{BinaryOp}
 use Rattle.model_lang.specs.declared.fault.LangFault.{LangFault}
 use Rattle.model_lang.specs.declared.fault.LangFault.TheVariants.{Syntax, TooLarge, WantOfMemory}
 use Rattle.model_lang.specs.declared.fault.Stop.{Stop}
 use Rattle.model_lang.specs.declared.fault.Stop.TheVariants as stop
-use Rattle.model_lang.specs.Tree.{Name, ClassTree, binary}
+use Rattle.model_lang.specs.Tree.{Name, Expression, ClassTree}
 use Rattle.model_lang.specs.TreeView.{program_tree, expression_tree}
 use Rattle.model_lang.specs.Program.{IsSpelled, IsRead, ArePast, IsTooLarge, AreNoProgram, IsNoProgram}
 use Rattle.model_lang.specs.Reader.{Read}
@@ -60,9 +59,15 @@ Expects (Ok rest) meant = meant ≡ Some rest.now
 Expects (Err (stop.NoProgram left)) meant = meant ≡ None
 Expects (Err stop.WantOfMemory) meant = ⊥
 
-abbrev pub Joins : Result Expr AllocError → BinaryOp → Expr → Expr → Type 0
-Joins (Ok e) op left right = expression_tree e ≡ binary op (expression_tree left) (expression_tree right)
-Joins (Err e) op left right = Unit {0}
+-- the same of a name
+abbrev pub ExpectsName : Result (Bor Name × Bor (List Token)) Stop → Read Name → Type 0
+ExpectsName (Ok found) meant = meant ≡ Some (found.0.now, found.1.now)
+ExpectsName (Err (stop.NoProgram left)) meant = meant ≡ None
+ExpectsName (Err stop.WantOfMemory) meant = ⊥
+
+abbrev pub Makes : Result Expr AllocError → Expression → Type 0
+Makes (Ok e) meant = expression_tree e ≡ meant
+Makes (Err e) meant = Unit {0}
 
 -- all the classes, where they are read
 abbrev pub ReadsAll : Result (Vec Class Global) Stop → Option (List ClassTree) → Type 0

@@ -152,6 +152,18 @@ read_prim inner (token.Word x ∷ ts) = read_word inner x ts
 read_prim inner (token.Symbol x ∷ ts) = read_opened inner x ts
 read_prim inner _ = None
 
+-- a name and the `(` behind it
+abbrev pub call_head : List Token → Read Name
+call_head ts = reading (name_at ts) (λ x ts. behind (after_symbol s.OpenRound ts) (λ ts. Some (x, ts)))
+
+-- the same behind the `)` and the `.` that stand behind a delay
+abbrev pub message_head : List Token → Read Name
+message_head ts = behind (after_symbol s.CloseRound ts) (λ ts. behind (after_symbol s.Dot ts) call_head)
+
+-- the name of a class between `(` and `,`
+abbrev pub create_head : List Token → Read Name
+create_head ts = behind (after_symbol s.OpenRound ts) (λ ts. reading (class_name_at ts) (λ x ts. behind (after_symbol s.Comma ts) (λ ts. Some (x, ts))))
+
 -- a call behind its `.`
 abbrev pub read_call : Reader → Expression → Reader
 read_call inner object ts =

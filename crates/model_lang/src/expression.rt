@@ -1,12 +1,13 @@
 //! Expressions, read from tokens.
 ghost use Rattle.std.specs.Prelude.{◌≡◌, ◌-◌, [], length, map, Result, Ok, Err};
-ghost use Rattle.model_lang.specs.Answer.{Reads, FindsName, Joins};
+ghost use Rattle.model_lang.specs.Answer.{Reads, FindsName, Makes};
+ghost use Rattle.model_lang.specs.Tree.{binary, call, create, expressions_of, future};
 ghost use Rattle.model_lang.specs.TreeView.{expression_tree};
 ghost use Rattle.model_lang.specs.Lines.{line_number};
-ghost use Rattle.model_lang.specs.Reader.{read_expression, read_line, read_unary, read_post, suffixes_of, read_suffix, read_call, read_future, read_message, read_prim, read_word, read_opened, read_named, read_this, field_at as read_field, read_create, read_args, read_more};
+ghost use Rattle.model_lang.specs.Reader.{read_expression, read_line, read_unary, read_post, suffixes_of, read_suffix, read_call, read_future, read_prim, read_word, read_opened, read_named, read_this, field_at as read_field, read_create, read_args, read_more};
 
 use crate::fault::Stop;
-use crate::front::{class_name, expect_symbol, name, named, symbol, word};
+use crate::front::{call_head, create_head, expect_symbol, message_head, named, symbol, word};
 use crate::operators::{Line, operator_at, sign_at};
 use crate::tree::{BinaryOp, Expr};
 use model_tokens::{Symbol, Token, Word};
@@ -50,12 +51,48 @@ fn inner(alloc: Global, room: usize, line: Line, tokens: &[Token]) -> Result<(Ex
 }
 
 fn joined(alloc: Global, op: BinaryOp, left: Expr, right: Expr) -> Result<Expr, AllocError>
-    ensures { Joins result op left right }
+    ensures { Makes result (binary op (expression_tree left) (expression_tree right)) }
 {
     Ok(Expr::Binary {
         op,
         left: Box::new(alloc, left)?,
         right: Box::new(alloc, right)?,
+    })
+}
+
+fn called(alloc: Global, object: Expr, name: &Text, args: Vec<Expr>) -> Result<Expr, AllocError>
+    ensures { Makes result (call (expression_tree object) name.now (expressions_of (map expression_tree args.items))) }
+{
+    Ok(Expr::Call {
+        object: Box::new(alloc, object)?,
+        name: name.clone()?,
+        args,
+    })
+}
+
+fn sent(
+    alloc: Global,
+    object: Expr,
+    delay: Expr,
+    name: &Text,
+    args: Vec<Expr>,
+) -> Result<Expr, AllocError>
+    ensures { Makes result (future (expression_tree object) (expression_tree delay) name.now (expressions_of (map expression_tree args.items))) }
+{
+    Ok(Expr::Future {
+        object: Box::new(alloc, object)?,
+        delay: Box::new(alloc, delay)?,
+        name: name.clone()?,
+        args,
+    })
+}
+
+fn created(alloc: Global, class: &Text, options: Expr) -> Result<Expr, AllocError>
+    ensures { Makes result (create class.now (expression_tree options)) }
+{
+    Ok(Expr::Create {
+        class: class.clone()?,
+        options: Box::new(alloc, options)?,
     })
 }
 
@@ -109,6 +146,7 @@ fn suffix(
 }
 
 #[cycle(line)]
+#[tactic(auto, using(crate::proofs::Heads::by_head))]
 fn call(
     alloc: Global,
     room: usize,
@@ -117,15 +155,14 @@ fn call(
 ) -> Result<(Expr, &[Token]), Stop>
     ensures { Reads expression_tree result (read_call (read_line (read_unary room) 6) (expression_tree object) tokens.now) }
 {
-    let (name, rest) = name(tokens)?;
-    let rest = expect_symbol(rest, Symbol::OpenRound)?;
+    let (name, rest) = call_head(tokens)?;
     let (args, rest) = arguments(alloc, room, Symbol::CloseRound, rest)?;
-    let object = Box::new(alloc, object)?;
-    Ok((Expr::Call { object, name, args }, rest))
+    Ok((called(alloc, object, name, args)?, rest))
 }
 
 // Behind `.future`.
 #[cycle(line)]
+#[tactic(auto, using(crate::proofs::Heads::by_head))]
 fn future(
     alloc: Global,
     room: usize,
@@ -136,36 +173,9 @@ fn future(
 {
     let rest = expect_symbol(tokens, Symbol::OpenRound)?;
     let (delay, rest) = line(alloc, room, Line::Or, rest)?;
-    let rest = expect_symbol(rest, Symbol::CloseRound)?;
-    message(alloc, room, object, delay, rest)
-}
-
-// Behind the delay of a future.
-#[cycle(line)]
-fn message(
-    alloc: Global,
-    room: usize,
-    object: Expr,
-    delay: Expr,
-    tokens: &[Token],
-) -> Result<(Expr, &[Token]), Stop>
-    ensures { Reads expression_tree result (read_message (read_line (read_unary room) 6) (expression_tree object) (expression_tree delay) tokens.now) }
-{
-    let rest = expect_symbol(tokens, Symbol::Dot)?;
-    let (name, rest) = name(rest)?;
-    let rest = expect_symbol(rest, Symbol::OpenRound)?;
+    let (name, rest) = message_head(rest)?;
     let (args, rest) = arguments(alloc, room, Symbol::CloseRound, rest)?;
-    let object = Box::new(alloc, object)?;
-    let delay = Box::new(alloc, delay)?;
-    Ok((
-        Expr::Future {
-            object,
-            delay,
-            name,
-            args,
-        },
-        rest,
-    ))
+    Ok((sent(alloc, object, delay, name, args)?, rest))
 }
 
 #[cycle(line)]
@@ -247,16 +257,14 @@ fn field_at(tokens: &[Token]) -> Option<(&Text, &[Token])>
 }
 
 #[cycle(line)]
+#[tactic(auto, using(crate::proofs::Heads::by_head))]
 fn create(alloc: Global, room: usize, tokens: &[Token]) -> Result<(Expr, &[Token]), Stop>
     ensures { Reads expression_tree result (read_create (read_line (read_unary room) 6) tokens.now) }
 {
-    let rest = expect_symbol(tokens, Symbol::OpenRound)?;
-    let (class, rest) = class_name(rest)?;
-    let rest = expect_symbol(rest, Symbol::Comma)?;
+    let (class, rest) = create_head(tokens)?;
     let (options, rest) = line(alloc, room, Line::Or, rest)?;
     let rest = expect_symbol(rest, Symbol::CloseRound)?;
-    let options = Box::new(alloc, options)?;
-    Ok((Expr::Create { class, options }, rest))
+    Ok((created(alloc, class, options)?, rest))
 }
 
 // Behind a symbol that opens an expression in brackets or a list.

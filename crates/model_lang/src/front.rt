@@ -1,6 +1,6 @@
 //! The token at the front, and the tokens behind it.
-ghost use Rattle.model_lang.specs.Answer.{IsBehind, Expects, Reads, FindsName};
-ghost use Rattle.model_lang.specs.Reader.{after_word, after_symbol, name_at, class_name_at};
+ghost use Rattle.model_lang.specs.Answer.{IsBehind, Expects, ExpectsName, Reads, FindsName};
+ghost use Rattle.model_lang.specs.Reader.{after_word, after_symbol, name_at, class_name_at, call_head, message_head, create_head};
 
 use crate::fault::Stop;
 use model_tokens::{Symbol, Token, Word};
@@ -48,6 +48,49 @@ pub fn named(tokens: &[Token]) -> Option<(&Text, &[Token])>
         Some((Token::Name(found), rest)) => Some((found, rest)),
         _ => None,
     }
+}
+
+/// The name at the front, which must be there, and the tokens behind it.
+fn expect_name(tokens: &[Token]) -> Result<(&Text, &[Token]), Stop>
+    ensures { ExpectsName result (name_at tokens.now) }
+{
+    named(tokens).ok_or(Stop::at(tokens))
+}
+
+/// The name of a class at the front, which must be there, and the tokens behind it.
+fn expect_class_name(tokens: &[Token]) -> Result<(&Text, &[Token]), Stop>
+    ensures { ExpectsName result (class_name_at tokens.now) }
+{
+    match tokens.split_first() {
+        Some((Token::ClassName(found), rest)) => Ok((found, rest)),
+        _ => Err(Stop::at(tokens)),
+    }
+}
+
+/// The name of a call, and the tokens behind the `(` of its arguments.
+pub fn call_head(tokens: &[Token]) -> Result<(&Text, &[Token]), Stop>
+    ensures { ExpectsName result (call_head tokens.now) }
+{
+    let (name, rest) = expect_name(tokens)?;
+    Ok((name, expect_symbol(rest, Symbol::OpenRound)?))
+}
+
+/// The name of a message behind the delay of a future, from its `)` on, and the tokens behind the `(` of its arguments.
+pub fn message_head(tokens: &[Token]) -> Result<(&Text, &[Token]), Stop>
+    ensures { ExpectsName result (message_head tokens.now) }
+{
+    let rest = expect_symbol(tokens, Symbol::CloseRound)?;
+    let rest = expect_symbol(rest, Symbol::Dot)?;
+    call_head(rest)
+}
+
+/// The name of the class behind `create`, and the tokens behind the `,`.
+pub fn create_head(tokens: &[Token]) -> Result<(&Text, &[Token]), Stop>
+    ensures { ExpectsName result (create_head tokens.now) }
+{
+    let rest = expect_symbol(tokens, Symbol::OpenRound)?;
+    let (class, rest) = expect_class_name(rest)?;
+    Ok((class, expect_symbol(rest, Symbol::Comma)?))
 }
 
 /// The name at the front.

@@ -10,8 +10,6 @@ mod operators;
 mod parsing;
 mod program;
 mod statement;
-#[cfg(test)]
-mod tests;
 mod tree;
 
 pub use fault::{Bound, LangFault};

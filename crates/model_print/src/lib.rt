@@ -5,7 +5,5 @@
 #![tactic(auto)]
 
 mod printing;
-#[cfg(test)]
-mod tests;
 
 pub use printing::{is_shortest, parses_again, print};

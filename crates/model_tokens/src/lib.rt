@@ -20,8 +20,6 @@ mod numbers;
 mod pieces;
 mod places;
 mod symbols;
-#[cfg(test)]
-mod tests;
 mod token;
 
 pub use dividing::{TokenFault, one_division, tokens};

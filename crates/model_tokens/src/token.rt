@@ -1,6 +1,4 @@
 //! What a text is divided into.
-ghost use Rattle.std.specs.Prelude.{◌≡◌, ◌↔◌, IsTrue};
-
 use tea_base::{List, Text};
 
 /// A token of a program's text.
@@ -67,12 +65,3 @@ pub enum Symbol {
 
 /// Tokens in order.
 pub type Tokens = List<Token>;
-
-impl Token {
-    /// Whether the token is this symbol.
-    pub fn is_symbol(&self, symbol: Symbol) -> bool
-        ensures { IsTrue result ↔ (self.now ≡ Token.Symbol symbol) }
-    {
-        matches!(self, Token::Symbol(found) if *found == symbol)
-    }
-}

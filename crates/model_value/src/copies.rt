@@ -1,12 +1,11 @@
-//! Copies of messages, subscriptions and worlds, in memory of their own.
+//! Copies of values, messages, subscriptions and known names, in memory of their own.
 ghost use Rattle.std.specs.Prelude.{◌≡◌, map, IfOk};
 ghost use Rattle.model_value.specs.Messages.{plain_message};
 ghost use Rattle.model_value.specs.View.{plain_values};
-ghost use Rattle.model_value.specs.World.{object_record, world_record};
 
 use crate::message::{Message, Messages, Subscription, Subscriptions};
 use crate::value::{Values, copy_all};
-use crate::world::{Known, KnownNames, PlainObject, PlainObjects, PlainWorld};
+use crate::world::{Known, KnownNames};
 use std::alloc::Global;
 use tea_base::{List, Numbers, WantOfMemory};
 
@@ -48,7 +47,7 @@ pub fn copy_subscription(subscription: &Subscription) -> Result<Subscription, Wa
 }
 
 /// The same known name.
-pub fn copy_known(known: &Known) -> Result<Known, WantOfMemory>
+fn copy_known(known: &Known) -> Result<Known, WantOfMemory>
     ensures { IfOk result (λ new. new ≡ known.now) }
 {
     Ok(Known {
@@ -57,57 +56,11 @@ pub fn copy_known(known: &Known) -> Result<Known, WantOfMemory>
     })
 }
 
-/// The same object.
-pub fn copy_object(alloc: Global, object: &PlainObject) -> Result<PlainObject, WantOfMemory>
-    ensures { IfOk result (λ new. object_record new ≡ object_record object.now) }
-{
-    Ok(PlainObject {
-        id: object.id,
-        class: object.class,
-        fields: copy_values(alloc, &object.fields)?,
-    })
-}
-
-/// The same world.
-pub fn copy_world(alloc: Global, world: &PlainWorld) -> Result<PlainWorld, WantOfMemory>
-    ensures { IfOk result (λ new. world_record new ≡ world_record world.now) }
-{
-    let views = copy_numbers(alloc, world.views.as_slice())?;
-    let objects = copy_objects(alloc, world.objects.as_slice())?;
-    let known = copy_known_names(alloc, world.known.as_slice())?;
-    let subscriptions = copy_subscriptions(alloc, world.subscriptions.as_slice())?;
-    let pending = copy_messages(alloc, world.pending.as_slice())?;
-    Ok(PlainWorld {
-        id: world.id,
-        time: world.time,
-        next_object: world.next_object,
-        next_number: world.next_number,
-        random: world.random,
-        turns: world.turns,
-        faults: world.faults,
-        views,
-        objects,
-        known,
-        subscriptions,
-        pending,
-    })
-}
-
 /// The same numbers.
 pub fn copy_numbers(alloc: Global, numbers: &[u32]) -> Result<Numbers, WantOfMemory>
     ensures { IfOk result (λ new. new ≡ numbers.now) }
 {
     Ok(List::from_vec(Vec::from_slice(alloc, numbers)?))
-}
-
-fn copy_objects(alloc: Global, objects: &[PlainObject]) -> Result<PlainObjects, WantOfMemory>
-    ensures { IfOk result (λ new. map object_record new ≡ map object_record objects.now) }
-{
-    let mut copies = Vec::with_capacity(alloc, objects.len())?;
-    for object in objects {
-        copies.push(copy_object(alloc, object)?)?;
-    }
-    Ok(List::from_vec(copies))
 }
 
 /// The same known names.

@@ -7,16 +7,14 @@ mod measure;
 mod message;
 mod payloads;
 mod reading;
-#[cfg(test)]
-mod tests;
 mod value;
 mod weights;
 mod world;
 mod writing;
 
 pub use copies::{
-    copy_known, copy_known_names, copy_message, copy_messages, copy_numbers, copy_object,
-    copy_subscription, copy_subscriptions, copy_values, copy_world,
+    copy_known_names, copy_message, copy_messages, copy_numbers, copy_subscription,
+    copy_subscriptions, copy_values,
 };
 pub use fault::ValueFault;
 pub use measure::{MOST_DEPTH, MOST_WEIGHT, depth, in_bounds, weight};
@@ -29,4 +27,4 @@ pub use weights::{
     subscription_fits, value_fits,
 };
 pub use world::{Known, KnownNames, PlainObject, PlainObjects, PlainWorld};
-pub use writing::{encode, put_value};
+pub use writing::{encode, put_text, put_value};

@@ -26,7 +26,9 @@ pub fn payload(
     requires scope_fits { length (encode_utf8_all scope.now) < 2 ^ 32 }
     requires event_fits { length (encode_utf8_all event.now) < 2 ^ 32 }
     requires value_fits { weight_of (plain value.now) < 2 ^ 28 }
-    ensures { IfOk result (λ bytes. bytes ≡ payload_spelling (record { scope = scope.now; event = event.now; value = plain value.now })) }
+    ensures spelled { IfOk result (λ bytes. bytes ≡ payload_spelling (record { scope = scope.now; event = event.now; value = plain value.now })) }
+    // What is written of a value in bounds is read again.
+    ensures payload { IfOk result (λ _. InBounds (plain value.now) → IsPayload (record { scope = scope.now; event = event.now; value = plain value.now })) }
 {
     let mut out = Writer::new(alloc);
     put_text(&mut out, scope)?;

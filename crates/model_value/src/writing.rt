@@ -1,8 +1,9 @@
 //! The spelling of values.
-ghost use Rattle.std.specs.Prelude.{◌≡◌, ◌≤◌, ◌<◌, ◌^◌, ◌*◌, ◌++◌, OnOk, IfOk, length, encode_utf8_all};
+ghost use Rattle.std.specs.Prelude.{◌≡◌, ◌≤◌, ◌<◌, ◌^◌, ◌*◌, ◌++◌, OnOk, IfOk, length, encode_utf8_all, true};
 ghost use Rattle.std.specs.Int.{to_be_bytes, w32};
+ghost use Rattle.std.specs.Str.{all_scalars};
 ghost use Rattle.model_value.specs.Plain.{weight as weight_of, weight_of_all};
-ghost use Rattle.model_value.specs.Spelling.{text_field, count, value_spelling, items_spelling};
+ghost use Rattle.model_value.specs.Spelling.{text_field, count, value_spelling, items_spelling, IsValue, AreValues};
 ghost use Rattle.model_value.specs.View.{plain, plains};
 
 use crate::value::Value;
@@ -28,6 +29,8 @@ pub fn encode(alloc: Global, value: &Value) -> Result<Blob, WantOfMemory>
     requires { weight_of (plain value.now) < 2 ^ 28 }
     ensures spelled { IfOk result (λ bytes. bytes ≡ value_spelling (plain value.now)) }
     ensures short { IfOk result (λ bytes. length bytes ≤ 16 * weight_of (plain value.now)) }
+    // What is written is read again.
+    ensures value { IfOk result (λ _. IsValue (plain value.now)) }
 {
     let mut out = Writer::new(alloc);
     put_value(&mut out, value)?;
@@ -40,7 +43,8 @@ pub fn encode(alloc: Global, value: &Value) -> Result<Blob, WantOfMemory>
 #[tactic(auto, using(crate::proofs::Spellings::by_weight))]
 pub fn put_value(out: &mut Writer, value: &Value) -> Result<(), WantOfMemory>
     requires { weight_of (plain value.now) < 2 ^ 28 }
-    ensures { OnOk result (out.new ≡ out.old ++ value_spelling (plain value.now)) }
+    ensures spelled { OnOk result (out.new ≡ out.old ++ value_spelling (plain value.now)) }
+    ensures value { OnOk result (IsValue (plain value.now)) }
 {
     match value {
         Value::Nil => out.put_u8(0),
@@ -69,7 +73,8 @@ pub fn put_value(out: &mut Writer, value: &Value) -> Result<(), WantOfMemory>
 #[tactic(auto, using(crate::proofs::Spellings::by_weight))]
 fn put_list(out: &mut Writer, items: &[Value]) -> Result<(), WantOfMemory>
     requires { weight_of_all (plains items.now) < 2 ^ 28 }
-    ensures { OnOk result (out.new ≡ out.old ++ to_be_bytes w32 (count (plains items.now)) ++ items_spelling (plains items.now)) }
+    ensures spelled { OnOk result (out.new ≡ out.old ++ to_be_bytes w32 (count (plains items.now)) ++ items_spelling (plains items.now)) }
+    ensures values { OnOk result (AreValues (plains items.now)) }
 {
     out.put_u32(items.len() as u32)?;
     put_items(out, items)
@@ -78,7 +83,8 @@ fn put_list(out: &mut Writer, items: &[Value]) -> Result<(), WantOfMemory>
 #[cycle(put_value)]
 fn put_items(out: &mut Writer, items: &[Value]) -> Result<(), WantOfMemory>
     requires { weight_of_all (plains items.now) < 2 ^ 28 }
-    ensures { OnOk result (out.new ≡ out.old ++ items_spelling (plains items.now)) }
+    ensures spelled { OnOk result (out.new ≡ out.old ++ items_spelling (plains items.now)) }
+    ensures values { OnOk result (AreValues (plains items.now)) }
 {
     for item in items {
         put_value(out, item)?;
@@ -86,10 +92,12 @@ fn put_items(out: &mut Writer, items: &[Value]) -> Result<(), WantOfMemory>
     Ok(())
 }
 
-/// Writes a text field: how many bytes of UTF-8 there are in four bytes, and these.
-pub(crate) fn put_text(out: &mut Writer, text: &Text) -> Result<(), WantOfMemory>
+/// Writes a text field behind what was written before: how many bytes of UTF-8 (RFC 3629) there are in four bytes, and
+/// these. Fails for want of memory alone, and then nothing is said of what the writer holds.
+pub fn put_text(out: &mut Writer, text: &Text) -> Result<(), WantOfMemory>
     requires { length (encode_utf8_all text.now) < 2 ^ 32 }
-    ensures { OnOk result (out.new ≡ out.old ++ text_field text.now) }
+    ensures spelled { OnOk result (out.new ≡ out.old ++ text_field text.now) }
+    ensures scalars { OnOk result (all_scalars text.now ≡ true) }
 {
     out.put_u32(text.bytes().len() as u32)?;
     out.put_bytes(text.bytes())

@@ -4,8 +4,6 @@
 mod handler;
 mod refusal;
 mod subscription;
-#[cfg(test)]
-mod tests;
 mod topics;
 
 pub use handler::{Handler, Handlers};

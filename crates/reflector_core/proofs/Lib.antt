@@ -2,3 +2,4 @@ pub mod SessionLaws
 pub mod RepeatLaws
 pub mod PlayLaws
 pub mod SoundLaws
+pub mod GrowthLaws

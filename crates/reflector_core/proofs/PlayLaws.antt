@@ -10,7 +10,7 @@ use Rattle.session_log.specs.LogState.{next_entry}
 use Rattle.reflector_core.specs.PlainSession.{PlainSession, IsSound}
 use Rattle.reflector_core.specs.Answer.{answer, send, join, leave, offer, pull, appended, repeats, stamp}
 use Rattle.reflector_core.specs.Play.{first, after_all, replies_from, stamped, stamped_by, stamped_as, TellsItsEvents}
-use Rattle.reflector_core.specs.declared.start.Want.{Want}
+use Rattle.wire_frames.specs.declared.start.Want.{Want}
 use Rattle.reflector_core.specs.declared.request.Request.{Request}
 use Rattle.reflector_core.specs.declared.request.Request.TheVariants.{Join, Send, Tick, Leave, Offer, Pull}
 use Rattle.reflector_core.specs.declared.request.Reply.{Reply}

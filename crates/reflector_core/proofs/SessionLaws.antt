@@ -7,13 +7,13 @@ use Rattle.tea_base.specs.Readings.{is_here, last_number, here_count, payload_by
 use Rattle.tea_base.specs.Legal.{IsLegal, MayFollow, most_here, most_entries, most_open_entries, most_payload, most_bytes}
 use Rattle.tea_base.proofs.LogLaws.{IsLegal-push, last_time-push, here_count-push, here_count-positive, is_here-zero}
 use Rattle.session_log.specs.LogState.{next_entry}
-use Rattle.reflector_core.specs.declared.start.Base.{Base}
+use Rattle.wire_frames.specs.declared.start.Base.{Base}
 use Rattle.reflector_core.specs.PlainSession.{PlainSession, IsSound, IsKeptBy}
 use Rattle.reflector_core.specs.Answer.{stamp, appended, end_of_time}
 
 IsKeptBy-grows : (a b : ℕ) (kept : Option Base) → a ≤ b → IsKeptBy a kept → IsKeptBy b kept
 IsKeptBy-grows a b None le within = tt
-IsKeptBy-grows a b (Some base) le within = omega arith
+IsKeptBy-grows a b (Some base) le within = (omega (arith, within.0), within.1)
 
 -- a later horizon that is not past the end of time
 pub IsSound-later : (s : PlainSession) (horizon : ℕ) → IsSound s → s.horizon ≤ horizon → horizon ≤ max s.horizon end_of_time → IsSound (record { log = s.log; horizon = horizon; kept = s.kept })

@@ -4,10 +4,10 @@ use Rattle.std.proofs.lemmas.Bool.Decides.{nat_tests}
 use Rattle.tea_base.specs.declared.entry.What.TheVariants as what
 use Rattle.tea_base.specs.Readings.{is_here, here_count, last_number, payload_bytes}
 use Rattle.tea_base.specs.Legal.{most_here, most_payload, most_bytes}
-use Rattle.reflector_core.specs.PlainSession.{PlainSession, IsSound}
+use Rattle.reflector_core.specs.PlainSession.{PlainSession, IsSound, most_snapshot}
 use Rattle.reflector_core.specs.Answer.{answer, send, join, leave, offer, appended, stamp, is_stale, is_closed, end_of_time}
 use Rattle.reflector_core.specs.Play.{first, after_all}
-use Rattle.reflector_core.specs.declared.start.Want.{Want}
+use Rattle.wire_frames.specs.declared.start.Want.{Want}
 use Rattle.reflector_core.specs.declared.request.Request.{Request}
 use Rattle.reflector_core.specs.declared.request.Request.TheVariants.{Join, Send, Tick, Leave, Offer, Pull}
 use Rattle.reflector_core.proofs.SessionLaws.{exit_is_sound, event_may_follow, event_is_sound, join_may_follow, join_is_sound, IsSound-later}
@@ -35,19 +35,20 @@ event_is_sound_where s view joined number now payload sound bound fresh short le
     event_is_sound s now view number payload sound may end
 
 -- what is true before a Send, and of the session with the event where no test refuses it, is true after it
-send_along : (P : PlainSession → Type 0) (s : PlainSession) (view joined number : ℕ) (payload : List ℕ) (now : ℕ) → P s → (is_stale s.log view joined ≡ false → nat_lt most_payload (length payload) ≡ false → nat_lt number (last_number s.log view + 1) ≡ false → nat_lt (last_number s.log view + 1) number ≡ false → (is_closed s.log || nat_lt most_bytes (payload_bytes s.log + length payload)) ≡ false → nat_le end_of_time s.horizon ≡ false → P (appended s (stamp s.horizon now) view (what.Event number payload))) → P (send s view joined number payload now).session
+pub send_along : (P : PlainSession → Type 0) (s : PlainSession) (view joined number : ℕ) (payload : List ℕ) (now : ℕ) → P s → (is_stale s.log view joined ≡ false → nat_lt most_payload (length payload) ≡ false → nat_lt number (last_number s.log view + 1) ≡ false → nat_lt (last_number s.log view + 1) number ≡ false → (is_closed s.log || nat_lt most_bytes (payload_bytes s.log + length payload)) ≡ false → nat_le end_of_time s.horizon ≡ false → P (appended s (stamp s.horizon now) view (what.Event number payload))) → P (send s view joined number payload now).session
 send_along P s view joined number payload now holds after = grind arith
 
 send_keeps : (s : PlainSession) (view joined number : ℕ) (payload : List ℕ) (now : ℕ) → IsSound s → view < 2 ^ 32 → IsSound (send s view joined number payload now).session
 send_keeps s view joined number payload now sound bound =
     send_along IsSound s view joined number payload now sound (event_is_sound_where s view joined number now payload sound bound)
 
-offer_along : (P : PlainSession → Type 0) (s : PlainSession) (view joined time : ℕ) (snapshot : List ℕ) → P s → (nat_lt s.horizon time ≡ false → P (record { log = s.log; horizon = s.horizon; kept = Some (record { time = time; bytes = snapshot }) })) → P (offer s view joined time snapshot).session
+-- the same of an Offer
+pub offer_along : (P : PlainSession → Type 0) (s : PlainSession) (view joined time : ℕ) (snapshot : List ℕ) → P s → (nat_lt most_snapshot (length snapshot) ≡ false → nat_lt s.horizon time ≡ false → P (record { log = s.log; horizon = s.horizon; kept = Some (record { time = time; bytes = snapshot }) })) → P (offer s view joined time snapshot).session
 offer_along P s view joined time snapshot holds after = grind arith
 
 offer_keeps : (s : PlainSession) (view joined time : ℕ) (snapshot : List ℕ) → IsSound s → IsSound (offer s view joined time snapshot).session
 offer_keeps s view joined time snapshot sound =
-    offer_along IsSound s view joined time snapshot sound (λ h. record { legal = sound.legal; latest = sound.latest; here = sound.here; room = sound.room; bounded = sound.bounded; kept = grind (arith, nat_tests) })
+    offer_along IsSound s view joined time snapshot sound (λ short come. record { legal = sound.legal; latest = sound.latest; here = sound.here; room = sound.room; bounded = sound.bounded; kept = (grind (arith, nat_tests), grind (arith, nat_tests)) })
 
 -- the request's view, if it names one, is below 2^32
 abbrev pub IsBounded : Request → Type 0

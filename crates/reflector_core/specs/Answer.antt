@@ -7,10 +7,10 @@ use Rattle.tea_base.specs.declared.entry.What.TheVariants as what
 use Rattle.tea_base.specs.Readings.{current, is_here, last_number, event, payload_bytes, count, here_count, payload_of}
 use Rattle.tea_base.specs.Legal.{most_open_entries, most_payload, most_bytes, most_here}
 use Rattle.session_log.specs.LogState.{with_next}
-use Rattle.reflector_core.specs.PlainSession.{PlainSession}
-use Rattle.reflector_core.specs.declared.start.Want.{Want}
-use Rattle.reflector_core.specs.declared.start.Want.TheVariants.{Fresh, Whole, After}
-use Rattle.reflector_core.specs.declared.start.Base.{Base}
+use Rattle.reflector_core.specs.PlainSession.{PlainSession, most_snapshot}
+use Rattle.wire_frames.specs.declared.start.Want.{Want}
+use Rattle.wire_frames.specs.declared.start.Want.TheVariants.{Fresh, Whole, After}
+use Rattle.wire_frames.specs.declared.start.Base.{Base}
 use Rattle.reflector_core.specs.declared.request.Request.{Request}
 use Rattle.reflector_core.specs.declared.request.Request.TheVariants.{Join, Send, Tick, Leave, Offer, Pull}
 use Rattle.reflector_core.specs.declared.request.Reply.{Reply}
@@ -26,10 +26,6 @@ pub record Outcome : Type 0 where
 -- at a horizon of this time or later nothing is stamped but Exits
 abbrev pub end_of_time : ℕ
 end_of_time = 2 ^ 53 - 4096
-
--- the most bytes of a snapshot
-abbrev pub most_snapshot : ℕ
-most_snapshot = 4194304
 
 -- a length as a reply gives it
 abbrev pub capped : ℕ → ℕ

@@ -1,5 +1,6 @@
 pub mod PlainSession
 pub mod Answer
 pub mod Play
+pub mod Growth
 pub mod SessionState
 pub mod Kept

@@ -3,7 +3,7 @@ use Rattle.std.specs.Prelude.{ℕ, ◌+◌, ◌≤◌, ◌<◌, ◌^◌, List, l
 use Rattle.tea_base.specs.declared.entry.Entry.{Entry}
 use Rattle.tea_base.specs.Readings.{here_count, last_time}
 use Rattle.tea_base.specs.Legal.{IsLegal, most_here, most_entries}
-use Rattle.reflector_core.specs.declared.start.Base.{Base}
+use Rattle.wire_frames.specs.declared.start.Base.{Base}
 
 -- a log, the horizon of its times, and the kept snapshot
 pub record PlainSession : Type 0 where
@@ -11,10 +11,14 @@ pub record PlainSession : Type 0 where
   pub horizon : ℕ
   pub kept : Option Base
 
--- the time of what is kept is at most this
+-- the most bytes of a snapshot
+abbrev pub most_snapshot : ℕ
+most_snapshot = 4194304
+
+-- what is kept has a time of at most this, and no more bytes than a snapshot may have
 abbrev pub IsKeptBy : ℕ → Option Base → Type 0
 IsKeptBy horizon None = Unit {0}
-IsKeptBy horizon (Some base) = base.time ≤ horizon
+IsKeptBy horizon (Some base) = (base.time ≤ horizon) × (length base.bytes ≤ most_snapshot)
 
 -- what is true of every session
 pub record IsSound (s : PlainSession) : Type 0 where

@@ -1,14 +1,13 @@
 //! The session of a reflector: it stamps requests, and answers each by one table.
 #![tactic(auto)]
 
+mod laws;
 mod request;
 mod run;
 mod session;
-mod start;
-#[cfg(test)]
-mod tests;
 
+pub use laws::{log_grows, offers_change_what_is_kept};
 pub use request::{Refusal, Replies, Reply, Request, Requests};
 pub use run::play;
 pub use session::Session;
-pub use start::{Base, Want};
+pub use wire_frames::{Base, Want};

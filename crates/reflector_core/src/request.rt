@@ -1,6 +1,6 @@
 //! Requests to a session, and the replies.
-use crate::start::{Base, Want};
 use tea_base::{Blob, Entries, List};
+use wire_frames::{Base, Want};
 
 /// What is asked of a session. A `now` is the caller's clock: microseconds since the founding, any
 /// number. A `joined` is the seq of the Join by which the caller came: it tells a view's newest

@@ -13,11 +13,11 @@ mod snapshots;
 mod times;
 
 use crate::request::{Reply, Request};
-use crate::start::Base;
 use session_log::Log;
 use std::alloc::Global;
 use std::marker::Model;
 use tea_base::WantOfMemory;
+use wire_frames::Base;
 
 /// A session: the log of what was stamped, the horizon of its times, and at most one kept snapshot.
 /// Contracts see these three as `plain`, and for how many more entries and payload bytes it has

@@ -13,12 +13,12 @@ use Rattle.reflector_core.specs.Play.{first as first_session, replies_from, Tell
 use Rattle.reflector_core.specs.declared.request.Request.{Request}
 use Rattle.session_lock.specs.declared.knowledge.Item.{Item}
 use Rattle.session_lock.specs.declared.knowledge.Knowledge.{Knowledge}
-use Rattle.session_lock.specs.History.{has, caller_of, calls_of, Saw, play, requests_of}
+use Rattle.session_lock.specs.History.{has, caller_of, calls_of, Saw, play, requests_of, IsSoundThrough}
 use Rattle.session_lock.specs.Numbers.{times, between}
 use Rattle.session_lock.specs.Rules.{all_numbers, total, has_ticket, weight, is_holding, calls_as, holds_number, size_of, Every, PartsFit, HoldsInTurn, SpentHoldsNothing, PlaysWell, IsInOrder, Locks, first_knowledge, no_part}
 use Rattle.session_lock.proofs.Totals.{total_two, total_none, total_only}
 use Rattle.session_lock.proofs.Ranges.{none_in}
-use Rattle.session_lock.proofs.Histories.{has_own, sound_end, play_requests}
+use Rattle.session_lock.proofs.Histories.{has_own, none_behind, sound_end, play_requests}
 use Rattle.session_lock.proofs.StepLaws.{not_holding, part_none, has_callers}
 
 no_calls : (l : List ℕ) → length l ≡ 0 → (n : ℕ) → times n l ≡ 0
@@ -37,14 +37,10 @@ no_numbers : (n : ℕ) (u : Knowledge) → size_of u ≡ 0 → holds_number n u 
 no_numbers n u e = let a = no_calls u.callers (omega (arith, e)) n in let b = none_in n u.spare (omega (arith, e)) in omega (arith, a, b)
 
 -- where who made no call has none in the history, the calls are the whole history
-keep_tail : (b : Bool) (x : Item) (xs : List Item) → (if b then x ∷ xs else xs) ≡ [] → xs ≡ []
-keep_tail true x xs e = absurd (cc (e))
-keep_tail false x xs e = e
-
 all_calls : (cs : List ℕ) (history : List Item) → ((n : ℕ) → times n cs ≡ 0 → calls_of (n ∷ []) history ≡ []) → calls_of cs history ≡ history
 all_calls cs [] h = refl
 all_calls cs (x ∷ xs) h =
-    let rec : calls_of cs xs ≡ xs = all_calls cs xs (λ n none_of. keep_tail (has (caller_of x) (n ∷ [])) x (calls_of (n ∷ []) xs) (h n none_of)) in
+    let rec : calls_of cs xs ≡ xs = all_calls cs xs (λ n none_of. none_behind (has (caller_of x) (n ∷ [])) x (calls_of (n ∷ []) xs) (h n none_of)) in
     all_step (has (caller_of x) cs) refl rec
   where
     all_step : (b : Bool) → has (caller_of x) cs ≡ b → calls_of cs xs ≡ xs → (if b then x ∷ calls_of cs xs else calls_of cs xs) ≡ x ∷ xs
@@ -91,15 +87,15 @@ closed Trusted id v words slots x f whole free is =
     let there : get_elem? slots 0 ≡ some (play history) = f.4 0 (play history) (ap (λ (l : List (mathlib.Core.Option.Option PlainSession)). get_elem? l 0) (at_home Trusted history s k id v at whole free)) in (
       some-injective x (play history) (sym is ∙ there) ∙ ap play (sym seen),
       ap (calls_of v.callers) seen ∙ (all_own Trusted history s k id v at whole free ∙ sym seen),
-      subst (PlaysWell Trusted) (sym seen) (k.trusted, sound_end first_session history k.sound),
+      subst (PlaysWell Trusted) (sym seen) (k.trusted, k.sound),
       holds_each Trusted history s k id v at whole free,
     )
 
 -- what the log of a session that is a play has of its events
-pub plays_events : (s : PlainSession) (history : List Item) → s ≡ play history → IsSound (play history) → TellsItsEvents (requests_of history) (replies_from first_session (requests_of history)) s.log
+pub plays_events : (s : PlainSession) (history : List Item) → s ≡ play history → IsSoundThrough first_session history → TellsItsEvents (requests_of history) (replies_from first_session (requests_of history)) s.log
 plays_events s history is sound =
     let requests : List Request = requests_of history in
-    TellsItsEvents-all s requests (replies_from first_session requests) (subst IsSound (sym is) sound) refl (is ∙ play_requests first_session history)
+    TellsItsEvents-all s requests (replies_from first_session requests) (subst IsSound (sym is) (sound_end first_session history sound)) refl (is ∙ play_requests first_session history)
 
 every_one : (P : Knowledge → Type 0) (v : Knowledge) → P v → Every P (v ∷ [])
 every_one P v p zero u e = subst P (some-injective v u e) p

@@ -14,10 +14,10 @@ use Rattle.session_lock.specs.declared.knowledge.Item.{Item}
 use Rattle.session_lock.specs.declared.knowledge.Item.TheVariants.{Did, Void}
 use Rattle.session_lock.specs.declared.knowledge.Knowledge.{Knowledge}
 use Rattle.session_lock.specs.History.{caller_of, after, play, has, calls_of, Saw}
-use Rattle.session_lock.specs.Rules.{Locks, PlaysWell, HoldsOnce, holds_number, knows, no_part, longer}
+use Rattle.session_lock.specs.Rules.{Locks, HoldsOnce, holds_number, knows, no_part, longer}
 use Rattle.session_lock.specs.Steps.{M, HasCounted, Finishes, Answers, Fails, with_ticket, in_turn, merged, split_left, split_right}
 use Rattle.session_lock.specs.Passes.{SharedState, state_of, Standing, stand, Grew, Replied, Voided, Caught, Given, Merged, HeldOnce, UsedNoSpare, times_held, caller, numbers_held}
-use Rattle.session_lock.proofs.Histories.{saw_own, saw_call, has_own}
+use Rattle.session_lock.proofs.Histories.{saw_own, saw_each, saw_call, has_own}
 use Rattle.session_lock.specs.Numbers.{in_ranges, count_of, take_numbers, first_number}
 use Rattle.session_lock.proofs.Ranges.{cut_count, taken_count, count_append, times_append, in_ranges_append}
 use Rattle.session_lock.proofs.Shares.{same_numbers, first_is_spare, left_size, right_size}
@@ -30,11 +30,6 @@ fits {T} z y v key p shared is same looks = ap (λ (q : Standing). q.session) is
 pub caught : (Trusted : PlainSession → Type 0) (z z' : TableId) (m m' : M) (p : Standing) (found : ℕ) → stand z m.0 ≡ p → z' ≡ z → HasCounted Trusted m found m' → Caught Trusted p (stand z' m'.0)
 caught Trusted z z' m m' p found view table (history, len, saw, is, well) =
     subst (λ (t : Standing × (TableId × M)). Caught Trusted t.0 (stand t.1.0 t.1.1.0)) (λ i. (view i, (sym table i, sym is i))) (record { saw = saw; same = refl; own = saw_own m.0.callers m.0.seen history saw; trusted_after = well.0 })
-
-pub counted : (Trusted : PlainSession → Type 0) (m m' : M) (found : ℕ) → HasCounted Trusted m found m' → (found ≡ length m'.0.seen) × IsSound (play m'.0.seen)
-counted Trusted m m' found (history, len, saw, is, well) =
-    let seen : m'.0.seen ≡ history = ap (λ (k : M). k.0.seen) is in
-    (sym (ap length seen ∙ len), subst (λ (l : List Item). IsSound (play l)) (sym seen) well.1)
 
 -- the call of a view's own caller
 grew : (z : TableId) (v : Knowledge) (history : List Item) (item : ℕ → Item) (c : ℕ) (others : List ℕ) → v.callers ≡ c ∷ others → Saw v.callers v.seen history → ((n : ℕ) → caller_of (item n) ≡ n)
@@ -67,9 +62,9 @@ voided Trusted z v m request (history, c, others, mine, saw, is, due) after_it =
     subst (λ (k : M). Voided Trusted (stand z v) (stand z k.0) request) (sym is) told
 
 pub told_call : (Trusted : PlainSession → Type 0) (r : Result Reply WantOfMemory) (z z' : TableId) (v : Knowledge) (m : M) (p : Standing) (request : Request) → stand z v ≡ p → z' ≡ z
-    → MatchResult r (λ reply. Answers Trusted v m request reply) (λ _. Fails v m request) → PlaysWell Trusted m.0.seen → MatchResult r (λ reply. Replied Trusted p (stand z' m.0) request reply) (λ _. Voided Trusted p (stand z' m.0) request)
-told_call Trusted (Ok reply) z z' v m p request view table h well = subst (λ (t : Standing × TableId). Replied Trusted t.0 (stand t.1 m.0) request reply) (λ i. (view i, sym table i)) (replied Trusted z v m request reply h well.0)
-told_call Trusted (Err want) z z' v m p request view table h well = subst (λ (t : Standing × TableId). Voided Trusted t.0 (stand t.1 m.0) request) (λ i. (view i, sym table i)) (voided Trusted z v m request h well.0)
+    → MatchResult r (λ reply. Answers Trusted v m request reply) (λ _. Fails v m request) → Trusted (play m.0.seen) → MatchResult r (λ reply. Replied Trusted p (stand z' m.0) request reply) (λ _. Voided Trusted p (stand z' m.0) request)
+told_call Trusted (Ok reply) z z' v m p request view table h after_it = subst (λ (t : Standing × TableId). Replied Trusted t.0 (stand t.1 m.0) request reply) (λ i. (view i, sym table i)) (replied Trusted z v m request reply h after_it)
+told_call Trusted (Err want) z z' v m p request view table h after_it = subst (λ (t : Standing × TableId). Voided Trusted t.0 (stand t.1 m.0) request) (λ i. (view i, sym table i)) (voided Trusted z v m request h after_it)
 
 pub call_kept : (Trusted : PlainSession → Type 0) (r : Result Reply WantOfMemory) (p q : Standing) (request : Request) → MatchResult r (λ reply. Replied Trusted p q request reply) (λ _. Voided Trusted p q request) → q ≡ record p { seen = q.seen }
 call_kept Trusted (Ok reply) p q request h = let e = h.grew.same in e ∙ ap (λ (l : List Item). record p { seen = l }) (sym (ap (λ (s : Standing). s.seen) e))
@@ -115,6 +110,8 @@ merged_told z z₁ z₂ m₀ m₁ m₂ w p q view view' table e settled =
       saw_other = t.2;
       own = saw_own m₀.0.callers m₀.0.seen (longer m₀.0.seen w.seen) t.1;
       own_other = saw_own w.callers w.seen (longer m₀.0.seen w.seen) t.2;
+      each = saw_each m₀.0.callers m₀.0.seen (longer m₀.0.seen w.seen) t.1;
+      each_other = saw_each w.callers w.seen (longer m₀.0.seen w.seen) t.2;
     }
     in
     subst (λ (x : (Standing × Standing) × (TableId × M)). Merged x.0.0 x.0.1 (stand x.1.0 x.1.1.0)) (λ i. ((view i, view' i), (sym table i, sym t.0 i))) told

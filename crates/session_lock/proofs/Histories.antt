@@ -1,13 +1,17 @@
 -- Histories that grow.
-use Rattle.std.proofs.Common.{◌≡◌, ℕ, ◌+◌, ◌≤◌, Bool, true, false, ◌||◌, eqb, List, [], ◌∷◌, ◌++◌, length, if◌then◌else◌, sym, refl, ap, ◌∙◌, arith, append_assoc, length-append, eq-eqb}
+use Rattle.std.proofs.Common.{◌≡◌, ℕ, ◌+◌, ◌≤◌, Bool, true, false, ◌||◌, eqb, List, [], ◌∷◌, ◌++◌, length, if◌then◌else◌, sym, refl, ap, ◌∙◌, subst, arith, append_assoc, length-append, eq-eqb, ne_eqb}
+use mathlib.Core.Logic.{dite}
+use native.Mathlib.Decide.{ℕ_discrete}
 use Rattle.std.proofs.lemmas.List.{append-nil}
 use Rattle.session_lock.specs.declared.knowledge.Item.{Item}
 use Rattle.reflector_core.specs.PlainSession.{PlainSession, IsSound}
 use Rattle.session_lock.specs.declared.knowledge.Item.TheVariants.{Did, Void}
 use Rattle.reflector_core.specs.Answer.{answer}
 use Rattle.reflector_core.specs.Play.{first as first_session, after_all}
+use Rattle.reflector_core.specs.Growth.{GrowsTo}
+use Rattle.reflector_core.proofs.GrowthLaws.{GrowsTo-after_all}
 use Rattle.session_lock.specs.Numbers.{times}
-use Rattle.session_lock.specs.History.{caller_of, after, play, play_from, has, calls_of, Saw, requests_of, IsSoundThrough}
+use Rattle.session_lock.specs.History.{caller_of, after, play, play_from, has, calls_of, SameCallsOfEach, Saw, requests_of, IsSoundThrough}
 
 pub play_from_append : (s : PlainSession) (xs ys : List Item) → play_from s (xs ++ ys) ≡ play_from (play_from s xs) ys
 play_from_append s [] ys = refl
@@ -22,7 +26,12 @@ play_requests s [] = refl
 play_requests s (Did caller request ∷ xs) = play_requests (answer s request).session xs
 play_requests s (Void caller ∷ xs) = play_requests s xs
 
--- soundness from the first session on: one item more, its end, and what is left behind a beginning
+-- the log of a beginning grows
+pub history_grows : (beginning rest : List Item) → GrowsTo (play beginning) (play (beginning ++ rest))
+history_grows beginning rest =
+    subst (GrowsTo (play beginning)) (sym (play_from_append first_session beginning rest ∙ play_requests (play beginning) rest)) (GrowsTo-after_all (play beginning) (requests_of rest))
+
+-- soundness all the way: one item more, its start and end, a beginning, and what is left behind that
 pub sound_more : (s : PlainSession) (xs : List Item) (x : Item) → IsSoundThrough s xs → IsSound (after (play_from s xs) x) → IsSoundThrough s (xs ++ x ∷ [])
 sound_more s [] x sound last = (sound, last)
 sound_more s (y ∷ ys) x sound last = (sound.0, sound_more (after s y) ys x sound.1 last)
@@ -34,6 +43,10 @@ sound_start s (x ∷ xs) sound = sound.0
 pub sound_end : (s : PlainSession) (xs : List Item) → IsSoundThrough s xs → IsSound (play_from s xs)
 sound_end s [] sound = sound
 sound_end s (x ∷ xs) sound = sound_end (after s x) xs sound.1
+
+pub sound_first : (s : PlainSession) (xs ys : List Item) → IsSoundThrough s (xs ++ ys) → IsSoundThrough s xs
+sound_first s [] ys sound = sound_start s ys sound
+sound_first s (x ∷ xs) ys sound = (sound.0, sound_first (after s x) xs ys sound.1)
 
 pub sound_rest : (s : PlainSession) (xs ys : List Item) → IsSoundThrough s (xs ++ ys) → IsSoundThrough (play_from s xs) ys
 sound_rest s [] ys sound = sound
@@ -85,6 +98,27 @@ has_times n (m ∷ ms) e = has_times_step (eqb n m) (has n ms) (times n ms) e (h
 -- the callers' own calls are those that were seen
 pub saw_own : (cs : List ℕ) (seen history : List Item) → Saw cs seen history → calls_of cs history ≡ calls_of cs seen
 saw_own cs seen history p = ap (calls_of cs) (sym p.1) ∙ (calls_append cs seen p.0 ∙ (ap (λ (l : List Item). calls_of cs seen ++ l) p.2 ∙ append-nil (calls_of cs seen)))
+
+-- where none of these calls, none stands in the rest, and the first item is of another caller
+pub none_behind : (b : Bool) (x : Item) (xs : List Item) → (if b then x ∷ xs else xs) ≡ [] → xs ≡ []
+none_behind true x xs e = absurd (cc (e))
+none_behind false x xs e = e
+
+none_first : (b : Bool) (x : Item) (xs : List Item) → (if b then x ∷ xs else xs) ≡ [] → b ≡ false
+none_first true x xs e = absurd (cc (e))
+none_first false x xs e = refl
+
+-- where these callers make no call, each of them makes none
+none_of_each : (n : ℕ) (cs : List ℕ) (xs : List Item) → has n cs ≡ true → calls_of cs xs ≡ [] → calls_of (n ∷ []) xs ≡ []
+none_of_each n cs [] own e = refl
+none_of_each n cs (x ∷ xs) own e = dite (ℕ_discrete (caller_of x) n)
+    (λ same. let yes : has (caller_of x) cs ≡ true = ap (λ (m : ℕ). has m cs) same ∙ own in let no : has (caller_of x) cs ≡ false = none_first (has (caller_of x) cs) x (calls_of cs xs) e in absurd (cc (yes, no)))
+    (λ other. rw (ne_eqb (caller_of x) n other) (none_of_each n cs xs own (none_behind (has (caller_of x) cs) x (calls_of cs xs) e)))
+
+-- the same of each of them by itself
+pub saw_each : (cs : List ℕ) (seen history : List Item) → Saw cs seen history → SameCallsOfEach cs seen history
+saw_each cs seen history p n own =
+    ap (calls_of (n ∷ [])) (sym p.1) ∙ (calls_append (n ∷ []) seen p.0 ∙ (ap (λ (l : List Item). calls_of (n ∷ []) seen ++ l) (none_of_each n cs p.0 own p.2) ∙ append-nil (calls_of (n ∷ []) seen)))
 
 pub has_own : (n : ℕ) (others : List ℕ) → has n (n ∷ others) ≡ true
 has_own n others = rw (eq-eqb n n refl) refl

@@ -278,7 +278,7 @@ module _ (Trusted : PlainSession → Type 0) where
             away = λ one. let was = total_set is_holding s.views id v w at in let only = one_holds h s k id v at has_it holding in absurd (omega (arith, one, was, only.0, only.1));
           },
         ),
-        (c, others, mine, refl, (tells (play (h ++ x ∷ [])) trusted_now, subst IsSound (sym (play_snoc h x)) sound_now)),
+        (c, others, mine, refl, (tells (play (h ++ x ∷ [])) trusted_now, sound_more first_session h x k.sound sound_now)),
       )
 
   -- a view that knows more, of the same callers, numbers and ticket
@@ -311,7 +311,7 @@ module _ (Trusted : PlainSession → Type 0) where
     keeps,
     tt,
     (history, renewed history s k 1 id carried v w at (read_word history s k 1 (omega arith)) refl refl refl refl (saw_all v.callers history) (parts_seen history v (k.parts id v at)) (λ e. refl)),
-    (history, sym (ap (λ (l : List ℕ). get_or l 1 0) k.words), k.seen id v at, refl, (tells (play history) k.trusted, sound_end first_session history k.sound)),
+    (history, sym (ap (λ (l : List ℕ). get_or l 1 0) k.words), k.seen id v at, refl, (tells (play history) k.trusted, k.sound)),
   )
 
   pub looks_me : (Told : PlainSession → Type 0) → ((s : PlainSession) → Trusted s → Told s) → (slots id : ℕ) (me : M) (t : ℕ) → me.1 ≡ [] → me.0.ticket ≡ Some t → me.0.holding ≡ false → 0 < length me.0.callers → Allows (Locks Trusted) slots id me 1 (λ n. n) (Looks Told (step slots 1 0 0 none) me)

@@ -1,14 +1,11 @@
 -- What is kept stays allowed.
-use Rattle.std.proofs.Common.{◌≡◌, ℕ, ◌+◌, ◌==◌, [], ◌∷◌, nat_le, nat_lt, Bool, true, false, not, ◌&&◌, ◌||◌, List, length, if◌then◌else◌, Option, Some, None, IfSome, sym, refl, ap, ◌∙◌, subst}
+use Rattle.std.proofs.Common.{◌≡◌, ℕ, [], ◌∷◌, List, Option, Some, None, IfSome, sym, refl, ap, ◌∙◌, subst}
 use Rattle.tea_base.specs.declared.entry.SessionId.{SessionId}
-use Rattle.tea_base.specs.Readings.{is_here, last_number, payload_bytes, here_count}
-use Rattle.tea_base.specs.Legal.{most_payload, most_bytes, most_here}
-use Rattle.reflector_core.specs.declared.start.Base.{Base}
-use Rattle.reflector_core.specs.declared.start.Want.{Want}
+use Rattle.wire_frames.specs.declared.start.Base.{Base}
 use Rattle.reflector_core.specs.declared.request.Request.{Request}
 use Rattle.reflector_core.specs.declared.request.Request.TheVariants.{Join, Send, Tick, Leave, Offer, Pull}
 use Rattle.reflector_core.specs.PlainSession.{PlainSession, IsSound}
-use Rattle.reflector_core.specs.Answer.{Outcome, answer, send, join, leave, offer, pull, is_stale, is_closed, is_ahead, is_older, most_snapshot, end_of_time}
+use Rattle.reflector_core.specs.Answer.{answer}
 use Rattle.reflector_core.specs.Play.{first as first_session}
 use Rattle.session_lock.specs.declared.knowledge.Item.{Item}
 use Rattle.session_lock.specs.declared.knowledge.Item.TheVariants.{Did, Void}
@@ -16,39 +13,9 @@ use Rattle.atomic_table.specs.Seated.{TableId}
 use Rattle.session_lock.specs.Passes.{SharedState, state_of}
 use Rattle.session_lock.specs.Trusts.{Allowing, Allows, IsTrusted, Stays, MayBeAsked}
 use Rattle.session_lock.specs.History.{play, play_from, Saw, IsSoundThrough}
+use Rattle.reflector_core.proofs.SoundLaws.{offer_along}
+use Rattle.reflector_core.proofs.GrowthLaws.{kept-others}
 use Rattle.session_lock.proofs.Histories.{play_from_append, sound_start, sound_rest}
-
-either : (P : Outcome → Type 0) (test : Bool) {a b : Outcome} → P a → P b → P (if test then a else b)
-either P true p q = p
-either P false p q = q
-
-abbrev Keeps : PlainSession → Outcome → Type 0
-Keeps s o = o.session.kept ≡ s.kept
-
-send_keeps : (s : PlainSession) (view joined number : ℕ) (payload : List ℕ) (now : ℕ) → Keeps s (send s view joined number payload now)
-send_keeps s view joined number payload now =
-    let next = last_number s.log view + 1 in
-    either (Keeps s) (is_stale s.log view joined) refl
-    (either (Keeps s) (nat_lt most_payload (length payload)) refl
-    (either (Keeps s) (number == 0) refl
-    (either (Keeps s) (nat_lt number next) refl
-    (either (Keeps s) (nat_lt next number) refl
-    (either (Keeps s) (is_closed s.log || nat_lt most_bytes (payload_bytes s.log + length payload)) refl
-    (either (Keeps s) (nat_le end_of_time s.horizon) refl refl))))))
-
-join_keeps : (s : PlainSession) (view now : ℕ) (want : Want) → Keeps s (join s view now want)
-join_keeps s view now want =
-    either (Keeps s) (view == 0) refl
-    (either (Keeps s) (is_ahead s.horizon want) refl
-    (either (Keeps s) (not (is_here s.log view) && nat_le most_here (here_count s.log)) refl
-    (either (Keeps s) (is_closed s.log) refl
-    (either (Keeps s) (nat_le end_of_time s.horizon) refl refl))))
-
-leave_keeps : (s : PlainSession) (view joined now : ℕ) → Keeps s (leave s view joined now)
-leave_keeps s view joined now = either (Keeps s) (is_stale s.log view joined) refl refl
-
-pull_keeps : (s : PlainSession) (after limit : ℕ) → Keeps s (pull s after limit)
-pull_keeps s after limit = either (Keeps s) (nat_lt (length s.log) after) refl refl
 
 module _ {T : Type 0} (allows : Allowing T) (stays : Stays allows) (trust : T) (id : SessionId) where
   weaker : (s s' : PlainSession) (kept : Option Base) → ((time : ℕ) (bytes : List ℕ) → Allows allows trust id s time bytes → Allows allows trust id s' time bytes)
@@ -56,27 +23,20 @@ module _ {T : Type 0} (allows : Allowing T) (stays : Stays allows) (trust : T) (
   weaker s s' None more u = u
   weaker s s' (Some base) more a = more base.time base.bytes a
 
-  same_kept : (s : PlainSession) (request : Request) → IsSound s → IsSound (answer s request).session → Keeps s (answer s request) → IsTrusted allows trust id s → IsTrusted allows trust id (answer s request).session
+  same_kept : (s : PlainSession) (request : Request) → IsSound s → IsSound (answer s request).session → (answer s request).session.kept ≡ s.kept → IsTrusted allows trust id s → IsTrusted allows trust id (answer s request).session
   same_kept s request sound sound' same h =
       let s' : PlainSession = (answer s request).session in
       subst (λ (kept : Option Base). IfSome kept (λ base. Allows allows trust id s' base.time base.bytes)) (sym same)
       (weaker s s' s.kept (λ time bytes a. stays trust id s request time bytes sound sound' a) h)
 
-  offer_trusted : (s : PlainSession) (view joined time : ℕ) (snapshot : List ℕ) → Allows allows trust id s time snapshot → IsTrusted allows trust id s → IsTrusted allows trust id (offer s view joined time snapshot).session
-  offer_trusted s view joined time snapshot ok h =
-      either (λ o. IsTrusted allows trust id o.session) (is_stale s.log view joined) h
-      (either (λ o. IsTrusted allows trust id o.session) (nat_lt most_snapshot (length snapshot)) h
-      (either (λ o. IsTrusted allows trust id o.session) (nat_lt s.horizon time) h
-      (either (λ o. IsTrusted allows trust id o.session) (is_older time s.kept) h ok)))
-
   -- after an answer to a request that may be asked
   pub trusted_after : (s : PlainSession) (request : Request) → IsSound s → IsSound (answer s request).session → MayBeAsked allows trust id s request → IsTrusted allows trust id s → IsTrusted allows trust id (answer s request).session
-  trusted_after s (Join view now want) sound sound' ok h = same_kept s (Join view now want) sound sound' (join_keeps s view now want) h
-  trusted_after s (Send view joined number payload now) sound sound' ok h = same_kept s (Send view joined number payload now) sound sound' (send_keeps s view joined number payload now) h
-  trusted_after s (Tick now) sound sound' ok h = same_kept s (Tick now) sound sound' refl h
-  trusted_after s (Leave view joined now) sound sound' ok h = same_kept s (Leave view joined now) sound sound' (leave_keeps s view joined now) h
-  trusted_after s (Offer view joined time snapshot) sound sound' ok h = offer_trusted s view joined time snapshot ok h
-  trusted_after s (Pull after limit) sound sound' ok h = same_kept s (Pull after limit) sound sound' (pull_keeps s after limit) h
+  trusted_after s (Offer view joined time snapshot) sound sound' ok h = offer_along (IsTrusted allows trust id) s view joined time snapshot h (λ short come. ok)
+  trusted_after s (Join view now want) sound sound' ok h = same_kept s (Join view now want) sound sound' (kept-others s (Join view now want) refl) h
+  trusted_after s (Send view joined number payload now) sound sound' ok h = same_kept s (Send view joined number payload now) sound sound' (kept-others s (Send view joined number payload now) refl) h
+  trusted_after s (Tick now) sound sound' ok h = same_kept s (Tick now) sound sound' (kept-others s (Tick now) refl) h
+  trusted_after s (Leave view joined now) sound sound' ok h = same_kept s (Leave view joined now) sound sound' (kept-others s (Leave view joined now) refl) h
+  trusted_after s (Pull after limit) sound sound' ok h = same_kept s (Pull after limit) sound sound' (kept-others s (Pull after limit) refl) h
 
   later : (s : PlainSession) (xs : List Item) (time : ℕ) (bytes : List ℕ) → IsSoundThrough s xs → Allows allows trust id s time bytes → Allows allows trust id (play_from s xs) time bytes
   later s [] time bytes sound a = a

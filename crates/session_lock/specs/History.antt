@@ -1,5 +1,5 @@
 -- Histories: what callers did to a session, in one order.
-use Rattle.std.specs.Prelude.{◌≡◌, ℕ, Bool, false, ◌||◌, eqb, List, [], ◌∷◌, ◌++◌, if◌then◌else◌}
+use Rattle.std.specs.Prelude.{◌≡◌, ℕ, Bool, true, false, ◌||◌, eqb, List, [], ◌∷◌, ◌++◌, if◌then◌else◌}
 use Rattle.reflector_core.specs.PlainSession.{PlainSession, IsSound}
 use Rattle.reflector_core.specs.Answer.{answer}
 use Rattle.reflector_core.specs.Play.{first as first_session}
@@ -48,6 +48,10 @@ has n (m ∷ ms) = eqb n m || has n ms
 abbrev pub calls_of : List ℕ → List Item → List Item
 calls_of callers [] = []
 calls_of callers (x ∷ xs) = if has (caller_of x) callers then x ∷ calls_of callers xs else calls_of callers xs
+
+-- the calls of each of these callers by itself are the same in both histories, in their order
+abbrev pub SameCallsOfEach : List ℕ → List Item → List Item → Type 0
+SameCallsOfEach callers seen history = (n : ℕ) → has n callers ≡ true → calls_of (n ∷ []) history ≡ calls_of (n ∷ []) seen
 
 -- the history begins with what was seen, and then has no item of these callers
 abbrev pub Saw : List ℕ → List Item → List Item → Type 0

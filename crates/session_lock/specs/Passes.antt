@@ -10,7 +10,7 @@ use Rattle.session_lock.specs.declared.knowledge.Item.{Item}
 use Rattle.session_lock.specs.declared.knowledge.Item.TheVariants.{Did, Void}
 use Rattle.session_lock.specs.declared.knowledge.Range.{Range}
 use Rattle.session_lock.specs.declared.knowledge.Knowledge.{Knowledge}
-use Rattle.session_lock.specs.History.{play, reply_after, has, calls_of, Saw}
+use Rattle.session_lock.specs.History.{play, reply_after, has, calls_of, SameCallsOfEach, Saw}
 use Rattle.session_lock.specs.Numbers.{times, in_ranges, between, count_of, take_numbers, drop_numbers, first_number}
 use Rattle.session_lock.specs.Rules.{all_numbers, longer}
 
@@ -105,7 +105,8 @@ pub record Given (before : Standing) (numbers : ℕ) (new : Standing) : Type 0 w
   pub own : own_calls new ≡ []
 
 -- The pass after another was merged into it. It has seen the longer of the two histories, of which the shorter is a
--- beginning, holds the numbers of both, and the calls of both stand in what it has seen.
+-- beginning, and holds the numbers of both. The calls of both stand in what it has seen, and so do those of each of their
+-- callers by itself.
 pub record Merged (before other after : Standing) : Type 0 where
   pub same :
       after
@@ -118,6 +119,8 @@ pub record Merged (before other after : Standing) : Type 0 where
   pub saw_other : Saw other.callers other.seen after.seen
   pub own : calls_of before.callers after.seen ≡ own_calls before
   pub own_other : calls_of other.callers after.seen ≡ own_calls other
+  pub each : SameCallsOfEach before.callers before.seen after.seen
+  pub each_other : SameCallsOfEach other.callers other.seen after.seen
 
 -- the first pass is caller 0, holds all other numbers as spare ones, and has seen nothing
 abbrev pub first_pass : TableId → Standing

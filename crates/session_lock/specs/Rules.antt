@@ -3,7 +3,7 @@ use Rattle.std.specs.Prelude.{◌≡◌, ℕ, ◌+◌, ◌<◌, ◌≤◌, ◌^�
 use mathlib.Core.Option.{some, none}
 use lib.ListN.{get_elem?}
 use Rattle.atomic_table.specs.Table.{State}
-use Rattle.reflector_core.specs.PlainSession.{PlainSession, IsSound}
+use Rattle.reflector_core.specs.PlainSession.{PlainSession}
 use Rattle.reflector_core.specs.Play.{first as first_session}
 use Rattle.session_lock.specs.declared.knowledge.Item.{Item}
 use Rattle.session_lock.specs.declared.knowledge.Range.{Range}
@@ -105,9 +105,9 @@ pub record IsInOrder (Trusted : PlainSession → Type 0) (history : List Item) (
   -- where a view holds it, the slot is empty
   pub away : total is_holding s.views ≡ 1 → s.homes ≡ none ∷ []
 
--- the play of the history is trusted and sound
+-- the play of the history is trusted, and was sound at each place of it
 abbrev pub PlaysWell : (PlainSession → Type 0) → List Item → Type 0
-PlaysWell Trusted history = Trusted (play history) × IsSound (play history)
+PlaysWell Trusted history = Trusted (play history) × IsSoundThrough first_session history
 
 -- there is one history that holds of the table
 abbrev pub Locks : (PlainSession → Type 0) → State PlainSession Knowledge → Type 0

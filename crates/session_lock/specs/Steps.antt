@@ -57,14 +57,14 @@ Works m request result m' =
     (λ _. (after ≡ session) × MayWantMemory (answer session request).reply)
     × IsSound after
 
--- finish: the item stands behind all that was seen, and the session is given back; the play of this is trusted and
--- sound
+-- finish: the item stands behind all that was seen, and the session is given back; the play of this is trusted, and was
+-- sound all the way
 abbrev pub Finishes : (PlainSession → Type 0) → (ℕ → Item) → Step PlainSession → M → ℕ → M → Type 0
 Finishes Trusted item st m found m' =
     (caller : ℕ) × (others : List ℕ) × (m.0.callers ≡ caller ∷ others) × (m' ≡ (done m.0 (item caller), []))
     × PlaysWell Trusted m'.0.seen
 
--- the whole history was seen, which is so long, and whose play is trusted and sound
+-- the whole history was seen, which is so long, and whose play is trusted and was sound all the way
 abbrev pub HasCounted : (PlainSession → Type 0) → M → ℕ → M → Type 0
 HasCounted Trusted m found m' =
     (history : List Item) × (length history ≡ found) × Saw m.0.callers m.0.seen history

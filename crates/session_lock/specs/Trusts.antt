@@ -1,5 +1,5 @@
 -- What a trust allows to be kept.
-use Rattle.std.specs.Prelude.{ℕ, Bool, true, false, List, IfSome}
+use Rattle.std.specs.Prelude.{ℕ, List, IfSome}
 use Rattle.tea_base.specs.declared.entry.Entry.{Entry}
 use Rattle.tea_base.specs.declared.entry.SessionId.{SessionId}
 use Rattle.reflector_core.specs.PlainSession.{PlainSession, IsSound}
@@ -25,14 +25,6 @@ Stays {T} allows =
 -- the kept snapshot, if there is one, is allowed for its session
 abbrev pub IsTrusted : {T : Type 0} → Allowing T → T → SessionId → PlainSession → Type 0
 IsTrusted allows trust id s = IfSome s.kept (λ base. Allows allows trust id s base.time base.bytes)
-
-abbrev pub is_offer : Request → Bool
-is_offer (Join view now want) = false
-is_offer (Send view joined number payload now) = false
-is_offer (Tick now) = false
-is_offer (Leave view joined now) = false
-is_offer (Offer view joined time snapshot) = true
-is_offer (Pull after limit) = false
 
 -- an offered snapshot is allowed for the session; other requests need no leave
 abbrev pub MayBeAsked : {T : Type 0} → Allowing T → T → SessionId → PlainSession → Request → Type 0

@@ -3,11 +3,11 @@
 
 mod held;
 pub mod knowledge;
+mod laws;
 mod lock;
 mod rule;
-#[cfg(test)]
-mod tests;
 mod trust;
 
+pub use laws::{history_goes_on, sound_at_each_place};
 pub use lock::{Pass, SharedSession, Unmade};
 pub use trust::{Trust, TrustAll};

@@ -1,10 +1,11 @@
 //! The lock round the session, and its passes.
 ghost use Rattle.std.specs.Prelude.{◌≡◌, ℕ, ◌<◌, ◌+◌, [], ◌∷◌, length, true, false, None, IfOk, IfErr, IsOk, MatchResult};
 ghost use Rattle.tea_base.specs.declared.entry.SessionId.{SessionId};
-ghost use Rattle.reflector_core.specs.PlainSession.{PlainSession, IsSound};
+ghost use Rattle.reflector_core.specs.PlainSession.{PlainSession};
 ghost use Rattle.reflector_core.specs.Play.{first as first_session, replies_from, TellsItsEvents};
-ghost use Rattle.session_lock.specs.Trusts.{IsTrusted, MayBeAsked, is_offer};
-ghost use Rattle.session_lock.specs.History.{play, calls_of, requests_of};
+ghost use Rattle.reflector_core.specs.Growth.{is_offer};
+ghost use Rattle.session_lock.specs.Trusts.{IsTrusted, MayBeAsked};
+ghost use Rattle.session_lock.specs.History.{play, calls_of, requests_of, IsSoundThrough};
 ghost use Rattle.session_lock.specs.Rules.{all_numbers, HoldsOnce, PlaysWell};
 ghost use Rattle.session_lock.specs.Steps.{with_ticket, Waits, HasTurn, HasCounted, Works, IsIdle, Answers, Fails, split_left, split_right};
 ghost use Rattle.session_lock.specs.Numbers.{count_of, in_ranges, drop_numbers};
@@ -114,8 +115,9 @@ impl<T: Trust> SharedSession<T> {
     }
 
     /// Makes a call that is no offer, in its turn, which it waits for. It adds one item to the history: what was asked,
-    /// or, without memory, a Void. The reply is the session's at that place of the history. Once 2^64 - 1 tickets were
-    /// drawn, by calls that need not all have ended, it draws none, adds nothing and waits for good.
+    /// or, without memory, a Void. The reply is the session's at that place of the history, and at each place that the
+    /// pass has then seen the session was sound. Once 2^64 - 1 tickets were drawn, by calls that need not all have ended,
+    /// it draws none, adds nothing and waits for good.
     pub fn call<R: Wait>(
         &self,
         rt: &R,
@@ -128,7 +130,7 @@ impl<T: Trust> SharedSession<T> {
         ensures call { MatchResult result
             (λ reply. Replied (IsTrusted T.allows self.now.trust self.now.id) pass.old pass.new request.now reply)
             (λ _. Voided (IsTrusted T.allows self.now.trust self.now.id) pass.old pass.new request.now) }
-        ensures sound { IsSound (play pass.new.seen) }
+        ensures sound { IsSoundThrough first_session pass.new.seen }
     {
         self.ask(rt, pass, request)
     }
@@ -147,17 +149,18 @@ impl<T: Trust> SharedSession<T> {
         ensures call { MatchResult result
             (λ reply. Replied (IsTrusted T.allows self.now.trust self.now.id) pass.old pass.new request.now reply)
             (λ _. Voided (IsTrusted T.allows self.now.trust self.now.id) pass.old pass.new request.now) }
-        ensures sound { IsSound (play pass.new.seen) }
+        ensures sound { IsSoundThrough first_session pass.new.seen }
     {
         self.ask(rt, pass, request)
     }
 
-    /// The length of the history, which the pass has seen from then on. It waits for nobody, and takes no memory.
+    /// The length of the history, which the pass has seen from then on. At each place of it the session was sound. It
+    /// waits for nobody, and takes no memory.
     pub fn calls_done(&self, pass: &mut Pass) -> u64
         requires { pass.old.session ≡ self.now.session }
         ensures length { result ≡ length pass.new.seen }
         ensures seen { Caught (IsTrusted T.allows self.now.trust self.now.id) pass.old pass.new }
-        ensures sound { IsSound (play pass.new.seen) }
+        ensures sound { IsSoundThrough first_session pass.new.seen }
     {
         self.count::<Brand>(&mut pass.seat)
     }
@@ -180,7 +183,8 @@ impl<T: Trust> SharedSession<T> {
         Ok(Pass { seat })
     }
 
-    /// Puts another pass into the one that is kept, which stays its own caller's. Takes no memory.
+    /// Puts another pass into the one that is kept, which stays its own caller's. It has then seen the longer history. The
+    /// calls of each caller of either pass are in it just those that its own pass had seen, in their order. Takes no memory.
     pub fn merge(&self, keep: &mut Pass, other: Pass)
         requires keep_session { keep.old.session ≡ self.now.session }
         requires other_session { other.session ≡ self.now.session }
@@ -195,7 +199,8 @@ impl<T: Trust> SharedSession<T> {
     }
 
     /// The session in the end. The pass holds all numbers: every other one was merged into it, and no call is under way.
-    /// All that was ever called is among its calls. The log has just the events that were answered Stamped.
+    /// All that was ever called is among its calls, and at each place of it the session was sound. The log has just the
+    /// events that were answered Stamped.
     pub fn close(self, pass: Pass) -> Session
         requires session { pass.session ≡ self.session }
         requires whole { numbers_held pass ≡ all_numbers }
@@ -203,6 +208,7 @@ impl<T: Trust> SharedSession<T> {
         ensures calls { own_calls pass ≡ pass.seen }
         ensures numbers { HoldsEach pass }
         ensures trusted { IsTrusted T.allows self.trust self.id result.plain }
+        ensures sound { IsSoundThrough first_session pass.seen }
         ensures events { TellsItsEvents (requests_of pass.seen)
             (replies_from first_session (requests_of pass.seen)) result.plain.log }
     {
@@ -237,7 +243,7 @@ impl<T: Trust> SharedSession<T> {
         ensures call { MatchResult result
             (λ reply. Replied (IsTrusted T.allows self.now.trust self.now.id) pass.old pass.new request.now reply)
             (λ _. Voided (IsTrusted T.allows self.now.trust self.now.id) pass.old pass.new request.now) }
-        ensures sound { IsSound (play pass.new.seen) }
+        ensures sound { IsSoundThrough first_session pass.new.seen }
     {
         self.make::<Brand, R>(rt, &mut pass.seat, request)
     }

@@ -9,8 +9,6 @@ mod payloads;
 mod reading;
 mod spelling;
 mod tally;
-#[cfg(test)]
-mod tests;
 
 pub use log::{GetRefusal, Log, encode};
 pub use reading::{LogFault, decode};

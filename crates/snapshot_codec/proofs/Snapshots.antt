@@ -40,3 +40,9 @@ none_invalid counts id bytes w v read invalid is = invalid (rw (one_world counts
 
 pub none_unread : (counts id bytes : List ℕ) (v : WorldRecord) → whole (world_at counts) bytes ≡ None → ¬ IsSnapshot counts id bytes v
 none_unread counts id bytes v read is = none-some v (sym read ∙ snapshot-read counts id bytes v is)
+
+-- bytes that begin with another id are no snapshot of the session
+pub none_other : (counts id bytes : List ℕ) (v : WorldRecord) → IsOfOther id bytes → ¬ IsSnapshot counts id bytes v
+none_other counts id bytes v other is =
+    let front = begins_with_id v in
+    other.1 (ap (take 32) (is.spelled ∙ front.1) ∙ take_at v.id front.0 32 is.world.id ∙ is.session)

@@ -1,11 +1,12 @@
 -- Which bytes are a snapshot of a session, and what is answered to bytes.
-use Rattle.std.specs.Prelude.{◌≡◌, ◌≢◌, ◌≤◌, ◌<◌, ◌^◌, ℕ, true, List, length, take, Result, Ok, Err}
+use Rattle.std.specs.Prelude.{◌≡◌, ◌≢◌, ◌≤◌, ◌<◌, ◌^◌, ℕ, true, List, length, take, Option, Some, None, Result, Ok, Err}
 use Rattle.std.specs.List.{AllByRecursion}
 use Rattle.std.specs.Str.{all_scalars}
 use Rattle.model_value.specs.Messages.{PlainMessage}
 use Rattle.model_value.specs.Spelling.{IsValue}
 use Rattle.model_value.specs.Valid.{Valid}
 use Rattle.model_value.specs.World.{ObjectRecord, WorldRecord, world_record}
+use Rattle.tea_base.specs.declared.entry.SessionId.{SessionId}
 use Rattle.model_value.specs.declared.message.Subscription.{Subscription}
 use Rattle.model_value.specs.declared.world.Known.{Known}
 use Rattle.model_value.specs.declared.world.PlainWorld.{PlainWorld}
@@ -62,15 +63,20 @@ IsOfOther id bytes = (32 ≤ length bytes) × (take 32 bytes ≢ id)
 abbrev pub HasId : List ℕ → List ℕ → Type 0
 HasId id bytes = 32 ≤ length bytes → take 32 bytes ≡ id
 
--- the fault of bytes that begin with another id
-abbrev pub IsOtherFault : SnapFault → List ℕ → List ℕ → Type 0
-IsOtherFault (OtherSession found) id bytes = IsOfOther id bytes × (found.0 ≡ take 32 bytes)
-IsOtherFault Bad id bytes = ⊥
-IsOtherFault WantOfMemory id bytes = ⊥
+-- the other id with which bytes begin, if they do
+abbrev pub TellsOther : Option SessionId → List ℕ → List ℕ → Type 0
+TellsOther (Some found) id bytes = IsOfOther id bytes × (found.0 ≡ take 32 bytes)
+TellsOther None id bytes = HasId id bytes
 
 -- what is answered: each row says of another session or not, so the rows tell when each comes
 abbrev pub Unsnaps : Result PlainWorld SnapFault → List ℕ → List ℕ → List ℕ → Type 0
 Unsnaps (Ok world) counts id bytes = ¬ IsOfOther id bytes × IsSnapshot counts id bytes (world_record world)
-Unsnaps (Err (OtherSession found)) counts id bytes = IsOtherFault (OtherSession found) id bytes
+Unsnaps (Err (OtherSession found)) counts id bytes = IsOfOther id bytes × (found.0 ≡ take 32 bytes)
 Unsnaps (Err Bad) counts id bytes = ¬ IsOfOther id bytes × ((w : WorldRecord) → ¬ IsSnapshot counts id bytes w)
 Unsnaps (Err WantOfMemory) counts id bytes = ¬ IsOfOther id bytes
+
+-- what is answered to the snapshot of a world: that world, unless memory runs out
+abbrev pub ReadsWorld : Result PlainWorld SnapFault → WorldRecord → Type 0
+ReadsWorld (Ok read) w = world_record read ≡ w
+ReadsWorld (Err WantOfMemory) w = Unit {0}
+ReadsWorld (Err fault) w = ⊥

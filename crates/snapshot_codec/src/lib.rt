@@ -3,13 +3,13 @@
 
 mod digests;
 mod fault;
+mod laws;
 mod parts;
 mod reading;
-#[cfg(test)]
-mod tests;
 mod writing;
 
 pub use digests::{digest, session_id};
 pub use fault::SnapFault;
+pub use laws::again;
 pub use reading::unsnap;
 pub use writing::snapshot;

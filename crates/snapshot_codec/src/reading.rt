@@ -1,9 +1,9 @@
 //! Worlds of snapshots.
-ghost use Rattle.std.specs.Prelude.{◌≡◌, IfErr, IfOk, OnOk};
+ghost use Rattle.std.specs.Prelude.{◌≡◌};
 ghost use Rattle.model_check.specs.Methods.{field_counts};
 ghost use Rattle.model_lang.specs.TreeView.{program_tree};
 ghost use Rattle.model_value.specs.World.{WorldRecord, world_record};
-ghost use Rattle.snapshot_codec.specs.Answer.{HasId, IsOtherFault, IsSnapshot, Unsnaps};
+ghost use Rattle.snapshot_codec.specs.Answer.{HasId, IsSnapshot, ReadsWorld, TellsOther, Unsnaps};
 
 use crate::fault::SnapFault;
 use crate::parts::{id_at, read_all};
@@ -19,8 +19,7 @@ use world_plain::{PlainWorld, valid};
 /// comes exactly where that is not so and no world of this session that is valid for the program has this spelling: it
 /// comes too where bytes follow the world.
 ///
-/// No length and no count is trusted: time and memory to read are linear in the bytes, however they lie. What was read
-/// is then tested as [`valid`](world_plain::valid) says.
+/// No length and no count is trusted. What was read is then tested as [`valid`](world_plain::valid) says.
 pub fn unsnap(
     alloc: Global,
     program: &Checked,
@@ -30,9 +29,36 @@ pub fn unsnap(
     ensures answer { Unsnaps result (field_counts (program_tree program.now)) id.now.0 bytes.now }
     // What is spelled so is read, unless memory runs out.
     ensures only { (w : WorldRecord) → IsSnapshot (field_counts (program_tree program.now)) id.now.0 bytes.now w →
-        IfOk result (λ read. world_record read ≡ w) }
+        ReadsWorld result w }
 {
-    check_session(id, bytes)?;
+    match other_session(id, bytes) {
+        Some(found) => Err(SnapFault::OtherSession { found }),
+        None => read_own(alloc, program, id, bytes),
+    }
+}
+
+/// The id of another session with which the bytes begin.
+fn other_session(id: &SessionId, bytes: &[u8]) -> Option<SessionId>
+    ensures { TellsOther result id.now.0 bytes.now }
+{
+    match id_at(bytes) {
+        Some((found, _rest)) if found != *id => Some(found),
+        _ => None,
+    }
+}
+
+/// The world that the bytes spell, which do not begin with the id of another session.
+fn read_own(
+    alloc: Global,
+    program: &Checked,
+    id: &SessionId,
+    bytes: &[u8],
+) -> Result<PlainWorld, SnapFault>
+    requires { HasId id.now.0 bytes.now }
+    ensures answer { Unsnaps result (field_counts (program_tree program.now)) id.now.0 bytes.now }
+    ensures only { (w : WorldRecord) → IsSnapshot (field_counts (program_tree program.now)) id.now.0 bytes.now w →
+        ReadsWorld result w }
+{
     match read_all(alloc, program, bytes) {
         Ok(world) => {
             if valid(&world, program) {
@@ -43,16 +69,5 @@ pub fn unsnap(
         }
         Err(ValueFault::BadValue) => Err(SnapFault::Bad),
         Err(ValueFault::WantOfMemory) => Err(SnapFault::WantOfMemory),
-    }
-}
-
-/// Refuses bytes that begin with the id of another session.
-fn check_session(id: &SessionId, bytes: &[u8]) -> Result<(), SnapFault>
-    ensures ok { OnOk result (HasId id.now.0 bytes.now) }
-    ensures err { IfErr result (λ fault. IsOtherFault fault id.now.0 bytes.now) }
-{
-    match id_at(bytes) {
-        Some((found, _rest)) if found != *id => Err(SnapFault::OtherSession { found }),
-        _ => Ok(()),
     }
 }

@@ -3,16 +3,17 @@ ghost use Rattle.std.specs.Prelude.{◌≡◌, ◌≤◌, ◌<◌, ◌^◌, ◌+
 ghost use Rattle.std.specs.Int.{to_be_bytes, w32, w64};
 ghost use Rattle.std.specs.List.{flat_map, AllByRecursion};
 ghost use Rattle.model_value.specs.Messages.{plain_message};
-ghost use Rattle.model_value.specs.Spelling.{text_field, value_spelling};
+ghost use Rattle.model_value.specs.Spelling.{value_spelling, IsValue};
 ghost use Rattle.model_value.specs.Valid.{most_parameters};
 ghost use Rattle.model_value.specs.View.{plain_values};
-ghost use Rattle.model_value.specs.World.{object_record, world_record, text_weight, values_weight, object_weight, message_weight, subscription_weight, known_weight, total, most_world_weight};
+ghost use Rattle.model_value.specs.World.{object_record, world_record, values_weight, object_weight, message_weight, subscription_weight, known_weight, total, most_world_weight};
+ghost use Rattle.snapshot_codec.specs.Answer.{IsKnown, IsMessage, IsObject, IsSubscription, IsWorld};
 ghost use Rattle.snapshot_codec.specs.Conditions.{IsValid, IsSmall, HasFewArguments, most_snapshot};
 ghost use Rattle.snapshot_codec.specs.Spelling.{list_field, object_spelling, known_spelling, subscription_spelling, message_spelling, world_spelling};
 
-use model_value::{Message, Subscription, Values, put_value};
+use model_value::{Message, Subscription, Values, put_text, put_value};
 use std::alloc::Global;
-use tea_base::{Blob, Text, WantOfMemory, Writer};
+use tea_base::{Blob, WantOfMemory, Writer};
 use world_plain::{Known, PlainObject, PlainWorld};
 
 /// The one spelling of a world, in memory of its own. Numbers are big-endian. In this order:
@@ -39,6 +40,8 @@ pub fn snapshot(alloc: Global, world: &PlainWorld) -> Result<Blob, WantOfMemory>
     requires { IsValid (world_record world.now) }
     ensures spelled { IfOk result (λ bytes. bytes ≡ world_spelling (world_record world.now)) }
     ensures short { IfOk result (λ bytes. length bytes ≤ most_snapshot) }
+    // What is written is read again.
+    ensures world { IfOk result (λ _. IsWorld (world_record world.now)) }
 {
     let mut out = Writer::new(alloc);
     put_world(&mut out, world)?;
@@ -52,6 +55,7 @@ pub(crate) fn put_world(out: &mut Writer, world: &PlainWorld) -> Result<(), Want
     requires { IsSmall (world_record world.now) }
     ensures spelled { OnOk result (out.new ≡ out.old ++ world_spelling (world_record world.now)) }
     ensures short { OnOk result (length (world_spelling (world_record world.now)) ≤ most_snapshot) }
+    ensures world { OnOk result (IsWorld (world_record world.now)) }
 {
     put_id(out, &world.id.0)?;
     out.put_u64(world.time)?;
@@ -77,6 +81,7 @@ fn put_id(out: &mut Writer, id: &[u8; 32]) -> Result<(), WantOfMemory>
 fn put_faults(out: &mut Writer, faults: &[u64; 14]) -> Result<(), WantOfMemory>
     ensures spelled { OnOk result (out.new ≡ out.old ++ flat_map (to_be_bytes w64) faults.now) }
     ensures kinds { length faults.now ≡ 14 }
+    ensures faults { OnOk result (AllByRecursion (λ n. n < 2 ^ 64) faults.now) }
 {
     for count in faults {
         out.put_u64(*count)?;
@@ -86,7 +91,8 @@ fn put_faults(out: &mut Writer, faults: &[u64; 14]) -> Result<(), WantOfMemory>
 
 fn put_views(out: &mut Writer, views: &[u32]) -> Result<(), WantOfMemory>
     requires { length views.now < 2 ^ 32 }
-    ensures { OnOk result (out.new ≡ out.old ++ list_field (to_be_bytes w32) views.now) }
+    ensures spelled { OnOk result (out.new ≡ out.old ++ list_field (to_be_bytes w32) views.now) }
+    ensures views { OnOk result (AllByRecursion (λ n. n < 2 ^ 32) views.now) }
 {
     out.put_u32(views.len() as u32)?;
     for view in views {
@@ -95,17 +101,10 @@ fn put_views(out: &mut Writer, views: &[u32]) -> Result<(), WantOfMemory>
     Ok(())
 }
 
-fn put_text(out: &mut Writer, text: &Text) -> Result<(), WantOfMemory>
-    requires { text_weight text.now ≤ most_world_weight }
-    ensures { OnOk result (out.new ≡ out.old ++ text_field text.now) }
-{
-    out.put_u32(text.bytes().len() as u32)?;
-    out.put_bytes(text.bytes())
-}
-
 fn put_values(out: &mut Writer, values: &Values) -> Result<(), WantOfMemory>
     requires { values_weight (plain_values values.now) ≤ most_world_weight }
-    ensures { OnOk result (out.new ≡ out.old ++ flat_map value_spelling (plain_values values.now)) }
+    ensures spelled { OnOk result (out.new ≡ out.old ++ flat_map value_spelling (plain_values values.now)) }
+    ensures values { OnOk result (AllByRecursion IsValue (plain_values values.now)) }
 {
     for value in values.as_slice() {
         put_value(out, value)?;
@@ -116,7 +115,8 @@ fn put_values(out: &mut Writer, values: &Values) -> Result<(), WantOfMemory>
 #[tactic(auto, unfolding(crate::specs::Spelling::object_spelling))]
 fn put_object(out: &mut Writer, object: &PlainObject) -> Result<(), WantOfMemory>
     requires { object_weight (object_record object.now) ≤ most_world_weight }
-    ensures { OnOk result (out.new ≡ out.old ++ object_spelling (object_record object.now)) }
+    ensures spelled { OnOk result (out.new ≡ out.old ++ object_spelling (object_record object.now)) }
+    ensures object { OnOk result (IsObject (object_record object.now)) }
 {
     out.put_u32(object.id)?;
     out.put_u16(object.class)?;
@@ -126,7 +126,8 @@ fn put_object(out: &mut Writer, object: &PlainObject) -> Result<(), WantOfMemory
 #[tactic(auto, using(crate::proofs::Sizes::by_count))]
 fn put_objects(out: &mut Writer, objects: &[PlainObject]) -> Result<(), WantOfMemory>
     requires { total object_weight (map object_record objects.now) ≤ most_world_weight }
-    ensures { OnOk result (out.new ≡ out.old ++ list_field object_spelling (map object_record objects.now)) }
+    ensures spelled { OnOk result (out.new ≡ out.old ++ list_field object_spelling (map object_record objects.now)) }
+    ensures objects { OnOk result (AllByRecursion IsObject (map object_record objects.now)) }
 {
     out.put_u32(objects.len() as u32)?;
     for object in objects {
@@ -138,7 +139,8 @@ fn put_objects(out: &mut Writer, objects: &[PlainObject]) -> Result<(), WantOfMe
 #[tactic(auto, unfolding(crate::specs::Spelling::known_spelling))]
 fn put_known(out: &mut Writer, known: &Known) -> Result<(), WantOfMemory>
     requires { known_weight known.now ≤ most_world_weight }
-    ensures { OnOk result (out.new ≡ out.old ++ known_spelling known.now) }
+    ensures spelled { OnOk result (out.new ≡ out.old ++ known_spelling known.now) }
+    ensures known { OnOk result (IsKnown known.now) }
 {
     put_text(out, &known.name)?;
     out.put_u32(known.object)
@@ -147,7 +149,8 @@ fn put_known(out: &mut Writer, known: &Known) -> Result<(), WantOfMemory>
 #[tactic(auto, using(crate::proofs::Sizes::by_count))]
 fn put_known_names(out: &mut Writer, known: &[Known]) -> Result<(), WantOfMemory>
     requires { total known_weight known.now ≤ most_world_weight }
-    ensures { OnOk result (out.new ≡ out.old ++ list_field known_spelling known.now) }
+    ensures spelled { OnOk result (out.new ≡ out.old ++ list_field known_spelling known.now) }
+    ensures known { OnOk result (AllByRecursion IsKnown known.now) }
 {
     out.put_u32(known.len() as u32)?;
     for one in known {
@@ -159,7 +162,8 @@ fn put_known_names(out: &mut Writer, known: &[Known]) -> Result<(), WantOfMemory
 #[tactic(auto, unfolding(crate::specs::Spelling::subscription_spelling))]
 fn put_subscription(out: &mut Writer, subscription: &Subscription) -> Result<(), WantOfMemory>
     requires { subscription_weight subscription.now ≤ most_world_weight }
-    ensures { OnOk result (out.new ≡ out.old ++ subscription_spelling subscription.now) }
+    ensures spelled { OnOk result (out.new ≡ out.old ++ subscription_spelling subscription.now) }
+    ensures subscription { OnOk result (IsSubscription subscription.now) }
 {
     put_text(out, &subscription.scope)?;
     put_text(out, &subscription.event)?;
@@ -170,7 +174,8 @@ fn put_subscription(out: &mut Writer, subscription: &Subscription) -> Result<(),
 #[tactic(auto, using(crate::proofs::Sizes::by_count))]
 fn put_subscriptions(out: &mut Writer, subscriptions: &[Subscription]) -> Result<(), WantOfMemory>
     requires { total subscription_weight subscriptions.now ≤ most_world_weight }
-    ensures { OnOk result (out.new ≡ out.old ++ list_field subscription_spelling subscriptions.now) }
+    ensures spelled { OnOk result (out.new ≡ out.old ++ list_field subscription_spelling subscriptions.now) }
+    ensures subscriptions { OnOk result (AllByRecursion IsSubscription subscriptions.now) }
 {
     out.put_u32(subscriptions.len() as u32)?;
     for subscription in subscriptions {
@@ -183,7 +188,8 @@ fn put_subscriptions(out: &mut Writer, subscriptions: &[Subscription]) -> Result
 fn put_message(out: &mut Writer, message: &Message) -> Result<(), WantOfMemory>
     requires few { HasFewArguments (plain_message message.now) }
     requires light { message_weight (plain_message message.now) ≤ most_world_weight }
-    ensures { OnOk result (out.new ≡ out.old ++ message_spelling (plain_message message.now)) }
+    ensures spelled { OnOk result (out.new ≡ out.old ++ message_spelling (plain_message message.now)) }
+    ensures message { OnOk result (IsMessage (plain_message message.now)) }
 {
     out.put_u64(message.time)?;
     out.put_u64(message.number)?;
@@ -195,7 +201,8 @@ fn put_message(out: &mut Writer, message: &Message) -> Result<(), WantOfMemory>
 fn put_arguments(out: &mut Writer, arguments: &Values) -> Result<(), WantOfMemory>
     requires few { length (plain_values arguments.now) ≤ most_parameters }
     requires light { values_weight (plain_values arguments.now) ≤ most_world_weight }
-    ensures { OnOk result (out.new ≡ out.old ++ length (plain_values arguments.now) ∷ flat_map value_spelling (plain_values arguments.now)) }
+    ensures spelled { OnOk result (out.new ≡ out.old ++ length (plain_values arguments.now) ∷ flat_map value_spelling (plain_values arguments.now)) }
+    ensures values { OnOk result (AllByRecursion IsValue (plain_values arguments.now)) }
 {
     out.put_u8(arguments.len() as u8)?;
     put_values(out, arguments)
@@ -205,7 +212,8 @@ fn put_arguments(out: &mut Writer, arguments: &Values) -> Result<(), WantOfMemor
 fn put_messages(out: &mut Writer, messages: &[Message]) -> Result<(), WantOfMemory>
     requires few { AllByRecursion HasFewArguments (map plain_message messages.now) }
     requires light { total message_weight (map plain_message messages.now) ≤ most_world_weight }
-    ensures { OnOk result (out.new ≡ out.old ++ list_field message_spelling (map plain_message messages.now)) }
+    ensures spelled { OnOk result (out.new ≡ out.old ++ list_field message_spelling (map plain_message messages.now)) }
+    ensures messages { OnOk result (AllByRecursion IsMessage (map plain_message messages.now)) }
 {
     out.put_u32(messages.len() as u32)?;
     for message in messages {

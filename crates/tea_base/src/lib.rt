@@ -1,12 +1,9 @@
-//! The base types of a session: bytes, text, lists, the entries of a log, and reading and writing of bytes.
+//! The base types of a session: bytes, text, lists, the entries of a log, and the writing of bytes.
 #![tactic(auto)]
 
 mod blob;
 mod entry;
 mod list;
-mod reader;
-#[cfg(test)]
-mod tests;
 mod text;
 mod want;
 mod writer;
@@ -14,7 +11,6 @@ mod writer;
 pub use blob::Blob;
 pub use entry::{Entries, Entry, SessionId, What};
 pub use list::List;
-pub use reader::{Reader, Short};
 pub use text::{Text, TextFault, Words};
 pub use want::WantOfMemory;
 pub use writer::Writer;

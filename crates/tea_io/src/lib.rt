@@ -7,8 +7,6 @@ mod files;
 mod mem_files;
 mod mem_sink;
 mod sink;
-#[cfg(test)]
-mod tests;
 
 pub use files::{FileCall, FileCalls, FileFault, Files};
 pub use mem_files::{MemFiles, NamedBlob, NamedBlobs};

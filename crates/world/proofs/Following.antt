@@ -15,12 +15,12 @@ use Rattle.world.proofs.ByWorld.{same-world, advance-by_world, arrived, arrived-
 
 -- ---- entries behind a time
 
-rise-from : (low high : ℕ) (es : List Entry) → low ≤ high → TimesRiseAfter high es → TimesRiseAfter low es
+pub rise-from : (low high : ℕ) (es : List Entry) → low ≤ high → TimesRiseAfter high es → TimesRiseAfter low es
 rise-from low high [] le rise = tt
 rise-from low high (e ∷ es) le rise = (omega (arith, le, rise.0), rise.1)
 
 -- where all lie behind s, none is left out
-all-behind : (s : ℕ) (es : List Entry) → TimesRiseAfter s es → behind s es ≡ es
+pub all-behind : (s : ℕ) (es : List Entry) → TimesRiseAfter s es → behind s es ≡ es
 all-behind s [] rise = refl
 all-behind s (e ∷ es) rise =
     ap (λ b. cond b (e ∷ behind s es) (behind s es)) (lt-ltb s e.time rise.0)

@@ -13,4 +13,5 @@ pub mod Silent
 pub mod ByWorld
 pub mod Following
 pub mod Replays
+pub mod Folding
 pub mod PutBack

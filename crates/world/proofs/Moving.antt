@@ -1,6 +1,6 @@
 -- A world whose time is moved, or whose least message is taken, stays valid.
 use Rattle.std.proofs.Common.{◌≡◌, ℕ, ◌+◌, ◌<◌, ◌≤◌, inl, inr, Bool, true, false, if◌then◌else◌, nat_lt, nat_le, List, [], ◌∷◌, length, Some, None, refl, sym, ap, ◌∙◌, subst, arith}
-use Rattle.std.proofs.lemmas.Bool.{leb-true, leb-false}
+use Rattle.std.proofs.lemmas.Bool.{leb-true, leb-false, lt-leb}
 use Rattle.std.proofs.lemmas.Option.{none-some, same_Some}
 use Rattle.model_value.specs.Messages.{PlainMessage}
 use Rattle.model_value.specs.World.{WorldRecord, total, object_weight, message_weight, subscription_weight, known_weight, most_world_weight}
@@ -38,6 +38,11 @@ due-none t [] o h = tt
 due-none t (m ∷ ms) o h =
     let lt : t < m.time = none_due t (nat_le m.time t) m ms refl h in
     (lt, from-behind t m.time ms lt (preceded-from m ms o.0))
+
+-- where all lies behind, nothing is due
+pub behind-none : (t : ℕ) (ms : List PlainMessage) → AreBehind t ms → due t ms ≡ None
+behind-none t [] behind = refl
+behind-none t (m ∷ ms) behind = ap (λ b. first_where b m ms) (lt-leb m.time t behind.0)
 
 -- a message that is due stands first
 pub record IsFirst (t : ℕ) (ms : List PlainMessage) (m : PlainMessage) (rest : List PlainMessage) : Type 0 where

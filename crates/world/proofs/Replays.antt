@@ -1,7 +1,7 @@
 -- The replay of a log to a time is a valid world of its session at that time, and follows the log.
 use Rattle.std.proofs.Common.{◌≡◌, ℕ, zero, suc, ◌<◌, ◌≤◌, Bool, true, false, if◌then◌else◌, ◌||◌, nat_eq, nat_le, nat_lt, List, [], ◌∷◌, length, Option, Some, None, refl, sym, ap, subst, ◌∙◌, arith}
 use Rattle.std.specs.Prelude.{pos, is_some}
-use Rattle.std.proofs.lemmas.Bool.{leb-true}
+use Rattle.std.proofs.lemmas.Bool.{leb-true, ltb-true}
 use Rattle.tea_base.specs.Legal.{IsLegal, TimesRiseAfter}
 use Rattle.tea_base.specs.declared.entry.Entry.{Entry}
 use Rattle.tea_base.specs.declared.entry.What.{What}
@@ -17,11 +17,12 @@ use Rattle.model_check.specs.Methods.{method_named}
 use Rattle.model_lang.specs.Tree.{Name, ClassTree, ProgramTree}
 use Rattle.model_eval.specs.declared.fault.Fault.TheVariants.{Full}
 use Rattle.model_eval.proofs.ValueBounds.{int-in_bounds}
-use Rattle.world.specs.Worlds.{Scene, with_world, counted, field_counts, begun, ran, init, empty_world, rooted, root_from, first_with, first, moved, due, handled, on_due, advance_within, advance, enough, is_among, with_view, without_view, told_of, session_scope, view_join, view_exit, came, went, heard, entered, external, replayed, replay, taken_up, Follows}
+use Rattle.world.specs.Worlds.{Scene, with_world, counted, field_counts, begun, ran, init, empty_world, rooted, root_from, first_with, first, moved, due, handled, on_due, advance_within, advance, enough, is_among, with_view, without_view, told_of, session_scope, view_join, view_exit, came, went, heard, entered, external, replayed, replay, taken_up, behind, resumed, Follows}
 use Rattle.world.proofs.Running.{Fits, ran-keeps, informed-keeps}
 use Rattle.world.proofs.Advancing.{advance-valid, advance-arrives, advance-twice}
 use Rattle.world.proofs.Entries.{external-valid}
 use Rattle.world.proofs.ByWorld.{advance-by_world}
+use Rattle.world.proofs.Following.{all-behind, rise-from}
 
 -- ---- the session and the time of a world
 
@@ -89,13 +90,13 @@ module _ (program : ProgramTree) (fits : Fits (field_counts program) program) wh
   within-id zero t s = moved-id (nat_lt s.world.time t) t s.world
   within-id (suc n) t s = on_due-id n t (due t s.world.pending) s (λ u. within-id n t u)
 
-  advance-id : (t : ℕ) (s : Scene) → (advance program t s).world.id ≡ s.world.id
+  pub advance-id : (t : ℕ) (s : Scene) → (advance program t s).world.id ≡ s.world.id
   advance-id t s = within-id (enough t s.world) t s
 
   -- ---- entries and replays
 
   -- an entry leaves the session, and the world is at its time
-  external-id : (e : Entry) (s : Scene) → (external program e s).world.id ≡ s.world.id
+  pub external-id : (e : Entry) (s : Scene) → (external program e s).world.id ≡ s.world.id
   external-id e s =
       let a : Scene = advance program e.time s in
       (entered-stays e.what e.view (with_world a (begun a.world))).id ∙ advance-id e.time s
@@ -130,6 +131,21 @@ module _ (program : ProgramTree) (fits : Fits (field_counts program) program) wh
   stands t low id (e ∷ es) s below rise v same le early =
       step (nat_le e.time t) t id e es s refl below rise.1 v same le (omega (arith, early, rise.0)) (λ u valid own less before. stands t e.time id es u below rise.1 valid own less before)
 
+  -- ---- a world that is taken up
+
+  rise_behind : (t : ℕ) (e : Entry) (es : List Entry) (b : Bool) → nat_lt t e.time ≡ b → TimesRiseAfter e.time es → TimesRiseAfter t (behind t es) → TimesRiseAfter t (if b then e ∷ behind t es else behind t es)
+  rise_behind t e es true is rise rest =
+      let later : t < e.time = ltb-true t e.time is in
+      (later, subst (TimesRiseAfter e.time) (sym (all-behind t es (rise-from t e.time es (omega (arith, later)) rise))) rise)
+  rise_behind t e es false is rise rest = rest
+
+  behind-rises : (t low : ℕ) (es : List Entry) → TimesRiseAfter low es → TimesRiseAfter t (behind t es)
+  behind-rises t low [] rise = tt
+  behind-rises t low (e ∷ es) rise = rise_behind t e es (nat_lt t e.time) refl rise.1 (behind-rises t e.time es rise.1)
+
+  pub resumed-stands : (w : WorldRecord) (entries : List Entry) (t : ℕ) → Valid (field_counts program) w → IsLegal entries → w.time ≤ t → t < time_limit → Stands w.id t (resumed program w entries t)
+  resumed-stands w entries t v legal le below = stands t w.time w.id (behind w.time entries) (taken_up w) below (behind-rises w.time 0 entries (TimesRise-legal entries legal)) v refl le (omega arith)
+
   -- ---- the first world
 
   first-stays : (has : Bool) (w : WorldRecord) (s : Scene) → Stays w s.world → Stays w (if has then ran program 1 init (nil ∷ []) s else s).world
@@ -143,6 +159,9 @@ module _ (program : ProgramTree) (fits : Fits (field_counts program) program) wh
 
   pub first-begins : (id : List ℕ) → (first program id).world.time ≡ 0
   first-begins id = (first_with-stays id (root_from 0 program)).time
+
+  pub first-id : (id : List ℕ) → (first program id).world.id ≡ id
+  first-id id = (first_with-stays id (root_from 0 program)).id
 
   pub replay-stands : (id : List ℕ) (entries : List Entry) (t : ℕ) → Valid (field_counts program) (first program id).world → IsLegal entries → t < time_limit → Stands id t (replay program id entries t)
   replay-stands id entries t begins legal below =

@@ -1,13 +1,25 @@
 //! The laws of TeaTime: how a world advances, and how one that was put away goes on.
-ghost use Rattle.std.specs.Prelude.{◌≡◌, ◌≤◌, ◌<◌, ℕ, List};
+ghost use Rattle.std.specs.Prelude.{◌≡◌, ◌≤◌, ◌<◌, ℕ, nat_le, List};
+ghost use Rattle.std.specs.List.{fold, filter};
+ghost use Rattle.std.specs.Thread.{IsSend};
 ghost use Rattle.tea_base.specs.Legal.{IsLegal};
 ghost use Rattle.tea_base.specs.declared.entry.Entry.{Entry};
 ghost use Rattle.model_value.specs.World.{WorldRecord};
 ghost use Rattle.model_value.specs.Valid.{Valid, time_limit};
 ghost use Rattle.model_lang.specs.Tree.{ProgramTree};
 ghost use Rattle.model_lang.specs.Program.{IsProgram};
-ghost use Rattle.world.specs.Worlds.{Scene, field_counts, advance, due, on_due, replay, resumed, Follows};
+ghost use Rattle.world.specs.Worlds.{Scene, field_counts, first, advance, due, on_due, external, replay, taken_up, resumed, Follows};
 ghost use Rattle.world.specs.View.{AreBehind};
+ghost use Rattle.world.specs.contracts.world.World as world;
+
+use model_check::checked_crosses_threads;
+
+/// The first world of a session is valid, of that session, and at time 0.
+pub fn first_stands()
+    ensures valid { (program : ProgramTree) (id : List ℕ) → IsProgram program → Valid (field_counts program) (first program id).world }
+    ensures session { (program : ProgramTree) (id : List ℕ) → IsProgram program → (first program id).world.id ≡ id }
+    ensures time { (program : ProgramTree) (id : List ℕ) → IsProgram program → (first program id).world.time ≡ 0 }
+{}
 
 /// To advance to s and then to a later t is to advance to t.
 pub fn advance_twice()
@@ -19,11 +31,45 @@ pub fn advance_steps()
     ensures { (program : ProgramTree) (t : ℕ) (a : Scene) → IsProgram program → Valid (field_counts program) a.world → advance program t a ≡ on_due program t (advance program t) (due t a.world.pending) a }
 {}
 
-/// A world that advanced to t is at rest there: each pending message lies behind t, which is its time, and it is valid.
+/// A world that advanced to t is at rest there: each pending message lies behind t, which is its time. It is valid, and of
+/// the same session.
 pub fn advance_rests()
     ensures rests { (program : ProgramTree) (t : ℕ) (a : Scene) → IsProgram program → Valid (field_counts program) a.world → t < time_limit → AreBehind t (advance program t a).world.pending }
     ensures arrives { (program : ProgramTree) (t : ℕ) (a : Scene) → IsProgram program → Valid (field_counts program) a.world → a.world.time ≤ t → (advance program t a).world.time ≡ t }
     ensures valid { (program : ProgramTree) (t : ℕ) (a : Scene) → IsProgram program → Valid (field_counts program) a.world → t < time_limit → Valid (field_counts program) (advance program t a).world }
+    ensures session { (program : ProgramTree) (t : ℕ) (a : Scene) → IsProgram program → (advance program t a).world.id ≡ a.world.id }
+{}
+
+/// A world that is at rest at its time is not changed by an advance to that time.
+pub fn at_rest_stays()
+    ensures { (program : ProgramTree) (a : Scene) → IsProgram program → Valid (field_counts program) a.world → AreBehind a.world.time a.world.pending → advance program a.world.time a ≡ a }
+{}
+
+/// An entry leaves a valid world of the same session, at the entry's time.
+pub fn external_stands()
+    ensures valid { (program : ProgramTree) (e : Entry) (a : Scene) → IsProgram program → Valid (field_counts program) a.world → e.time < time_limit → Valid (field_counts program) (external program e a).world }
+    ensures session { (program : ProgramTree) (e : Entry) (a : Scene) → IsProgram program → (external program e a).world.id ≡ a.world.id }
+    ensures time { (program : ProgramTree) (e : Entry) (a : Scene) → IsProgram program → Valid (field_counts program) a.world → a.world.time ≤ e.time → (external program e a).world.time ≡ e.time }
+{}
+
+/// An entry that comes after an advance to a time up to its own does what it does without that advance.
+pub fn external_after()
+    ensures { (program : ProgramTree) (s : ℕ) (e : Entry) (a : Scene) → IsProgram program → Valid (field_counts program) a.world → s ≤ e.time → s < time_limit → external program e (advance program s a) ≡ external program e a }
+{}
+
+/// Which world an advance or an entry leaves follows from the world before it, and not from what was published until then.
+pub fn world_decides()
+    ensures advance { (program : ProgramTree) (t : ℕ) (a : Scene) → (advance program t a).world ≡ (advance program t (taken_up a.world)).world }
+    ensures external { (program : ProgramTree) (e : Entry) (a : Scene) → (external program e a).world ≡ (external program e (taken_up a.world)).world }
+{}
+
+/// The replay of a log to t is what the first world comes to by the entries with a time of at most t, one after the other,
+/// and then by an advance to t. Its world is the same where the world is taken up anew before each of these steps.
+pub fn replay_folds()
+    ensures scene { (program : ProgramTree) (id : List ℕ) (entries : List Entry) (t : ℕ) →
+        replay program id entries t ≡ advance program t (fold (λ (a : Scene) (e : Entry). external program e a) (first program id) (filter (λ (e : Entry). nat_le e.time t) entries)) }
+    ensures world { (program : ProgramTree) (id : List ℕ) (entries : List Entry) (t : ℕ) →
+        (replay program id entries t).world ≡ (advance program t (taken_up (fold (λ (w : WorldRecord) (e : Entry). (external program e (taken_up w)).world) (first program id).world (filter (λ (e : Entry). nat_le e.time t) entries)))).world }
 {}
 
 /// A world that follows a log, taken up at its time, is from there on the replay of the whole log: it handles the entries
@@ -31,6 +77,13 @@ pub fn advance_rests()
 pub fn resumed_follows()
     ensures { (program : ProgramTree) (w : WorldRecord) (entries : List Entry) (t : ℕ) → IsProgram program → Valid (field_counts program) w → IsLegal entries → w.time ≤ t → t < time_limit → Follows program w entries →
         (resumed program w entries t).world ≡ (replay program w.id entries t).world }
+{}
+
+/// A world that is taken up and goes on to t is a valid world of its session at t, whether it follows the log or not.
+pub fn resumed_stands()
+    ensures valid { (program : ProgramTree) (w : WorldRecord) (entries : List Entry) (t : ℕ) → IsProgram program → Valid (field_counts program) w → IsLegal entries → w.time ≤ t → t < time_limit → Valid (field_counts program) (resumed program w entries t).world }
+    ensures session { (program : ProgramTree) (w : WorldRecord) (entries : List Entry) (t : ℕ) → IsProgram program → Valid (field_counts program) w → IsLegal entries → w.time ≤ t → t < time_limit → (resumed program w entries t).world.id ≡ w.id }
+    ensures time { (program : ProgramTree) (w : WorldRecord) (entries : List Entry) (t : ℕ) → IsProgram program → Valid (field_counts program) w → IsLegal entries → w.time ≤ t → t < time_limit → (resumed program w entries t).world.time ≡ t }
 {}
 
 /// The replay of a log to t is a valid world of its session at t, and it follows the log: so it may be put away, and goes on
@@ -41,3 +94,10 @@ pub fn replay_follows()
     ensures time { (program : ProgramTree) (id : List ℕ) (entries : List Entry) (t : ℕ) → IsProgram program → IsLegal entries → t < time_limit → (replay program id entries t).world.time ≡ t }
     ensures follows { (program : ProgramTree) (id : List ℕ) (entries : List Entry) (t : ℕ) → IsProgram program → IsLegal entries → t < time_limit → Follows program (replay program id entries t).world entries }
 {}
+
+/// A world may go to another thread.
+pub fn world_crosses_threads()
+    ensures { IsSend world.the_row }
+{
+    checked_crosses_threads();
+}

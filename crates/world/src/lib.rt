@@ -7,10 +7,12 @@ mod messages;
 mod opening;
 mod resuming;
 mod simulation;
-#[cfg(test)]
-mod tests;
 mod world;
 
 pub use fault::WorldFault;
-pub use laws::{advance_rests, advance_steps, advance_twice, replay_follows, resumed_follows};
+pub use laws::{
+    advance_rests, advance_steps, advance_twice, at_rest_stays, external_after, external_stands,
+    first_stands, replay_folds, replay_follows, resumed_follows, resumed_stands,
+    world_crosses_threads, world_decides,
+};
 pub use world::World;

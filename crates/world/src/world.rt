@@ -22,8 +22,9 @@ use world_plain::PlainWorld;
 
 /// A world of a session: what its models hold at a TeaTime.
 ///
-/// All who hold the same program and handle the same entries of one session have the same world. A world that wanted
-/// memory while it went on is broken from then on: it answers `Broken`, and its published list is empty.
+/// All who hold the same program, begin with [`first`](World::first) and handle the same entries of one session have the
+/// same world, and so has who takes up the plain data of such a world and handles the entries behind its time. A world
+/// that wanted memory while it went on is broken from then on: it answers `Broken`, and its published list is empty.
 #[derive(Drop)]
 pub struct World {
     alloc: Global,
@@ -67,8 +68,8 @@ impl World {
         })
     }
 
-    /// The world that plain data tells, on which nothing was published yet. The data is valid for the program, as `to_plain`
-    /// gives it of a world of the same program. Fails for want of memory alone.
+    /// The world that plain data tells, on which nothing was published yet. The data has to be valid for the program, as what
+    /// `to_plain` gives of a world of this program is. Fails for want of memory alone.
     pub fn from_plain(
         alloc: Global,
         program: Arc<Checked, Global>,
@@ -170,6 +171,7 @@ impl World {
     pub fn take_out(&mut self) -> Published
         ensures published { map plain_outgoing result ≡ self.old.scene.published }
         ensures rest { self.new ≡ record (self.old) { scene = record (self.old.scene) { published = [] } } }
+        ensures sound { IsSound self.new }
     {
         mem::replace(&mut self.state.published, List::new(self.alloc))
     }

@@ -3,19 +3,17 @@
 //!
 //! [`PlainWorld`] is the session's id, the world's time and its other numbers, the views that are here, and its
 //! objects, known names, subscriptions and pending messages. [`valid`] tells whether a world is valid for a program,
-//! [`room`] what weight may still be added to it, up to [`MOST_WORLD_WEIGHT`], and [`copy_world`] gives the same world
-//! in memory of its own. The types stand in `model_value`, and are exported here for what stands above.
+//! and [`room`] what weight may still be added to it, up to [`MOST_WORLD_WEIGHT`]. The types stand in `model_value`, and
+//! are exported here for what stands above.
 #![tactic(auto)]
 
 mod bounds;
 mod messages;
 mod objects;
 mod subscriptions;
-#[cfg(test)]
-mod tests;
 mod validity;
 
 pub use model_value::{
-    Known, KnownNames, MOST_WORLD_WEIGHT, PlainObject, PlainObjects, PlainWorld, copy_world, room,
+    Known, KnownNames, MOST_WORLD_WEIGHT, PlainObject, PlainObjects, PlainWorld, room,
 };
 pub use validity::valid;

@@ -8,8 +8,8 @@ ghost use Rattle.reflector_core.specs.Answer.{with_reply, MayWantMemory, is_stal
 use crate::request::{Refusal, Reply};
 use crate::session::Session;
 use crate::session::times::{END_OF_TIME, stamp};
-use crate::start::Want;
 use tea_base::{WantOfMemory, What};
+use wire_frames::Want;
 
 /// How many entries a log may have before nothing is added but Exits.
 const MOST_OPEN_ENTRIES: u32 = 1_048_576;

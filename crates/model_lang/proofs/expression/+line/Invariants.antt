@@ -23,9 +23,6 @@ decreases-arguments l = 32 * l.room + 15
 abbrev pub decreases-call : goal.decreases-call
 decreases-call l = 32 * l.room + 16
 
-abbrev pub decreases-message : goal.decreases-message
-decreases-message l = 32 * l.room + 16
-
 abbrev pub decreases-builtin_or_local : goal.decreases-builtin_or_local
 decreases-builtin_or_local l = 32 * l.room + 16
 

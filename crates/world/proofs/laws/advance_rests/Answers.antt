@@ -1,6 +1,7 @@
 use Rattle.world.specs.Worlds.{field_counts, advance}
 use Rattle.world.proofs.Moving.{due-none}
 use Rattle.world.proofs.Advancing.{advance-rests, advance-valid, advance-arrives}
+use Rattle.world.proofs.Replays.{advance-id}
 use Rattle.world.proofs.Turn.{program-fits}
 use Rattle.world.proofs.laws.advance_rests.Goals as goal
 
@@ -14,3 +15,6 @@ returns-clause-arrives c = λ program t a p v le. advance-arrives (field_counts 
 
 pub returns-clause-valid : goal.returns-clause-valid
 returns-clause-valid c = λ program t a p v below. advance-valid (field_counts program) program t a (program-fits program p) below v
+
+pub returns-clause-session : goal.returns-clause-session
+returns-clause-session c = λ program t a p. advance-id program (program-fits program p) t a

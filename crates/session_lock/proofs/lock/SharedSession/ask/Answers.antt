@@ -6,10 +6,10 @@ use Rattle.session_lock.proofs.lock.SharedSession.ask.Goals as goal
 pub returns-clause-call : goal.returns-clause-call
 returns-clause-call g c =
     told_call (IsTrusted g.T.Trust.allows c.args.self.now.trust c.args.self.now.id) c.make.result c.pass.inside.seat.table_id c.make.new.seat.table_id c.pass.inside.seat.me.0 c.make.new.seat.me c.args.pass.now c.args.request.now c.pass.view_is
-    (cc (c.make.ensures.table, c.requires.session, c.pass.view_is)) c.make.ensures.made c.make.ensures.plays
+    (cc (c.make.ensures.table, c.requires.session, c.pass.view_is)) c.make.ensures.made c.make.ensures.plays.0
 
 pub returns-clause-kept : goal.returns-clause-kept
 returns-clause-kept g c =
     call_kept (IsTrusted g.T.Trust.allows c.args.self.now.trust c.args.self.now.id) c.make.result c.args.pass.now (stand c.make.new.seat.table_id c.make.new.seat.me.0) c.args.request.now
     (told_call (IsTrusted g.T.Trust.allows c.args.self.now.trust c.args.self.now.id) c.make.result c.pass.inside.seat.table_id c.make.new.seat.table_id c.pass.inside.seat.me.0 c.make.new.seat.me c.args.pass.now c.args.request.now c.pass.view_is
-    (cc (c.make.ensures.table, c.requires.session, c.pass.view_is)) c.make.ensures.made c.make.ensures.plays)
+    (cc (c.make.ensures.table, c.requires.session, c.pass.view_is)) c.make.ensures.made c.make.ensures.plays.0)

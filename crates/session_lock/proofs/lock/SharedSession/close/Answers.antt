@@ -1,7 +1,8 @@
 use Rattle.std.proofs.Common.{ap, ◌∙◌, sym, subst}
-use Rattle.reflector_core.specs.PlainSession.{PlainSession, IsSound}
+use Rattle.reflector_core.specs.PlainSession.{PlainSession}
+use Rattle.reflector_core.specs.Play.{first as first_session}
 use Rattle.session_lock.specs.Passes.{Standing, HoldsEach, numbers_held, own_calls}
-use Rattle.session_lock.specs.History.{play}
+use Rattle.session_lock.specs.History.{play, IsSoundThrough}
 use Rattle.session_lock.specs.Trusts.{IsTrusted}
 use Rattle.session_lock.proofs.Closing.{closed, plays_events}
 use Rattle.session_lock.proofs.TrustLaws.{trusted_outside}
@@ -31,8 +32,12 @@ returns-clause-numbers g c =
     let t = closed (IsTrusted g.T.Trust.allows key.1 key.0) c.pass.inside.seat.id c.pass.inside.seat.me.0 _ _ c.take-held.result c.close_with-closed.ensures.values.2 (ap numbers_held c.pass.view_is ∙ c.requires.whole) c.pass.invariant.2 c.take-held.ensures.value in
     subst HoldsEach c.pass.view_is t.3
 
-pub returns-clause-events : goal.returns-clause-events
-returns-clause-events g c =
+pub returns-clause-sound : goal.returns-clause-sound
+returns-clause-sound g c =
     let key = c.self.inside.table.shared.key in
     let t = closed (IsTrusted g.T.Trust.allows key.1 key.0) c.pass.inside.seat.id c.pass.inside.seat.me.0 _ _ c.take-held.result c.close_with-closed.ensures.values.2 (ap numbers_held c.pass.view_is ∙ c.requires.whole) c.pass.invariant.2 c.take-held.ensures.value in
-    plays_events c.into_session.result.plain c.args.pass.seen (returns-clause-play g c) (subst (λ (p : Standing). IsSound (play p.seen)) c.pass.view_is t.2.1)
+    subst (λ (p : Standing). IsSoundThrough first_session p.seen) c.pass.view_is t.2.1
+
+pub returns-clause-events : goal.returns-clause-events
+returns-clause-events g c =
+    plays_events c.into_session.result.plain c.args.pass.seen (returns-clause-play g c) (returns-clause-sound g c)

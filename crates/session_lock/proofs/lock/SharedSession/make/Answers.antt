@@ -20,7 +20,7 @@ fetch_add-requires g c =
     let asked = g.J.Asking.request in
     let key = c.self.inside.table.shared.key in
     let ok : MayBeAsked g.T.Trust.allows key.1 key.0 (play c.draw-ticket.new.seat.me.0.seen) asked =
-    subst (λ (x : List Item × Request). MayBeAsked g.T.Trust.allows key.1 key.0 (play x.0) x.1) (λ i. (ap (λ (m : M). m.0.seen) (sym c.draw-ticket.ensures.drawn) i, c.requires.asked i))
+    subst (λ (x : List Item × Request). MayBeAsked g.T.Trust.allows key.1 key.0 (play x.0) x.1) (λ i. (ap (λ (m : M). m.0.seen) (sym {A = M} c.draw-ticket.ensures.drawn) i, c.requires.asked i))
     (asked_inside g.T.Trust.allows c.self.inside.table.shared.table_id key c.args.self.now c.self.view_is (play c.args.seat.now.me.0.seen) c.args.request.now c.requires.allowed) in
     let later = asked_later g.T.Trust.allows g.T.Trust.stays key.1 key.0 c.draw-ticket.new.seat.me.0.callers c.draw-ticket.new.seat.me.0.seen t.0 asked t.5 t.2 ok in (
       cc (c.work.ensures.table, c.self.view_is),

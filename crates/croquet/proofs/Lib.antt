@@ -1,0 +1,10 @@
+pub mod WordLaws
+pub mod ScriptLaws
+pub mod VerdictLaws
+pub mod StampLaws
+pub mod ProgramLaws
+pub mod CheckLaws
+pub mod ReplayLaws
+pub mod WorldLaws
+pub mod RunLaws
+pub mod ComesLaws

@@ -1,0 +1,98 @@
+//! How a run ends.
+ghost use Rattle.std.specs.Prelude.{◌≡◌};
+ghost use Rattle.croquet.specs.declared.status.Fault.TheVariants.{Memory};
+
+use std::alloc::AllocError;
+use tea_base::{Blob, WantOfMemory};
+
+/// The exit status of the program.
+#[derive(Clone, Copy, Debug, PartialEq, Eq)]
+pub enum Status {
+    Ok,
+    /// The words break their rules.
+    Usage,
+    /// The program is refused.
+    Program,
+    /// An input is not in its grammar or above its limit, or the time of a replay is below that of its snapshot.
+    Input,
+    /// A file was not read.
+    ReadFault,
+    /// A file or the text was not written.
+    WriteFault,
+    /// The net failed.
+    NetFault,
+    /// The reflector refused.
+    Refused,
+    WantOfMemory,
+    /// The reflector ended the connection.
+    Ended,
+    /// The reflector broke the rules.
+    Peer,
+}
+
+impl Status {
+    ghost use Rattle.croquet.specs.Status.{number_of};
+
+    /// The number with which the process exits.
+    pub fn number(self) -> u8
+        ensures { result ≡ number_of self }
+    {
+        match self {
+            Status::Ok => 0,
+            Status::Usage => 1,
+            Status::Program => 2,
+            Status::Input => 3,
+            Status::ReadFault => 4,
+            Status::WriteFault => 5,
+            Status::NetFault => 6,
+            Status::Refused => 7,
+            Status::WantOfMemory => 8,
+            Status::Ended => 9,
+            Status::Peer => 10,
+        }
+    }
+}
+
+/// An input of a command.
+#[derive(Clone, Copy, Debug, PartialEq, Eq)]
+pub enum Input {
+    Script,
+    Program,
+    Log,
+    Snapshot,
+    /// The time that a replay is asked for, below that of its snapshot.
+    Time,
+}
+
+/// Why a command stopped.
+#[derive(Debug, Drop)]
+pub enum Fault {
+    Usage,
+    /// The program is refused, with the line that tells why.
+    Program { line: Blob },
+    /// This input is not in its grammar or above its limit, or it is a time below that of the snapshot.
+    Input(Input),
+    /// A file was not read.
+    Read,
+    /// A file was not written.
+    Write,
+    /// The text was not written.
+    Sink,
+    Memory,
+}
+
+impl From<AllocError> for Fault {
+    ghost from_gives = { λ _ fault. fault ≡ Memory };
+
+    fn from(_error: AllocError) -> Self {
+        Fault::Memory
+    }
+}
+
+impl From<WantOfMemory> for Fault {
+    ghost from_gives = { λ _ fault. fault ≡ Memory };
+
+    fn from(_error: WantOfMemory) -> Self {
+        Fault::Memory
+    }
+}

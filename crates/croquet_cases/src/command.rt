@@ -1,0 +1,96 @@
+//! A command over files that a case writes out.
+use crate::fault::CaseFault;
+use crate::run::{Failing, Given, NONE, Run};
+use crate::spelling::{lines_of, told};
+use hex::FromHexError;
+use std::alloc::Global;
+use tea_base::{Blob, WantOfMemory};
+use text_lines::number;
+
+/// A command: `WORDS ; NAME=CONTENT ; NAME:HEX ; .. ; fail file N ; fail output N`. The words are divided by blanks, `''`
+/// is the empty word, and `-` alone is no word; the lines of a content are divided by ` / `; call N of the files, or of
+/// the output, fails.
+#[derive(Drop)]
+struct Command {
+    given: Given,
+    failing: Failing,
+}
+
+fn number_of(digits: &str) -> Result<u32, CaseFault> {
+    match number(digits, 0, 1000) {
+        Some(number) => Ok(number as u32),
+        None => Err(CaseFault::NoCase),
+    }
+}
+
+fn bytes_of(alloc: Global, digits: &str) -> Result<Vec<u8>, CaseFault> {
+    match hex::decode(alloc, digits) {
+        Ok(bytes) => Ok(bytes),
+        Err(FromHexError::OutOfMemory) => Err(CaseFault::WantOfMemory),
+        Err(_) => Err(CaseFault::NoCase),
+    }
+}
+
+impl Command {
+    fn read(alloc: Global, case: &str) -> Result<Command, CaseFault> {
+        let mut parts = case.split(" ; ");
+        let mut command = Command {
+            given: Given::new(alloc),
+            failing: NONE,
+        };
+        command.add_words(parts.next().unwrap_or_default())?;
+        for part in parts {
+            command.add(alloc, part)?;
+        }
+        Ok(command)
+    }
+
+    fn add_words(&mut self, words: &str) -> Result<(), WantOfMemory> {
+        if words == "-" {
+            return Ok(());
+        }
+        for word in words.split(' ') {
+            self.given.add_word(if word == "''" { "" } else { word })?;
+        }
+        Ok(())
+    }
+
+    fn add(&mut self, alloc: Global, part: &str) -> Result<(), CaseFault> {
+        if let Some(digits) = part.strip_prefix("fail file ") {
+            self.failing.file = number_of(digits)?;
+        } else if let Some(digits) = part.strip_prefix("fail output ") {
+            self.failing.output = number_of(digits)?;
+        } else if let Some((name, content)) = part.split_once('=') {
+            let lines = lines_of(alloc, content.as_bytes())?;
+            self.given.add_file(name, lines.as_slice())?;
+        } else {
+            let (name, digits) = part.split_once(':').ok_or(CaseFault::NoCase)?;
+            let bytes = bytes_of(alloc, digits)?;
+            self.given.add_file(name, bytes.as_slice())?;
+        }
+        Ok(())
+    }
+
+    fn run(&self) -> Result<Run, WantOfMemory> {
+        self.given.run(self.failing)
+    }
+}
+
+/// What a command comes to: what it prints, its status, and ` f=` with the bytes of the file `f`, if it is there.
+pub(crate) fn outcome(alloc: Global, case: &str) -> Result<String, CaseFault> {
+    let run = Command::read(alloc, case)?.run()?;
+    let mut told = told(alloc, &run)?;
+    if let Some(file) = run.file(alloc, "f")? {
+        put_file(alloc, &mut told, &file)?;
+    }
+    Ok(told)
+}
+
+fn put_file(alloc: Global, told: &mut String, file: &Blob) -> Result<(), WantOfMemory> {
+    if !told.is_empty() {
+        told.push(' ')?;
+    }
+    told.push_str("f=")?;
+    told.push_str(hex::encode(alloc, file.bytes())?.as_str())?;
+    Ok(())
+}

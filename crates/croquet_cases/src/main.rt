@@ -1,0 +1,33 @@
+//! Cases of the program's commands. `croquet_cases KIND FILE ..` runs each line of the files, and prints it with ` = ` and
+//! what it comes to.
+//!
+//! | Kind | A case | What it comes to |
+//! |---|---|---|
+//! | `scripts` | a script of requests, its lines divided by ` / ` | the lines that `stamp` prints, divided so |
+//! | `logs` | the same | the bytes of the log that `stamp` writes |
+//! | `programs` | a program | the line that `check` prints |
+//! | `worlds` | `NAME TIME SCRIPT \| PROGRAM` | the line that `replay` prints for the log of the script |
+//! | `snapshots` | the same | the bytes of the snapshot that `replay` writes |
+//! | `resumed` | `NAME FIRST TIME SCRIPT \| PROGRAM` | the line of a replay that goes on from the snapshot at FIRST, and whether its snapshot is the `same` as without it |
+//! | `commands` | `WORDS ; NAME=CONTENT ; NAME:HEX ; .. ; fail file N ; fail output N` | what the command prints, and the file `f` |
+//!
+//! The words of a command are divided by blanks; `''` is the empty word, and `-` alone is no word. A content has its lines
+//! divided by ` / `. Call N of the files, or of the output, fails.
+//!
+//! Behind what is printed stands the status in square brackets, if it is not 0.
+#![tactic(auto)]
+
+mod command;
+mod fault;
+mod kind;
+mod run;
+mod session;
+mod spelling;
+
+use crate::kind::CommandCases;
+use case_lines::print_files;
+use std::io;
+
+fn main(rt: HostRuntime) -> io::Result<()> {
+    print_files::<CommandCases, HostRuntime>(&rt)
+}

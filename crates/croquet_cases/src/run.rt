@@ -1,0 +1,102 @@
+//! A run of the program over files and an output in memory.
+use croquet::{Status, croquet};
+use std::alloc::Global;
+use tea_base::{Blob, Numbers, Text, WantOfMemory, Words};
+use tea_io::{Files, MemFiles, MemSink, NamedBlob, NamedBlobs};
+
+/// Which call of the files and which of the output fails, counted from 1; 0 is none.
+#[derive(Clone, Copy)]
+pub(crate) struct Failing {
+    pub(crate) file: u32,
+    pub(crate) output: u32,
+}
+
+/// No call fails.
+pub(crate) const NONE: Failing = Failing { file: 0, output: 0 };
+
+/// What a run is given: its words, and the files that it finds.
+#[derive(Drop)]
+pub(crate) struct Given {
+    alloc: Global,
+    words: Words,
+    files: NamedBlobs,
+}
+
+/// What a run came to.
+#[derive(Drop)]
+pub(crate) struct Run {
+    pub(crate) status: Status,
+    pub(crate) text: Blob,
+    files: MemFiles,
+}
+
+impl Given {
+    /// No word and no file.
+    pub(crate) fn new(alloc: Global) -> Given {
+        Given {
+            alloc,
+            words: Words::new(alloc),
+            files: NamedBlobs::new(alloc),
+        }
+    }
+
+    pub(crate) fn add_word(&mut self, word: &str) -> Result<(), WantOfMemory> {
+        self.words.push(Text::copy(self.alloc, word)?)
+    }
+
+    /// Adds words that are divided by blanks.
+    pub(crate) fn add_words(&mut self, words: &str) -> Result<(), WantOfMemory> {
+        for word in words.split(' ') {
+            self.add_word(word)?;
+        }
+        Ok(())
+    }
+
+    pub(crate) fn add_file(&mut self, name: &str, bytes: &[u8]) -> Result<(), WantOfMemory> {
+        self.files.push(NamedBlob {
+            name: Text::copy(self.alloc, name)?,
+            bytes: Blob::copy(self.alloc, bytes)?,
+        })
+    }
+
+    /// Files that hold what is given, of which one call fails, counted from behind the writes that put them there.
+    fn files(&self, failing: u32) -> Result<MemFiles, WantOfMemory> {
+        let writes = u32::try_from(self.files.len()).unwrap_or(u32::MAX);
+        let failing = match failing {
+            0 => 0,
+            number => number.saturating_add(writes),
+        };
+        let failing = Numbers::from_vec(vec![in self.alloc; failing]?);
+        let mut files = MemFiles::new(self.alloc, NamedBlobs::new(self.alloc), failing);
+        for file in self.files.as_slice() {
+            match files.write(&file.name, file.bytes.bytes()) {
+                Ok(()) => {}
+                Err(_) => return Err(WantOfMemory),
+            }
+        }
+        Ok(files)
+    }
+
+    /// Runs the words over the files.
+    pub(crate) fn run(&self, failing: Failing) -> Result<Run, WantOfMemory> {
+        let mut files = self.files(failing.file)?;
+        let failing = Numbers::from_vec(vec![in self.alloc; failing.output]?);
+        let mut out = MemSink::new(self.alloc, failing);
+        let status = croquet(self.alloc, &self.words, &mut files, &mut out);
+        Ok(Run {
+            status,
+            text: out.into_bytes(),
+            files,
+        })
+    }
+}
+
+impl Run {
+    /// The bytes of a file afterwards, if it is there.
+    pub(crate) fn file(&self, alloc: Global, name: &str) -> Result<Option<Blob>, WantOfMemory> {
+        match self.files.get(&Text::copy(alloc, name)?) {
+            Some(bytes) => Ok(Some(bytes.clone()?)),
+            None => Ok(None),
+        }
+    }
+}

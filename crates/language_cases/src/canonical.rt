@@ -1,0 +1,36 @@
+//! Canonical texts of programs.
+use model_lang::{Bound, LangFault, parse};
+use model_print::print;
+use std::alloc::Global;
+use tea_base::{Blob, WantOfMemory};
+
+/// The canonical text of a program, as bytes.
+fn printed(alloc: Global, text: &[u8]) -> Result<Blob, LangFault> {
+    let program = parse(alloc, text)?;
+    Ok(print(alloc, &program)?)
+}
+
+/// The word for a bound.
+fn word_of(bound: Bound) -> &'static str {
+    match bound {
+        Bound::Bytes => "bytes",
+        Bound::Brackets => "brackets",
+        Bound::Operators => "operators",
+        Bound::Classes => "classes",
+        Bound::Fields => "fields",
+        Bound::Methods => "methods",
+        Bound::Parameters => "parameters",
+    }
+}
+
+/// The canonical text of a program, or why the text is none.
+pub(crate) fn canonical(alloc: Global, text: &[u8]) -> Result<String, WantOfMemory> {
+    match printed(alloc, text) {
+        Ok(printed) => Ok(String::from_utf8_lossy(alloc, printed.bytes())?),
+        Err(LangFault::Syntax { at }) => Ok(format!(in alloc; "syntax {at}")?),
+        Err(LangFault::TooLarge { what, count }) => {
+            Ok(format!(in alloc; "too-large {} {count}", word_of(what))?)
+        }
+        Err(LangFault::WantOfMemory) => Err(WantOfMemory),
+    }
+}

@@ -1,0 +1,63 @@
+//! Cases of the modelling language. `language_cases KIND FILE ..` prints each line of the files with ` = ` and
+//! what it comes to.
+//!
+//! | Kind | A case | What it comes to |
+//! |---|---|---|
+//! | `evaluate` | an expression | its value or its fault in a method of an object |
+//! | `run` | a program | what the method `m` of an object gives, the fuel that is left, and the world behind it |
+//! | `canonical` | a program | its canonical text, or why it is refused |
+//! | `decode` | bytes of a value | the value, its weight and its depth |
+//! | `payload` | bytes of a payload | its scope, its event and its value |
+//!
+//! Bytes stand in hexadecimal digits.
+#![tactic(auto)]
+
+mod bytes;
+mod canonical;
+mod evaluation;
+mod opening;
+mod spelling;
+mod stopped;
+mod world_text;
+
+use case_lines::{CaseKind, print_files};
+use std::alloc::Global;
+use std::io;
+use tea_base::WantOfMemory;
+
+/// What cases are of.
+#[derive(Clone, Copy)]
+enum Kind {
+    Evaluate,
+    Run,
+    Canonical,
+    Decode,
+    Payload,
+}
+
+impl CaseKind for Kind {
+    fn of_word(word: &str) -> Option<Self> {
+        match word {
+            "evaluate" => Some(Kind::Evaluate),
+            "run" => Some(Kind::Run),
+            "canonical" => Some(Kind::Canonical),
+            "decode" => Some(Kind::Decode),
+            "payload" => Some(Kind::Payload),
+            _ => None,
+        }
+    }
+
+    fn outcome(&self, alloc: Global, case: &[u8]) -> Result<String, WantOfMemory> {
+        match self {
+            Kind::Evaluate => evaluation::evaluated(alloc, case),
+            Kind::Run => evaluation::played(alloc, case),
+            Kind::Canonical => canonical::canonical(alloc, case),
+            Kind::Decode => bytes::decoded(alloc, case),
+            Kind::Payload => bytes::payload_read(alloc, case),
+        }
+    }
+}
+
+fn main(rt: HostRuntime) -> io::Result<()> {
+    print_files::<Kind, HostRuntime>(&rt)
+}

@@ -1,0 +1,54 @@
+//! Why a program gave no value.
+use model_check::CheckFault;
+use model_eval::{Fault, Stop};
+use model_lang::LangFault;
+use std::alloc::AllocError;
+use tea_base::WantOfMemory;
+
+/// Why a program gave no value.
+#[derive(Clone, Copy)]
+pub(crate) enum Stopped {
+    /// The text is no program, or one that is refused.
+    NoProgram,
+    Fault(Fault),
+    WantOfMemory,
+}
+
+impl From<LangFault> for Stopped {
+    fn from(fault: LangFault) -> Self {
+        match fault {
+            LangFault::WantOfMemory => Stopped::WantOfMemory,
+            _ => Stopped::NoProgram,
+        }
+    }
+}
+
+impl From<CheckFault> for Stopped {
+    fn from(fault: CheckFault) -> Self {
+        match fault {
+            CheckFault::WantOfMemory => Stopped::WantOfMemory,
+            _ => Stopped::NoProgram,
+        }
+    }
+}
+
+impl From<Stop> for Stopped {
+    fn from(stop: Stop) -> Self {
+        match stop {
+            Stop::Fault(fault) => Stopped::Fault(fault),
+            Stop::WantOfMemory => Stopped::WantOfMemory,
+        }
+    }
+}
+
+impl From<WantOfMemory> for Stopped {
+    fn from(_error: WantOfMemory) -> Self {
+        Stopped::WantOfMemory
+    }
+}
+
+impl From<AllocError> for Stopped {
+    fn from(_error: AllocError) -> Self {
+        Stopped::WantOfMemory
+    }
+}

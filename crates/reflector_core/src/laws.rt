@@ -1,0 +1,23 @@
+//! The laws of how a session goes on. They hold of each session, sound or not.
+ghost use Rattle.std.specs.Prelude.{◌≡◌, ◌⊎◌, ℕ, false, List, Some};
+ghost use Rattle.reflector_core.specs.PlainSession.{PlainSession};
+ghost use Rattle.reflector_core.specs.Answer.{answer, offer};
+ghost use Rattle.reflector_core.specs.Play.{after_all};
+ghost use Rattle.reflector_core.specs.Growth.{GrowsTo, is_offer};
+ghost use Rattle.reflector_core.specs.declared.request.Request.{Request};
+
+/// Whatever is asked, the log that a session had stays, and goes on with entries above its horizon. So it is after
+/// many requests.
+pub fn log_grows()
+    ensures answer { (s : PlainSession) (request : Request) → GrowsTo s (answer s request).session }
+    ensures requests { (s : PlainSession) (requests : List Request) → GrowsTo s (after_all s requests) }
+{}
+
+/// What is kept changes by an Offer alone, and then to what was offered.
+pub fn offers_change_what_is_kept()
+    ensures others { (s : PlainSession) (request : Request) → is_offer request ≡ false →
+        (answer s request).session.kept ≡ s.kept }
+    ensures offers { (s : PlainSession) (view joined time : ℕ) (bytes : List ℕ) →
+        ((offer s view joined time bytes).session.kept ≡ s.kept) ⊎
+        ((offer s view joined time bytes).session.kept ≡ Some (record { time = time; bytes = bytes })) }
+{}

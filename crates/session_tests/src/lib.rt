@@ -1,0 +1,16 @@
+//! Tests of sessions, by the public calls of their libraries: what is spelled by hand, limits that no script reaches,
+//! fakes that fail, and threads. Without its tests this library is empty.
+#![tactic(auto)]
+
+#[cfg(test)]
+mod bytes;
+#[cfg(test)]
+mod files;
+#[cfg(test)]
+mod lines;
+#[cfg(test)]
+mod logs;
+#[cfg(test)]
+mod shared_sessions;
+#[cfg(test)]
+mod stamping;

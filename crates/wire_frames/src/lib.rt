@@ -1,0 +1,20 @@
+//! The frames between a view and its session's reflector, and their one spelling.
+#![tactic(auto)]
+
+mod entries;
+mod fault;
+mod fields;
+mod frame;
+mod laws;
+mod lent;
+mod owning;
+mod reading;
+mod start;
+mod writing;
+
+pub use fault::FrameFault;
+pub use frame::{ClientFrame, ServerFrame};
+pub use laws::{again_client, again_server, one_client, one_server, typed_client, typed_server};
+pub use reading::{read_client, read_server};
+pub use start::{Base, Want};
+pub use writing::{write_client, write_server};
