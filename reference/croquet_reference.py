@@ -1,0 +1,2097 @@
+"""What cases must come to, computed apart from the program.
+
+This is a second implementation of the language, of worlds, of sessions and of
+their formats. It was written from their description and not from the code in
+crates/, so it can find what both the code and its contracts get wrong. Nothing
+is proved of it.
+
+    python3 croquet_reference.py KIND FILE
+
+prints each line of FILE with what it comes to. The kinds are evaluate, run,
+canonical, decode, payload (language) and scripts, logs, programs, worlds,
+snapshots, resumed (commands).
+"""
+import hashlib
+import heapq
+import re
+import sys
+import threading
+from dataclasses import dataclass, field
+
+# ---------------------------------------------------------------- limits
+
+PROGRAM_BYTES = 65_536
+SCRIPT_BYTES = 16_777_216
+MOST_OPEN = 32
+MOST_OPERATORS = 32
+MOST_CLASSES = MOST_FIELDS = MOST_METHODS = 256
+MOST_PARAMETERS = 16
+MOST_NAME = 64
+FUEL = 100_000
+MOST_DEPTH = 512
+MOST_TURNS = 1_024
+MOST_OBJECTS = 4_096
+MOST_PENDING = 16_384
+MOST_SUBSCRIPTIONS = 16_384
+MOST_WORLD_WEIGHT = 131_072
+MOST_WEIGHT = 4_096
+MOST_LIST_DEPTH = 32
+MOST_VIEWS = 1_024
+MOST_PAYLOAD = 4_096
+MOST_SNAPSHOT = 4_194_304
+MOST_ENTRIES = 2**20
+MOST_LOG_BYTES = 2**26
+TIME_LIMIT = 2**53
+END = 2**53 - 4096
+LEAST_INT, GREATEST_INT = -(2**63), 2**63 - 1
+
+FAULTS = ["Overflow", "ZeroDivisor", "BadKind", "BadIndex", "NoObject", "NoMethod", "Arity",
+          "Fuel", "Depth", "Size", "Instant", "Time", "Full", "BadEvent"]
+
+
+class Fault(Exception):
+    """A fault of the model program that ends a message."""
+
+    def __init__(self, name):
+        super().__init__(name)
+        self.name = name
+
+
+class Ended(Exception):
+    """A command that ends with a fault's line and a status."""
+
+    def __init__(self, line, status):
+        super().__init__(line)
+        self.line = line
+        self.status = status
+
+
+class Bad(Exception):
+    """Bytes that spell nothing."""
+
+
+def syntax(at):
+    return Ended(f"syntax {at}", 2)
+
+
+def too_large(word, count):
+    return Ended(f"too-large {word} {count}", 2)
+
+
+# ---------------------------------------------------------------- tokens
+
+WORDS = set("class field let if else while return this nil true false create future".split())
+SYMBOLS = ["==", "!=", "<=", ">=", "&&", "||", "{", "}", "(", ")", "[", "]", ",", ";", ".",
+           "=", "<", ">", "+", "-", "*", "/", "%", "!"]
+OPERATORS = set("|| && == != < <= > >= + - * / % ! .".split())
+LOWER = b"abcdefghijklmnopqrstuvwxyz_"
+UPPER = b"ABCDEFGHIJKLMNOPQRSTUVWXYZ"
+DIGITS = b"0123456789"
+NAME_BYTES = LOWER + UPPER + DIGITS
+ESCAPED_CONTROLS = {f"{code:02x}".encode(): code for code in [*range(32), 127] if code != 10}
+
+
+@dataclass
+class Token:
+    kind: str  # name, class, word, number, text, symbol, end
+    value: object
+    at: int
+
+
+def character_end(source, at):
+    """The end of the UTF-8 character at `at`; the place of the first byte that cannot stand."""
+    lead = source[at]
+    if lead < 0x80:
+        return at + 1
+    if 0xC2 <= lead <= 0xDF:
+        ranges = [(0x80, 0xBF)]
+    elif 0xE0 <= lead <= 0xEF:
+        ranges = [{0xE0: (0xA0, 0xBF), 0xED: (0x80, 0x9F)}.get(lead, (0x80, 0xBF)), (0x80, 0xBF)]
+    elif 0xF0 <= lead <= 0xF4:
+        ranges = [{0xF0: (0x90, 0xBF), 0xF4: (0x80, 0x8F)}.get(lead, (0x80, 0xBF))]
+        ranges += [(0x80, 0xBF)] * 2
+    else:
+        raise syntax(at)
+    for low, high in ranges:
+        at += 1
+        if at >= len(source) or not low <= source[at] <= high:
+            raise syntax(at)
+    return at + 1
+
+
+def escape(source, at):
+    """The character of the escape whose backslash stands before `at`, and its end."""
+    if at >= len(source):
+        raise syntax(at)
+    simple = {ord('"'): '"', ord("\\"): "\\", ord("n"): "\n"}
+    if source[at] in simple:
+        return simple[source[at]], at + 1
+    if source[at] != ord("x"):
+        raise syntax(at)
+    for count in (1, 2):
+        digits = source[at + 1:at + 1 + count]
+        if len(digits) < count or not any(code.startswith(digits) for code in ESCAPED_CONTROLS):
+            raise syntax(at + count)
+    return chr(ESCAPED_CONTROLS[digits]), at + 3
+
+
+def text_token(source, start):
+    pieces, at = [], start + 1
+    while at < len(source):
+        byte = source[at]
+        if byte == ord('"'):
+            return Token("text", "".join(pieces), start), at + 1
+        if byte == ord("\\"):
+            piece, at = escape(source, at + 1)
+        elif byte < 32 or byte == 127:
+            raise syntax(at)
+        else:
+            end = character_end(source, at)
+            piece, at = source[at:end].decode("utf-8"), end
+        pieces.append(piece)
+    raise syntax(len(source))
+
+
+def run_of(source, at, allowed):
+    while at < len(source) and source[at] in allowed:
+        at += 1
+    return at
+
+
+def word_token(source, at):
+    end = run_of(source, at, NAME_BYTES)
+    if end - at > MOST_NAME:
+        raise syntax(at)
+    name = source[at:end].decode()
+    if name in WORDS:
+        return Token("word", name, at), end
+    return Token("class" if source[at] in UPPER else "name", name, at), end
+
+
+def number_token(source, at):
+    end = at + 1 if source[at] == ord("0") else run_of(source, at, DIGITS)
+    value = int(source[at:end]) if end - at < 20 else 2**64
+    if value > GREATEST_INT:
+        raise syntax(at)
+    return Token("number", value, at), end
+
+
+def symbol_token(source, at):
+    for symbol in SYMBOLS:
+        if source.startswith(symbol.encode(), at):
+            return Token("symbol", symbol, at), at + len(symbol)
+    raise syntax(at + 1 if source[at] in b"&|" else at)
+
+
+def tokens_of(source):
+    found, at = [], 0
+    while at < len(source):
+        byte = source[at]
+        if byte in b" \t\r\n":
+            at += 1
+            continue
+        if source.startswith(b"//", at):
+            end = source.find(b"\n", at)
+            at = len(source) if end < 0 else end
+            continue
+        if byte in LOWER or byte in UPPER:
+            token, at = word_token(source, at)
+        elif byte in DIGITS:
+            token, at = number_token(source, at)
+        elif byte == ord('"'):
+            token, at = text_token(source, at)
+        else:
+            token, at = symbol_token(source, at)
+        found.append(token)
+    return found
+
+
+def check_nesting(found):
+    open_ = 0
+    for token in found:
+        if token.kind == "symbol" and token.value in "([{":
+            open_ += 1
+            if open_ > MOST_OPEN:
+                raise too_large("brackets", MOST_OPEN + 1)
+        elif token.kind == "symbol" and token.value in ")]}":
+            open_ = max(open_ - 1, 0)
+    operators = 0
+    for token in found:
+        if token.kind == "symbol" and token.value in OPERATORS:
+            operators += 1
+            if operators > MOST_OPERATORS:
+                raise too_large("operators", MOST_OPERATORS + 1)
+        elif token.kind == "symbol" and token.value in ",;{}":
+            operators = 0
+
+
+# ---------------------------------------------------------------- tree
+
+@dataclass
+class Class:
+    name: str
+    fields: list
+    methods: list
+
+
+@dataclass
+class Method:
+    name: str
+    params: list
+    body: list
+
+
+@dataclass
+class Let:
+    name: str
+    value: object
+
+
+@dataclass
+class Assign:
+    name: str
+    value: object
+
+
+@dataclass
+class SetField:
+    name: str
+    value: object
+
+
+@dataclass
+class If:
+    test: object
+    yes: list
+    no: object
+
+
+@dataclass
+class While:
+    test: object
+    body: list
+
+
+@dataclass
+class Return:
+    value: object
+
+
+@dataclass
+class Do:
+    value: object
+
+
+@dataclass
+class Literal:
+    """Nil, Bool, Int or Text."""
+    value: object
+
+
+@dataclass
+class This:
+    pass
+
+
+@dataclass
+class Local:
+    name: str
+
+
+@dataclass
+class Field:
+    name: str
+
+
+@dataclass
+class ListOf:
+    items: list
+
+
+@dataclass
+class Unary:
+    op: str
+    of: object
+
+
+@dataclass
+class Binary:
+    op: str
+    left: object
+    right: object
+
+
+@dataclass
+class Builtin:
+    name: str
+    args: list
+
+
+@dataclass
+class Call:
+    object: object
+    name: str
+    args: list
+
+
+@dataclass
+class Future:
+    object: object
+    delay: object
+    name: str
+    args: list
+
+
+@dataclass
+class Create:
+    name: str
+    options: object
+
+
+# ---------------------------------------------------------------- parser
+
+class Parser:
+    def __init__(self, found, length):
+        self.found = found + [Token("end", None, length)]
+        self.index = 0
+        self.lists = []  # [place of the list, number of its items]
+
+    def token(self, ahead=0):
+        return self.found[min(self.index + ahead, len(self.found) - 1)]
+
+    def refuse(self):
+        return syntax(self.token().at)
+
+    def sees(self, value, ahead=0):
+        """Whether this symbol or reserved word comes next."""
+        token = self.token(ahead)
+        return token.kind in ("symbol", "word") and token.value == value
+
+    def sees_kind(self, kind, ahead=0):
+        return self.token(ahead).kind == kind
+
+    def accept(self, value):
+        if not self.sees(value):
+            return False
+        self.index += 1
+        return True
+
+    def expect(self, *values):
+        for value in values:
+            if not self.accept(value):
+                raise self.refuse()
+
+    def expect_kind(self, kind):
+        token = self.token()
+        if token.kind != kind:
+            raise self.refuse()
+        self.index += 1
+        return token.value
+
+    def program(self):
+        classes = [self.class_()]
+        while not self.sees_kind("end"):
+            classes.append(self.class_())
+        return classes
+
+    def class_(self):
+        self.expect("class")
+        name = self.expect_kind("class")
+        self.expect("{")
+        fields, methods = [], []
+        while self.accept("field"):
+            fields.append(self.expect_kind("name"))
+            self.expect(";")
+        while not self.accept("}"):
+            methods.append(self.method())
+        return Class(name, fields, methods)
+
+    def method(self):
+        name = self.expect_kind("name")
+        params = self.listed("(", ")", lambda: self.expect_kind("name"), True)
+        return Method(name, params, self.block())
+
+    def listed(self, before, after, item, counted):
+        record = [self.token().at, 0]
+        self.expect(before)
+        items = []
+        if counted:
+            self.lists.append(record)
+        if not self.accept(after):
+            items.append(item())
+            while self.accept(","):
+                items.append(item())
+            self.expect(after)
+        record[1] = len(items)
+        return items
+
+    def block(self):
+        self.expect("{")
+        statements = []
+        while not self.accept("}"):
+            statements.append(self.statement())
+        return statements
+
+    def ended(self, make, *before):
+        value = self.expression()
+        self.expect(";")
+        return make(*before, value)
+
+    def statement(self):
+        if self.accept("let"):
+            name = self.expect_kind("name")
+            self.expect("=")
+            return self.ended(Let, name)
+        if self.sees_kind("name") and self.sees("=", 1):
+            name = self.expect_kind("name")
+            self.expect("=")
+            return self.ended(Assign, name)
+        if self.sees("this") and self.sees(".", 1) and self.sees_kind("name", 2) and self.sees("=", 3):
+            self.expect("this", ".")
+            name = self.expect_kind("name")
+            self.expect("=")
+            return self.ended(SetField, name)
+        if self.accept("if"):
+            test = self.bracketed()
+            yes = self.block()
+            return If(test, yes, self.block() if self.accept("else") else None)
+        if self.accept("while"):
+            test = self.bracketed()
+            return While(test, self.block())
+        if self.accept("return"):
+            return self.ended(Return)
+        return self.ended(Do)
+
+    def bracketed(self):
+        self.expect("(")
+        value = self.expression()
+        self.expect(")")
+        return value
+
+    def chain(self, part, operators):
+        left = part()
+        while any(self.sees(operator) for operator in operators):
+            operator = self.token().value
+            self.index += 1
+            left = Binary(operator, left, part())
+        return left
+
+    def expression(self):
+        return self.chain(self.and_, ["||"])
+
+    def and_(self):
+        return self.chain(self.relation, ["&&"])
+
+    def relation(self):
+        left = self.sum()
+        for operator in ["==", "!=", "<", "<=", ">", ">="]:
+            if self.accept(operator):
+                return Binary(operator, left, self.sum())
+        return left
+
+    def sum(self):
+        return self.chain(self.term, ["+", "-"])
+
+    def term(self):
+        return self.chain(self.unary, ["*", "/", "%"])
+
+    def unary(self):
+        for operator in ["-", "!"]:
+            if self.accept(operator):
+                return Unary(operator, self.unary())
+        return self.post()
+
+    def args(self, counted):
+        return self.listed("(", ")", self.expression, counted)
+
+    def post(self):
+        value = self.primary()
+        while self.accept("."):
+            if self.accept("future"):
+                delay = self.bracketed()
+                self.expect(".")
+                name = self.expect_kind("name")
+                value = Future(value, delay, name, self.args(True))
+            else:
+                name = self.expect_kind("name")
+                value = Call(value, name, self.args(True))
+        return value
+
+    def primary(self):
+        token = self.token()
+        if token.kind in ("number", "text"):
+            self.index += 1
+            return Literal(token.value)
+        if token.kind == "name":
+            self.index += 1
+            if self.sees("("):
+                return Builtin(token.value, self.args(False))
+            return Local(token.value)
+        for word, value in (("nil", None), ("true", True), ("false", False)):
+            if self.accept(word):
+                return Literal(value)
+        if self.accept("this"):
+            return self.after_this()
+        if self.accept("create"):
+            self.expect("(")
+            name = self.expect_kind("class")
+            self.expect(",")
+            options = self.expression()
+            self.expect(")")
+            return Create(name, options)
+        if self.sees("["):
+            return ListOf(self.listed("[", "]", self.expression, False))
+        if self.sees("("):
+            return self.bracketed()
+        raise self.refuse()
+
+    def after_this(self):
+        """`this`, or the field; a method call on `this` is left to `post`."""
+        if self.sees(".") and self.sees_kind("name", 1) and not self.sees("(", 2):
+            self.expect(".")
+            return Field(self.expect_kind("name"))
+        return This()
+
+
+def parse(source):
+    if len(source) > PROGRAM_BYTES:
+        raise too_large("bytes", len(source))
+    found = tokens_of(source)
+    check_nesting(found)
+    parser = Parser(found, len(source))
+    classes = parser.program()
+    if len(classes) > MOST_CLASSES:
+        raise too_large("classes", len(classes))
+    for class_ in classes:
+        if len(class_.fields) > MOST_FIELDS:
+            raise too_large("fields", len(class_.fields))
+    for class_ in classes:
+        if len(class_.methods) > MOST_METHODS:
+            raise too_large("methods", len(class_.methods))
+    for _, count in sorted(parser.lists):
+        if count > MOST_PARAMETERS:
+            raise too_large("parameters", count)
+    return classes
+
+
+# ---------------------------------------------------------------- canonical text
+
+LEVELS = {"||": 0, "&&": 1, "==": 2, "!=": 2, "<": 2, "<=": 2, ">": 2, ">=": 2,
+          "+": 3, "-": 3, "*": 4, "/": 4, "%": 4}
+UNARY_LEVEL, POST_LEVEL, PRIMARY_LEVEL = 5, 6, 7
+
+
+class Printer:
+    def __init__(self):
+        self.pieces = []
+        self.after_word = False
+
+    def word(self, text):
+        if self.after_word:
+            self.pieces.append(" ")
+        self.pieces.append(text)
+        self.after_word = True
+
+    def sign(self, text):
+        self.pieces.append(text)
+        self.after_word = False
+
+    def listed(self, items, show):
+        for index, item in enumerate(items):
+            if index > 0:
+                self.sign(",")
+            show(item)
+
+    def program(self, classes):
+        for class_ in classes:
+            self.word("class")
+            self.word(class_.name)
+            self.sign("{")
+            for name in class_.fields:
+                self.word("field")
+                self.word(name)
+                self.sign(";")
+            for method in class_.methods:
+                self.word(method.name)
+                self.sign("(")
+                self.listed(method.params, self.word)
+                self.sign(")")
+                self.block(method.body)
+            self.sign("}")
+        return "".join(self.pieces)
+
+    def block(self, statements):
+        self.sign("{")
+        for statement in statements:
+            self.statement(statement)
+        self.sign("}")
+
+    def statement(self, s):
+        if isinstance(s, If):
+            self.word("if")
+            self.bracketed(s.test)
+            self.block(s.yes)
+            if s.no is not None:
+                self.word("else")
+                self.block(s.no)
+        elif isinstance(s, While):
+            self.word("while")
+            self.bracketed(s.test)
+            self.block(s.body)
+        else:
+            self.simple(s)
+            self.expression(s.value, 0)
+            self.sign(";")
+
+    def simple(self, s):
+        if isinstance(s, Let):
+            self.word("let")
+            self.word(s.name)
+            self.sign("=")
+        elif isinstance(s, Assign):
+            self.word(s.name)
+            self.sign("=")
+        elif isinstance(s, SetField):
+            self.word("this")
+            self.sign(".")
+            self.word(s.name)
+            self.sign("=")
+        elif isinstance(s, Return):
+            self.word("return")
+
+    def bracketed(self, e):
+        self.sign("(")
+        self.expression(e, 0)
+        self.sign(")")
+
+    def args(self, args):
+        self.sign("(")
+        self.listed(args, lambda e: self.expression(e, 0))
+        self.sign(")")
+
+    def expression(self, e, least):
+        """The part `e` where the grammar takes parts of level `least` and above."""
+        if level(e) < least:
+            self.bracketed(e)
+        elif isinstance(e, Binary):
+            own = LEVELS[e.op]
+            self.expression(e.left, own + 1 if own == 2 else own)
+            self.sign(e.op)
+            self.expression(e.right, own + 1)
+        elif isinstance(e, Unary):
+            self.sign(e.op)
+            self.expression(e.of, UNARY_LEVEL)
+        elif isinstance(e, (Call, Future)):
+            self.post(e)
+        else:
+            self.primary(e)
+
+    def post(self, e):
+        self.expression(e.object, POST_LEVEL)
+        self.sign(".")
+        if isinstance(e, Future):
+            self.word("future")
+            self.bracketed(e.delay)
+            self.sign(".")
+        self.word(e.name)
+        self.args(e.args)
+
+    def primary(self, e):
+        if isinstance(e, Literal):
+            if isinstance(e.value, str):
+                self.sign(value_text(e.value))
+            else:
+                self.word(value_text(e.value))
+        elif isinstance(e, This):
+            self.word("this")
+        elif isinstance(e, Local):
+            self.word(e.name)
+        elif isinstance(e, Field):
+            self.word("this")
+            self.sign(".")
+            self.word(e.name)
+        elif isinstance(e, ListOf):
+            self.sign("[")
+            self.listed(e.items, lambda item: self.expression(item, 0))
+            self.sign("]")
+        elif isinstance(e, Builtin):
+            self.word(e.name)
+            self.args(e.args)
+        elif isinstance(e, Create):
+            self.word("create")
+            self.sign("(")
+            self.word(e.name)
+            self.sign(",")
+            self.expression(e.options, 0)
+            self.sign(")")
+
+
+def level(e):
+    if isinstance(e, Binary):
+        return LEVELS[e.op]
+    if isinstance(e, Unary):
+        return UNARY_LEVEL
+    return POST_LEVEL if isinstance(e, (Call, Future)) else PRIMARY_LEVEL
+
+
+# ---------------------------------------------------------------- check
+
+COUNTS = {"now": 0, "random": 1, "viewCount": 0, "views": 0, "sessionId": 0, "known": 1,
+          "beKnown": 1, "exists": 1, "destroy": 1, "publish": 3, "subscribe": 3,
+          "unsubscribe": 3, "cancel": 1, "length": 1, "at": 2, "put": 3, "push": 2, "slice": 3,
+          "concat": 2, "text": 1, "number": 1, "compare": 2}
+
+
+def check_fault(word, name):
+    return Ended(f"{word} {name}", 2)
+
+
+def check_distinct(seen, name):
+    if name in seen:
+        raise check_fault("twice", name)
+    seen.add(name)
+
+
+class Checker:
+    """Walks the program in the order of its text; the first fault ends the walk."""
+
+    def __init__(self, classes):
+        self.classes = {class_.name for class_ in classes}
+        self.fields = set()
+
+    def class_(self, class_):
+        self.fields = set(class_.fields)
+        seen = set()
+        for name in class_.fields:
+            check_distinct(seen, name)
+        seen = set()
+        for method in class_.methods:
+            check_distinct(seen, method.name)
+            scope = set()
+            for name in method.params:
+                check_distinct(scope, name)
+            self.block(method.body, scope)
+
+    def block(self, statements, outer):
+        scope = set(outer)
+        for s in statements:
+            self.statement(s, scope)
+
+    def statement(self, s, scope):
+        if isinstance(s, Let):
+            if s.name in scope:
+                raise check_fault("twice", s.name)
+            self.expression(s.value, scope)
+            scope.add(s.name)
+        elif isinstance(s, If):
+            self.expression(s.test, scope)
+            self.block(s.yes, scope)
+            self.block(s.no or [], scope)
+        elif isinstance(s, While):
+            self.expression(s.test, scope)
+            self.block(s.body, scope)
+        else:
+            if isinstance(s, Assign) and s.name not in scope:
+                raise check_fault("no-name", s.name)
+            if isinstance(s, SetField):
+                self.field(s.name)
+            self.expression(s.value, scope)
+
+    def field(self, name):
+        if name not in self.fields:
+            raise check_fault("no-field", name)
+
+    def builtin(self, e):
+        if e.name not in COUNTS:
+            raise check_fault("no-name", e.name)
+        if len(e.args) != COUNTS[e.name]:
+            raise check_fault("count", e.name)
+
+    def expression(self, e, scope):
+        if isinstance(e, Local) and e.name not in scope:
+            raise check_fault("no-name", e.name)
+        if isinstance(e, Field):
+            self.field(e.name)
+        if isinstance(e, Builtin):
+            self.builtin(e)
+        if isinstance(e, Create) and e.name not in self.classes:
+            raise check_fault("no-class", e.name)
+        for part in parts_of(e):
+            self.expression(part, scope)
+
+
+def parts_of(e):
+    if isinstance(e, ListOf):
+        return e.items
+    if isinstance(e, Unary):
+        return [e.of]
+    if isinstance(e, Binary):
+        return [e.left, e.right]
+    if isinstance(e, Builtin):
+        return e.args
+    if isinstance(e, Call):
+        return [e.object, *e.args]
+    if isinstance(e, Future):
+        return [e.object, e.delay, *e.args]
+    return [e.options] if isinstance(e, Create) else []
+
+
+class Program:
+    """A checked program."""
+
+    def __init__(self, classes):
+        checker, seen = Checker(classes), set()
+        for class_ in classes:
+            check_distinct(seen, class_.name)
+            checker.class_(class_)
+        if "Root" not in seen:
+            raise Ended("no-root", 2)
+        self.classes = classes
+        self.numbers = {class_.name: number for number, class_ in enumerate(classes)}
+        self.methods = [{m.name: m for m in class_.methods} for class_ in classes]
+        self.slots = [{name: k for k, name in enumerate(class_.fields)} for class_ in classes]
+
+
+def read_program(source):
+    """What the commands do with the file of a program."""
+    if len(source) > PROGRAM_BYTES:
+        raise Ended("input program", 3)
+    return Program(parse(source))
+
+
+# ---------------------------------------------------------------- values
+# Nil is None, Bool bool, Int int, Text str; Refs and Lists have types of their own.
+
+@dataclass(frozen=True)
+class Ref:
+    id: int
+
+
+class List:
+    __slots__ = ("items", "weight", "depth")
+
+    def __init__(self, items):
+        self.items = items
+        self.weight = 1 + sum(weight(item) for item in items)
+        self.depth = 1 + max((depth(item) for item in items), default=0)
+
+
+def is_int(v):
+    return type(v) is int
+
+
+def is_bool(v):
+    return type(v) is bool
+
+
+def is_text(v):
+    return type(v) is str
+
+
+def weight(v):
+    if type(v) is str:
+        return 1 + (len(v.encode("utf-8")) + 15) // 16
+    return v.weight if type(v) is List else 1
+
+
+def depth(v):
+    return v.depth if type(v) is List else 0
+
+
+def in_bounds(v):
+    return weight(v) <= MOST_WEIGHT and depth(v) <= MOST_LIST_DEPTH
+
+
+def same(a, b):
+    if type(a) is not type(b):
+        return False
+    if type(a) is List:
+        return len(a.items) == len(b.items) and all(same(x, y) for x, y in zip(a.items, b.items))
+    return a == b
+
+
+def value_text(v):
+    if v is None:
+        return "nil"
+    if is_bool(v):
+        return "true" if v else "false"
+    if is_int(v):
+        return str(v)
+    if type(v) is Ref:
+        return f"#{v.id}"
+    if type(v) is List:
+        return "[" + ",".join(value_text(item) for item in v.items) + "]"
+    return '"' + "".join(character_text(c) for c in v) + '"'
+
+
+def character_text(c):
+    if c in '"\\':
+        return "\\" + c
+    if c == "\n":
+        return "\\n"
+    return f"\\x{ord(c):02x}" if ord(c) < 32 or ord(c) == 127 else c
+
+
+def number(value, size):
+    return value.to_bytes(size, "big")
+
+
+def text_field(text):
+    spelled = text.encode("utf-8")
+    return number(len(spelled), 4) + spelled
+
+
+def encode(v):
+    if v is None:
+        return b"\x00"
+    if is_bool(v):
+        return b"\x02" if v else b"\x01"
+    if is_int(v):
+        return b"\x03" + v.to_bytes(8, "big", signed=True)
+    if is_text(v):
+        return b"\x04" + text_field(v)
+    if type(v) is Ref:
+        return b"\x05" + number(v.id, 4)
+    return b"\x06" + number(len(v.items), 4) + b"".join(encode(item) for item in v.items)
+
+
+class Reader:
+    def __init__(self, source):
+        self.source = source
+        self.at = 0
+
+    def bytes(self, count):
+        if count > len(self.source) - self.at:
+            raise Bad()
+        self.at += count
+        return self.source[self.at - count:self.at]
+
+    def number(self, size):
+        return int.from_bytes(self.bytes(size), "big")
+
+    def text(self):
+        try:
+            return self.bytes(self.number(4)).decode("utf-8")
+        except UnicodeDecodeError:
+            raise Bad() from None
+
+    def value(self, deep=0):
+        tag = self.number(1)
+        if tag <= 2:
+            return [None, False, True][tag]
+        if tag == 3:
+            return int.from_bytes(self.bytes(8), "big", signed=True)
+        if tag == 4:
+            return self.text()
+        if tag == 5:
+            return Ref(self.number(4))
+        if tag != 6 or deep >= MOST_LIST_DEPTH:
+            raise Bad()
+        count = self.number(4)
+        if count > len(self.source) - self.at:
+            raise Bad()
+        return List([self.value(deep + 1) for _ in range(count)])
+
+    def value_in_bounds(self):
+        v = self.value()
+        if not in_bounds(v):
+            raise Bad()
+        return v
+
+    def end(self):
+        if self.at != len(self.source):
+            raise Bad()
+
+
+def decode(source):
+    reader = Reader(source)
+    v = reader.value_in_bounds()
+    reader.end()
+    return v
+
+
+def payload(scope, event, value):
+    return text_field(scope) + text_field(event) + encode(value)
+
+
+def read_payload(source):
+    reader = Reader(source)
+    scope, event, value = reader.text(), reader.text(), reader.value_in_bounds()
+    reader.end()
+    return scope, event, value
+
+
+# ---------------------------------------------------------------- the world's state
+
+@dataclass
+class Object:
+    class_: int
+    fields: list
+
+
+@dataclass
+class Message:
+    time: int
+    number: int
+    object: int
+    method: str
+    args: list
+
+    def weight(self):
+        return 3 + weight(self.method) + sum(weight(v) for v in self.args)
+
+
+def subscription_weight(scope, event, method):
+    return 2 + weight(scope) + weight(event) + weight(method)
+
+
+class World:
+    def __init__(self, program, session_id):
+        self.program = program
+        self.id = session_id
+        self.time = 0
+        self.next_object = 1
+        self.next_number = 0
+        self.random = int.from_bytes(session_id[:8], "little")
+        self.turns = 0
+        self.faults = [0] * 14
+        self.views = set()
+        self.objects = {}
+        self.known = {}
+        self.subscriptions = {}  # (scope, event, object, method), in order
+        self.topics = {}  # (scope, event) to (object, method), in order
+        self.pending = {}  # by number
+        self.queue = []  # heap of (time, number); some may be pending no more
+        self.weight = 0
+        self.published = []
+
+    # -- what messages change
+
+    def fits(self, more):
+        return self.weight + more <= MOST_WORLD_WEIGHT
+
+    def add_object(self, class_):
+        fields = len(self.program.classes[class_].fields)
+        if len(self.objects) >= MOST_OBJECTS or self.next_object >= 2**32 - 1:
+            raise Fault("Full")
+        if not self.fits(2 + fields):
+            raise Fault("Full")
+        id_ = self.next_object
+        self.next_object += 1
+        self.objects[id_] = Object(class_, [None] * fields)
+        self.weight += 2 + fields
+        return id_
+
+    def set_field(self, id_, slot, v):
+        fields = self.objects[id_].fields
+        more = weight(v) - weight(fields[slot])
+        if not self.fits(more):
+            raise Fault("Full")
+        fields[slot] = v
+        self.weight += more
+
+    def be_known(self, name, id_):
+        if name not in self.known:
+            if not self.fits(1 + weight(name)):
+                raise Fault("Full")
+            self.weight += 1 + weight(name)
+        self.known[name] = id_
+
+    def put_subscription(self, scope, event, id_, method):
+        self.subscriptions[(scope, event, id_, method)] = True
+        self.topics.setdefault((scope, event), {})[(id_, method)] = True
+        self.weight += subscription_weight(scope, event, method)
+
+    def subscribe(self, scope, event, id_, method):
+        if (scope, event, id_, method) in self.subscriptions:
+            return
+        if len(self.subscriptions) >= MOST_SUBSCRIPTIONS:
+            raise Fault("Full")
+        if not self.fits(subscription_weight(scope, event, method)):
+            raise Fault("Full")
+        self.put_subscription(scope, event, id_, method)
+
+    def unsubscribe(self, scope, event, id_, method):
+        if self.subscriptions.pop((scope, event, id_, method), False):
+            del self.topics[(scope, event)][(id_, method)]
+            self.weight -= subscription_weight(scope, event, method)
+
+    def put_message(self, message):
+        self.pending[message.number] = message
+        heapq.heappush(self.queue, (message.time, message.number))
+        self.weight += message.weight()
+
+    def schedule(self, id_, delay, method, args):
+        if id_ not in self.objects:
+            raise Fault("NoObject")
+        time = self.time + 1000 * delay
+        if delay < 0 or time >= TIME_LIMIT:
+            raise Fault("Time")
+        if delay == 0 and self.turns == MOST_TURNS:
+            raise Fault("Instant")
+        if len(self.pending) >= MOST_PENDING or self.next_number >= 2**64 - 1:
+            raise Fault("Full")
+        message = Message(time, self.next_number, id_, method, args)
+        if not self.fits(message.weight()):
+            raise Fault("Full")
+        self.put_message(message)
+        self.next_number += 1
+
+    def remove_messages(self, numbers):
+        for number_ in numbers:
+            self.weight -= self.pending.pop(number_).weight()
+        return len(numbers)
+
+    def cancel(self, id_, method):
+        return self.remove_messages(
+            [n for n, m in self.pending.items() if m.object == id_ and m.method == method])
+
+    def destroy(self, id_):
+        if id_ not in self.objects:
+            raise Fault("NoObject")
+        for key in [key for key in self.subscriptions if key[2] == id_]:
+            self.unsubscribe(*key)
+        self.remove_messages([n for n, m in self.pending.items() if m.object == id_])
+        for name in [name for name, known in self.known.items() if known == id_]:
+            del self.known[name]
+            self.weight -= 1 + weight(name)
+        gone = self.objects.pop(id_)
+        self.weight -= 2 + sum(weight(v) for v in gone.fields)
+
+    def below(self, n):
+        """One SplitMix64 word, scaled."""
+        mask = 2**64 - 1
+        self.random = (self.random + 0x9E3779B97F4A7C15) & mask
+        word = self.random
+        word = ((word ^ (word >> 30)) * 0xBF58476D1CE4E5B9) & mask
+        word = ((word ^ (word >> 27)) * 0x94D049BB133111EB) & mask
+        word ^= word >> 31
+        return (word * n) >> 64
+
+    # -- messages
+
+    def message(self, work):
+        """One message: `work` with a fresh budget; a fault is counted."""
+        self.turns = min(self.turns + 1, MOST_TURNS)
+        try:
+            work(Evaluation(self))
+        except Fault as fault:
+            self.count(fault.name)
+
+    def count(self, name):
+        place = FAULTS.index(name)
+        self.faults[place] = min(self.faults[place] + 1, 2**64 - 1)
+
+    @staticmethod
+    def first(program, session_id):
+        world = World(program, session_id)
+
+        def make_root(evaluation):
+            root = program.numbers["Root"]
+            id_ = world.add_object(root)
+            world.be_known("modelRoot", id_)
+            if "init" in program.methods[root]:
+                evaluation.start(id_, "init", [None])
+
+        world.message(make_root)
+        return world
+
+    def take_least(self, most):
+        """The least pending message with a time of at most `most`, taken out."""
+        while self.queue and self.queue[0][0] <= most:
+            _, number_ = heapq.heappop(self.queue)
+            if number_ in self.pending:
+                message = self.pending.pop(number_)
+                self.weight -= message.weight()
+                return message
+        return None
+
+    def move_to(self, time):
+        if time > self.time:
+            self.time = time
+            self.turns = 0
+
+    def advance(self, time):
+        while (m := self.take_least(time)) is not None:
+            self.move_to(m.time)
+            self.message(lambda evaluation: evaluation.start(m.object, m.method, m.args))
+        self.move_to(time)
+
+    def external(self, entry):
+        self.advance(entry.time)
+        self.message(lambda evaluation: self.enter(entry, evaluation))
+
+    def enter(self, entry, evaluation):
+        scope = self.id.hex()
+        if entry.kind == "join":
+            if entry.view == 0 or entry.view in self.views:
+                return
+            if len(self.views) >= MOST_VIEWS:
+                raise Fault("Full")
+            self.views.add(entry.view)
+            evaluation.call_handlers(scope, "view-join", entry.view)
+        elif entry.kind == "exit":
+            if entry.view not in self.views:
+                return
+            self.views.remove(entry.view)
+            evaluation.call_handlers(scope, "view-exit", entry.view)
+        else:
+            try:
+                event = read_payload(entry.payload)
+            except Bad:
+                raise Fault("BadEvent") from None
+            evaluation.call_handlers(*event)
+
+    # -- readings
+
+    def pending_in_order(self):
+        return sorted(self.pending.values(), key=lambda m: (m.time, m.number))
+
+    def whole_weight(self):
+        """The weight of the world, summed anew."""
+        total = sum(2 + sum(weight(v) for v in o.fields) for o in self.objects.values())
+        total += sum(m.weight() for m in self.pending.values())
+        total += sum(subscription_weight(s, e, m) for s, e, _, m in self.subscriptions)
+        return total + sum(1 + weight(name) for name in self.known)
+
+    def snapshot(self):
+        assert self.weight == self.whole_weight()
+        out = [self.id, number(self.time, 8), number(self.next_object, 4),
+               number(self.next_number, 8), number(self.random, 8), number(self.turns, 4)]
+        out += [number(count, 8) for count in self.faults]
+        out.append(number(len(self.views), 4))
+        out += [number(view, 4) for view in sorted(self.views)]
+        out.append(number(len(self.objects), 4))
+        for id_, o in sorted(self.objects.items()):
+            out += [number(id_, 4), number(o.class_, 2)] + [encode(v) for v in o.fields]
+        out.append(number(len(self.known), 4))
+        for name, id_ in sorted(self.known.items()):
+            out += [text_field(name), number(id_, 4)]
+        out.append(number(len(self.subscriptions), 4))
+        for scope, event, id_, method in self.subscriptions:
+            out += [text_field(scope), text_field(event), number(id_, 4), text_field(method)]
+        out.append(number(len(self.pending), 4))
+        for m in self.pending_in_order():
+            out += [number(m.time, 8), number(m.number, 8), number(m.object, 4),
+                    text_field(m.method), number(len(m.args), 1)] + [encode(v) for v in m.args]
+        return b"".join(out)
+
+
+# ---------------------------------------------------------------- reading a snapshot
+
+def need(condition):
+    if not condition:
+        raise Bad()
+
+
+def rising(keys):
+    return all(a < b for a, b in zip(keys, keys[1:]))
+
+
+def read_snapshot(program, session_id, source):
+    """The valid world that the bytes spell."""
+    if len(source) > MOST_SNAPSHOT:
+        raise Bad()
+    reader = Reader(source)
+    need(reader.bytes(32) == session_id)
+    world = World(program, session_id)
+    read_numbers(world, reader)
+    read_objects(world, reader)
+    read_known(world, reader)
+    for _ in range(reader.number(4)):
+        scope, event = reader.text(), reader.text()
+        id_, method = reader.number(4), reader.text()
+        need((scope, event, id_, method) not in world.subscriptions and id_ in world.objects)
+        need(all(weight(t) <= MOST_WEIGHT for t in (scope, event, method)))
+        world.put_subscription(scope, event, id_, method)
+    read_pending(world, reader)
+    reader.end()
+    need(len(world.subscriptions) <= MOST_SUBSCRIPTIONS and world.weight <= MOST_WORLD_WEIGHT)
+    return world
+
+
+def read_numbers(world, reader):
+    world.time, world.next_object = reader.number(8), reader.number(4)
+    world.next_number, world.random = reader.number(8), reader.number(8)
+    world.turns = reader.number(4)
+    world.faults = [reader.number(8) for _ in range(14)]
+    need(world.time < TIME_LIMIT and world.next_object >= 1 and world.turns <= MOST_TURNS)
+    count = reader.number(4)
+    need(count <= MOST_VIEWS)
+    views = [reader.number(4) for _ in range(count)]
+    need(rising(views) and 0 not in views)
+    world.views = set(views)
+
+
+def read_objects(world, reader):
+    count = reader.number(4)
+    need(count <= MOST_OBJECTS)
+    for _ in range(count):
+        id_, class_ = reader.number(4), reader.number(2)
+        need(max(world.objects, default=0) < id_ < world.next_object)
+        need(class_ < len(world.program.classes))
+        fields = [reader.value_in_bounds() for _ in world.program.classes[class_].fields]
+        world.objects[id_] = Object(class_, fields)
+        world.weight += 2 + sum(weight(v) for v in fields)
+
+
+def read_known(world, reader):
+    names = []
+    for _ in range(reader.number(4)):
+        name, id_ = reader.text(), reader.number(4)
+        need(id_ in world.objects and weight(name) <= MOST_WEIGHT)
+        names.append(name)
+        world.known[name] = id_
+        world.weight += 1 + weight(name)
+    need(rising(names))
+
+
+def read_pending(world, reader):
+    count, order = reader.number(4), []
+    need(count <= MOST_PENDING)
+    for _ in range(count):
+        m = Message(reader.number(8), reader.number(8), reader.number(4), reader.text(), [])
+        args = reader.number(1)
+        need(args <= MOST_PARAMETERS)
+        m.args = [reader.value_in_bounds() for _ in range(args)]
+        need(world.time <= m.time < TIME_LIMIT and m.number < world.next_number)
+        need(m.number not in world.pending and m.object in world.objects)
+        need(weight(m.method) <= MOST_WEIGHT)
+        order.append((m.time, m.number))
+        world.put_message(m)
+    need(rising(order))
+
+
+# ---------------------------------------------------------------- evaluation
+
+@dataclass
+class Frame:
+    me: int
+    locals: dict
+
+
+class Returned:
+    def __init__(self, value):
+        self.value = value
+
+
+def want(condition, fault="BadKind"):
+    if not condition:
+        raise Fault(fault)
+
+
+class Evaluation:
+    """One message: its budget over a world."""
+
+    def __init__(self, world):
+        self.world = world
+        self.fuel = FUEL
+        self.open = 0
+
+    def spend(self, steps):
+        if steps > self.fuel:
+            raise Fault("Fuel")
+        self.fuel -= steps
+
+    def enter(self):
+        self.spend(1)
+        if self.open == MOST_DEPTH:
+            raise Fault("Depth")
+        self.open += 1
+
+    def start(self, id_, name, args):
+        """Starts a method and gives its value."""
+        o = self.world.objects.get(id_)
+        want(o is not None, "NoObject")
+        method = self.world.program.methods[o.class_].get(name)
+        want(method is not None, "NoMethod")
+        want(len(method.params) == len(args), "Arity")
+        done = self.block(method.body, Frame(id_, dict(zip(method.params, args))))
+        return None if done is None else done.value
+
+    def call_handlers(self, scope, event, value):
+        for id_, method in list(self.world.topics.get((scope, event), ())):
+            if id_ in self.world.objects:
+                self.spend(1)
+                self.start(id_, method, [value])
+
+    def block(self, statements, frame):
+        for s in statements:
+            self.enter()
+            done = self.statement(s, frame)
+            self.open -= 1
+            if done is not None:
+                return done
+        return None
+
+    def statement(self, s, frame):
+        kind = type(s)
+        if kind is If:
+            if self.test(s.test, frame):
+                return self.block(s.yes, frame)
+            return self.block(s.no or [], frame)
+        if kind is While:
+            while self.test(s.test, frame):
+                done = self.block(s.body, frame)
+                if done is not None:
+                    return done
+            return None
+        v = self.value(s.value, frame)
+        if kind is Return:
+            return Returned(v)
+        if kind is SetField:
+            self.world.set_field(frame.me, self.slot(s.name, frame), v)
+        elif kind is not Do:
+            frame.locals[s.name] = v
+        return None
+
+    def test(self, e, frame):
+        v = self.value(e, frame)
+        want(is_bool(v))
+        return v
+
+    def slot(self, name, frame):
+        o = self.world.objects.get(frame.me)
+        want(o is not None, "NoObject")
+        return self.world.program.slots[o.class_][name]
+
+    def value(self, e, frame):
+        self.enter()
+        v = EVALUATE[type(e)](self, e, frame)
+        self.open -= 1
+        return v
+
+    def values(self, parts, frame):
+        return [self.value(part, frame) for part in parts]
+
+    def sized(self, v):
+        want(in_bounds(v), "Size")
+        return v
+
+    def weighed(self, v):
+        """The result of a form that takes its weight in fuel."""
+        self.spend(weight(self.sized(v)))
+        return v
+
+    # -- the forms
+
+    def literal(self, e, frame):
+        return self.sized(e.value)
+
+    def this(self, e, frame):
+        return Ref(frame.me)
+
+    def local(self, e, frame):
+        return frame.locals[e.name]
+
+    def field(self, e, frame):
+        slot = self.slot(e.name, frame)
+        return self.world.objects[frame.me].fields[slot]
+
+    def list_of(self, e, frame):
+        return self.weighed(List(self.values(e.items, frame)))
+
+    def unary(self, e, frame):
+        v = self.value(e.of, frame)
+        if e.op == "!":
+            want(is_bool(v))
+            return not v
+        want(is_int(v))
+        want(v != LEAST_INT, "Overflow")
+        return -v
+
+    def binary(self, e, frame):
+        if e.op in ("||", "&&"):
+            left = self.test(e.left, frame)
+            if left == (e.op == "||"):
+                return left
+            return self.test(e.right, frame)
+        left, right = self.value(e.left, frame), self.value(e.right, frame)
+        if e.op in ("==", "!="):
+            return same(left, right) == (e.op == "==")
+        want(is_int(left) and is_int(right))
+        if e.op in COMPARE:
+            return COMPARE[e.op](left, right)
+        return arithmetic(e.op, left, right)
+
+    def call(self, e, frame):
+        o = self.value(e.object, frame)
+        args = self.values(e.args, frame)
+        want(type(o) is Ref)
+        return self.start(o.id, e.name, args)
+
+    def future(self, e, frame):
+        o, delay = self.value(e.object, frame), self.value(e.delay, frame)
+        args = self.values(e.args, frame)
+        want(type(o) is Ref and is_int(delay))
+        self.world.schedule(o.id, delay, e.name, args)
+
+    def create(self, e, frame):
+        options = self.value(e.options, frame)
+        class_ = self.world.program.numbers[e.name]
+        id_ = self.world.add_object(class_)
+        if "init" in self.world.program.methods[class_]:
+            self.start(id_, "init", [options])
+        return Ref(id_)
+
+    def builtin(self, e, frame):
+        args = self.values(e.args, frame)
+        if e.name in PURE:
+            v = PURE[e.name](*args)
+        else:
+            v = ACTIONS[e.name](self, frame, *args)
+        return self.weighed(v) if e.name in WEIGHED else v
+
+    def here(self, frame):
+        """This object, which must be held."""
+        want(frame.me in self.world.objects, "NoObject")
+        return frame.me
+
+    # -- the builtins that see the world
+
+    def random(self, frame, n):
+        want(is_int(n))
+        want(n >= 1, "BadIndex")
+        return self.world.below(n)
+
+    def known(self, frame, name):
+        want(is_text(name))
+        id_ = self.world.known.get(name)
+        return None if id_ is None else Ref(id_)
+
+    def be_known(self, frame, name):
+        want(is_text(name))
+        self.world.be_known(name, self.here(frame))
+
+    def exists(self, frame, ref):
+        want(type(ref) is Ref)
+        return ref.id in self.world.objects
+
+    def destroy(self, frame, ref):
+        want(type(ref) is Ref)
+        self.world.destroy(ref.id)
+
+    def publish(self, frame, scope, event, v):
+        want(is_text(scope) and is_text(event))
+        self.world.published.append((self.world.time, scope, event, v))
+        self.call_handlers(scope, event, v)
+
+    def subscribe(self, frame, scope, event, method):
+        want(is_text(scope) and is_text(event) and is_text(method))
+        self.world.subscribe(scope, event, self.here(frame), method)
+
+    def unsubscribe(self, frame, scope, event, method):
+        want(is_text(scope) and is_text(event) and is_text(method))
+        self.world.unsubscribe(scope, event, self.here(frame), method)
+
+    def cancel(self, frame, method):
+        want(is_text(method))
+        return self.world.cancel(self.here(frame), method)
+
+
+COMPARE = {"<": lambda a, b: a < b, "<=": lambda a, b: a <= b,
+           ">": lambda a, b: a > b, ">=": lambda a, b: a >= b}
+
+
+def arithmetic(op, left, right):
+    if op in "/%":
+        want(right != 0, "ZeroDivisor")
+        want((left, right) != (LEAST_INT, -1), "Overflow")
+        quotient = abs(left) // abs(right)
+        if (left < 0) != (right < 0):
+            quotient = -quotient
+        return quotient if op == "/" else left - quotient * right
+    v = {"+": left + right, "-": left - right, "*": left * right}[op]
+    want(LEAST_INT <= v <= GREATEST_INT, "Overflow")
+    return v
+
+
+def sequence(x):
+    """The characters or items."""
+    want(is_text(x) or type(x) is List)
+    return x if is_text(x) else x.items
+
+
+def like(x, part):
+    return part if is_text(x) else List(part)
+
+
+def at_(x, i):
+    part = sequence(x)
+    want(is_int(i))
+    want(0 <= i < len(part), "BadIndex")
+    return part[i]
+
+
+def put(x, i, v):
+    want(type(x) is List and is_int(i))
+    want(0 <= i < len(x.items), "BadIndex")
+    return List(x.items[:i] + [v] + x.items[i + 1:])
+
+
+def push(x, v):
+    want(type(x) is List)
+    return List(x.items + [v])
+
+
+def slice_(x, i, j):
+    part = sequence(x)
+    want(is_int(i) and is_int(j))
+    want(0 <= i <= j <= len(part), "BadIndex")
+    return like(x, part[i:j])
+
+
+def concat(x, y):
+    want(type(x) is type(y))
+    return like(x, sequence(x) + sequence(y))
+
+
+def text_of(v):
+    want(v is None or type(v) in (bool, int, str))
+    return v if is_text(v) else value_text(v)
+
+
+def number_of(t):
+    want(is_text(t))
+    if not re.fullmatch(r"0|-?[1-9][0-9]*", t, re.ASCII) or len(t) > 20:
+        return None
+    v = int(t)
+    return v if LEAST_INT <= v <= GREATEST_INT else None
+
+
+def compare(a, b):
+    want(type(a) is type(b) and (is_int(a) or is_text(a)))
+    return (a > b) - (a < b)
+
+
+PURE = {"length": lambda x: len(sequence(x)), "at": at_, "put": put, "push": push,
+        "slice": slice_, "concat": concat, "text": text_of, "number": number_of,
+        "compare": compare}
+WEIGHED = {"put", "push", "slice", "concat", "text", "views"}
+ACTIONS = {
+    "now": lambda evaluation, frame: evaluation.world.time // 1000,
+    "viewCount": lambda evaluation, frame: len(evaluation.world.views),
+    "views": lambda evaluation, frame: List(sorted(evaluation.world.views)),
+    "sessionId": lambda evaluation, frame: evaluation.world.id.hex(),
+    "random": Evaluation.random, "known": Evaluation.known, "beKnown": Evaluation.be_known,
+    "exists": Evaluation.exists, "destroy": Evaluation.destroy, "publish": Evaluation.publish,
+    "subscribe": Evaluation.subscribe, "unsubscribe": Evaluation.unsubscribe,
+    "cancel": Evaluation.cancel}
+EVALUATE = {Literal: Evaluation.literal, This: Evaluation.this, Local: Evaluation.local,
+            Field: Evaluation.field, ListOf: Evaluation.list_of, Unary: Evaluation.unary,
+            Binary: Evaluation.binary, Call: Evaluation.call, Future: Evaluation.future,
+            Create: Evaluation.create, Builtin: Evaluation.builtin}
+
+
+# ---------------------------------------------------------------- session
+
+@dataclass
+class Entry:
+    seq: int
+    time: int
+    view: int
+    kind: str  # join, exit, event
+    number: int = 0
+    payload: bytes = b""
+
+
+@dataclass
+class ViewState:
+    current: int = 0
+    here: bool = False
+    events: list = field(default_factory=list)
+
+
+class Refusal(Exception):
+    def __init__(self, words):
+        super().__init__(words)
+        self.words = words
+
+
+class Session:
+    def __init__(self):
+        self.log = []
+        self.horizon = 0
+        self.kept = None  # (time, bytes)
+        self.views = {}
+        self.here = 0
+        self.payloads = 0
+
+    def view(self, view):
+        return self.views.get(view, ViewState())
+
+    def stamp(self, now, view, kind, number_=0, payload_=b""):
+        self.horizon = max(min(now, END), self.horizon + 1)
+        entry = Entry(len(self.log) + 1, self.horizon, view, kind, number_, payload_)
+        self.log.append(entry)
+        self.payloads += len(payload_)
+        state = self.views.setdefault(view, ViewState())
+        if kind == "event":
+            state.events.append(entry)
+        else:
+            self.here += (kind == "join") - state.here
+            state.current, state.here = entry.seq, kind == "join"
+        return entry
+
+    def after_time(self, time):
+        return sum(entry.time <= time for entry in self.log)
+
+    def refuse_stale(self, view, joined):
+        state = self.view(view)
+        if state.current != joined or not state.here:
+            raise Refusal(f"stale {state.current}")
+
+    def refuse_full(self, more):
+        if len(self.log) >= MOST_ENTRIES or self.payloads + more > MOST_LOG_BYTES:
+            raise Refusal(f"log-full {len(self.log)} {self.payloads}")
+
+    def refuse_end(self):
+        if self.horizon >= END:
+            raise Refusal(f"time-end {self.horizon}")
+
+    def join(self, view, now, wanted, after):
+        if view == 0:
+            raise Refusal("bad-view")
+        if wanted == "after" and after > self.horizon:
+            raise Refusal(f"ahead {self.horizon}")
+        if not self.view(view).here and self.here >= MOST_VIEWS:
+            raise Refusal(f"views-full {self.here}")
+        self.refuse_full(0)
+        self.refuse_end()
+        from_, base = 0, ""
+        if wanted == "after":
+            from_ = self.after_time(after)
+        elif wanted == "fresh" and self.kept is not None:
+            from_, base = self.after_time(self.kept[0]), f" base {self.kept[0]}"
+        entry = self.stamp(now, view, "join")
+        return f"joined {entry.seq} {entry.time} {len(self.view(view).events)} {from_}{base}"
+
+    def send(self, view, joined, number_, now, payload_):
+        self.refuse_stale(view, joined)
+        if len(payload_) > MOST_PAYLOAD:
+            raise Refusal(f"too-long {len(payload_)}")
+        events = self.view(view).events
+        if number_ == 0:
+            raise Refusal(f"gap {len(events) + 1}")
+        if number_ <= len(events):
+            entry = events[number_ - 1]
+            if entry.payload != payload_:
+                raise Refusal(f"differs {entry.seq}")
+            return f"again {entry.seq} {entry.time}"
+        if number_ > len(events) + 1:
+            raise Refusal(f"gap {len(events) + 1}")
+        self.refuse_full(len(payload_))
+        self.refuse_end()
+        entry = self.stamp(now, view, "event", number_, payload_)
+        return f"stamped {entry.seq} {entry.time}"
+
+    def tick(self, now):
+        self.horizon = max(self.horizon, min(now, END))
+        return f"ticked {self.horizon}"
+
+    def leave(self, view, joined, now):
+        self.refuse_stale(view, joined)
+        entry = self.stamp(now, view, "exit")
+        return f"left {entry.seq} {entry.time}"
+
+    def offer(self, view, joined, time, bytes_):
+        self.refuse_stale(view, joined)
+        if len(bytes_) > MOST_SNAPSHOT:
+            raise Refusal(f"too-long {len(bytes_)}")
+        if time > self.horizon:
+            raise Refusal(f"ahead {self.horizon}")
+        if self.kept is not None and self.kept[0] >= time:
+            raise Refusal(f"older {self.kept[0]}")
+        self.kept = (time, bytes_)
+        return "kept"
+
+    def pull(self, after, limit):
+        if after > len(self.log):
+            raise Refusal(f"no-such-seq {len(self.log)}")
+        count = min(limit, len(self.log) - after)
+        if after + count == len(self.log):
+            return f"batch {count} tick {self.horizon}"
+        return f"batch {count} more"
+
+    def reply(self, request):
+        name, *words = request
+        try:
+            return getattr(self, name)(*words)
+        except Refusal as refusal:
+            return f"refused {refusal.words}"
+
+    def encoded(self):
+        out = [b"TEALOG01", number(len(self.log), 4)]
+        kinds = {"join": 1, "exit": 2, "event": 3}
+        for entry in self.log:
+            out += [number(entry.time, 8), number(entry.view, 4), number(kinds[entry.kind], 1)]
+            if entry.kind == "event":
+                out += [number(entry.number, 4), number(len(entry.payload), 4), entry.payload]
+        return b"".join(out)
+
+
+# ---------------------------------------------------------------- session scripts
+
+def number_word(word, limit):
+    if not re.fullmatch(r"0|[1-9][0-9]*", word, re.ASCII) or len(word) > 20 or int(word) >= limit:
+        raise Ended("input script", 3)
+    return int(word)
+
+
+def hex_word(word):
+    if word == "-":
+        return b""
+    if len(word) % 2 or not re.fullmatch(r"[0-9a-fA-F]+", word, re.ASCII):
+        raise Ended("input script", 3)
+    return bytes.fromhex(word)
+
+
+ROWS = {"send": [2**32, 2**32, 2**32, 2**64, "hex"], "tick": [2**64],
+        "leave": [2**32, 2**32, 2**64], "offer": [2**32, 2**32, TIME_LIMIT, "hex"],
+        "pull": [2**32, 2**32]}
+
+
+def read_request(line):
+    name, *words = re.split(" +", line)
+    if name == "join" and len(words) >= 2:
+        view, now = number_word(words[0], 2**32), number_word(words[1], 2**64)
+        wanted = words[2:] or ["fresh"]
+        if wanted in (["fresh"], ["whole"]):
+            return ["join", view, now, wanted[0], 0]
+        if wanted[0] == "after" and len(wanted) == 2:
+            return ["join", view, now, "after", number_word(wanted[1], TIME_LIMIT)]
+    elif name in ROWS and len(words) == len(ROWS[name]):
+        read = [hex_word(w) if row == "hex" else number_word(w, row)
+                for w, row in zip(words, ROWS[name])]
+        return [name, *read]
+    raise Ended("input script", 3)
+
+
+def read_script(source):
+    if len(source) > SCRIPT_BYTES:
+        raise Ended("input script", 3)
+    try:
+        lines = source.decode("utf-8").split("\n")
+    except UnicodeDecodeError:
+        raise Ended("input script", 3) from None
+    ended = [line.removesuffix("\r") for line in lines[:-1]] + lines[-1:]
+    return [read_request(line) for line in ended if line and not line.startswith("#")]
+
+
+def stamped(source):
+    """The session after a script, and the printed lines."""
+    requests = read_script(source)
+    session = Session()
+    return session, [session.reply(request) for request in requests]
+
+
+# ---------------------------------------------------------------- replay
+
+def session_id(name, source):
+    return hashlib.sha256(number(len(name), 4) + name + source).digest()
+
+
+def replayed(world, entries, time):
+    for entry in entries:
+        if world.time < entry.time <= time:
+            world.external(entry)
+    world.advance(time)
+    return world
+
+
+def world_line(world):
+    return (f"time {world.time} objects {len(world.objects)} pending {len(world.pending)} "
+            f"subscriptions {len(world.subscriptions)} faults {sum(world.faults)} "
+            f"digest {hashlib.sha256(world.snapshot()).hexdigest()}")
+
+
+@dataclass
+class Replaying:
+    """A case of a replay, read: its name, times, log and program."""
+    id: bytes
+    times: list
+    entries: list
+    program: Program
+
+
+def read_replaying(case, times):
+    head, source = case.split(b" | ", 1)
+    words = head.split(b" ", times + 1)
+    script = b"" if words[-1] == b"-" else lines_of(words[-1])
+    session, _ = stamped(script)
+    program = read_program(source)
+    return Replaying(session_id(words[0], source), [int(w) for w in words[1:-1]],
+                     session.log, program)
+
+
+def whole_replay(case):
+    return replayed(World.first(case.program, case.id), case.entries, case.times[-1])
+
+
+# ---------------------------------------------------------------- cases
+
+def lines_of(script):
+    """A script whose lines are divided by ` / `."""
+    return script.replace(b" / ", b"\n") + b"\n"
+
+
+def replaced(case):
+    def one(match):
+        kind, text = match.group(1), match.group(2)
+        if kind == b"x":
+            return bytes.fromhex(text.decode())
+        if kind == b"t":
+            return text_field(text.decode("utf-8")).hex().encode()
+        return b"".join(text.replace(b"#", str(k).encode()) for k in range(1, int(kind) + 1))
+
+    return re.sub(rb"<<([0-9]+|x|t):(.*?)>>", one, case, flags=re.DOTALL)
+
+
+CASE_ID = bytes([0xAB, *range(1, 31), 0xFF])
+
+
+def case_world(program):
+    """The world in which expressions and programs of the language's cases run."""
+    world = World(program, CASE_ID)
+    world.time, world.next_object, world.next_number = 2500, 2, 7
+    world.random, world.turns = 0, 1
+    root = program.numbers["Root"]
+    fields = len(program.classes[root].fields)
+    world.objects[1] = Object(root, [None] * fields)
+    world.weight = 2 + fields
+    return world
+
+
+def run_m(world):
+    """What method m of object 1 comes to, and the fuel left."""
+    evaluation = Evaluation(world)
+    try:
+        outcome = value_text(evaluation.start(1, "m", []))
+    except Fault as fault:
+        outcome = fault.name
+    return outcome, evaluation.fuel
+
+
+def evaluate_case(case):
+    source = (b"class Root{field f;m(){return " + case
+              + b";}none(){}pair(a,b){return [a,b];}}")
+    try:
+        program = Program(parse(source))
+    except Ended:
+        return "no expression"
+    return run_m(case_world(program))[0]
+
+
+def run_case(case):
+    program = read_program(case)
+    world = case_world(program)
+    outcome, left = run_m(world)
+    parts = [f"{outcome} left {left}", f"next #{world.next_object} {world.next_number}"]
+    for id_, o in sorted(world.objects.items()):
+        parts.append(f"#{id_} of {program.classes[o.class_].name} {value_text(List(o.fields))}")
+    for name, id_ in sorted(world.known.items()):
+        parts.append(f"known {value_text(name)} #{id_}")
+    for scope, event, id_, method in world.subscriptions:
+        parts.append(f"subscribed #{id_}.{method} to {value_text(scope)} {value_text(event)}")
+    for m in world.pending_in_order():
+        parts.append(f"pending {m.number} at {m.time} #{m.object}.{m.method} "
+                     f"{value_text(List(m.args))}")
+    for time, scope, event, v in world.published:
+        parts.append(f"published at {time} {value_text(scope)} {value_text(event)} {value_text(v)}")
+    return "; ".join(parts)
+
+
+def canonical_case(case):
+    tree = parse(case)
+    text = Printer().program(tree)
+    assert parse(text.encode()) == tree
+    return text
+
+
+def hex_case(case):
+    try:
+        return b"" if case == b"-" else bytes.fromhex(case.decode())
+    except ValueError:
+        raise Bad() from None
+
+
+def decode_case(case):
+    source = hex_case(case)
+    v = decode(source)
+    assert encode(v) == source
+    return f"{value_text(v)} weight {weight(v)} depth {depth(v)}"
+
+
+def payload_case(case):
+    source = hex_case(case)
+    scope, event, v = read_payload(source)
+    assert payload(scope, event, v) == source
+    return f"{value_text(scope)} {value_text(event)} {value_text(v)}"
+
+
+def scripts_case(case):
+    return " / ".join(stamped(lines_of(case))[1])
+
+
+def logs_case(case):
+    return stamped(lines_of(case))[0].encoded().hex()
+
+
+def programs_case(case):
+    program = read_program(case)
+    methods = sum(len(class_.methods) for class_ in program.classes)
+    return f"classes {len(program.classes)} methods {methods}"
+
+
+def worlds_case(case):
+    return world_line(whole_replay(read_replaying(case, 1)))
+
+
+def snapshots_case(case):
+    return whole_replay(read_replaying(case, 1)).snapshot().hex()
+
+
+def resumed_case(line):
+    case = read_replaying(line, 2)
+    first, time = case.times
+    put_away = replayed(World.first(case.program, case.id), case.entries, first).snapshot()
+    world = read_snapshot(case.program, case.id, put_away)
+    if time < world.time:
+        raise Ended("input time", 3)
+    world = replayed(world, case.entries, time)
+    whole = whole_replay(case)
+    return world_line(world) + (" same" if world.snapshot() == whole.snapshot() else " differs")
+
+
+KINDS = {"evaluate": evaluate_case, "run": run_case, "canonical": canonical_case,
+         "decode": decode_case, "payload": payload_case, "scripts": scripts_case,
+         "logs": logs_case, "programs": programs_case, "worlds": worlds_case,
+         "snapshots": snapshots_case, "resumed": resumed_case}
+WITH_STATUS = {"scripts", "logs", "programs", "worlds", "snapshots", "resumed"}
+
+
+def outcome_of(kind, case):
+    try:
+        return KINDS[kind](replaced(case))
+    except Ended as ended:
+        return ended.line + (f" [{ended.status}]" if kind in WITH_STATUS else "")
+    except Bad:
+        return "bad"
+
+
+def main():
+    kind, file = sys.argv[1:]
+    with open(file, "rb") as opened:
+        lines = opened.read().removesuffix(b"\n").split(b"\n")
+    for line in lines:
+        if line and not line.startswith(b"#"):
+            line += b" = " + outcome_of(kind, line).encode("utf-8")
+        sys.stdout.buffer.write(line + b"\n")
+
+
+if __name__ == "__main__":
+    sys.setrecursionlimit(100_000)
+    threading.stack_size(512 * 1024 * 1024)
+    worker = threading.Thread(target=main)
+    worker.start()
+    worker.join()
