@@ -3,19 +3,19 @@ use Rattle.std.proofs.Common.{◌≡◌, ℕ, zero, suc, ◌+◌, ◌^◌, ◌<�
 use Rattle.std.specs.Int.{Width, w16, w32, w64, byte_len, from_be_bytes, to_be_bytes}
 use Rattle.std.specs.List.{flat_map}
 use Rattle.std.specs.Str.{bytes_eq, chars, is_utf8, all_scalars, encode_utf8_all}
-use Rattle.std.proofs.lemmas.Bool.{cases_lt, ltb-false, le-ltb, eqb-true}
+use Rattle.std.proofs.lemmas.Bool.{cases_lt, ltb-false, le-ltb, eqb-true, eq-eqb}
 use Rattle.std.proofs.lemmas.List.{nil_from_length, take_at, drop_at, take-append-drop, length-append, length-take, get_or-drop, get_or-take, get_or_past}
 use Rattle.std.proofs.lemmas.List.Concat.{flat_map-cons}
 use Rattle.std.proofs.lemmas.Nat.{be_bytes_2, be_bytes_4, be_bytes_8, from_be_bytes-to_be_bytes_2, from_be_bytes-to_be_bytes_4, from_be_bytes-to_be_bytes_8}
 use Rattle.std.proofs.lemmas.Slice.Eq.{bytes_eq-Decides}
 use Rattle.std.proofs.lemmas.Str.{chars-encodes, encodes-chars, scalars-chars, is_utf8-from_IsUtf8, IsUtf8-from_is_utf8}
-use Rattle.byte_fields.specs.Fields.{Reading, ◌>>=◌, byte_at, bytes_at, number_at, paired_at, headed_at, mark_at, marked_at, made_at, tested_at, nothing_at, never_at, blob, blob_at, text_at, list_of, items_at, list_at, whole}
+use Rattle.byte_fields.specs.Fields.{Reader, ◌>>=◌, byte_at, bytes_at, number_at, paired_at, headed_at, mark_at, marked_at, made_at, tested_at, nothing_at, never_at, FitsBlob, blob, blob_at, text_field, text_at, list_of, items_at, list_at, whole}
 
 abbrev pub IsBytes : List ℕ → Type 0
 IsBytes bytes = (i : ℕ) → get_or bytes i 0 < 256
 
 -- what was read is spelled so, and has a spelling; what has a spelling is read from it, whatever follows
-pub record Codec (A : Type 0) (spell : A → List ℕ) (Fits : A → Type 0) (read : Reading A) : Type 0 where
+pub record Codec (A : Type 0) (spell : A → List ℕ) (Fits : A → Type 0) (read : Reader A) : Type 0 where
   pub takes : (bytes : List ℕ) (x : A) (rest : List ℕ) → IsBytes bytes → read bytes ≡ Some (x, rest) → (bytes ≡ spell x ++ rest) × Fits x
   pub again : (x : A) (rest : List ℕ) → Fits x → read (spell x ++ rest) ≡ Some (x, rest)
 
@@ -120,6 +120,9 @@ number_codec w limit wide = record {
   again = λ n rest lt. rw (bytes_again (byte_len w) (to_be_bytes w n) rest (wide.len n), wide.again n lt) refl;
 }
 
+pub u32_codec : Codec ℕ (to_be_bytes w32) (λ n. n < 2 ^ 32) (number_at w32)
+u32_codec = number_codec w32 (2 ^ 32) wide32
+
 byte_takes : (bytes : List ℕ) (x : ℕ) (rest : List ℕ) → IsBytes bytes → byte_at bytes ≡ Some (x, rest) → (bytes ≡ (x ∷ []) ++ rest) × (x < 256)
 byte_takes [] x rest fits e = absurd cc
 byte_takes (byte ∷ bytes) x rest fits e =
@@ -131,14 +134,14 @@ byte_codec = record { takes = byte_takes; again = λ x rest lt. refl }
 -- ---- codecs from codecs
 
 -- the same spelling and the same values, said otherwise
-pub said_codec : {A : Type 0} {s : A → List ℕ} {F : A → Type 0} {r : Reading A} (t : A → List ℕ) (G : A → Type 0) → ((x : A) → F x → t x ≡ s x) → ((x : A) → F x → G x) → ((x : A) → G x → F x) → Codec A s F r → Codec A t G r
+pub said_codec : {A : Type 0} {s : A → List ℕ} {F : A → Type 0} {r : Reader A} (t : A → List ℕ) (G : A → Type 0) → ((x : A) → F x → t x ≡ s x) → ((x : A) → F x → G x) → ((x : A) → G x → F x) → Codec A s F r → Codec A t G r
 said_codec t G same to from codec = record {
   takes = λ bytes x rest fits e. let u = codec.takes bytes x rest fits e in (rw (same x u.1) (u.0), to x u.1);
   again = λ x rest fits. rw (same x (from x fits)) (codec.again x rest (from x fits));
 }
 
 -- one, and behind it another
-pub paired_codec : {A B : Type 0} {sa : A → List ℕ} {Fa : A → Type 0} {ra : Reading A} {sb : B → List ℕ} {Fb : B → Type 0} {rb : Reading B}
+pub paired_codec : {A B : Type 0} {sa : A → List ℕ} {Fa : A → Type 0} {ra : Reader A} {sb : B → List ℕ} {Fb : B → Type 0} {rb : Reader B}
     → Codec A sa Fa ra → Codec B sb Fb rb → Codec (A × B) (λ p. sa p.0 ++ sb p.1) (λ p. Fa p.0 × Fb p.1) (paired_at ra rb)
 paired_codec {A = A} {B = B} {sa = sa} {Fa = Fa} {ra = ra} {sb = sb} {Fb = Fb} {rb = rb} first second = record {
   takes = λ bytes p rest fits e.
@@ -155,7 +158,7 @@ paired_codec {A = A} {B = B} {sa = sa} {Fa = Fa} {ra = ra} {sb = sb} {Fb = Fb} {
 }
 
 -- the value made of what is read: a record of its parts, or a variant with them
-pub made_codec : {A B : Type 0} {sa : A → List ℕ} {Fa : A → Type 0} {ra : Reading A} (make : A → B) (s : B → List ℕ) (G : B → Type 0)
+pub made_codec : {A B : Type 0} {sa : A → List ℕ} {Fa : A → Type 0} {ra : Reader A} (make : A → B) (s : B → List ℕ) (G : B → Type 0)
     → Codec A sa Fa ra → ((y : B) → G y → (x : A) × (y ≡ make x) × Fa x) → ((x : A) → Fa x → G (make x)) → ((x : A) → Fa x → s (make x) ≡ sa x) → Codec B s G (made_at make ra)
 made_codec {A = A} {B = B} {sa = sa} {Fa = Fa} {ra = ra} make s G codec out into same = record {
   takes = λ bytes y rest fits e.
@@ -171,7 +174,7 @@ made_codec {A = A} {B = B} {sa = sa} {Fa = Fa} {ra = ra} make s G codec out into
 }
 
 -- only what passes a test
-pub tested_codec : {A : Type 0} {s : A → List ℕ} {F : A → Type 0} {r : Reading A} (test : A → Bool) → Codec A s F r → Codec A s (λ x. F x × (test x ≡ true)) (tested_at test r)
+pub tested_codec : {A : Type 0} {s : A → List ℕ} {F : A → Type 0} {r : Reader A} (test : A → Bool) → Codec A s F r → Codec A s (λ x. F x × (test x ≡ true)) (tested_at test r)
 tested_codec {A = A} {s = s} {F = F} {r = r} test codec = record {
   takes = λ bytes x rest fits e.
       let a = bind_some (r bytes) (λ y. cond (test y.0) (Some y) None) (x, rest) e in
@@ -197,12 +200,12 @@ pub never_codec : {A : Type 0} (s : A → List ℕ) (F : A → Type 0) → ((x :
 never_codec s F none = record { takes = λ bytes x rest fits e. absurd cc; again = λ x rest fits. absurd (none x fits) }
 
 -- one reader where a test holds, another where it does not
-pub chosen_codec : {A : Type 0} {s : A → List ℕ} {F : A → Type 0} {there here : Reading A} (b : Bool) → (b ≡ true → Codec A s F there) → (b ≡ false → Codec A s F here) → Codec A s F (λ bytes. cond b (there bytes) (here bytes))
+pub chosen_codec : {A : Type 0} {s : A → List ℕ} {F : A → Type 0} {there here : Reader A} (b : Bool) → (b ≡ true → Codec A s F there) → (b ≡ false → Codec A s F here) → Codec A s F (λ bytes. cond b (there bytes) (here bytes))
 chosen_codec true there here = there refl
 chosen_codec false there here = here refl
 
 -- a field that says how the rest is read
-pub headed_codec : {H A : Type 0} {sh : H → List ℕ} {Fh : H → Type 0} {rh : Reading H} (head : A → H) (s : A → List ℕ) (F : A → Type 0) (r : H → Reading A)
+pub headed_codec : {H A : Type 0} {sh : H → List ℕ} {Fh : H → Type 0} {rh : Reader H} (head : A → H) (s : A → List ℕ) (F : A → Type 0) (r : H → Reader A)
     → Codec H sh Fh rh → ((h : H) → Fh h → Codec A s (λ x. (head x ≡ h) × F x) (r h))
     → Codec A (λ x. sh (head x) ++ s x) (λ x. Fh (head x) × F x) (headed_at rh r)
 headed_codec {H = H} {A = A} {sh = sh} {Fh = Fh} {rh = rh} head s F r first codec = record {
@@ -216,6 +219,28 @@ headed_codec {H = H} {A = A} {sh = sh} {Fh = Fh} {rh = rh} head s F r first code
       let one : headed_at rh r (sh (head x) ++ (s x ++ rest)) ≡ Some (x, rest) = rw (first.again (head x) (s x ++ rest) fits.0, (codec (head x) fits.0).again x rest (refl, fits.1)) refl in
       ap (headed_at rh r) (append_assoc (sh (head x)) (s x) rest) ∙ one;
 }
+
+-- ---- a field whose first byte says how the rest is read
+
+-- a variant without fields
+pub bare_codec : {A : Type 0} (head : A → ℕ) (body : A → List ℕ) (F : A → Type 0) (tag : ℕ) (value : A) → head value ≡ tag → body value ≡ [] → F value → ((x : A) → head x ≡ tag → F x → x ≡ value)
+    → Codec A body (λ x. (head x ≡ tag) × F x) (nothing_at value)
+bare_codec {A = A} head body F tag value is none fits only =
+    said_codec body (λ x. (head x ≡ tag) × F x)
+    (λ x e. subst (λ (y : A). body y ≡ []) (sym e) none)
+    (λ x e. subst (λ (y : A). (head y ≡ tag) × F y) (sym e) (is, fits))
+    (λ x f. only x f.0 f.1)
+    (nothing_codec value)
+
+-- one more tag, and else those after it
+pub tagged_codec : {A : Type 0} {there here : Reader A} (head : A → ℕ) (s : A → List ℕ) (F : A → Type 0) (tag n : ℕ) → Codec A s (λ x. (head x ≡ n) × F x) there → (eqb tag n ≡ false → Codec A s (λ x. (head x ≡ tag) × F x) here)
+    → Codec A s (λ x. (head x ≡ tag) × F x) (λ bytes. cond (eqb tag n) (there bytes) (here bytes))
+tagged_codec {A = A} {there = there} head s F tag n this others =
+    chosen_codec (eqb tag n) (λ h. subst (λ (t : ℕ). Codec A s (λ x. (head x ≡ t) × F x) there) (sym (eqb-true tag n h)) this) others
+
+-- a tag is none that it was tested against
+pub not_tag : (tag n : ℕ) → eqb tag n ≡ false → n ≡ tag → ⊥
+not_tag tag n other is = let same : eqb tag n ≡ true = rw is (eq-eqb tag tag refl) in absurd cc
 
 mark_taken : (mark bytes rest : List ℕ) → mark_at mark bytes ≡ Some rest → bytes ≡ mark ++ rest
 mark_taken mark bytes rest e =
@@ -231,7 +256,7 @@ mark_again mark rest =
     rw (bytes_again (length mark) mark rest refl, is) refl
 
 -- behind a mark that is always the same
-pub marked_codec : {A : Type 0} {s : A → List ℕ} {F : A → Type 0} {r : Reading A} (mark : List ℕ) → Codec A s F r → Codec A (λ x. mark ++ s x) F (marked_at mark r)
+pub marked_codec : {A : Type 0} {s : A → List ℕ} {F : A → Type 0} {r : Reader A} (mark : List ℕ) → Codec A s F r → Codec A (λ x. mark ++ s x) F (marked_at mark r)
 marked_codec {s = s} {r = r} mark codec = record {
   takes = λ bytes x rest fits e.
       let a = bind_some (mark_at mark bytes) r (x, rest) e in
@@ -245,8 +270,8 @@ marked_codec {s = s} {r = r} mark codec = record {
 
 -- ---- fields with a length
 
-pub blob_codec : Codec (List ℕ) blob (λ x. length x < 2 ^ 32) blob_at
-blob_codec = said_codec blob (λ x. length x < 2 ^ 32) (λ x _. refl) (λ x h. h.0) (λ x h. (h, tt))
+pub blob_codec : Codec (List ℕ) blob FitsBlob blob_at
+blob_codec = said_codec blob FitsBlob (λ x _. refl) (λ x h. h.0) (λ x h. (h, tt))
     (headed_codec length (λ x. x) (λ x. Unit {0}) bytes_at (number_codec w32 (2 ^ 32) wide32)
     (λ n _. said_codec (λ x. x) (λ x. (length x ≡ n) × Unit {0}) (λ x _. refl) (λ x h. (h, tt)) (λ x h. h.0) (bytes_codec n)))
 
@@ -254,7 +279,7 @@ blob_codec = said_codec blob (λ x. length x < 2 ^ 32) (λ x _. refl) (λ x h. h
 
 -- it is of Unicode scalar values, and not too long for its length field
 abbrev pub FitsText : List ℕ → Type 0
-FitsText characters = (all_scalars characters ≡ true) × (length (encode_utf8_all characters) < 2 ^ 32)
+FitsText characters = (all_scalars characters ≡ true) × FitsBlob (encode_utf8_all characters)
 
 text_again : (characters : List ℕ) → FitsText characters
     → (bytes : List ℕ) × (characters ≡ chars bytes) × ((length bytes < 2 ^ 32) × (is_utf8 bytes ≡ true))
@@ -267,9 +292,9 @@ text_taken bytes fits =
     let u = IsUtf8-from_is_utf8 bytes fits.1 in
     (scalars-chars bytes u, rw (encodes-chars bytes u) (fits.0))
 
-pub text_codec : Codec (List ℕ) (λ characters. blob (encode_utf8_all characters)) FitsText text_at
+pub text_codec : Codec (List ℕ) text_field FitsText text_at
 text_codec =
-    made_codec chars (λ characters. blob (encode_utf8_all characters)) FitsText (tested_codec is_utf8 blob_codec)
+    made_codec chars text_field FitsText (tested_codec is_utf8 blob_codec)
     text_again text_taken
     (λ bytes fits. ap blob (encodes-chars bytes (IsUtf8-from_is_utf8 bytes fits.1)))
 
@@ -287,7 +312,7 @@ record Follows {A : Type 0} (s : A → List ℕ) (F : List A → A → Type 0) (
   pub spelled : bytes ≡ flat_map s more ++ rest
   pub fits : EachFits F before more
 
-items_takes : {A : Type 0} (s : A → List ℕ) (F : List A → A → Type 0) (r : List A → Reading A) → ((before : List A) → Codec A s (F before) (r before)) → (before : List A) (count : ℕ) (bytes : List ℕ) (p : List A × List ℕ) → IsBytes bytes → items_at r before count bytes ≡ Some p
+items_takes : {A : Type 0} (s : A → List ℕ) (F : List A → A → Type 0) (r : List A → Reader A) → ((before : List A) → Codec A s (F before) (r before)) → (before : List A) (count : ℕ) (bytes : List ℕ) (p : List A × List ℕ) → IsBytes bytes → items_at r before count bytes ≡ Some p
     → (more : List A) × Follows s F before count bytes p.0 p.1 more
 unfolding items_at
 items_takes {A = A} s F r codec before zero bytes p fits e =
@@ -307,7 +332,7 @@ items_takes {A = A} s F r codec before (suc count) bytes p fits e =
       },
     )
 
-items_again : {A : Type 0} (s : A → List ℕ) (F : List A → A → Type 0) (r : List A → Reading A) → ((before : List A) → Codec A s (F before) (r before)) → (before more : List A) (rest : List ℕ) → EachFits F before more
+items_again : {A : Type 0} (s : A → List ℕ) (F : List A → A → Type 0) (r : List A → Reader A) → ((before : List A) → Codec A s (F before) (r before)) → (before more : List A) (rest : List ℕ) → EachFits F before more
     → items_at r before (length more) (flat_map s more ++ rest) ≡ Some (before ++ more, rest)
 unfolding items_at
 items_again {A = A} s F r codec before [] rest fits = ap (λ (xs : List A). Some (xs, rest)) (sym (append-nil before))
@@ -318,7 +343,7 @@ items_again {A = A} s F r codec before (x ∷ more) rest fits =
     ap (items_at r before (suc (length more))) regrouped ∙ rw ((codec before).again x (flat_map s more ++ rest) fits.0, others) refl
 
 -- so many items, each read by all before it
-pub items_codec : {A : Type 0} (s : A → List ℕ) (F : List A → A → Type 0) (r : List A → Reading A) → ((before : List A) → Codec A s (F before) (r before)) → (count : ℕ)
+pub items_codec : {A : Type 0} (s : A → List ℕ) (F : List A → A → Type 0) (r : List A → Reader A) → ((before : List A) → Codec A s (F before) (r before)) → (count : ℕ)
     → Codec (List A) (flat_map s) (λ xs. (length xs ≡ count) × EachFits F [] xs) (items_at r [] count)
 items_codec {A = A} s F r codec count = record {
   takes = λ bytes xs rest fits e.
@@ -328,14 +353,14 @@ items_codec {A = A} s F r codec count = record {
   again = λ xs rest fits. rw (← (fits.0)) (items_again s F r codec [] xs rest fits.1);
 }
 
-pub list_codec : {A : Type 0} (s : A → List ℕ) (F : List A → A → Type 0) (r : List A → Reading A) → ((before : List A) → Codec A s (F before) (r before))
+pub list_codec : {A : Type 0} (s : A → List ℕ) (F : List A → A → Type 0) (r : List A → Reader A) → ((before : List A) → Codec A s (F before) (r before))
     → Codec (List A) (list_of s) (λ xs. (length xs < 2 ^ 32) × EachFits F [] xs) (list_at r)
 list_codec s F r codec = headed_codec length (flat_map s) (EachFits F []) (items_at r []) (number_codec w32 (2 ^ 32) wide32) (λ n _. items_codec s F r codec n)
 
 -- ---- all of the bytes
 
 -- what was read is spelled so
-pub whole_takes : {A : Type 0} {s : A → List ℕ} {F : A → Type 0} {r : Reading A} → Codec A s F r → (bytes : List ℕ) (x : A) → IsBytes bytes → whole r bytes ≡ Some x → (bytes ≡ s x) × F x
+pub whole_takes : {A : Type 0} {s : A → List ℕ} {F : A → Type 0} {r : Reader A} → Codec A s F r → (bytes : List ℕ) (x : A) → IsBytes bytes → whole r bytes ≡ Some x → (bytes ≡ s x) × F x
 whole_takes {A = A} {s = s} {F = F} {r = r} codec bytes x fits e =
     let a = bind_some (r bytes) (λ p. cond (eqb (length p.1) 0) (Some p.0) None) x e in
     let g = passed_some (eqb (length a.0.1) 0) a.0.0 x a.2 in
@@ -345,13 +370,13 @@ whole_takes {A = A} {s = s} {F = F} {r = r} codec bytes x fits e =
     subst family g.1 (t.0 ∙ ap (λ (rest : List ℕ). s a.0.0 ++ rest) end ∙ append-nil (s a.0.0), t.1)
 
 -- what is spelled so is read
-pub whole_again : {A : Type 0} {s : A → List ℕ} {F : A → Type 0} {r : Reading A} → Codec A s F r → (x : A) → F x → whole r (s x) ≡ Some x
+pub whole_again : {A : Type 0} {s : A → List ℕ} {F : A → Type 0} {r : Reader A} → Codec A s F r → (x : A) → F x → whole r (s x) ≡ Some x
 whole_again {s = s} {r = r} codec x fits =
     let read : r (s x) ≡ Some (x, []) = ap r (sym (append-nil (s x))) ∙ codec.again x [] fits in
     rw read refl
 
 -- where nothing was read, no value has this spelling
-pub whole_none : {A : Type 0} {s : A → List ℕ} {F : A → Type 0} {r : Reading A} → Codec A s F r → (bytes : List ℕ) → whole r bytes ≡ None → (x : A) → F x → bytes ≡ s x → ⊥
+pub whole_none : {A : Type 0} {s : A → List ℕ} {F : A → Type 0} {r : Reader A} → Codec A s F r → (bytes : List ℕ) → whole r bytes ≡ None → (x : A) → F x → bytes ≡ s x → ⊥
 whole_none {s = s} {r = r} codec bytes none x fits e =
     let read = whole_again codec x fits in
     let other : whole r (s x) ≡ None = ap (whole r) (sym e) ∙ none in

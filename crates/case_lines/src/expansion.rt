@@ -1,9 +1,10 @@
 //! Cases that are short in their file and long when they run, or that hold bytes which are no text.
 ghost use Rattle.std.specs.Prelude.{◌≡◌, Contains, IfOk};
 
+use byte_fields::Writer;
 use hex::FromHexError;
 use std::alloc::{AllocError, Global};
-use tea_base::{Blob, WantOfMemory, Writer};
+use tea_base::{Blob, WantOfMemory};
 use text_lines::number;
 
 /// The greatest number of copies.

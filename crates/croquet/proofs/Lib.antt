@@ -1,10 +1,3 @@
-pub mod WordLaws
-pub mod ScriptLaws
-pub mod VerdictLaws
-pub mod StampLaws
-pub mod ProgramLaws
-pub mod CheckLaws
-pub mod ReplayLaws
-pub mod WorldLaws
-pub mod RunLaws
-pub mod ComesLaws
+pub mod Kept
+pub mod Acts
+pub mod Runs

@@ -1,6 +1,3 @@
-pub mod CommandWords
-pub mod Script
-pub mod PrintedText
-pub mod Verdict
-pub mod Ends
 pub mod Status
+pub mod Run
+pub mod Calls

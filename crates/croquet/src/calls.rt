@@ -1,82 +1,55 @@
-//! The calls of files and of the sink, with the faults of a command.
-ghost use Rattle.std.specs.Prelude.{◌≡◌, ◌≢◌, ℕ, ◌≤◌, List, [], ◌∷◌, IfErr, OnOk, OnErr, IsErrOf, ⊤};
-ghost use Rattle.tea_io.specs.declared.files.FileCall.TheVariants.{Read, Write};
-ghost use Rattle.tea_io.specs.Sink.{GrowsWithin};
-ghost use Rattle.tea_io.specs.Told.{grown, Rose};
-ghost use Rattle.croquet.specs.Verdict.{ArePut, IsNotWritten, IsPut, optional_put, optional_write};
-ghost use Rattle.croquet.specs.Ends.{AskedTo, ReadEnd, IsSinkFault, IsWriteFault};
+//! The calls of files and of the output, and how each came out.
+ghost use Rattle.commands.specs.Work.{ask_of};
+ghost use Rattle.croquet.specs.Run.{PrintsText, PutsFile, ReadsFile, files_tell, output_tells};
+ghost use Rattle.croquet.specs.Calls.{came_of, given_of};
 
-use crate::status::{Fault, Input};
-use tea_base::{Blob, Text};
+use commands::{Put, Waiting};
+use tea_base::Blob;
 use tea_io::{FileFault, Files, Sink, SinkFault};
 
-/// Reads an input of at most so many bytes.
-pub fn read_input<F: Files>(
+/// Why a call came to nothing.
+#[derive(Clone, Copy, Debug, PartialEq, Eq)]
+pub(crate) enum CallFault {
+    /// It failed, and this was counted.
+    Failed,
+    WantOfMemory,
+}
+
+/// Reads the file that a command waits for: its bytes, or none where it is above its limit.
+pub(crate) fn read_file<F: Files>(
     files: &mut F,
-    name: &Text,
-    limit: u64,
-    input: Input,
-) -> Result<Blob, Fault>
-    ensures end { ReadEnd (F.held files.old name.now) limit input result }
-    ensures same { (other : List ℕ) → F.held files.new other ≡ F.held files.old other }
-    ensures asked { AskedTo result (Read name.now ∷ []) [] (F.asked files.old) (F.asked files.new) ⊤ }
-    ensures later { F.faults files.old ≤ F.faults files.new }
-    ensures cause { IsErrOf result Fault.Read → Rose (F.faults files.old) (F.faults files.new) }
+    waiting: &Waiting,
+) -> Result<Option<Blob>, CallFault>
+    ensures { ReadsFile (files_tell F.held F.asked F.faults) (came_of result) (ask_of waiting.now) (given_of result) files.old files.new }
 {
-    match files.read(name, limit) {
-        Ok(bytes) => Ok(bytes),
-        Err(FileFault::Failed) => Err(Fault::Read),
-        Err(FileFault::TooLarge { len: _ }) => Err(Fault::Input(input)),
-        Err(FileFault::WantOfMemory) => Err(Fault::Memory),
+    match files.read(waiting.name(), waiting.limit()) {
+        Ok(bytes) => Ok(Some(bytes)),
+        Err(FileFault::Failed) => Err(CallFault::Failed),
+        Err(FileFault::TooLarge { len: _ }) => Ok(None),
+        Err(FileFault::WantOfMemory) => Err(CallFault::WantOfMemory),
     }
 }
 
 /// Writes a file.
-pub fn write_output<F: Files>(files: &mut F, name: &Text, bytes: &[u8]) -> Result<(), Fault>
-    ensures put { OnOk result (IsPut (name.now, bytes.now) (F.held files.old) (F.held files.new)) }
-    ensures others { (other : List ℕ) → other ≢ name.now → F.held files.new other ≡ F.held files.old other }
-    ensures err { IfErr result IsWriteFault }
-    ensures asked { AskedTo result [] (Write name.now ∷ []) (F.asked files.old) (F.asked files.new) ⊤ }
-    ensures later { F.faults files.old ≤ F.faults files.new }
-    ensures cause { IsErrOf result Fault.Write → Rose (F.faults files.old) (F.faults files.new) }
+pub(crate) fn put_file<F: Files>(files: &mut F, put: &Put) -> Result<(), CallFault>
+    ensures { PutsFile (files_tell F.held F.asked F.faults) (came_of result) put.now.name put.now.bytes files.old files.new }
 {
-    match files.write(name, bytes) {
+    match files.write(&put.name, put.bytes.bytes()) {
         Ok(()) => Ok(()),
-        Err(FileFault::WantOfMemory) => Err(Fault::Memory),
-        Err(_) => Err(Fault::Write),
-    }
-}
-
-/// Writes a file, where one is given.
-pub fn write_optional<F: Files>(
-    files: &mut F,
-    name: &Option<Text>,
-    bytes: &[u8],
-) -> Result<(), Fault>
-    ensures put { OnOk result (ArePut (optional_put name.now bytes.now) (F.held files.old) (F.held files.new)) }
-    ensures others { (other : List ℕ) → IsNotWritten (optional_write name.now) other → F.held files.new other ≡ F.held files.old other }
-    ensures err { IfErr result IsWriteFault }
-    ensures asked { AskedTo result [] (optional_write name.now) (F.asked files.old) (F.asked files.new) ⊤ }
-    ensures later { F.faults files.old ≤ F.faults files.new }
-    ensures cause { IsErrOf result Fault.Write → Rose (F.faults files.old) (F.faults files.new) }
-{
-    match name {
-        Some(name) => write_output(files, name, bytes),
-        None => Ok(()),
+        Err(FileFault::Failed) => Err(CallFault::Failed),
+        // A write has no limit.
+        Err(FileFault::TooLarge { len: _ }) => unreachable!(),
+        Err(FileFault::WantOfMemory) => Err(CallFault::WantOfMemory),
     }
 }
 
 /// Writes a text.
-pub fn print<W: Sink>(out: &mut W, text: &str) -> Result<(), Fault>
-    ensures ok { OnOk result (W.written out.new ≡ grown (W.written out.old) text.now) }
-    ensures part { OnErr result (GrowsWithin (W.written out.old) (W.written out.new) text.now) }
-    ensures err { IfErr result IsSinkFault }
-    ensures later { W.faults out.old ≤ W.faults out.new }
-    ensures cause { IsErrOf result Fault.Sink → Rose (W.faults out.old) (W.faults out.new) }
+pub(crate) fn print_text<W: Sink>(out: &mut W, text: &[u8]) -> Result<(), CallFault>
+    ensures { PrintsText (output_tells W.written W.faults W.wants) (came_of result) text.now out.old out.new }
 {
-    match out.write(text.as_bytes()) {
+    match out.write(text) {
         Ok(()) => Ok(()),
-        Err(SinkFault::Failed) => Err(Fault::Sink),
-        Err(SinkFault::WantOfMemory) => Err(Fault::Memory),
+        Err(SinkFault::Failed) => Err(CallFault::Failed),
+        Err(SinkFault::WantOfMemory) => Err(CallFault::WantOfMemory),
     }
 }

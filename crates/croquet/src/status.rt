@@ -1,9 +1,5 @@
-//! How a run ends.
+//! The exit status of the program.
 ghost use Rattle.std.specs.Prelude.{◌≡◌};
-ghost use Rattle.croquet.specs.declared.status.Fault.TheVariants.{Memory};
-
-use std::alloc::AllocError;
-use tea_base::{Blob, WantOfMemory};
 
 /// The exit status of the program.
 #[derive(Clone, Copy, Debug, PartialEq, Eq)]
@@ -50,49 +46,5 @@ impl Status {
             Status::Ended => 9,
             Status::Peer => 10,
         }
-    }
-}
-
-/// An input of a command.
-#[derive(Clone, Copy, Debug, PartialEq, Eq)]
-pub enum Input {
-    Script,
-    Program,
-    Log,
-    Snapshot,
-    /// The time that a replay is asked for, below that of its snapshot.
-    Time,
-}
-
-/// Why a command stopped.
-#[derive(Debug, Drop)]
-pub enum Fault {
-    Usage,
-    /// The program is refused, with the line that tells why.
-    Program { line: Blob },
-    /// This input is not in its grammar or above its limit, or it is a time below that of the snapshot.
-    Input(Input),
-    /// A file was not read.
-    Read,
-    /// A file was not written.
-    Write,
-    /// The text was not written.
-    Sink,
-    Memory,
-}
-
-impl From<AllocError> for Fault {
-    ghost from_gives = { λ _ fault. fault ≡ Memory };
-
-    fn from(_error: AllocError) -> Self {
-        Fault::Memory
-    }
-}
-
-impl From<WantOfMemory> for Fault {
-    ghost from_gives = { λ _ fault. fault ≡ Memory };
-
-    fn from(_error: WantOfMemory) -> Self {
-        Fault::Memory
     }
 }

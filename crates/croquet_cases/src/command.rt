@@ -1,19 +1,19 @@
 //! A command over files that a case writes out.
 use crate::fault::CaseFault;
-use crate::run::{Failing, Given, NONE, Run};
+use crate::run::{Faults, Given, NONE, Run};
 use crate::spelling::{lines_of, told};
 use hex::FromHexError;
 use std::alloc::Global;
 use tea_base::{Blob, WantOfMemory};
 use text_lines::number;
 
-/// A command: `WORDS ; NAME=CONTENT ; NAME:HEX ; .. ; fail file N ; fail output N`. The words are divided by blanks, `''`
+/// A command: `WORDS ; NAME=CONTENT ; NAME:HEX ; .. ; fail file N ; want output N`. The words are divided by blanks, `''`
 /// is the empty word, and `-` alone is no word; the lines of a content are divided by ` / `; call N of the files, or of
-/// the output, fails.
+/// the output, fails, or wants memory.
 #[derive(Drop)]
 struct Command {
     given: Given,
-    failing: Failing,
+    faults: Faults,
 }
 
 fn number_of(digits: &str) -> Result<u32, CaseFault> {
@@ -36,7 +36,7 @@ impl Command {
         let mut parts = case.split(" ; ");
         let mut command = Command {
             given: Given::new(alloc),
-            failing: NONE,
+            faults: NONE,
         };
         command.add_words(parts.next().unwrap_or_default())?;
         for part in parts {
@@ -57,9 +57,13 @@ impl Command {
 
     fn add(&mut self, alloc: Global, part: &str) -> Result<(), CaseFault> {
         if let Some(digits) = part.strip_prefix("fail file ") {
-            self.failing.file = number_of(digits)?;
+            self.faults.failing_file = number_of(digits)?;
         } else if let Some(digits) = part.strip_prefix("fail output ") {
-            self.failing.output = number_of(digits)?;
+            self.faults.failing_output = number_of(digits)?;
+        } else if let Some(digits) = part.strip_prefix("want file ") {
+            self.faults.wanting_file = number_of(digits)?;
+        } else if let Some(digits) = part.strip_prefix("want output ") {
+            self.faults.wanting_output = number_of(digits)?;
         } else if let Some((name, content)) = part.split_once('=') {
             let lines = lines_of(alloc, content.as_bytes())?;
             self.given.add_file(name, lines.as_slice())?;
@@ -72,7 +76,7 @@ impl Command {
     }
 
     fn run(&self) -> Result<Run, WantOfMemory> {
-        self.given.run(self.failing)
+        self.given.run(self.faults)
     }
 }
 

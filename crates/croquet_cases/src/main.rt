@@ -9,10 +9,10 @@
 //! | `worlds` | `NAME TIME SCRIPT \| PROGRAM` | the line that `replay` prints for the log of the script |
 //! | `snapshots` | the same | the bytes of the snapshot that `replay` writes |
 //! | `resumed` | `NAME FIRST TIME SCRIPT \| PROGRAM` | the line of a replay that goes on from the snapshot at FIRST, and whether its snapshot is the `same` as without it |
-//! | `commands` | `WORDS ; NAME=CONTENT ; NAME:HEX ; .. ; fail file N ; fail output N` | what the command prints, and the file `f` |
+//! | `commands` | `WORDS ; NAME=CONTENT ; NAME:HEX ; .. ; fail file N ; want output N` | what the command prints, and the file `f` |
 //!
 //! The words of a command are divided by blanks; `''` is the empty word, and `-` alone is no word. A content has its lines
-//! divided by ` / `. Call N of the files, or of the output, fails.
+//! divided by ` / `. Call N of the files, or of the output, fails, or wants memory.
 //!
 //! Behind what is printed stands the status in square brackets, if it is not 0.
 #![tactic(auto)]
@@ -23,6 +23,7 @@ mod kind;
 mod run;
 mod session;
 mod spelling;
+mod wanting;
 
 use crate::kind::CommandCases;
 use case_lines::print_files;

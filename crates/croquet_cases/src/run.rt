@@ -1,18 +1,26 @@
 //! A run of the program over files and an output in memory.
-use croquet::{Status, croquet};
+use crate::wanting::{WantingFiles, WantingSink};
+use croquet::{Status, run};
 use std::alloc::Global;
 use tea_base::{Blob, Numbers, Text, WantOfMemory, Words};
 use tea_io::{Files, MemFiles, MemSink, NamedBlob, NamedBlobs};
 
-/// Which call of the files and which of the output fails, counted from 1; 0 is none.
+/// Which call of the files and which of the output fails, and which wants memory, counted from 1; 0 is none.
 #[derive(Clone, Copy)]
-pub(crate) struct Failing {
-    pub(crate) file: u32,
-    pub(crate) output: u32,
+pub(crate) struct Faults {
+    pub(crate) failing_file: u32,
+    pub(crate) failing_output: u32,
+    pub(crate) wanting_file: u32,
+    pub(crate) wanting_output: u32,
 }
 
-/// No call fails.
-pub(crate) const NONE: Failing = Failing { file: 0, output: 0 };
+/// All calls go well.
+pub(crate) const NONE: Faults = Faults {
+    failing_file: 0,
+    failing_output: 0,
+    wanting_file: 0,
+    wanting_output: 0,
+};
 
 /// What a run is given: its words, and the files that it finds.
 #[derive(Drop)]
@@ -77,12 +85,28 @@ impl Given {
         Ok(files)
     }
 
+    /// An output of which one call fails, and one wants memory.
+    fn output(&self, faults: Faults) -> Result<WantingSink, WantOfMemory> {
+        let failing = Numbers::from_vec(vec![in self.alloc; faults.failing_output]?);
+        Ok(WantingSink {
+            out: MemSink::new(self.alloc, failing),
+            calls: 0,
+            wanting: faults.wanting_output,
+            wants: 0,
+        })
+    }
+
     /// Runs the words over the files.
-    pub(crate) fn run(&self, failing: Failing) -> Result<Run, WantOfMemory> {
-        let mut files = self.files(failing.file)?;
-        let failing = Numbers::from_vec(vec![in self.alloc; failing.output]?);
-        let mut out = MemSink::new(self.alloc, failing);
-        let status = croquet(self.alloc, &self.words, &mut files, &mut out);
+    pub(crate) fn run(&self, faults: Faults) -> Result<Run, WantOfMemory> {
+        let mut files = WantingFiles {
+            files: self.files(faults.failing_file)?,
+            calls: 0,
+            wanting: faults.wanting_file,
+        };
+        let mut output = self.output(faults)?;
+        let status = run(self.alloc, &self.words, &mut files, &mut output);
+        let WantingSink { out, .. } = output;
+        let WantingFiles { files, .. } = files;
         Ok(Run {
             status,
             text: out.into_bytes(),

@@ -1,20 +1,36 @@
-//! Shared worlds: the program. It hands its words, the files of the system and the standard output to `croquet`.
+//! Shared worlds: the program. It hands its words, the files, the clock and the standard output of the system to `croquet`. It
+//! has no net yet.
 #![tactic(auto)]
 
 mod system;
 #[cfg(test)]
 mod tests;
 
-use crate::system::{Output, SystemFiles, given_words};
+use crate::system::{Output, SystemClock, SystemFiles, given_words};
 use croquet::{croquet, tell_want_of_memory};
 use std::process::ExitCode;
 use tea_base::WantOfMemory;
+use tea_io::{NoNet, OpenGate};
 
 fn main(rt: HostRuntime) -> ExitCode {
     let mut files = SystemFiles::new(&rt);
+    let clock = SystemClock::new(&rt);
+    let net = NoNet::new();
     let mut out = Output::new(&rt);
     let status = match given_words(&rt) {
-        Ok(words) => croquet(rt.alloc(), &words, &mut files, &mut out),
+        Ok(words) => {
+            let (_net, status) = croquet(
+                &rt,
+                rt.alloc(),
+                &words,
+                &mut files,
+                &clock,
+                net,
+                &OpenGate,
+                &mut out,
+            );
+            status
+        }
         Err(WantOfMemory) => tell_want_of_memory(&mut out),
     };
     ExitCode::from(status.number())

@@ -1,14 +1,16 @@
-//! The words, the files and the standard output of the system. They tell no content, only how often they failed.
-ghost use Rattle.std.specs.Prelude.{◌≡◌, ℕ, None, IfOk};
-ghost use Rattle.tea_io.specs.Files.{Untold};
+//! The words, the files, the clock and the standard output of the system. They tell no content, only how often they failed.
+ghost use Rattle.std.specs.Prelude.{◌≡◌, ℕ, ⊤, None, IfOk, IfErr};
+ghost use Rattle.tea_io.specs.declared.files.FileFault.TheVariants.{Failed};
+ghost use Rattle.tea_io.specs.Files.{Untold, FileCause};
 ghost use Rattle.croquet_main.specs.System.{IsCounted, IsWithin};
 
 use std::env::{Env, FillError};
 use std::fs::{File, OpenFile};
 use std::io::{self, ErrorKind, Read, Write};
 use std::rt;
+use std::time::Instant;
 use tea_base::{Blob, Text, TextFault, WantOfMemory, Words};
-use tea_io::{FileFault, Files, Sink, SinkFault};
+use tea_io::{Clock, FileFault, Files, Sink, SinkFault};
 
 /// How many bytes a word may have before more room is made for it.
 const WORD_ROOM: usize = 4096;
@@ -64,6 +66,15 @@ impl<'a, R: rt::Files + AllocGlobal> SystemFiles<'a, R> {
     }
 }
 
+/// Counts a failure.
+fn count_failure(faults: &mut u64) -> FileFault
+    ensures failed { result ≡ Failed }
+    ensures counted { IsCounted faults.old faults.new result }
+{
+    *faults = faults.saturating_add(1);
+    FileFault::Failed
+}
+
 /// Counts a call that failed; one that wanted memory is no failure.
 fn count_fault(faults: &mut u64, error: io::Error) -> FileFault
     ensures { IsCounted faults.old faults.new result }
@@ -71,8 +82,19 @@ fn count_fault(faults: &mut u64, error: io::Error) -> FileFault
     if error.kind() == ErrorKind::OutOfMemory {
         return FileFault::WantOfMemory;
     }
-    *faults = faults.saturating_add(1);
-    FileFault::Failed
+    count_failure(faults)
+}
+
+/// Writes the bytes of a file that was just made empty. Each error is a failure: want of memory would say that the file still
+/// holds what it held.
+fn fill<W: Write + Drop>(mut file: W, bytes: &[u8], faults: &mut u64) -> Result<(), FileFault>
+    ensures failed { IfErr result (λ fault. fault ≡ Failed) }
+    ensures cause { FileCause faults.old faults.new result }
+{
+    match file.write_all(bytes) {
+        Ok(()) => Ok(()),
+        Err(_) => Err(count_failure(faults)),
+    }
 }
 
 /// What a file holds.
@@ -117,8 +139,8 @@ impl<R: rt::Files + AllocGlobal> Files for SystemFiles<'_, R> {
     }
 
     fn write(&mut self, name: &Text, bytes: &[u8]) -> Result<(), FileFault> {
-        match std::fs::write(self.rt, name.as_str(), bytes) {
-            Ok(()) => Ok(()),
+        match File::create(self.rt, name.as_str()) {
+            Ok(file) => fill(file, bytes, &mut self.faults),
             Err(error) => Err(count_fault(&mut self.faults, error)),
         }
     }
@@ -129,14 +151,20 @@ impl<R: rt::Files + AllocGlobal> Files for SystemFiles<'_, R> {
 pub struct Output<'a, R> {
     rt: &'a R,
     faults: u64,
+    wants: u64,
 }
 
 impl<'a, R: Print> Output<'a, R> {
-    /// No write has failed yet.
+    /// No write has failed yet, or wanted memory.
     pub fn new(rt: &'a R) -> Output<'a, R>
-        ensures { result.faults ≡ 0 }
+        ensures faults { result.faults ≡ 0 }
+        ensures wants { result.wants ≡ 0 }
     {
-        Output { rt, faults: 0 }
+        Output {
+            rt,
+            faults: 0,
+            wants: 0,
+        }
     }
 }
 
@@ -145,14 +173,50 @@ impl<R: Print> Sink for Output<'_, R> {
 
     ghost faults = { λ out. out.faults };
 
+    ghost wants = { λ out. out.wants };
+
     fn write(&mut self, bytes: &[u8]) -> Result<(), SinkFault> {
         match io::writer(self.rt).write_all(bytes) {
             Ok(()) => Ok(()),
-            Err(error) if error.kind() == ErrorKind::OutOfMemory => Err(SinkFault::WantOfMemory),
+            Err(error) if error.kind() == ErrorKind::OutOfMemory => {
+                self.wants = self.wants.saturating_add(1);
+                Err(SinkFault::WantOfMemory)
+            }
             Err(_) => {
                 self.faults = self.faults.saturating_add(1);
                 Err(SinkFault::Failed)
             }
+        }
+    }
+}
+
+/// The clock of the system. It counts microseconds from its making, and gives 0 where the system's cannot be read.
+#[derive(Drop)]
+pub struct SystemClock<'a, R> {
+    rt: &'a R,
+    made: Option<Instant>,
+}
+
+impl<'a, R: rt::Clock> SystemClock<'a, R> {
+    /// A clock that counts from now on.
+    pub fn new(rt: &'a R) -> SystemClock<'a, R> {
+        SystemClock {
+            rt,
+            made: Instant::now(rt).ok(),
+        }
+    }
+}
+
+impl<R: rt::Clock> Clock for SystemClock<'_, R> {
+    ghost gives = { λ clock value. ⊤ };
+
+    fn now(&self) -> u64 {
+        match (self.made, Instant::now(self.rt)) {
+            (Some(made), Ok(now)) => {
+                let since = now.saturating_duration_since(made).as_micros();
+                u64::try_from(since).unwrap_or(u64::MAX)
+            }
+            _ => 0,
         }
     }
 }

@@ -1,8 +1,9 @@
-//! What the system's files and words answer.
-use crate::system::{SystemFiles, given_words};
+//! What the system's files, words and clock answer.
+use crate::system::{SystemClock, SystemFiles, given_words};
+use std::fs;
 use std::test::Fail;
 use tea_base::Text;
-use tea_io::{FileFault, Files};
+use tea_io::{Clock, FileFault, Files};
 
 #[test]
 fn the_system_answers(rt: HostRuntime) -> Result<(), Fail> {
@@ -29,12 +30,24 @@ fn the_system_answers(rt: HostRuntime) -> Result<(), Fail> {
 fn what_is_written_is_read(rt: HostRuntime) -> Result<(), Fail> {
     let alloc = rt.alloc();
     let mut files = SystemFiles::new(&rt);
-    let name = Text::copy(alloc, "/tmp/croquet-what-is-written-is-read")?;
+    let path = "/tmp/croquet-what-is-written-is-read";
+    let name = Text::copy(alloc, path)?;
     // The second time it is shorter.
     for bytes in [b"first\n\x00\xff".as_slice(), b"last"] {
         assert_eq!(rt; files.write(&name, bytes), Ok(()));
         let read = files.read(&name, 8).map_err(|_| "not read")?;
         assert!(rt; read.is_bytes(bytes));
     }
+    // Left behind, it would keep another user's run from writing it.
+    fs::remove_file(&rt, path)?;
+    Ok(())
+}
+
+#[test]
+fn the_clock_does_not_go_back(rt: HostRuntime) -> Result<(), Fail> {
+    let clock = SystemClock::new(&rt);
+    let first = clock.now();
+    let second = clock.now();
+    assert!(rt; first <= second);
     Ok(())
 }

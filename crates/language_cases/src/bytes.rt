@@ -36,14 +36,16 @@ fn tell_spelling(
 fn value_text(alloc: Global, digits: &[u8]) -> Result<String, ValueFault> {
     let bytes = bytes_of(alloc, digits)?;
     let value = decode(alloc, bytes.bytes())?;
-    let mut out = spelled(alloc, &value)?;
-    write!(out, " weight {} depth {}", weight(&value), depth(&value))?;
-    tell_spelling(
-        alloc,
-        &mut out,
-        bytes.bytes(),
-        encode(alloc, &value)?.bytes(),
-    )?;
+    Ok(value_line(alloc, &value, bytes.bytes())?)
+}
+
+/// The same of a value that these bytes spell.
+fn value_line(alloc: Global, value: &Value, bytes: &[u8]) -> Result<String, WantOfMemory>
+    requires { InBounds (plain value.now) }
+{
+    let mut out = spelled(alloc, value)?;
+    write!(out, " weight {} depth {}", weight(value), depth(value))?;
+    tell_spelling(alloc, &mut out, bytes, encode(alloc, value)?.bytes())?;
     Ok(out)
 }
 
@@ -65,15 +67,26 @@ fn written(alloc: Global, scope: &Text, event: &Text, value: &Value) -> Result<B
 }
 
 /// A scope, an event and a value.
-fn payload_text(alloc: Global, digits: &[u8]) -> Result<String, ValueFault> {
-    let bytes = bytes_of(alloc, digits)?;
-    let (scope, event, value) = read_payload(alloc, bytes.bytes())?;
+fn payload_line(
+    alloc: Global,
+    scope: &Text,
+    event: &Text,
+    value: &Value,
+) -> Result<String, WantOfMemory> {
     let mut out = String::new(alloc);
     write_text(&mut out, scope.as_str())?;
     out.push(' ')?;
     write_text(&mut out, event.as_str())?;
     out.push(' ')?;
-    write_value(&mut out, &value)?;
+    write_value(&mut out, value)?;
+    Ok(out)
+}
+
+/// The same of bytes in hexadecimal digits.
+fn payload_text(alloc: Global, digits: &[u8]) -> Result<String, ValueFault> {
+    let bytes = bytes_of(alloc, digits)?;
+    let (scope, event, value) = read_payload(alloc, bytes.bytes())?;
+    let mut out = payload_line(alloc, &scope, &event, &value)?;
     let written = written(alloc, &scope, &event, &value)?;
     tell_spelling(alloc, &mut out, bytes.bytes(), written.bytes())?;
     Ok(out)

@@ -3,12 +3,13 @@ use crate::opening::opened;
 use crate::spelling::spelled;
 use crate::stopped::Stopped;
 use crate::world_text::write_world;
+use byte_fields::Writer;
 use model_check::{Checked, check};
-use model_eval::{Budget, State, run_method};
+use model_eval::{Budget, Call, State, run_method};
 use model_lang::parse;
 use model_value::Value;
 use std::alloc::Global;
-use tea_base::{Blob, List, Text, WantOfMemory, Writer};
+use tea_base::{Blob, List, Text, WantOfMemory};
 
 /// What stands before an expression in its program.
 const BEFORE: &[u8] = b"class Root{field f;m(){return ";
@@ -30,8 +31,12 @@ fn run(
     budget: &mut Budget,
 ) -> Result<Value, Stopped> {
     let name = Text::copy(alloc, "m")?;
-    let args = List::new(alloc);
-    Ok(run_method(alloc, program, state, 1, &name, args, budget)?)
+    let call = Call {
+        object: 1,
+        method: &name,
+        args: List::new(alloc),
+    };
+    Ok(run_method(alloc, program, call, state, budget)?)
 }
 
 /// The text of an outcome: that of the value, or the name of the fault.

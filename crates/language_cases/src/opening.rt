@@ -3,11 +3,12 @@ use crate::stopped::Stopped;
 use message_queue::Queue;
 use model_check::Checked;
 use model_eval::State;
-use model_value::{MOST_WORLD_WEIGHT, Value, Values, object_fits};
+use model_value::{Value, Values};
 use object_store::Store;
 use pubsub::Topics;
 use std::alloc::Global;
 use tea_base::{List, SessionId, WantOfMemory};
+use world_plain::{MOST_WORLD_WEIGHT, object_fits};
 
 /// The session of the world.
 const SESSION: SessionId = SessionId([

@@ -2,9 +2,9 @@
 use crate::spelling::{write_text, write_value, write_values};
 use model_check::Checked;
 use model_eval::State;
-use model_value::{Known, Message, Outgoing, Subscription};
 use object_store::Object;
 use tea_base::WantOfMemory;
+use world_plain::{Known, Message, Outgoing, Subscription};
 
 /// Writes a world: the next numbers, and then each object, known name, subscription, message to come and published event.
 /// `; ` stands before each part.

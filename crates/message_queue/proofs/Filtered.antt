@@ -1,10 +1,10 @@
 -- Messages fewer: the order, the numbers, counts and weights.
 use Rattle.std.proofs.Common.{ℕ, ◌+◌, ◌≤◌, Bool, true, false, cond, List, [], ◌∷◌, length, arith}
 use Rattle.std.specs.List.{filter}
-use Rattle.model_value.specs.World.{total}
-use Rattle.model_value.specs.Messages.{PlainMessage}
-use Rattle.model_value.specs.Valid.{PrecedesAll, AreInOrder, IsUnused, NumbersDiffer}
-use Rattle.message_queue.specs.Queue.{QueueRecord, IsQueue, AllLight, NumbersBelow}
+use Rattle.world_plain.specs.World.{total_weight}
+use Rattle.world_plain.specs.Messages.{PlainMessage}
+use Rattle.world_plain.specs.Valid.{PrecedesAll, AreInOrder, IsUnused, NumbersDiffer}
+use Rattle.message_queue.specs.Queue.{QueueRecord, IsQueue, AreLightMessages, NumbersBelow}
 
 either : {A : Type 0} (P : A → Type 0) (b : Bool) (x y : A) → P x → P y → P (cond b x y)
 either P true x y h g = h
@@ -50,14 +50,14 @@ NumbersBelow-filtered keeps next = filter-all (NumbersBelow next) keeps tt (λ m
 
 -- ---- counts and weights
 
-pub AllLight-filtered : (keeps : PlainMessage → Bool) (ms : List PlainMessage) → AllLight ms → AllLight (filter keeps ms)
-AllLight-filtered keeps = filter-all AllLight keeps tt (λ m ms h. h.1) (λ m ms ns h g. (h.0, g))
+pub AllLight-filtered : (keeps : PlainMessage → Bool) (ms : List PlainMessage) → AreLightMessages ms → AreLightMessages (filter keeps ms)
+AllLight-filtered keeps = filter-all AreLightMessages keeps tt (λ m ms h. h.1) (λ m ms ns h g. (h.0, g))
 
-pub total-filtered : {A : Type 0} (weighs : A → ℕ) (keeps : A → Bool) (xs : List A) → total weighs (filter keeps xs) ≤ total weighs xs
+pub total-filtered : {A : Type 0} (weighs : A → ℕ) (keeps : A → Bool) (xs : List A) → total_weight weighs (filter keeps xs) ≤ total_weight weighs xs
 total-filtered weighs keeps [] = omega arith
 total-filtered weighs keeps (x ∷ xs) =
-    let fewer : total weighs (filter keeps xs) ≤ total weighs xs = total-filtered weighs keeps xs in
-    either (λ l. total weighs l ≤ weighs x + total weighs xs) (keeps x) (x ∷ filter keeps xs) (filter keeps xs) (omega arith) (omega arith)
+    let fewer : total_weight weighs (filter keeps xs) ≤ total_weight weighs xs = total-filtered weighs keeps xs in
+    either (λ l. total_weight weighs l ≤ weighs x + total_weight weighs xs) (keeps x) (x ∷ filter keeps xs) (filter keeps xs) (omega arith) (omega arith)
 
 pub length-filtered : {A : Type 0} (keeps : A → Bool) (xs : List A) → length (filter keeps xs) ≤ length xs
 length-filtered keeps [] = omega arith

@@ -1,17 +1,18 @@
 -- Texts compared, lists with a message more or fewer, and the bounds of weights.
-use Rattle.std.proofs.Common.{◌≡◌, ℕ, zero, suc, ◌+◌, ◌*◌, ◌<◌, ◌≤◌, ◌↔◌, Bool, true, false, cond, List, [], ◌∷◌, ◌++◌, length, get_or, remove, refl, sym, ap, ◌∙◌, append_assoc, arith, drop, IsTrue}
+use Rattle.std.proofs.Common.{◌≡◌, ℕ, zero, suc, ◌+◌, ◌*◌, ◌<◌, ◌≤◌, ◌↔◌, Bool, true, false, cond, List, [], ◌∷◌, length, get_or, remove, refl, sym, ap, ◌∙◌, append_assoc, arith, drop, IsTrue}
 use Rattle.std.specs.List.{filter}
 use Rattle.std.specs.Str.{bytes_eq}
 use Rattle.std.specs.Cmp.Lexicographic.{bytes_decides}
-use Rattle.std.proofs.lemmas.List.{length-map, length-append, map-append}
+use Rattle.std.proofs.lemmas.List.{length-map, map-append}
 use Rattle.model_value.specs.Plain.{weight}
-use Rattle.model_value.specs.Messages.{PlainMessage, plain_message}
-use Rattle.model_value.specs.Valid.{IsUnused, most_pending}
-use Rattle.model_value.specs.declared.message.Message.{Message}
+use Rattle.world_plain.specs.Messages.{PlainMessage, plain_message}
+use Rattle.world_plain.specs.Valid.{IsUnused, most_pending}
+use Rattle.world_plain.specs.declared.message.Message.{Message}
 use Rattle.model_value.specs.declared.value.Value.{Value}
-use Rattle.model_value.specs.World.{values_weight, message_weight, total}
+use Rattle.model_value.specs.Plain.{values_weight}
+use Rattle.world_plain.specs.World.{message_weight, total_weight}
 use Rattle.model_value.specs.View.{plain, plain_values}
-use Rattle.message_queue.specs.Queue.{IsQueue, IsLight, AllLight, inserted}
+use Rattle.message_queue.specs.Queue.{IsQueue, IsLightMessage, AreLightMessages, inserted}
 use Rattle.message_queue.specs.View.{messages_seen}
 use Rattle.message_queue.proofs.Filtered.{IsQueue-filtered}
 use Rattle.message_queue.proofs.Order.{IsQueue-inserted}
@@ -43,7 +44,7 @@ pub with_one : (ms new : List PlainMessage) (m : PlainMessage) (next more : ℕ)
     → m.number < more
     → next ≤ more
     → length ms < most_pending
-    → IsLight m
+    → IsLightMessage m
     → IsQueue (record { messages = new; next = more })
 with_one ms new m next more q is unused below later few light =
     rw is (IsQueue-inserted m (record { messages = ms; next = next }) more q unused below later few light)
@@ -80,16 +81,16 @@ value_at [] i d h = absurd (omega arith)
 value_at (v ∷ vs) zero d h = omega arith
 value_at (v ∷ vs) (suc i) d h = value_at vs i d (omega arith)
 
-pub message_at : (ms : List Message) (i : ℕ) (d : Message) → i < length ms → message_weight (plain_message (get_or ms i d)) ≤ total message_weight (messages_seen (drop i ms))
+pub message_at : (ms : List Message) (i : ℕ) (d : Message) → i < length ms → message_weight (plain_message (get_or ms i d)) ≤ total_weight message_weight (messages_seen (drop i ms))
 message_at [] i d h = absurd (omega arith)
 message_at (m ∷ ms) zero d h = omega arith
 message_at (m ∷ ms) (suc i) d h = message_at ms i d (omega arith)
 
-total_bound : (ms : List PlainMessage) → AllLight ms → total message_weight ms ≤ length ms * 131072
+total_bound : (ms : List PlainMessage) → AreLightMessages ms → total_weight message_weight ms ≤ length ms * 131072
 total_bound [] h = omega arith
 total_bound (m ∷ ms) h = omega (arith, h.0, total_bound ms h.1)
 
-pub light_at : (ms : List Message) (i : ℕ) (d : Message) → i < length ms → AllLight (messages_seen (drop i ms)) → IsLight (plain_message (get_or ms i d))
+pub light_at : (ms : List Message) (i : ℕ) (d : Message) → i < length ms → AreLightMessages (messages_seen (drop i ms)) → IsLightMessage (plain_message (get_or ms i d))
 light_at [] i d inside h = absurd (omega arith)
 light_at (m ∷ ms) zero d inside h = h.0
 light_at (m ∷ ms) (suc i) d inside h = light_at ms i d (omega arith) h
@@ -98,8 +99,8 @@ light_at (m ∷ ms) (suc i) d inside h = light_at ms i d (omega arith) h
 pub sum_bound : (ms : List Message) (i sum : ℕ) (d m : Message)
     → i < length ms
     → m ≡ get_or ms i d
-    → sum + total message_weight (messages_seen (drop i ms)) ≡ total message_weight (messages_seen ms)
-    → AllLight (messages_seen ms)
+    → sum + total_weight message_weight (messages_seen (drop i ms)) ≡ total_weight message_weight (messages_seen ms)
+    → AreLightMessages (messages_seen ms)
     → length ms ≤ most_pending
     → sum + message_weight (plain_message m) ≤ 2147483648
 sum_bound ms i sum d m inside is so_far light few =

@@ -2,10 +2,12 @@
 use Rattle.std.proofs.Common.{◌≡◌, ℕ, ◌+◌, ◌*◌, ◌≤◌, ◌<◌, inl, inr, Bool, true, false, ◌&&◌, ◌||◌, List, [], ◌∷◌, length, nat_eq, nat_lt, refl, sym, ◌∙◌, arith, if◌then◌else◌}
 use Rattle.std.proofs.lemmas.Bool.{ltb-true, ltb-false, eqb-true, eqb-false}
 use Rattle.model_value.specs.Plain.{PlainValue}
-use Rattle.model_value.specs.World.{values_weight, total}
-use Rattle.model_value.specs.Messages.{PlainMessage}
-use Rattle.model_value.specs.Valid.{AllInBounds, TextFits, Precedes, PrecedesAll, AreInOrder, IsUnused, NumbersDiffer, most_parameters, most_pending}
-use Rattle.message_queue.specs.Queue.{QueueRecord, IsQueue, precedes, inserted, IsLight, AllLight, NumbersBelow}
+use Rattle.model_value.specs.Plain.{values_weight}
+use Rattle.world_plain.specs.World.{total_weight}
+use Rattle.world_plain.specs.Messages.{PlainMessage}
+use Rattle.model_value.specs.Plain.{AllInBounds, TextFits}
+use Rattle.world_plain.specs.Valid.{Precedes, PrecedesAll, AreInOrder, IsUnused, NumbersDiffer, most_parameters, most_pending}
+use Rattle.message_queue.specs.Queue.{QueueRecord, IsQueue, precedes, inserted, IsLightMessage, AreLightMessages, NumbersBelow}
 
 -- what holds in each branch, by its test, holds of a test
 pub if_either : {A : Type 0} (P : A → Type 0) (b : Bool) (x y : A) → (b ≡ true → P x) → (b ≡ false → P y) → P (if b then x else y)
@@ -91,27 +93,27 @@ length-inserted m [] = refl
 length-inserted m (n ∷ ns) =
     if_either (λ l. length l ≡ length (n ∷ ns) + 1) (precedes m n) (m ∷ n ∷ ns) (n ∷ inserted m ns) (λ _. omega arith) (λ _. omega (arith, length-inserted m ns))
 
-pub total-inserted : (weighs : PlainMessage → ℕ) (m : PlainMessage) (ns : List PlainMessage) → total weighs (inserted m ns) ≡ weighs m + total weighs ns
+pub total-inserted : (weighs : PlainMessage → ℕ) (m : PlainMessage) (ns : List PlainMessage) → total_weight weighs (inserted m ns) ≡ weighs m + total_weight weighs ns
 total-inserted weighs m [] = refl
 total-inserted weighs m (n ∷ ns) =
-    if_either (λ l. total weighs l ≡ weighs m + total weighs (n ∷ ns)) (precedes m n) (m ∷ n ∷ ns) (n ∷ inserted m ns) (λ _. refl) (λ _. omega (arith, total-inserted weighs m ns))
+    if_either (λ l. total_weight weighs l ≡ weighs m + total_weight weighs (n ∷ ns)) (precedes m n) (m ∷ n ∷ ns) (n ∷ inserted m ns) (λ _. refl) (λ _. omega (arith, total-inserted weighs m ns))
 
-pub AllLight-inserted : (m : PlainMessage) (ns : List PlainMessage) → IsLight m → AllLight ns → AllLight (inserted m ns)
-AllLight-inserted m ns h = inserted-all AllLight m (λ ns g. (h, g)) (λ n ns g. g.1) (λ n ns os g f. (g.0, f)) ns
+pub AllLight-inserted : (m : PlainMessage) (ns : List PlainMessage) → IsLightMessage m → AreLightMessages ns → AreLightMessages (inserted m ns)
+AllLight-inserted m ns h = inserted-all AreLightMessages m (λ ns g. (h, g)) (λ n ns g. g.1) (λ n ns os g f. (g.0, f)) ns
 
 values_bound : (vs : List PlainValue) → AllInBounds vs → values_weight vs ≤ length vs * 4096
 values_bound [] h = omega arith
 values_bound (v ∷ vs) h = omega (arith, h.0.0, values_bound vs h.1)
 
 -- a name that fits, and as many arguments as a method may have, each in bounds, weigh no more than a world may
-pub IsLight-fits : (m : PlainMessage) → TextFits m.method → length m.args ≤ most_parameters → AllInBounds m.args → IsLight m
+pub IsLight-fits : (m : PlainMessage) → TextFits m.method → length m.args ≤ most_parameters → AllInBounds m.args → IsLightMessage m
 IsLight-fits m name few bounds = omega (arith, name, few, values_bound m.args bounds)
 
 -- ---- queues
 
 -- a message more of a number that no other has, below the next one from then on
 pub IsQueue-inserted : (m : PlainMessage) (q : QueueRecord) (next : ℕ) → IsQueue q → IsUnused m.number q.messages → m.number < next → q.next ≤ next
-    → length q.messages < most_pending → IsLight m → IsQueue (record { messages = inserted m q.messages; next = next })
+    → length q.messages < most_pending → IsLightMessage m → IsQueue (record { messages = inserted m q.messages; next = next })
 IsQueue-inserted m q next h unused below later few light = record {
   order = AreInOrder-inserted m q.messages unused h.order;
   differ = NumbersDiffer-inserted m q.messages unused h.differ;

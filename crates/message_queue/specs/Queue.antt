@@ -4,11 +4,11 @@ use Rattle.std.specs.List.{filter}
 use Rattle.std.specs.Str.{bytes_eq}
 use Rattle.std.specs.Coded.{Coded, code_by, coded×, coded_ℕ, coded_list}
 use Rattle.model_value.specs.Plain.{PlainValue}
-use Rattle.model_value.specs.Messages.{PlainMessage, coded_message}
-use Rattle.model_value.specs.Valid.{AreInOrder, NumbersDiffer, most_pending}
-use Rattle.model_value.specs.World.{message_weight, most_world_weight}
-use Rattle.message_queue.specs.declared.refusal.QueueRefusal.{QueueRefusal}
-use Rattle.message_queue.specs.declared.refusal.QueueRefusal.TheVariants.{Full, Spent, WantOfMemory}
+use Rattle.world_plain.specs.Messages.{PlainMessage, coded_message}
+use Rattle.world_plain.specs.Valid.{AreInOrder, NumbersDiffer, most_pending}
+use Rattle.world_plain.specs.World.{message_weight, most_world_weight}
+use Rattle.world_plain.specs.declared.refusal.StoreRefusal.{StoreRefusal}
+use Rattle.world_plain.specs.declared.refusal.StoreRefusal.TheVariants.{Full, Spent, WantOfMemory}
 
 -- the messages that are held, by rising time and number, and the number that the next one gets
 pub record QueueRecord : Type 0 where
@@ -25,16 +25,16 @@ coded_queue =
     (λ _. refl)
 
 -- the number that no message gets
-abbrev pub last_number : ℕ
-last_number = 2 ^ 64 - 1
+abbrev pub last_message_number : ℕ
+last_message_number = 2 ^ 64 - 1
 
 -- as much as a world may weigh
-abbrev pub IsLight : PlainMessage → Type 0
-IsLight m = message_weight m ≤ most_world_weight
+abbrev pub IsLightMessage : PlainMessage → Type 0
+IsLightMessage m = message_weight m ≤ most_world_weight
 
-abbrev pub AllLight : List PlainMessage → Type 0
-AllLight [] = Unit {0}
-AllLight (m ∷ ms) = IsLight m × AllLight ms
+abbrev pub AreLightMessages : List PlainMessage → Type 0
+AreLightMessages [] = Unit {0}
+AreLightMessages (m ∷ ms) = IsLightMessage m × AreLightMessages ms
 
 -- each number is below this one
 abbrev pub NumbersBelow : ℕ → List PlainMessage → Type 0
@@ -46,11 +46,11 @@ pub record IsQueue (q : QueueRecord) : Type 0 where
   pub order : AreInOrder q.messages
   pub differ : NumbersDiffer q.messages
   pub next : NumbersBelow q.next q.messages
-  pub light : AllLight q.messages
+  pub light : AreLightMessages q.messages
   pub few : length q.messages ≤ most_pending
 
-abbrev pub empty : ℕ → QueueRecord
-empty next = record { messages = []; next = next }
+abbrev pub empty_queue : ℕ → QueueRecord
+empty_queue next = record { messages = []; next = next }
 
 abbrev pub precedes : PlainMessage → PlainMessage → Bool
 precedes m n = nat_lt m.time n.time || (nat_eq m.time n.time && nat_lt m.number n.number)
@@ -61,8 +61,8 @@ inserted m [] = m ∷ []
 inserted m (n ∷ ns) = if precedes m n then m ∷ n ∷ ns else n ∷ inserted m ns
 
 -- a message more
-abbrev pub with_message : PlainMessage → QueueRecord → QueueRecord
-with_message m q = record q { messages = inserted m q.messages }
+abbrev pub queue_with : PlainMessage → QueueRecord → QueueRecord
+queue_with m q = record q { messages = inserted m q.messages }
 
 -- a call of an object's method, which gets the next number
 abbrev pub new_message : ℕ → ℕ → List ℕ → List PlainValue → QueueRecord → PlainMessage
@@ -91,21 +91,21 @@ abbrev pub without_calls : ℕ → List ℕ → QueueRecord → QueueRecord
 without_calls object method q = record q { messages = filter (λ m. not (calls object method m)) q.messages }
 
 -- the messages but those to an object
-abbrev pub without_object : ℕ → QueueRecord → QueueRecord
-without_object object q = record q { messages = filter (λ m. not (nat_eq m.object object)) q.messages }
+abbrev pub without_messages_to : ℕ → QueueRecord → QueueRecord
+without_messages_to object q = record q { messages = filter (λ m. not (nat_eq m.object object)) q.messages }
 
-abbrev pub IsFull : QueueRecord → Type 0
-IsFull q = length q.messages ≡ most_pending
+abbrev pub IsFullQueue : QueueRecord → Type 0
+IsFullQueue q = length q.messages ≡ most_pending
 
 -- neither full nor spent
-abbrev pub HasRoom : QueueRecord → Type 0
-HasRoom q = (length q.messages < most_pending) × (q.next < last_number)
+abbrev pub QueueHasRoom : QueueRecord → Type 0
+QueueHasRoom q = (length q.messages < most_pending) × (q.next < last_message_number)
 
 -- what a push answers, and what it makes of the queue
-abbrev pub Pushes : Result ℕ QueueRefusal → ℕ → ℕ → List ℕ → List PlainValue → QueueRecord → QueueRecord → Type 0
+abbrev pub Pushes : Result ℕ StoreRefusal → ℕ → ℕ → List ℕ → List PlainValue → QueueRecord → QueueRecord → Type 0
 Pushes (Ok number) time object method args old new =
-    HasRoom old × (number ≡ old.next) × (new ≡ pushed time object method args old)
-Pushes (Err (Full count)) time object method args old new = IsFull old × (count ≡ length old.messages) × (new ≡ old)
+    QueueHasRoom old × (number ≡ old.next) × (new ≡ pushed time object method args old)
+Pushes (Err (Full count)) time object method args old new = IsFullQueue old × (count ≡ length old.messages) × (new ≡ old)
 Pushes (Err Spent) time object method args old new =
-    (length old.messages < most_pending) × (old.next ≡ last_number) × (new ≡ old)
-Pushes (Err WantOfMemory) time object method args old new = HasRoom old × (new ≡ old)
+    (length old.messages < most_pending) × (old.next ≡ last_message_number) × (new ≡ old)
+Pushes (Err WantOfMemory) time object method args old new = QueueHasRoom old × (new ≡ old)

@@ -3,7 +3,5 @@
 
 mod pending;
 mod queue;
-mod refusal;
 
-pub use queue::{MOST_MESSAGES, Queue};
-pub use refusal::QueueRefusal;
+pub use queue::Queue;

@@ -1,15 +1,17 @@
 //! Messages in memory, in their order: one more of them, and those that are taken away.
 ghost use Rattle.std.specs.Prelude.{◌≡◌, ◌≤◌, ◌+◌, ◌++◌, ◌∷◌, length, take, drop, not, nat_eq, OnOk, OnErr};
 ghost use Rattle.std.specs.List.{filter};
-ghost use Rattle.model_value.specs.Messages.{plain_message};
+ghost use Rattle.world_plain.specs.Messages.{plain_message};
 ghost use Rattle.model_value.specs.View.{plain_values};
-ghost use Rattle.model_value.specs.Valid.{most_pending};
-ghost use Rattle.model_value.specs.World.{values_weight as weight_of_values, text_weight as weight_of_text, message_weight, total, most_world_weight};
-ghost use Rattle.message_queue.specs.Queue.{AllLight, IsLight, calls, inserted, precedes as is_before};
+ghost use Rattle.world_plain.specs.Valid.{most_pending};
+ghost use Rattle.model_value.specs.Plain.{values_weight as weight_of_values, text_weight as weight_of_text};
+ghost use Rattle.world_plain.specs.World.{message_weight, total_weight, most_world_weight};
+ghost use Rattle.message_queue.specs.Queue.{AreLightMessages, IsLightMessage, calls, inserted, precedes as is_before};
 ghost use Rattle.message_queue.specs.View.{messages_seen};
 
-use model_value::{Message, Value, weight};
+use model_value::{Value, weight};
 use tea_base::{Text, WantOfMemory};
+use world_plain::Message;
 
 /// Whether a message is due before another: at a lower time, or at the same time with a lower number.
 fn precedes(one: &Message, other: &Message) -> bool
@@ -70,9 +72,9 @@ pub fn remove_object(messages: &mut Vec<Message>, object: u32)
 
 /// How much messages weigh together.
 pub fn weight_of(messages: &[Message]) -> u64
-    requires light { AllLight (messages_seen messages.now) }
+    requires light { AreLightMessages (messages_seen messages.now) }
     requires few { length messages.now ≤ most_pending }
-    ensures { result ≡ total message_weight (messages_seen messages.now) }
+    ensures { result ≡ total_weight message_weight (messages_seen messages.now) }
 {
     let mut sum = 0;
     for message in messages {
@@ -83,7 +85,7 @@ pub fn weight_of(messages: &[Message]) -> u64
 
 /// How much a message weighs: 3, its method's name and its arguments.
 fn message_weight_of(message: &Message) -> u64
-    requires { IsLight (plain_message message.now) }
+    requires { IsLightMessage (plain_message message.now) }
     ensures { result ≡ message_weight (plain_message message.now) }
 {
     3 + text_weight(&message.method) + values_weight(message.args.as_slice())

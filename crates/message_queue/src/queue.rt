@@ -1,22 +1,19 @@
 //! The queue of a world's messages.
 ghost use Rattle.std.specs.Prelude.{◌≡◌, ◌<◌, ◌+◌, ◌↔◌, [], length, IsTrue, OnOk, OnErr};
 ghost use Rattle.std.specs.Option.{option_map};
-ghost use Rattle.model_value.specs.Messages.{plain_message};
+ghost use Rattle.world_plain.specs.Messages.{plain_message};
 ghost use Rattle.model_value.specs.View.{plain_values};
-ghost use Rattle.model_value.specs.Valid.{IsUnused, most_pending};
-ghost use Rattle.model_value.specs.World.{message_weight, total};
-ghost use Rattle.message_queue.specs.Queue.{IsLight, IsQueue, TakesLeast, Pushes, empty, least_of, new_message, with_message, without_calls, without_object};
+ghost use Rattle.world_plain.specs.Valid.{IsUnused, most_pending};
+ghost use Rattle.world_plain.specs.World.{message_weight, total_weight};
+ghost use Rattle.message_queue.specs.Queue.{IsLightMessage, IsQueue, TakesLeast, Pushes, empty_queue, least_of, new_message, queue_with, without_calls, without_messages_to};
 ghost use Rattle.message_queue.specs.View.{messages_seen};
 
 use crate::pending::{insert, remove_calls, remove_object, weight_of};
-use crate::refusal::QueueRefusal;
-use model_value::{Message, Values};
+use model_value::Values;
 use std::alloc::Global;
 use std::marker::Model;
 use tea_base::{Text, WantOfMemory};
-
-/// The most messages of a world.
-pub const MOST_MESSAGES: usize = 16384;
+use world_plain::{MOST_MESSAGES, Message, StoreRefusal};
 
 /// The messages to come of a world. Contracts see them as a list by rising time, and at one time by rising number, with
 /// the number that the next message gets.
@@ -45,14 +42,14 @@ impl Model for Queue {
 impl Queue {
     /// The queue of a new world, without messages. The first one gets the number 0. Takes no memory.
     pub fn new(alloc: Global) -> Queue
-        ensures { result ≡ empty 0 }
+        ensures { result ≡ empty_queue 0 }
     {
         Queue::resume(alloc, 0)
     }
 
     /// A queue without messages, whose next message gets this number. Takes no memory.
     pub fn resume(alloc: Global, next: u64) -> Queue
-        ensures { result ≡ empty next }
+        ensures { result ≡ empty_queue next }
     {
         Queue {
             messages: Vec::new(alloc),
@@ -69,8 +66,8 @@ impl Queue {
         requires below { (plain_message m).number < self.old.next }
         requires unused { IsUnused (plain_message m).number self.old.messages }
         requires few { length self.old.messages < most_pending }
-        requires light { IsLight (plain_message m) }
-        ensures ok { OnOk result (self.new ≡ with_message (plain_message m) self.old) }
+        requires light { IsLightMessage (plain_message m) }
+        ensures ok { OnOk result (self.new ≡ queue_with (plain_message m) self.old) }
         ensures err { OnErr result (self.new ≡ self.old) }
     {
         insert(&mut self.messages, m)?;
@@ -91,17 +88,17 @@ impl Queue {
         object: u32,
         method: Text,
         args: Values,
-    ) -> Result<u64, QueueRefusal>
-        requires { IsLight (new_message time object method (plain_values args) self.old) }
+    ) -> Result<u64, StoreRefusal>
+        requires { IsLightMessage (new_message time object method (plain_values args) self.old) }
         ensures { Pushes result time object method (plain_values args) self.old self.new }
     {
         if self.messages.len() == MOST_MESSAGES {
-            return Err(QueueRefusal::Full {
+            return Err(StoreRefusal::Full {
                 count: MOST_MESSAGES as u32,
             });
         }
         if self.next == u64::MAX {
-            return Err(QueueRefusal::Spent);
+            return Err(StoreRefusal::Spent);
         }
         let number = self.next;
         let message = Message {
@@ -180,7 +177,7 @@ impl Queue {
     /// Takes away all messages to an object, and gives their number. Takes no memory.
     pub fn drop_object(&mut self, object: u32) -> u32
         ensures number { result + length self.new.messages ≡ length self.old.messages }
-        ensures queue { self.new ≡ without_object object self.old }
+        ensures queue { self.new ≡ without_messages_to object self.old }
     {
         let before = self.messages.len();
         remove_object(&mut self.messages, object);
@@ -192,7 +189,7 @@ impl Queue {
     /// In each queue each message precedes all behind it, numbers differ and are below the next one, at most 16,384
     /// messages are held, and each weighs at most 131,072.
     pub fn weight(&self) -> u64
-        ensures weight { result ≡ total message_weight self.now.messages }
+        ensures weight { result ≡ total_weight message_weight self.now.messages }
         ensures queue { IsQueue self.now }
     {
         weight_of(&self.messages)

@@ -10,13 +10,13 @@ use Rattle.model_value.specs.declared.value.Value.{Value}
 use Rattle.model_value.proofs.ValueCodec.{InBounds-is_in_bounds}
 use Rattle.model_value.proofs.Spellings.{length-le_weight, encode_utf8_all-le_weight}
 use Rattle.model_builtin.specs.declared.builtin.Pure.{Pure}
-use Rattle.model_builtin.specs.Builtins.{Reply, value, bad_kind, bad_index, too_large, sized, given, applied}
+use Rattle.model_builtin.specs.Builtins.{BuiltinReply, value, bad_kind, bad_index, too_large, sized, builtin_gives, applied}
 
 if_value : (b : Bool) (v w : PlainValue) → cond b (value v) too_large ≡ value w → (b ≡ true) × (v ≡ w)
 if_value true v w e = (refl, cc)
 if_value false v w e = absurd cc
 
-sized-in_bounds : (reply : Reply) (v : PlainValue) → sized reply ≡ value v → InBounds v
+sized-in_bounds : (reply : BuiltinReply) (v : PlainValue) → sized reply ≡ value v → InBounds v
 sized-in_bounds (value w) v e = let is = if_value (is_in_bounds w) w v e in subst InBounds is.1 (InBounds-is_in_bounds w is.0)
 sized-in_bounds bad_kind v e = absurd cc
 sized-in_bounds bad_index v e = absurd cc
@@ -24,7 +24,7 @@ sized-in_bounds too_large v e = absurd cc
 
 -- what a builtin gives is in bounds
 pub applied-in_bounds : (f : Pure) (args : List PlainValue) (v : PlainValue) → applied f args ≡ value v → InBounds v
-applied-in_bounds f args v e = sized-in_bounds (given f args) v e
+applied-in_bounds f args v e = sized-in_bounds (builtin_gives f args) v e
 
 -- a text in bounds has fewer than 2^16 characters, and a list fewer than 2^12 items
 pub length-le_text : (characters : List ℕ) → InBounds (text characters) → length characters ≤ 65536

@@ -10,7 +10,7 @@ use Rattle.model_value.specs.declared.value.Value.{Value}
 use Rattle.model_value.specs.declared.value.Value.TheVariants.{Int, Text, List as Items}
 use Rattle.model_value.proofs.Items.{items_of-plains_of}
 use Rattle.model_value.proofs.Plains.{plain-Int, plain-Text, plain-List}
-use Rattle.model_builtin.specs.Builtins.{Reply, value, bad_index, found, item_at, with_item, part, listed, at, put, push, slice, concat}
+use Rattle.model_builtin.specs.Builtins.{BuiltinReply, value, bad_index, found, item_at, with_item, part_between, listed, at, put, push, slice, concat}
 
 -- ---- values of a kind
 
@@ -20,7 +20,7 @@ is_list v items e = sym (ap plain e ∙ plain-List items)
 pub is_int : (v : Value) (n : ℤ) → v ≡ Int n → int n ≡ plain v
 is_int v n e = sym (ap plain e ∙ plain-Int n)
 
-of_two : (f : PlainValue → PlainValue → Reply) (a b c d : PlainValue) → a ≡ c → b ≡ d → f a b ≡ f c d
+of_two : (f : PlainValue → PlainValue → BuiltinReply) (a b c d : PlainValue) → a ≡ c → b ≡ d → f a b ≡ f c d
 of_two f a b c d e g = cc
 
 -- ---- rows of lists
@@ -42,12 +42,12 @@ put_list x place v items xs i n e f g h =
     ∙ of_two (λ a b. put a b v) (list (plains items.items)) (int i) (plain x) (plain place) (is_list x items e) (is_int place i f)
 
 pub slice_list : (x from to : Value) (items : Vec Value Global) (xs : List Value) (i j m n : ℤ) → x ≡ Items items → from ≡ Int i → to ≡ Int j → xs ≡ items.items → m ≡ i → n ≡ j
-    → found listed (part (plain_values xs) m n) ≡ slice (plain x) (plain from) (plain to)
+    → found listed (part_between (plain_values xs) m n) ≡ slice (plain x) (plain from) (plain to)
 slice_list x from to items xs i j m n e f g h k l =
-    ap (λ (a : ℤ). found listed (part (plain_values xs) a n)) k
-    ∙ ap (λ (b : ℤ). found listed (part (plain_values xs) i b)) l
-    ∙ ap (λ (ys : List Value). found listed (part (plain_values ys) i j)) h
-    ∙ ap (λ (ys : List PlainValue). found listed (part ys i j)) (sym (items_of-plains_of (plain_values items.items)))
+    ap (λ (a : ℤ). found listed (part_between (plain_values xs) a n)) k
+    ∙ ap (λ (b : ℤ). found listed (part_between (plain_values xs) i b)) l
+    ∙ ap (λ (ys : List Value). found listed (part_between (plain_values ys) i j)) h
+    ∙ ap (λ (ys : List PlainValue). found listed (part_between ys i j)) (sym (items_of-plains_of (plain_values items.items)))
     ∙ of_two (λ a b. slice a b (int j)) (list (plains items.items)) (int i) (plain x) (plain from) (is_list x items e) (is_int from i f)
     ∙ ap (λ (b : PlainValue). slice (plain x) (plain from) b) (is_int to j g)
 
@@ -78,14 +78,14 @@ both_hold true b e f = f
 both_hold false b e f = absurd cc
 
 pub part_given : (items : List Value) (from to : ℤ) (i j : ℕ) (new : Vec Value Global) → from ≡ pos i → to ≡ pos j → i ≤ j → j ≤ length items → plain_values new.items ≡ plain_values (slice_range items i j)
-    → found listed (part (plain_values items) from to) ≡ value (plain (Items new))
+    → found listed (part_between (plain_values items) from to) ≡ value (plain (Items new))
 part_given items from to i j new e f le ge same =
     let xs = plain_values items in
     let inside : j ≤ length (map plain items) = omega (arith, length-map items plain) in
     let holds = both_hold (leb i j) (leb j (length (map plain items))) (le-leb i j le) (le-leb j (length (map plain items)) inside) in
     let cut : slice_range (map plain items) i j ≡ map plain (slice_range items i j) = ap (take (j - i)) (drop-map plain i items) ∙ take-map plain (j - i) (drop i items) in
-    ap (λ (n : ℤ). found listed (part (map plain items) n to)) e
-    ∙ ap (λ (n : ℤ). found listed (part (map plain items) (pos i) n)) f
+    ap (λ (n : ℤ). found listed (part_between (map plain items) n to)) e
+    ∙ ap (λ (n : ℤ). found listed (part_between (map plain items) (pos i) n)) f
     ∙ passed listed (leb i j && leb j (length (map plain items))) (slice_range (map plain items) i j) holds
     ∙ ap (λ (ys : List PlainValue). value (listed ys)) (cut ∙ sym same)
     ∙ ap value (sym (plain-List new))

@@ -4,10 +4,10 @@ use Rattle.model_value.specs.View.{plain}
 use Rattle.model_value.specs.declared.value.Value.{Value}
 use Rattle.model_builtin.specs.declared.fault.BuiltinStop.{BuiltinStop}
 use Rattle.model_builtin.specs.declared.fault.BuiltinStop.TheVariants as stop
-use Rattle.model_builtin.specs.Builtins.{Reply, value, bad_kind, bad_index, too_large}
+use Rattle.model_builtin.specs.Builtins.{BuiltinReply, value, bad_kind, bad_index, too_large}
 
 -- the answer is what was given, unless memory ran out
-abbrev pub Applies : Result Value BuiltinStop → Reply → Type 0
+abbrev pub Applies : Result Value BuiltinStop → BuiltinReply → Type 0
 Applies (Ok v) reply = reply ≡ value (plain v)
 Applies (Err stop.BadKind) reply = reply ≡ bad_kind
 Applies (Err stop.BadIndex) reply = reply ≡ bad_index

@@ -12,11 +12,11 @@ use Rattle.model_builtin.specs.declared.builtin.Pure.{Pure}
 use Rattle.model_builtin.specs.declared.builtin.Pure.TheVariants as row
 
 -- what a builtin gives: a value, or why there is none
-pub data Reply : Type 0 where
-  value : PlainValue → Reply
-  bad_kind : Reply
-  bad_index : Reply
-  too_large : Reply
+pub data BuiltinReply : Type 0 where
+  value : PlainValue → BuiltinReply
+  bad_kind : BuiltinReply
+  bad_index : BuiltinReply
+  too_large : BuiltinReply
 
 -- ---- parts of a list
 
@@ -31,13 +31,13 @@ with_item xs (pos i) x = if nat_lt i (length xs) then Some (slice_set xs i x) el
 with_item xs (negsuc _) x = None
 
 -- the part from i to before j, where 0 <= i <= j <= length
-abbrev pub part : {A : Type 0} → List A → ℤ → ℤ → Option (List A)
-part xs (pos i) (pos j) = if nat_le i j && nat_le j (length xs) then Some (slice_range xs i j) else None
-part xs (pos i) (negsuc _) = None
-part xs (negsuc _) j = None
+abbrev pub part_between : {A : Type 0} → List A → ℤ → ℤ → Option (List A)
+part_between xs (pos i) (pos j) = if nat_le i j && nat_le j (length xs) then Some (slice_range xs i j) else None
+part_between xs (pos i) (negsuc _) = None
+part_between xs (negsuc _) j = None
 
 -- the value made of a part, if there is one
-abbrev pub found : {A : Type 0} → (A → PlainValue) → Option A → Reply
+abbrev pub found : {A : Type 0} → (A → PlainValue) → Option A → BuiltinReply
 found make (Some x) = value (make x)
 found make None = bad_index
 
@@ -51,8 +51,8 @@ abbrev pub if_spelled : ℤ → List ℕ → Option ℤ
 if_spelled n characters = if in_64_bits n && bytes_eq (signed_decimal n) characters then Some n else None
 
 -- the number that a sign and digits write, where it is itself spelled so: without other zeros or signs
-abbrev pub number_of : List ℕ → Option ℤ
-number_of characters = if_spelled (signed_digits_value 10 characters) characters
+abbrev pub decimal_read : List ℕ → Option ℤ
+decimal_read characters = if_spelled (signed_digits_value 10 characters) characters
 
 abbrev pub int_or_nil : Option ℤ → PlainValue
 int_or_nil (Some n) = int n
@@ -69,85 +69,85 @@ sign_of Greater = pos 1
 abbrev pub listed : List PlainValue → PlainValue
 listed items = list (plains_of items)
 
-abbrev pub length_of : PlainValue → Reply
+abbrev pub length_of : PlainValue → BuiltinReply
 length_of (text characters) = value (int (pos (length characters)))
 length_of (list items) = value (int (pos (length (items_of items))))
 length_of _ = bad_kind
 
-abbrev pub text_of : PlainValue → Reply
-text_of nil = value (text (codes "nil"))
-text_of (bool true) = value (text (codes "true"))
-text_of (bool false) = value (text (codes "false"))
-text_of (int n) = value (text (signed_decimal n))
-text_of (text characters) = value (text characters)
-text_of _ = bad_kind
+abbrev pub text_of_value : PlainValue → BuiltinReply
+text_of_value nil = value (text (codes "nil"))
+text_of_value (bool true) = value (text (codes "true"))
+text_of_value (bool false) = value (text (codes "false"))
+text_of_value (int n) = value (text (signed_decimal n))
+text_of_value (text characters) = value (text characters)
+text_of_value _ = bad_kind
 
-abbrev pub read_number : PlainValue → Reply
-read_number (text characters) = value (int_or_nil (number_of characters))
+abbrev pub read_number : PlainValue → BuiltinReply
+read_number (text characters) = value (int_or_nil (decimal_read characters))
 read_number _ = bad_kind
 
-abbrev pub at : PlainValue → PlainValue → Reply
+abbrev pub at : PlainValue → PlainValue → BuiltinReply
 at (text characters) (int i) = found (λ c. text (c ∷ [])) (item_at characters i)
 at (list items) (int i) = found (λ x. x) (item_at (items_of items) i)
 at _ _ = bad_kind
 
-abbrev pub push : PlainValue → PlainValue → Reply
+abbrev pub push : PlainValue → PlainValue → BuiltinReply
 push (list items) x = value (listed (items_of items ++ x ∷ []))
 push _ x = bad_kind
 
-abbrev pub concat : PlainValue → PlainValue → Reply
+abbrev pub concat : PlainValue → PlainValue → BuiltinReply
 concat (text a) (text b) = value (text (a ++ b))
 concat (list a) (list b) = value (listed (items_of a ++ items_of b))
 concat _ _ = bad_kind
 
 -- numbers by value, texts by the numbers of their characters
-abbrev pub compare : PlainValue → PlainValue → Reply
+abbrev pub compare : PlainValue → PlainValue → BuiltinReply
 compare (int a) (int b) = value (int (sign_of (int_cmp a b)))
 compare (text a) (text b) = value (int (sign_of (slice_cmp nat_cmp a b)))
 compare _ _ = bad_kind
 
-abbrev pub put : PlainValue → PlainValue → PlainValue → Reply
+abbrev pub put : PlainValue → PlainValue → PlainValue → BuiltinReply
 put (list items) (int i) x = found listed (with_item (items_of items) i x)
 put _ _ x = bad_kind
 
-abbrev pub slice : PlainValue → PlainValue → PlainValue → Reply
-slice (text characters) (int i) (int j) = found text (part characters i j)
-slice (list items) (int i) (int j) = found listed (part (items_of items) i j)
+abbrev pub slice : PlainValue → PlainValue → PlainValue → BuiltinReply
+slice (text characters) (int i) (int j) = found text (part_between characters i j)
+slice (list items) (int i) (int j) = found listed (part_between (items_of items) i j)
 slice _ _ _ = bad_kind
 
 -- ---- all builtins
 
-abbrev pub of_one : Pure → PlainValue → Reply
+abbrev pub of_one : Pure → PlainValue → BuiltinReply
 of_one row.Length = length_of
-of_one row.Text = text_of
+of_one row.Text = text_of_value
 of_one row.Number = read_number
 of_one _ = λ x. bad_kind
 
-abbrev pub of_two : Pure → PlainValue → PlainValue → Reply
+abbrev pub of_two : Pure → PlainValue → PlainValue → BuiltinReply
 of_two row.At = at
 of_two row.Push = push
 of_two row.Concat = concat
 of_two row.Compare = compare
 of_two _ = λ x y. bad_kind
 
-abbrev pub of_three : Pure → PlainValue → PlainValue → PlainValue → Reply
+abbrev pub of_three : Pure → PlainValue → PlainValue → PlainValue → BuiltinReply
 of_three row.Put = put
 of_three row.Slice = slice
 of_three _ = λ x y z. bad_kind
 
 -- only a value in bounds
-abbrev pub sized : Reply → Reply
+abbrev pub sized : BuiltinReply → BuiltinReply
 sized (value v) = if is_in_bounds v then value v else too_large
 sized bad_kind = bad_kind
 sized bad_index = bad_index
 sized too_large = too_large
 
-abbrev pub given : Pure → List PlainValue → Reply
-given f (x ∷ []) = of_one f x
-given f (x ∷ y ∷ []) = of_two f x y
-given f (x ∷ y ∷ z ∷ []) = of_three f x y z
-given f _ = bad_kind
+abbrev pub builtin_gives : Pure → List PlainValue → BuiltinReply
+builtin_gives f (x ∷ []) = of_one f x
+builtin_gives f (x ∷ y ∷ []) = of_two f x y
+builtin_gives f (x ∷ y ∷ z ∷ []) = of_three f x y z
+builtin_gives f _ = bad_kind
 
 -- what a builtin gives of its arguments
-abbrev pub applied : Pure → List PlainValue → Reply
-applied f args = sized (given f args)
+abbrev pub applied : Pure → List PlainValue → BuiltinReply
+applied f args = sized (builtin_gives f args)

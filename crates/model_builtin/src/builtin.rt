@@ -1,7 +1,7 @@
 //! The builtins, by their names and arguments.
 ghost use Rattle.model_value.specs.View.{plain, plain_values};
 ghost use Rattle.model_builtin.specs.Answer.{Applies};
-ghost use Rattle.model_builtin.specs.Builtins.{Reply, value, applied, given, of_one, of_two, of_three, sized};
+ghost use Rattle.model_builtin.specs.Builtins.{BuiltinReply, value, applied, builtin_gives, of_one, of_two, of_three, sized};
 
 use crate::fault::BuiltinStop;
 use crate::numbers::{compare, read_number, text};
@@ -53,7 +53,7 @@ pub fn apply(alloc: Global, f: Pure, args: &Values) -> Result<Value, BuiltinStop
 }
 
 fn give(alloc: Global, f: Pure, args: &[Value]) -> Result<Value, BuiltinStop>
-    ensures { Applies result (given f (plain_values args.now)) }
+    ensures { Applies result (builtin_gives f (plain_values args.now)) }
 {
     match args {
         [x] => give_of_one(alloc, f, x),

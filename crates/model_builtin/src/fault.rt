@@ -1,6 +1,5 @@
 //! Why a builtin gives no value.
 
-use std::alloc::{AllocError, AllocFailed};
 use tea_base::WantOfMemory;
 
 /// Why a builtin gives no value.
@@ -13,28 +12,6 @@ pub enum BuiltinStop {
     /// The value would weigh more than 4,096, or nest lists deeper than 32.
     Size,
     WantOfMemory,
-}
-
-impl From<AllocError> for BuiltinStop {
-    ghost use Rattle.std.specs.Prelude.{◌≡◌};
-    ghost use Rattle.model_builtin.specs.declared.fault.BuiltinStop.TheVariants.{WantOfMemory};
-
-    ghost from_gives = { λ _ r. r ≡ WantOfMemory };
-
-    fn from(_error: AllocError) -> BuiltinStop {
-        BuiltinStop::WantOfMemory
-    }
-}
-
-impl<T: Drop> From<AllocFailed<T>> for BuiltinStop {
-    ghost use Rattle.std.specs.Prelude.{◌≡◌};
-    ghost use Rattle.model_builtin.specs.declared.fault.BuiltinStop.TheVariants.{WantOfMemory};
-
-    ghost from_gives = { λ _ r. r ≡ WantOfMemory };
-
-    fn from(_error: AllocFailed<T>) -> BuiltinStop {
-        BuiltinStop::WantOfMemory
-    }
 }
 
 impl From<WantOfMemory> for BuiltinStop {

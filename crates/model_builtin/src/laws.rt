@@ -2,7 +2,7 @@
 ghost use Rattle.std.specs.Prelude.{◌≡◌, ℕ, ℤ, List, Some, IsTrue};
 ghost use Rattle.std.specs.Fmt.{signed_decimal};
 ghost use Rattle.model_value.specs.Plain.{PlainValue, InBounds};
-ghost use Rattle.model_builtin.specs.Builtins.{value, applied, in_64_bits, number_of};
+ghost use Rattle.model_builtin.specs.Builtins.{value, applied, in_64_bits, decimal_read};
 
 use crate::builtin::Pure;
 
@@ -13,6 +13,6 @@ pub fn values_are_in_bounds()
 
 /// Each number from -2^63 to 2^63 - 1 is read from its decimal spelling, and is read from nothing else.
 pub fn numbers_are_read_as_they_are_spelled()
-    ensures again { (n : ℤ) → IsTrue (in_64_bits n) → number_of (signed_decimal n) ≡ Some n }
-    ensures only { (characters : List ℕ) (n : ℤ) → number_of characters ≡ Some n → IsTrue (in_64_bits n) × (signed_decimal n ≡ characters) }
+    ensures again { (n : ℤ) → IsTrue (in_64_bits n) → decimal_read (signed_decimal n) ≡ Some n }
+    ensures only { (characters : List ℕ) (n : ℤ) → decimal_read characters ≡ Some n → IsTrue (in_64_bits n) × (signed_decimal n ≡ characters) }
 {}

@@ -11,4 +11,3 @@ mod texts;
 pub use builtin::{Pure, apply};
 pub use fault::BuiltinStop;
 pub use laws::{numbers_are_read_as_they_are_spelled, values_are_in_bounds};
-pub use texts::order;

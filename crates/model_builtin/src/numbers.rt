@@ -3,10 +3,10 @@ ghost use Rattle.std.specs.Prelude.{◌≡◌, IfOk, codes};
 ghost use Rattle.std.specs.Fmt.{signed_decimal};
 ghost use Rattle.model_value.specs.View.{plain};
 ghost use Rattle.model_builtin.specs.Answer.{Applies};
-ghost use Rattle.model_builtin.specs.Builtins.{value, text_of, read_number as read_number_of, int_or_nil, number_of, sign_of, compare as compare_of};
+ghost use Rattle.model_builtin.specs.Builtins.{value, text_of_value, read_number as read_number_of, int_or_nil, decimal_read, sign_of, compare as compare_of};
 
 use crate::fault::BuiltinStop;
-use crate::texts::{characters, order};
+use crate::texts::characters;
 use model_value::Value;
 use std::alloc::Global;
 use std::cmp::Ordering;
@@ -14,14 +14,14 @@ use tea_base::{Text, WantOfMemory};
 
 /// The value as a text: a number in decimal, `nil`, `true` and `false` as these words, and a text as it is.
 pub fn text(alloc: Global, x: &Value) -> Result<Value, BuiltinStop>
-    ensures { Applies result (text_of (plain x.now)) }
+    ensures { Applies result (text_of_value (plain x.now)) }
 {
     match x {
         Value::Nil => Ok(Value::Text(Text::copy(alloc, "nil")?)),
         Value::Bool(true) => Ok(Value::Text(Text::copy(alloc, "true")?)),
         Value::Bool(false) => Ok(Value::Text(Text::copy(alloc, "false")?)),
         Value::Int(number) => Ok(Value::Text(decimal(alloc, *number)?)),
-        Value::Text(text) => Ok(Value::Text(text.clone()?)),
+        Value::Text(text) => Ok(Value::Text(text.try_clone()?)),
         Value::Ref(_) | Value::List(_) => Err(BuiltinStop::BadKind),
     }
 }
@@ -44,7 +44,7 @@ pub fn read_number(alloc: Global, x: &Value) -> Result<Value, BuiltinStop>
 }
 
 fn number_or_nil(alloc: Global, text: &Text) -> Result<Value, BuiltinStop>
-    ensures { Applies result (value (int_or_nil (number_of text.now))) }
+    ensures { Applies result (value (int_or_nil (decimal_read text.now))) }
 {
     let Ok(number) = characters(text).parse::<i64>() else {
         return Ok(Value::Nil);
@@ -62,9 +62,7 @@ pub fn compare(x: &Value, y: &Value) -> Result<Value, BuiltinStop>
 {
     match (x, y) {
         (Value::Int(a), Value::Int(b)) => Ok(Value::Int(sign(a.cmp(b)))),
-        (Value::Text(a), Value::Text(b)) => {
-            Ok(Value::Int(sign(order(characters(a), characters(b)))))
-        }
+        (Value::Text(a), Value::Text(b)) => { Ok(Value::Int(sign(a.order(b)))) }
         _ => Err(BuiltinStop::BadKind),
     }
 }

@@ -1,15 +1,15 @@
 //! Lengths, items and parts of texts and lists.
-ghost use Rattle.std.specs.Prelude.{◌≡◌, ℕ, pos, negsuc, [], ◌∷◌, ◌++◌, map, MatchOption};
+ghost use Rattle.std.specs.Prelude.{◌≡◌, ℕ, pos, negsuc, [], ◌∷◌, ◌++◌, map, IfOk, MatchOption};
 ghost use Rattle.model_value.specs.Plain.{int, text as text_tree};
 ghost use Rattle.model_value.specs.View.{plain, plain_values};
 ghost use Rattle.model_builtin.specs.Answer.{Applies};
-ghost use Rattle.model_builtin.specs.Builtins.{value, found, item_at, with_item, part, listed, length_of, at as at_of, push as push_of, concat as concat_of, put as put_of, slice as slice_of};
+ghost use Rattle.model_builtin.specs.Builtins.{value, found, item_at, with_item, part_between, listed, length_of, at as at_of, push as push_of, concat as concat_of, put as put_of, slice as slice_of};
 
 use crate::fault::BuiltinStop;
 use crate::texts::{characters, copy_part, count, join};
 use model_value::{Value, copy, copy_all};
 use std::alloc::Global;
-use tea_base::Text;
+use tea_base::{Text, WantOfMemory};
 
 /// How many characters a text has, or items a list.
 pub fn length(x: &Value) -> Result<Value, BuiltinStop>
@@ -92,7 +92,7 @@ pub fn push(alloc: Global, x: &Value, item: &Value) -> Result<Value, BuiltinStop
     match x {
         Value::List(items) => {
             let mut new = copy_all(alloc, items)?;
-            new.push(copy(alloc, item)?)?;
+            tea_base::push(&mut new, copy(alloc, item)?)?;
             Ok(Value::List(new))
         }
         _ => Err(BuiltinStop::BadKind),
@@ -111,7 +111,7 @@ pub fn slice(alloc: Global, x: &Value, from: &Value, to: &Value) -> Result<Value
 }
 
 fn text_part(alloc: Global, text: &Text, from: i64, to: i64) -> Result<Value, BuiltinStop>
-    ensures { Applies result (found text_tree (part text.now from to)) }
+    ensures { Applies result (found text_tree (part_between text.now from to)) }
 {
     match (natural(from), natural(to)) {
         (Some(i), Some(j)) if i <= j && j <= count(characters(text)) => {
@@ -122,7 +122,7 @@ fn text_part(alloc: Global, text: &Text, from: i64, to: i64) -> Result<Value, Bu
 }
 
 fn list_part(alloc: Global, items: &[Value], from: i64, to: i64) -> Result<Value, BuiltinStop>
-    ensures { Applies result (found listed (part (plain_values items.now) from to)) }
+    ensures { Applies result (found listed (part_between (plain_values items.now) from to)) }
 {
     match (natural(from), natural(to)) {
         (Some(i), Some(j)) if i <= j && j <= items.len() => {
@@ -146,9 +146,16 @@ pub fn concat(alloc: Global, x: &Value, y: &Value) -> Result<Value, BuiltinStop>
 fn join_lists(alloc: Global, first: &[Value], second: &[Value]) -> Result<Value, BuiltinStop>
     ensures { Applies result (value (listed (plain_values first.now ++ plain_values second.now))) }
 {
+    Ok(Value::List(joined(alloc, first, second)?))
+}
+
+/// The same values in memory of their own, the second ones behind the first.
+fn joined(alloc: Global, first: &[Value], second: &[Value]) -> Result<Vec<Value>, WantOfMemory>
+    ensures { IfOk result (λ both. plain_values both.items ≡ plain_values first.now ++ plain_values second.now) }
+{
     let mut both = copy_all(alloc, first)?;
     both.append(&mut copy_all(alloc, second)?)?;
-    Ok(Value::List(both))
+    Ok(both)
 }
 
 /// A number that is not below 0.

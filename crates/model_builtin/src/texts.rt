@@ -1,11 +1,8 @@
 //! The characters of texts.
 ghost use Rattle.std.specs.Prelude.{◌≡◌, ◌++◌, ◌≤◌, IfOk, length, take, drop, slice_range, encode_utf8_all};
-ghost use Rattle.std.specs.Cmp.Lexicographic.{slice_cmp};
-ghost use Rattle.std.specs.Ordering.{nat_cmp};
 ghost use Rattle.std.specs.Str.{chars};
 
 use std::alloc::Global;
-use std::cmp::Ordering;
 use tea_base::{Text, WantOfMemory};
 
 /// The text, borrowed.
@@ -57,24 +54,4 @@ pub fn join(alloc: Global, first: &Text, second: &Text) -> Result<Text, WantOfMe
     let mut both = String::from_str(alloc, first.as_str())?;
     both.push_str(second.as_str())?;
     Text::copy(alloc, both.as_str())
-}
-
-/// Which of two texts stands first, by the numbers of their characters. A text stands before one that it begins.
-pub fn order(first: &str, second: &str) -> Ordering
-    ensures { result ≡ slice_cmp nat_cmp (chars first.now) (chars second.now) }
-{
-    let mut mine = first.chars();
-    let mut others = second.chars();
-    loop {
-        match (mine.next(), others.next()) {
-            (None, None) => return Ordering::Equal,
-            (None, Some(_)) => return Ordering::Less,
-            (Some(_), None) => return Ordering::Greater,
-            (Some(a), Some(b)) => {
-                if a != b {
-                    return a.cmp(&b);
-                }
-            }
-        }
-    }
 }

@@ -10,7 +10,7 @@ use Rattle.std.specs.Str.{bytes_eq, IsAscii}
 use Rattle.model_lang.specs.Tree.{Name, root_name}
 use Rattle.model_check.specs.declared.builtin.Builtin.{Builtin}
 use Rattle.model_check.specs.declared.builtin.Builtin.TheVariants as builtin
-use Rattle.model_check.specs.Builtins.{name_of}
+use Rattle.model_check.specs.Builtins.{builtin_spelling}
 
 abbrev is_ascii : List ℕ → Bool
 is_ascii [] = true
@@ -40,7 +40,7 @@ compared same x word h = one_answer same (bytes_eq x word) h (bytes_eq-Decides x
 pub compared_back : (same : Bool) (x word : Name) → (IsTrue same ↔ x ≡ word) → same ≡ bytes_eq word x
 compared_back same x word h = one_answer same (bytes_eq word x) (λ e. sym (h.0 e), λ e. h.1 (sym e)) (bytes_eq-Decides word x)
 
-plain_word : (b : Builtin) → is_ascii (name_of b) ≡ true
+plain_word : (b : Builtin) → is_ascii (builtin_spelling b) ≡ true
 plain_word builtin.Now = refl
 plain_word builtin.Random = refl
 plain_word builtin.ViewCount = refl
@@ -64,6 +64,6 @@ plain_word builtin.Text = refl
 plain_word builtin.Number = refl
 plain_word builtin.Compare = refl
 
-pub builtin_spelled : (b : Builtin) (same : Bool) (bytes word : List ℕ) (name : Name) → word ≡ name_of b → same ≡ bytes_eq bytes word → bytes ≡ encode_utf8_all name → same ≡ bytes_eq name (name_of b)
+pub builtin_spelled : (b : Builtin) (same : Bool) (bytes word : List ℕ) (name : Name) → word ≡ builtin_spelling b → same ≡ bytes_eq bytes word → bytes ≡ encode_utf8_all name → same ≡ bytes_eq name (builtin_spelling b)
 builtin_spelled b same bytes word name is tested told =
-    compared same name (name_of b) (spells (name_of b) (plain_word b) same bytes name (tested ∙ ap (bytes_eq bytes) is) told)
+    compared same name (builtin_spelling b) (spells (builtin_spelling b) (plain_word b) same bytes name (tested ∙ ap (bytes_eq bytes) is) told)

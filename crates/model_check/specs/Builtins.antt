@@ -4,29 +4,29 @@ use Rattle.model_lang.specs.Tree.{Name}
 use Rattle.model_check.specs.declared.builtin.Builtin.{Builtin}
 use Rattle.model_check.specs.declared.builtin.Builtin.TheVariants as builtin
 
-abbrev pub name_of : Builtin → Name
-name_of builtin.Now = codes "now"
-name_of builtin.Random = codes "random"
-name_of builtin.ViewCount = codes "viewCount"
-name_of builtin.Views = codes "views"
-name_of builtin.SessionId = codes "sessionId"
-name_of builtin.Known = codes "known"
-name_of builtin.BeKnown = codes "beKnown"
-name_of builtin.Exists = codes "exists"
-name_of builtin.Destroy = codes "destroy"
-name_of builtin.Publish = codes "publish"
-name_of builtin.Subscribe = codes "subscribe"
-name_of builtin.Unsubscribe = codes "unsubscribe"
-name_of builtin.Cancel = codes "cancel"
-name_of builtin.Length = codes "length"
-name_of builtin.At = codes "at"
-name_of builtin.Put = codes "put"
-name_of builtin.Push = codes "push"
-name_of builtin.Slice = codes "slice"
-name_of builtin.Concat = codes "concat"
-name_of builtin.Text = codes "text"
-name_of builtin.Number = codes "number"
-name_of builtin.Compare = codes "compare"
+abbrev pub builtin_spelling : Builtin → Name
+builtin_spelling builtin.Now = codes "now"
+builtin_spelling builtin.Random = codes "random"
+builtin_spelling builtin.ViewCount = codes "viewCount"
+builtin_spelling builtin.Views = codes "views"
+builtin_spelling builtin.SessionId = codes "sessionId"
+builtin_spelling builtin.Known = codes "known"
+builtin_spelling builtin.BeKnown = codes "beKnown"
+builtin_spelling builtin.Exists = codes "exists"
+builtin_spelling builtin.Destroy = codes "destroy"
+builtin_spelling builtin.Publish = codes "publish"
+builtin_spelling builtin.Subscribe = codes "subscribe"
+builtin_spelling builtin.Unsubscribe = codes "unsubscribe"
+builtin_spelling builtin.Cancel = codes "cancel"
+builtin_spelling builtin.Length = codes "length"
+builtin_spelling builtin.At = codes "at"
+builtin_spelling builtin.Put = codes "put"
+builtin_spelling builtin.Push = codes "push"
+builtin_spelling builtin.Slice = codes "slice"
+builtin_spelling builtin.Concat = codes "concat"
+builtin_spelling builtin.Text = codes "text"
+builtin_spelling builtin.Number = codes "number"
+builtin_spelling builtin.Compare = codes "compare"
 
 abbrev pub arguments_of : Builtin → ℕ
 arguments_of builtin.Now = 0
@@ -58,4 +58,4 @@ builtins =
 
 -- the builtin of that name, if there is one
 abbrev pub builtin_named : Name → Option Builtin
-builtin_named x = find (λ b. bytes_eq x (name_of b)) builtins
+builtin_named x = find (λ b. bytes_eq x (builtin_spelling b)) builtins

@@ -1,7 +1,7 @@
 //! The builtins of the language.
 ghost use Rattle.std.specs.Prelude.{◌≡◌, find, bytes_eq};
 ghost use Rattle.model_check.specs.Answer.{Solves};
-ghost use Rattle.model_check.specs.Builtins.{name_of, arguments_of, builtin_named};
+ghost use Rattle.model_check.specs.Builtins.{builtin_spelling, arguments_of, builtin_named};
 ghost use Rattle.model_check.specs.Faults.{faults_of_builtin};
 ghost use Rattle.model_check.specs.Solving.{builtin_of};
 
@@ -88,12 +88,12 @@ pub fn called_builtin(name: &Text, given: usize) -> Result<Builtin, CheckFault>
 {
     let Some(found) = named(name) else {
         return Err(CheckFault::NoName {
-            name: name.clone()?,
+            name: name.try_clone()?,
         });
     };
     if given != arguments(found) {
         return Err(CheckFault::Count {
-            name: name.clone()?,
+            name: name.try_clone()?,
         });
     }
     Ok(found)
@@ -107,7 +107,7 @@ pub fn named(name: &Text) -> Option<Builtin>
 }
 
 fn first_named(name: &Text, builtins: &[Builtin]) -> Option<Builtin>
-    ensures { result ≡ find (λ b. bytes_eq name.now (name_of b)) builtins.now }
+    ensures { result ≡ find (λ b. bytes_eq name.now (builtin_spelling b)) builtins.now }
 {
     for builtin in builtins {
         if is_named(name, *builtin) {
@@ -118,13 +118,13 @@ fn first_named(name: &Text, builtins: &[Builtin]) -> Option<Builtin>
 }
 
 fn is_named(name: &Text, builtin: Builtin) -> bool
-    ensures { result ≡ bytes_eq name.now (name_of builtin) }
+    ensures { result ≡ bytes_eq name.now (builtin_spelling builtin) }
 {
     name.as_str() == word(builtin)
 }
 
 fn word(builtin: Builtin) -> &'static str
-    ensures { result.now ≡ name_of builtin }
+    ensures { result.now ≡ builtin_spelling builtin }
 {
     match builtin {
         Builtin::Now => "now",

@@ -1,10 +1,10 @@
 //! Checked programs.
-ghost use Rattle.std.specs.Prelude.{◌≡◌, length, map, None, option_and_then, slice_get};
+ghost use Rattle.std.specs.Prelude.{◌≡◌, IfOk, length, map, None, option_and_then, slice_get};
 ghost use Rattle.model_lang.specs.TreeView.{method_tree, program_tree};
 ghost use Rattle.model_lang.specs.Tree.{root_name};
 ghost use Rattle.model_check.specs.Answer.{Checks};
 ghost use Rattle.model_check.specs.Faults.{first_fault};
-ghost use Rattle.model_check.specs.Methods.{field_count, method_named, IsClass, FindsMethod};
+ghost use Rattle.model_check.specs.Methods.{field_count, field_counts, method_named, IsClass, FindsMethod};
 
 use crate::class::{root, solve};
 use crate::fault::CheckFault;
@@ -13,10 +13,10 @@ use crate::solved::Solved;
 use model_lang::{Method, Program};
 use std::alloc::Global;
 use std::marker::Model;
-use tea_base::Text;
+use tea_base::{List, Numbers, Text, WantOfMemory};
 
 /// A program without faults, with its methods resolved. Contracts see it as its classes, which are numbered from 0 in the
-/// order of the text. What it is asked takes no memory.
+/// order of the text. What it is asked takes no memory, but for `field_counts`.
 #[derive(Debug, Drop)]
 pub struct Checked {
     program: Program,
@@ -78,6 +78,18 @@ impl Checked {
     {
         let class = self.program.classes().get(usize::from(class))?;
         Some(class.fields.len() as u32)
+    }
+
+    /// How many fields each class has, in the order of the classes. Fails for want of memory alone.
+    pub fn field_counts(&self, alloc: Global) -> Result<Numbers, WantOfMemory>
+        ensures { IfOk result (λ counts. counts ≡ field_counts (program_tree self.now)) }
+    {
+        let classes = self.program.classes();
+        let mut counts = Vec::new(alloc);
+        for class in classes {
+            counts.push(class.fields.len() as u32)?;
+        }
+        Ok(List::from_vec(counts))
     }
 
     /// The number of the class named Root.

@@ -17,7 +17,7 @@ use crate::solved::Solved;
 use crate::statement::block;
 use model_lang::{Class, Method};
 use std::alloc::Global;
-use tea_base::Text;
+use tea_base::{Text, push};
 
 /// What stands for the methods of each class.
 #[tactic(auto, using(crate::proofs::First::by_first, crate::proofs::Trees::by_items))]
@@ -28,7 +28,10 @@ pub fn solve(alloc: Global, classes: &[Class]) -> Result<Vec<Vec<Solved>>, Check
 {
     let mut solved = Vec::new(alloc);
     for i in 0..classes.len() {
-        solved.push(next_class(alloc, classes, &classes[..i], &classes[i])?)?;
+        push(
+            &mut solved,
+            next_class(alloc, classes, &classes[..i], &classes[i])?,
+        )?;
     }
     Ok(solved)
 }
@@ -110,7 +113,10 @@ fn methods(
 {
     let mut solved = Vec::new(alloc);
     for i in 0..methods.len() {
-        solved.push(next_method(alloc, classes, fields, &methods[..i], &methods[i])?)?;
+        push(
+            &mut solved,
+            next_method(alloc, classes, fields, &methods[..i], &methods[i])?,
+        )?;
     }
     Ok(solved)
 }

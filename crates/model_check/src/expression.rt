@@ -14,8 +14,8 @@ use crate::names::{class_number, field, local};
 use crate::scope::Scope;
 use crate::solved::SolvedExpr;
 use model_lang::{BinaryOp, Class, Expr, UnaryOp};
-use std::alloc::{AllocError, Global};
-use tea_base::Text;
+use std::alloc::Global;
+use tea_base::{Text, WantOfMemory, push};
 
 /// What stands for an expression in a program with these classes, in a class with these fields.
 #[cycle(expression)]
@@ -35,7 +35,7 @@ pub fn expression(
         Expr::Nil => Ok(SolvedExpr::Nil),
         Expr::Bool(truth) => Ok(SolvedExpr::Bool(*truth)),
         Expr::Int(number) => Ok(SolvedExpr::Int(*number)),
-        Expr::Text(text) => Ok(SolvedExpr::Text(text.clone()?)),
+        Expr::Text(text) => Ok(SolvedExpr::Text(text.try_clone()?)),
         Expr::This => Ok(SolvedExpr::This),
         Expr::Local { name } => Ok(SolvedExpr::Local {
             slot: local(scope, name)?,
@@ -99,12 +99,15 @@ fn expressions(
 {
     let mut solved = Vec::new(alloc);
     for expr in exprs {
-        solved.push(expression(alloc, classes, fields, scope, expr)?)?;
+        push(
+            &mut solved,
+            expression(alloc, classes, fields, scope, expr)?,
+        )?;
     }
     Ok(solved)
 }
 
-fn unary(alloc: Global, op: UnaryOp, of: SolvedExpr) -> Result<SolvedExpr, AllocError>
+fn unary(alloc: Global, op: UnaryOp, of: SolvedExpr) -> Result<SolvedExpr, WantOfMemory>
     ensures { IfOk result (λ s. solved_expression s ≡ unary_tree op (solved_expression of)) }
 {
     Ok(SolvedExpr::Unary {
@@ -118,7 +121,7 @@ fn binary(
     op: BinaryOp,
     left: SolvedExpr,
     right: SolvedExpr,
-) -> Result<SolvedExpr, AllocError>
+) -> Result<SolvedExpr, WantOfMemory>
     ensures { IfOk result (λ s. solved_expression s ≡ binary_tree op (solved_expression left) (solved_expression right)) }
 {
     Ok(SolvedExpr::Binary {
@@ -133,7 +136,7 @@ fn call(
     object: SolvedExpr,
     name: &Text,
     args: Vec<SolvedExpr>,
-) -> Result<SolvedExpr, AllocError>
+) -> Result<SolvedExpr, WantOfMemory>
     ensures { IfOk result (λ s. solved_expression s ≡ call_tree (solved_expression object) name.now (solved_expressions args.items)) }
 {
     Ok(SolvedExpr::Call {
@@ -149,7 +152,7 @@ fn future(
     delay: SolvedExpr,
     name: &Text,
     args: Vec<SolvedExpr>,
-) -> Result<SolvedExpr, AllocError>
+) -> Result<SolvedExpr, WantOfMemory>
     ensures { IfOk result (λ s. solved_expression s ≡ future_tree (solved_expression object) (solved_expression delay) name.now (solved_expressions args.items)) }
 {
     Ok(SolvedExpr::Future {
@@ -160,7 +163,7 @@ fn future(
     })
 }
 
-fn create(alloc: Global, class: u16, options: SolvedExpr) -> Result<SolvedExpr, AllocError>
+fn create(alloc: Global, class: u16, options: SolvedExpr) -> Result<SolvedExpr, WantOfMemory>
     ensures { IfOk result (λ s. solved_expression s ≡ create_tree class (solved_expression options)) }
 {
     Ok(SolvedExpr::Create {

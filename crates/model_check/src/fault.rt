@@ -1,6 +1,5 @@
 //! Why a program is refused.
 
-use std::alloc::{AllocError, AllocFailed};
 use tea_base::{Text, WantOfMemory};
 
 /// Why a program was not taken.
@@ -21,28 +20,6 @@ pub enum CheckFault {
     /// No class is named `Root`. Comes only where there is no other fault.
     NoRoot,
     WantOfMemory,
-}
-
-impl From<AllocError> for CheckFault {
-    ghost use Rattle.std.specs.Prelude.{◌≡◌};
-    ghost use Rattle.model_check.specs.declared.fault.CheckFault.TheVariants.{WantOfMemory};
-
-    ghost from_gives = { λ _ r. r ≡ WantOfMemory };
-
-    fn from(_error: AllocError) -> CheckFault {
-        CheckFault::WantOfMemory
-    }
-}
-
-impl<T: Drop> From<AllocFailed<T>> for CheckFault {
-    ghost use Rattle.std.specs.Prelude.{◌≡◌};
-    ghost use Rattle.model_check.specs.declared.fault.CheckFault.TheVariants.{WantOfMemory};
-
-    ghost from_gives = { λ _ r. r ≡ WantOfMemory };
-
-    fn from(_error: AllocFailed<T>) -> CheckFault {
-        CheckFault::WantOfMemory
-    }
 }
 
 impl From<WantOfMemory> for CheckFault {

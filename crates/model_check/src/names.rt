@@ -44,7 +44,7 @@ pub fn once(is_seen: bool, name: &Text) -> Result<(), CheckFault>
 {
     if is_seen {
         return Err(CheckFault::Twice {
-            name: name.clone()?,
+            name: name.try_clone()?,
         });
     }
     Ok(())
@@ -69,7 +69,7 @@ pub fn field(fields: &[Text], name: &Text) -> Result<u32, CheckFault>
     match place(fields, name) {
         Some(slot) => Ok(slot),
         None => Err(CheckFault::NoField {
-            name: name.clone()?,
+            name: name.try_clone()?,
         }),
     }
 }
@@ -81,7 +81,7 @@ pub fn local(scope: &Scope, name: &Text) -> Result<u32, CheckFault>
     match place(&scope.names, name) {
         Some(slot) => Ok(slot),
         None => Err(CheckFault::NoName {
-            name: name.clone()?,
+            name: name.try_clone()?,
         }),
     }
 }
@@ -94,7 +94,7 @@ pub fn class_number(classes: &[Class], name: &Text) -> Result<u16, CheckFault>
     match class_place(classes, name) {
         Some(number) => Ok(number),
         None => Err(CheckFault::NoClass {
-            name: name.clone()?,
+            name: name.try_clone()?,
         }),
     }
 }

@@ -15,7 +15,7 @@ use crate::scope::Scope;
 use crate::solved::SolvedStmt;
 use model_lang::{Class, Stmt};
 use std::alloc::Global;
-use tea_base::Text;
+use tea_base::{Text, push};
 
 /// What stands for a block in a program with these classes, in a class with these fields. Behind it those names are in scope
 /// that were in scope before.
@@ -37,7 +37,7 @@ pub fn block(
     let before = scope.names.len();
     let mut solved = Vec::new(alloc);
     for stmt in stmts {
-        solved.push(statement(alloc, classes, fields, scope, stmt)?)?;
+        push(&mut solved, statement(alloc, classes, fields, scope, stmt)?)?;
     }
     scope.leave(before);
     Ok(solved)

@@ -2,15 +2,15 @@
 use Rattle.std.proofs.Common.{◌≡◌, ℕ, ◌-◌, ◌≤◌, Bool, true, false, List, [], ◌++◌, Option, Some, None, nat_eq, nat_le, refl, sym, ap, ◌∙◌, subst, append_assoc, arith, if◌then◌else◌}
 use Rattle.std.proofs.lemmas.List.{append-nil}
 use Rattle.model_value.specs.Plain.{PlainValue, InBounds, weight, is_in_bounds}
-use Rattle.model_value.specs.Messages.{PlainMessage, PlainOutgoing}
-use Rattle.model_value.specs.World.{ObjectRecord}
-use Rattle.model_value.specs.Valid.{Valid, most_turns}
-use Rattle.model_value.specs.declared.message.Subscription.{Subscription}
-use Rattle.model_value.specs.declared.world.Known.{Known}
+use Rattle.world_plain.specs.Messages.{PlainMessage, PlainOutgoing}
+use Rattle.world_plain.specs.World.{ObjectRecord}
+use Rattle.world_plain.specs.Valid.{Valid, most_turns}
+use Rattle.world_plain.specs.declared.message.Subscription.{Subscription}
+use Rattle.world_plain.specs.declared.world.Known.{Known}
 use Rattle.model_eval.specs.declared.fault.Fault.{Fault}
 use Rattle.model_eval.specs.declared.fault.Fault.TheVariants.{Fuel, Size}
-use Rattle.model_eval.specs.Running.{Running, Outcome, Gives, Faults, and_then, entering, spending, bounded, weighed, Reply, value, fails, replying, deciding}
-use Rattle.model_eval.specs.Kept.{due, now_due, Kept, CarriesIf}
+use Rattle.model_eval.specs.Running.{Running, Outcome, Gives, Faults, and_then, entering, spending, bounded, weighed, PureOutcome, value, fails, replying, deciding}
+use Rattle.model_eval.specs.Kept.{count_due, now_due, Kept, CarriesIf}
 use Rattle.model_eval.proofs.Pending.{if_either}
 use Rattle.model_eval.proofs.ValueBounds.{Replies, fits-true}
 
@@ -32,7 +32,7 @@ kept-trans r s t h g = record {
 
 -- with other lists, other ids and numbers to come, another state of its random numbers, and no more fuel
 pub kept-changed : (r : Running) (fuel next_object next_number random : ℕ) (os : List ObjectRecord) (ks : List Known) (ss : List Subscription) (ms : List PlainMessage)
-    → fuel ≤ r.fuel → r.world.next_object ≤ next_object → r.world.next_number ≤ next_number → (r.world.turns ≡ most_turns → due r.world.time ms ≤ now_due r.world)
+    → fuel ≤ r.fuel → r.world.next_object ≤ next_object → r.world.next_number ≤ next_number → (r.world.turns ≡ most_turns → count_due r.world.time ms ≤ now_due r.world)
     → Kept r (record {
       fuel = fuel;
       world = record (r.world) { next_object = next_object; next_number = next_number; random = random; objects = os; known = ks; subscriptions = ss; pending = ms };
@@ -115,7 +115,7 @@ module _ (counts : List ℕ) where
   carries-deciding H P r (Some b) next v h = h b
   carries-deciding H P r None next v h = (kept-refl r, v)
 
-  pub carries-replying : (H : Type 0) (P : PlainValue → Type 0) (r : Running) (reply : Reply)
+  pub carries-replying : (H : Type 0) (P : PlainValue → Type 0) (r : Running) (reply : PureOutcome)
       → (H → Valid counts r.world) → Replies P reply → CarriesIf H counts P r (replying reply r)
   carries-replying H P r (value a) v h = (kept-refl r, λ x. (v x, h))
   carries-replying H P r (fails f) v h = (kept-refl r, v)

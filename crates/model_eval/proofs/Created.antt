@@ -2,9 +2,10 @@
 use Rattle.std.proofs.Common.{◌≡◌, ℕ, zero, suc, ◌+◌, ◌<◌, Bool, true, false, List, [], ◌∷◌, ◌++◌, map, Option, Some, nat_eq, ap, arith, slice_get}
 use Rattle.std.specs.Prelude.{replicate}
 use Rattle.model_value.specs.Plain.{PlainValue, InBounds}
-use Rattle.model_value.specs.World.{ObjectRecord, total}
-use Rattle.model_value.specs.Valid.{RiseFrom, object_at, if_same, AllInBounds, ObjectFits, ObjectsFit, SubscriptionFits, SubscriptionsFit}
-use Rattle.model_value.specs.declared.message.Subscription.{Subscription}
+use Rattle.world_plain.specs.World.{ObjectRecord, total_weight}
+use Rattle.world_plain.specs.Valid.{RiseFrom, object_at, if_same, ObjectFits, ObjectsFit, SubscriptionFits, SubscriptionsFit}
+use Rattle.model_value.specs.Plain.{AllInBounds}
+use Rattle.world_plain.specs.declared.message.Subscription.{Subscription}
 use Rattle.model_eval.proofs.FieldBounds.{StillHeld}
 
 -- the ids rise, where the new one is above all others
@@ -34,7 +35,7 @@ pub replicate-in_bounds : (n : ℕ) (v : PlainValue) → InBounds v → AllInBou
 replicate-in_bounds zero v h = tt
 replicate-in_bounds (suc n) v h = (h, replicate-in_bounds n v h)
 
-pub total-appended : {A : Type 0} (weighs : A → ℕ) (xs : List A) (x : A) → total weighs (xs ++ x ∷ []) ≡ total weighs xs + weighs x
+pub total-appended : {A : Type 0} (weighs : A → ℕ) (xs : List A) (x : A) → total_weight weighs (xs ++ x ∷ []) ≡ total_weight weighs xs + weighs x
 total-appended weighs [] x = omega arith
 total-appended weighs (y ∷ ys) x = omega (arith, total-appended weighs ys x)
 

@@ -2,15 +2,14 @@
 use Rattle.std.proofs.Common.{◌≡◌, ℕ, ◌+◌, ◌≤◌, ◌<◌, Bool, true, false, not, List, [], ◌∷◌, map, Option, Some, nat_eq, nat_le, refl, sym, ◌∙◌, arith, if◌then◌else◌}
 use Rattle.std.specs.List.{filter}
 use Rattle.std.proofs.lemmas.Bool.{eqb-true, not-true, not-false, eqb-false}
-use Rattle.model_value.specs.World.{ObjectRecord, WorldRecord}
-use Rattle.model_value.specs.Messages.{PlainMessage}
-use Rattle.model_value.specs.Valid.{RiseFrom, object_at, if_same, IsHeld, ObjectsFit, IsBeforeAll, KnownRise, KnownFit, SubscriptionsFit, MessagesFit}
-use Rattle.model_value.specs.declared.message.Subscription.{Subscription}
-use Rattle.model_value.specs.declared.world.Known.{Known}
+use Rattle.world_plain.specs.World.{ObjectRecord}
+use Rattle.world_plain.specs.Messages.{PlainMessage}
+use Rattle.world_plain.specs.Valid.{RiseFrom, object_at, if_same, IsHeld, ObjectsFit, IsBeforeAll, KnownRise, KnownFit, SubscriptionsFit, MessagesFit}
+use Rattle.world_plain.specs.declared.message.Subscription.{Subscription}
+use Rattle.world_plain.specs.declared.world.Known.{Known}
 pub use Rattle.message_queue.proofs.Filtered.{filter-all, filter-each, AreInOrder-filtered, NumbersDiffer-filtered, total-filtered, length-filtered}
 pub use Rattle.pubsub.proofs.Subscriptions.{SubscriptionsDiffer-filtered}
-use Rattle.model_eval.specs.Kept.{due}
-use Rattle.model_eval.specs.Objects.{without_object}
+use Rattle.model_eval.specs.Kept.{count_due}
 use Rattle.model_eval.proofs.FieldBounds.{if_both}
 use Rattle.model_eval.proofs.Pending.{if_either}
 use Rattle.model_eval.proofs.Created.{found-still}
@@ -36,16 +35,16 @@ KnownRise-filtered keeps =
 pub SubscriptionsFit-filtered : (os : List ObjectRecord) (keeps : Subscription → Bool) (ss : List Subscription) → SubscriptionsFit os ss → SubscriptionsFit os (filter keeps ss)
 SubscriptionsFit-filtered os keeps = filter-all (SubscriptionsFit os) keeps tt (λ s ss h. h.1) (λ s ss ts h g. (h.0, g))
 
-pub MessagesFit-filtered : (w : WorldRecord) (keeps : PlainMessage → Bool) (ms : List PlainMessage) → MessagesFit w ms → MessagesFit w (filter keeps ms)
-MessagesFit-filtered w keeps = filter-all (MessagesFit w) keeps tt (λ m ms h. h.1) (λ m ms ns h g. (h.0, g))
+pub MessagesFit-filtered : (time next : ℕ) (os : List ObjectRecord) (keeps : PlainMessage → Bool) (ms : List PlainMessage) → MessagesFit time next os ms → MessagesFit time next os (filter keeps ms)
+MessagesFit-filtered time next os keeps = filter-all (MessagesFit time next os) keeps tt (λ m ms h. h.1) (λ m ms ns h g. (h.0, g))
 
 -- ---- counts and weights
 
-pub due-filtered : (time : ℕ) (keeps : PlainMessage → Bool) (ms : List PlainMessage) → due time (filter keeps ms) ≤ due time ms
+pub due-filtered : (time : ℕ) (keeps : PlainMessage → Bool) (ms : List PlainMessage) → count_due time (filter keeps ms) ≤ count_due time ms
 due-filtered time keeps [] = omega arith
 due-filtered time keeps (m ∷ ms) =
-    let fewer : due time (filter keeps ms) ≤ due time ms = due-filtered time keeps ms in
-    if_both (λ l. due time l ≤ (if nat_le m.time time then 1 else 0) + due time ms) (keeps m) (m ∷ filter keeps ms) (filter keeps ms) (omega arith) (omega arith)
+    let fewer : count_due time (filter keeps ms) ≤ count_due time ms = due-filtered time keeps ms in
+    if_both (λ l. count_due time l ≤ (if nat_le m.time time then 1 else 0) + count_due time ms) (keeps m) (m ∷ filter keeps ms) (filter keeps ms) (omega arith) (omega arith)
 
 -- ---- what speaks of objects by their numbers
 
@@ -71,9 +70,9 @@ others-held id other os apart held = (held.0, object_at-others id other os held.
 pub KnownFit-others : (id : ℕ) (os : List ObjectRecord) (ks : List Known) → KnownFit os ks → KnownFit (others id os) (filter (λ k. not (nat_eq k.object id)) ks)
 KnownFit-others id os [] h = tt
 KnownFit-others id os (k ∷ ks) h =
-    let left : KnownFit (others id os) (filter (λ k. not (nat_eq k.object id)) ks) = KnownFit-others id os ks h.2 in
+    let left : KnownFit (others id os) (filter (λ k. not (nat_eq k.object id)) ks) = KnownFit-others id os ks h.1 in
     if_either (KnownFit (others id os)) (not (nat_eq k.object id)) (k ∷ filter (λ k. not (nat_eq k.object id)) ks) (filter (λ k. not (nat_eq k.object id)) ks)
-    (λ apart. (h.0, others-held id k.object os apart h.1, left)) (λ _. left)
+    (λ apart. ((h.0.0, others-held id k.object os apart h.0.1), left)) (λ _. left)
 
 pub SubscriptionsFit-others : (id : ℕ) (os : List ObjectRecord) (ss : List Subscription)
     → SubscriptionsFit os ss → SubscriptionsFit (others id os) (filter (λ s. not (nat_eq s.object id)) ss)
@@ -83,9 +82,10 @@ SubscriptionsFit-others id os (s ∷ ss) h =
     if_either (SubscriptionsFit (others id os)) (not (nat_eq s.object id)) (s ∷ filter (λ s. not (nat_eq s.object id)) ss) (filter (λ s. not (nat_eq s.object id)) ss)
     (λ apart. ((h.0.0, h.0.1, h.0.2, others-held id s.object os apart h.0.3), left)) (λ _. left)
 
-pub MessagesFit-others : (id : ℕ) (w : WorldRecord) (ms : List PlainMessage) → MessagesFit w ms → MessagesFit (without_object id w) (filter (λ m. not (nat_eq m.object id)) ms)
-MessagesFit-others id w [] h = tt
-MessagesFit-others id w (m ∷ ms) h =
-    let left : MessagesFit (without_object id w) (filter (λ m. not (nat_eq m.object id)) ms) = MessagesFit-others id w ms h.1 in
-    if_either (MessagesFit (without_object id w)) (not (nat_eq m.object id)) (m ∷ filter (λ m. not (nat_eq m.object id)) ms) (filter (λ m. not (nat_eq m.object id)) ms)
-    (λ apart. ((h.0.0, h.0.1, h.0.2, others-held id m.object w.objects apart h.0.3, h.0.4, h.0.5, h.0.6), left)) (λ _. left)
+pub MessagesFit-others : (time next id : ℕ) (os : List ObjectRecord) (ms : List PlainMessage)
+    → MessagesFit time next os ms → MessagesFit time next (others id os) (filter (λ m. not (nat_eq m.object id)) ms)
+MessagesFit-others time next id os [] h = tt
+MessagesFit-others time next id os (m ∷ ms) h =
+    let left : MessagesFit time next (others id os) (filter (λ m. not (nat_eq m.object id)) ms) = MessagesFit-others time next id os ms h.1 in
+    if_either (MessagesFit time next (others id os)) (not (nat_eq m.object id)) (m ∷ filter (λ m. not (nat_eq m.object id)) ms) (filter (λ m. not (nat_eq m.object id)) ms)
+    (λ apart. ((h.0.0, h.0.1, h.0.2, others-held id m.object os apart h.0.3, h.0.4, h.0.5, h.0.6), left)) (λ _. left)

@@ -4,14 +4,15 @@ use Rattle.std.specs.Prelude.{⊤, is_some}
 use Rattle.std.proofs.lemmas.Bool.{leb-true, eqb-false, and_cases}
 use Rattle.hex.specs.Hex.{encode_lower}
 use Rattle.seeded_random.specs.Draw.{word_of, state_after, number_below}
-use Rattle.model_value.specs.Plain.{PlainValue, nil, bool, int, text, ref, list, InBounds, weight}
+use Rattle.model_value.specs.Plain.{PlainValue, nil, bool, int, text, ref, list, InBounds, weight, AllInBounds, TextFits}
 use Rattle.model_value.specs.View.{plains_of}
-use Rattle.model_value.specs.Messages.{PlainMessage}
-use Rattle.model_value.specs.World.{ObjectRecord, WorldRecord, world_weight, most_world_weight}
-use Rattle.model_value.specs.Valid.{Valid, object_at, AllInBounds, IsHeld, TextFits, SubscriptionFits, most_turns, most_parameters, time_limit}
-use Rattle.model_value.specs.declared.message.Subscription.{Subscription}
+use Rattle.world_plain.specs.Messages.{PlainMessage}
+use Rattle.world_plain.specs.World.{ObjectRecord, WorldRecord, world_weight, most_world_weight}
+use Rattle.world_plain.specs.Valid.{Valid, object_at, IsHeld, SubscriptionFits, most_turns, most_parameters}
+use Rattle.tea_base.specs.Limits.{time_limit}
+use Rattle.world_plain.specs.declared.message.Subscription.{Subscription}
 use Rattle.model_lang.specs.Tree.{Name}
-use Rattle.model_lang.specs.Names.{IsShort}
+use Rattle.model_lang.specs.Names.{IsShortName}
 use Rattle.model_check.specs.declared.builtin.Builtin.{Builtin}
 use Rattle.model_check.specs.declared.builtin.Builtin.TheVariants as builtin
 use Rattle.model_builtin.specs.declared.builtin.Pure.{Pure}
@@ -19,11 +20,12 @@ use Rattle.model_builtin.specs.Builtins.{applied}
 use Rattle.model_builtin.specs.Builtins as without_world
 use Rattle.model_eval.specs.declared.fault.Fault.TheVariants.{BadIndex, NoObject, Instant, Full}
 use Rattle.model_eval.specs.Running.{Running, with_world, Outcome, Gives, Faults, bounded}
-use Rattle.model_eval.specs.Objects.{got, with_fields, with_objects, if_light, put, new_object, has_room_for, with_object, made, without_object, is_held, destroyed, known_by, with_known, made_known}
+use Rattle.model_eval.specs.Objects.{got, with_fields, with_objects, if_light, put_fields, new_object, has_room_for, with_object, made, without_object, is_held, destroyed, known_by, with_known, made_known}
 use Rattle.model_eval.specs.Futures.{ahead, has_room, with_message, sent, sent_to, send}
-use Rattle.model_eval.specs.Builtins.{drawn, pure_of, takes_steps, given, pure_answered, on_none, on_int, on_text, on_texts, on_ref, answered_alone}
+use Rattle.model_eval.specs.Builtins.{drawn, pure_of, takes_steps, builtin_outcome, pure_answered, on_none, on_int, on_text, on_texts, on_ref, answered_alone}
 use Rattle.model_eval.specs.Publishing.{has_room_to, with_subscription, added, subscription, subscribed, unsubscribed, uncalled, cancelled, views_counted, views_told}
-use Rattle.pubsub.specs.Topics.{is_held as is_subscribed, same, without as without_subscription}
+use Rattle.pubsub.specs.Topics.{is_subscribed, without_subscription}
+use Rattle.world_plain.specs.ValidTest.{same_subscription}
 use Rattle.message_queue.specs.Queue.{inserted, calls}
 use Rattle.model_eval.specs.Kept.{Kept, CarriesIf}
 use Rattle.model_eval.proofs.FieldBounds.{nil-in_bounds, value_named-in_bounds, object_at-fits}
@@ -49,7 +51,7 @@ module _ (counts : List ℕ) (H : Type 0) where
       → (H → Valid counts r.world) → object_at r.world.objects id ≡ o → CarriesIf H counts InBounds r (got o x names r)
   got-carries None id x names r v e = (kept-refl r, v)
   got-carries (Some o) id x names r v e =
-      (kept-refl r, λ h. (v h, value_named-in_bounds x names o.fields (object_at-fits counts r.world.next_object r.world.objects id o (v h).objects e).2))
+      (kept-refl r, λ h. (v h, value_named-in_bounds x names o.fields (object_at-fits counts r.world.next_object r.world.objects id o (v h).objects.fit e).2))
 
   -- a change that is made where the world stays light
   light-carries : {A : Type 0} (P : A → Type 0) (a : A) (r changed : Running) → (H → Valid counts r.world) → Kept r changed
@@ -60,7 +62,7 @@ module _ (counts : List ℕ) (H : Type 0) where
 
   pub put-carries : (o : Option ObjectRecord) (id : ℕ) (change : List PlainValue → List PlainValue) (r : Running)
       → (H → Valid counts r.world) → ((vs : List PlainValue) → length (change vs) ≡ length vs) → (H → (vs : List PlainValue) → AllInBounds vs → AllInBounds (change vs))
-      → CarriesIf H counts (λ _. ⊤) r (put o id change r)
+      → CarriesIf H counts (λ _. ⊤) r (put_fields o id change r)
   put-carries None id change r v long bound = (kept-refl r, v)
   put-carries (Some o) id change r v long bound =
       let w : WorldRecord = r.world in
@@ -71,7 +73,7 @@ module _ (counts : List ℕ) (H : Type 0) where
   -- ---- futures
 
   sent-carries : (object : ℕ) (x : Name) (args : List PlainValue) (ahead : Option ℕ) (r : Running)
-      → (H → Valid counts r.world) → (H → AllInBounds args × (length args ≤ most_parameters)) → IsShort x → IsHeld r.world.objects object
+      → (H → Valid counts r.world) → (H → AllInBounds args × (length args ≤ most_parameters)) → IsShortName x → IsHeld r.world.objects object
       → ((time : ℕ) → ahead ≡ Some time → (r.world.time ≤ time) × (time < time_limit)) → CarriesIf H counts InBounds r (sent object x args ahead r)
   sent-carries object x args None r v fit short held within = (kept-refl r, v)
   sent-carries object x args (Some time) r v fit short held within =
@@ -89,13 +91,13 @@ module _ (counts : List ℕ) (H : Type 0) where
       (λ _. (kept-refl r, v)))
 
   sent_to-carries : (o : Option ObjectRecord) (object : ℕ) (delay : ℤ) (x : Name) (args : List PlainValue) (r : Running)
-      → (H → Valid counts r.world) → (H → AllInBounds args × (length args ≤ most_parameters)) → IsShort x → object_at r.world.objects object ≡ o
+      → (H → Valid counts r.world) → (H → AllInBounds args × (length args ≤ most_parameters)) → IsShortName x → object_at r.world.objects object ≡ o
       → CarriesIf H counts InBounds r (sent_to o object delay x args r)
   sent_to-carries None object delay x args r v fit short e = (kept-refl r, v)
   sent_to-carries (Some o) object delay x args r v fit short e = sent-carries object x args (ahead r.world.time delay) r v fit short (o, e) (ahead-is r.world.time delay)
 
   pub send-carries : (o d : PlainValue) (x : Name) (args : List PlainValue) (r : Running)
-      → (H → Valid counts r.world) → (H → AllInBounds args × (length args ≤ most_parameters)) → IsShort x → CarriesIf H counts InBounds r (send o d x args r)
+      → (H → Valid counts r.world) → (H → AllInBounds args × (length args ≤ most_parameters)) → IsShortName x → CarriesIf H counts InBounds r (send o d x args r)
   send-carries (ref object) (int delay) x args r v fit short = sent_to-carries (object_at r.world.objects object) object delay x args r v fit short refl
   send-carries _ _ x args r v fit short = (kept-refl r, v)
 
@@ -149,7 +151,7 @@ module _ (counts : List ℕ) (H : Type 0) where
       ))
   drawn-carries (negsuc n) r v = (kept-refl r, v)
 
-  given-carries : (costs : Bool) (reply : without_world.Reply) (r : Running) → (H → Valid counts r.world) → PureReplies InBounds reply → CarriesIf H counts InBounds r (given costs reply r)
+  given-carries : (costs : Bool) (reply : without_world.BuiltinReply) (r : Running) → (H → Valid counts r.world) → PureReplies InBounds reply → CarriesIf H counts InBounds r (builtin_outcome costs reply r)
   given-carries true (without_world.value a) r v h = carries-spending counts H InBounds r (weight a) a v (λ _. h)
   given-carries false (without_world.value a) r v h = (kept-refl r, λ x. (v x, h))
   given-carries costs without_world.bad_kind r v h = (kept-refl r, v)
@@ -214,7 +216,7 @@ module _ (counts : List ℕ) (H : Type 0) where
       carries-test counts H InBounds r (is_held object w) (Gives nil (with_world r (record w { subscriptions = left }))) (Faults NoObject r)
       (λ _. (
         kept-changed r r.fuel w.next_object w.next_number w.random w.objects w.known left w.pending (omega arith) (omega arith) (omega arith) (λ _. omega arith),
-        λ h. (valid-unsubscribed counts (λ t. not (same t s)) w (v h), nil-in_bounds),
+        λ h. (valid-unsubscribed counts (λ t. not (same_subscription t s)) w (v h), nil-in_bounds),
       ))
       (λ _. (kept-refl r, v))
 

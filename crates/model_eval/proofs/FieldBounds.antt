@@ -1,10 +1,11 @@
 -- What a changed field keeps of the objects.
 use Rattle.std.proofs.Common.{◌≡◌, ℕ, suc, Bool, true, false, List, [], ◌∷◌, length, map, Option, Some, nat_eq, refl, sym, ap, ap₂, ◌∙◌, subst, arith, if◌then◌else◌, bytes_eq}
 use Rattle.model_value.specs.Plain.{PlainValue, InBounds, nil}
-use Rattle.model_value.specs.World.{ObjectRecord}
-use Rattle.model_value.specs.Valid.{object_at, if_same, IsHeld, AllInBounds, ObjectFits, ObjectsFit, KnownFit, SubscriptionsFit}
-use Rattle.model_value.specs.declared.message.Subscription.{Subscription}
-use Rattle.model_value.specs.declared.world.Known.{Known}
+use Rattle.world_plain.specs.World.{ObjectRecord}
+use Rattle.world_plain.specs.Valid.{object_at, if_same, IsHeld, ObjectFits, ObjectsFit, KnownFit, SubscriptionsFit}
+use Rattle.model_value.specs.Plain.{AllInBounds}
+use Rattle.world_plain.specs.declared.message.Subscription.{Subscription}
+use Rattle.world_plain.specs.declared.world.Known.{Known}
 use Rattle.model_lang.specs.Tree.{Name}
 use Rattle.model_eval.specs.Objects.{value_named, with_named, with_fields}
 
@@ -109,7 +110,7 @@ Alike-held os ps h id held = let found = Alike-classes os ps h id held.0 held.1 
 
 pub KnownFit-held : (os ps : List ObjectRecord) (ks : List Known) → StillHeld os ps → KnownFit os ks → KnownFit ps ks
 KnownFit-held os ps [] held h = tt
-KnownFit-held os ps (k ∷ ks) held h = (h.0, held k.object h.1, KnownFit-held os ps ks held h.2)
+KnownFit-held os ps (k ∷ ks) held h = ((h.0.0, held k.object h.0.1), KnownFit-held os ps ks held h.1)
 
 pub SubscriptionsFit-held : (os ps : List ObjectRecord) (ss : List Subscription) → StillHeld os ps → SubscriptionsFit os ss → SubscriptionsFit ps ss
 SubscriptionsFit-held os ps [] held h = tt

@@ -9,8 +9,9 @@ use Rattle.std.proofs.lemmas.Option.{none-some, same_Some, slice_get_within}
 use Rattle.std.proofs.lemmas.List.{map-set, set_past, length-map, set-set, set-get_or}
 use Rattle.model_value.specs.Plain.{PlainValue, nil, weight}
 use Rattle.model_value.specs.Room.{IsRoomBehind}
-use Rattle.model_value.specs.Valid.{object_at, if_same}
-use Rattle.model_value.specs.World.{ObjectRecord, values_weight, object_weight, total, world_weight, most_world_weight}
+use Rattle.world_plain.specs.Valid.{object_at, if_same}
+use Rattle.world_plain.specs.World.{ObjectRecord, object_weight, total_weight, world_weight, most_world_weight}
+use Rattle.model_value.specs.Plain.{values_weight}
 use Rattle.object_store.specs.Store.{with_field, field_of, class_of, HasField}
 use Rattle.model_value.specs.View.{plain, plain_values}
 use Rattle.model_value.specs.declared.value.Value.{Value}
@@ -20,7 +21,7 @@ use Rattle.model_eval.specs.declared.fault.Stop.{Stop}
 use Rattle.model_eval.specs.declared.fault.Stop.TheVariants.{Fault, WantOfMemory}
 use Rattle.model_eval.specs.Answer.{IsAbsent, Replies}
 use Rattle.model_eval.specs.Slots.{slot_value}
-use Rattle.model_eval.specs.Objects.{with_fields, with_objects, if_light, put}
+use Rattle.model_eval.specs.Objects.{with_fields, with_objects, if_light, put_fields}
 
 pub unset : (vs : List Value) (i : ℕ) (v : PlainValue) → length vs ≤ i → set (plain_values vs) i v ≡ plain_values vs
 unset vs i v h = set_past (plain_values vs) i v (omega (arith, length-map vs plain))
@@ -57,14 +58,14 @@ weight-set (w ∷ vs) zero old v e = omega (arith, ap weight (same_Some w old e)
 weight-set (w ∷ vs) (suc k) old v e = omega (arith, weight-set vs k old v e)
 
 weight_if : (same : Bool) (k : ℕ) (old v : PlainValue) (o : ObjectRecord) (os changed : List ObjectRecord) (found : Option ObjectRecord) → field_of (if_same same o found) k ≡ Some old
-    → (field_of found k ≡ Some old → total object_weight changed + weight old ≡ total object_weight os + weight v)
-    → total object_weight (if same then record o { fields = set o.fields k v } ∷ os else o ∷ changed) + weight old ≡ total object_weight (o ∷ os) + weight v
+    → (field_of found k ≡ Some old → total_weight object_weight changed + weight old ≡ total_weight object_weight os + weight v)
+    → total_weight object_weight (if same then record o { fields = set o.fields k v } ∷ os else o ∷ changed) + weight old ≡ total_weight object_weight (o ∷ os) + weight v
 weight_if true k old v o os changed found e later = omega (arith, weight-set o.fields k old v e)
 weight_if false k old v o os changed found e later = omega (arith, later e)
 
 -- it weighs in place of what it held
 pub weight-with_fields : (os : List ObjectRecord) (id k : ℕ) (old v : PlainValue) → field_of (object_at os id) k ≡ Some old
-    → total object_weight (with_fields id (λ fields. set fields k v) os) + weight old ≡ total object_weight os + weight v
+    → total_weight object_weight (with_fields id (λ fields. set fields k v) os) + weight old ≡ total_weight object_weight os + weight v
 weight-with_fields [] id k old v e = absurd (none-some old e)
 weight-with_fields (o ∷ os) id k old v e =
     weight_if (nat_eq o.id id) k old v o os (with_fields id (λ fields. set fields k v) os) (object_at os id) e (weight-with_fields os id k old v)
@@ -74,13 +75,13 @@ weight_held [] k v e = absurd (none-some v e)
 weight_held (w ∷ vs) zero v e = omega (arith, ap weight (same_Some w v e))
 weight_held (w ∷ vs) (suc k) v e = omega (arith, weight_held vs k v e)
 
-held_if : (same : Bool) (k : ℕ) (v : PlainValue) (o : ObjectRecord) (os : List ObjectRecord) (found : Option ObjectRecord) → field_of (if_same same o found) k ≡ Some v → (field_of found k ≡ Some v → weight v ≤ total object_weight os)
-    → weight v ≤ total object_weight (o ∷ os)
+held_if : (same : Bool) (k : ℕ) (v : PlainValue) (o : ObjectRecord) (os : List ObjectRecord) (found : Option ObjectRecord) → field_of (if_same same o found) k ≡ Some v → (field_of found k ≡ Some v → weight v ≤ total_weight object_weight os)
+    → weight v ≤ total_weight object_weight (o ∷ os)
 held_if true k v o os found e later = omega (arith, weight_held o.fields k v e)
 held_if false k v o os found e later = omega (arith, later e)
 
 -- what a field holds is no heavier than all objects
-pub field-weight : (os : List ObjectRecord) (id k : ℕ) (v : PlainValue) → field_of (object_at os id) k ≡ Some v → weight v ≤ total object_weight os
+pub field-weight : (os : List ObjectRecord) (id k : ℕ) (v : PlainValue) → field_of (object_at os id) k ≡ Some v → weight v ≤ total_weight object_weight os
 field-weight [] id k v e = absurd (none-some v e)
 field-weight (o ∷ os) id k v e = held_if (nat_eq o.id id) k v o os (object_at os id) e (field-weight os id k v)
 
@@ -132,12 +133,12 @@ light_enough a r changed h =
 
 -- a field of an object that is there is put, if the world stays light
 pub put-heavy : (found : Option ObjectRecord) (id : ℕ) (change : List PlainValue → List PlainValue) (r : Running) → is_some found ≡ true
-    → nat_le (world_weight (with_objects r (with_fields id change r.world.objects)).world) most_world_weight ≡ false → put found id change r ≡ Faults Full r
+    → nat_le (world_weight (with_objects r (with_fields id change r.world.objects)).world) most_world_weight ≡ false → put_fields found id change r ≡ Faults Full r
 put-heavy None id change r there heavy = absurd (false≢true there)
 put-heavy (Some o) id change r there heavy = rw heavy refl
 
 pub put-light : (found : Option ObjectRecord) (id : ℕ) (change : List PlainValue → List PlainValue) (r : Running) → is_some found ≡ true
-    → nat_le (world_weight (with_objects r (with_fields id change r.world.objects)).world) most_world_weight ≡ true → put found id change r ≡ Gives tt (with_objects r (with_fields id change r.world.objects))
+    → nat_le (world_weight (with_objects r (with_fields id change r.world.objects)).world) most_world_weight ≡ true → put_fields found id change r ≡ Gives tt (with_objects r (with_fields id change r.world.objects))
 put-light None id change r there light = absurd (false≢true there)
 put-light (Some o) id change r there light = rw light refl
 

@@ -4,8 +4,9 @@ use Rattle.std.specs.Prelude.{is_some}
 use Rattle.std.proofs.lemmas.List.{length_push}
 use Rattle.model_value.specs.Plain.{PlainValue, nil, bool, text, ref, list, InBounds}
 use Rattle.model_value.specs.View.{plains_of}
-use Rattle.model_value.specs.World.{ObjectRecord}
-use Rattle.model_value.specs.Valid.{Valid, object_at, AllInBounds}
+use Rattle.world_plain.specs.World.{ObjectRecord}
+use Rattle.world_plain.specs.Valid.{Valid, object_at}
+use Rattle.model_value.specs.Plain.{AllInBounds}
 use Rattle.model_lang.specs.Tree.{Name, Expression, this, local, field, unary, binary, builtin, call, future, create, Expressions, no_expressions, expression, Statement, declare, assign, set_field, when, while, give, do_, Statements, no_statements, statement, Otherwise, no_else, else_block, MethodTree, ClassTree, ProgramTree}
 use Rattle.model_lang.specs.Tree as tree
 use Rattle.model_lang.specs.declared.tree.BinaryOp.{BinaryOp}
@@ -20,12 +21,12 @@ use Rattle.model_eval.specs.Operators.{operated, truly, operating, unary_operate
 use Rattle.model_eval.specs.Objects.{with_named, made, is_held}
 use Rattle.model_eval.specs.Futures.{send}
 use Rattle.model_eval.specs.Builtins.{on_event, answered, answered_by}
-use Rattle.model_eval.specs.Publishing.{handled_by, handled, told, with_outgoing, published}
+use Rattle.model_eval.specs.Publishing.{handled_by, run_handlers, tell_handlers, with_outgoing, published}
 use Rattle.pubsub.specs.Topics.{handlers_of}
 use Rattle.pubsub.specs.declared.handler.Handler.{Handler}
 use Rattle.model_check.specs.declared.builtin.Builtin.{Builtin}
 use Rattle.model_check.specs.declared.builtin.Builtin.TheVariants as builtin_name
-use Rattle.model_eval.specs.Meaning.{Here, Local, locals_of, Flow, next, returned, follow, behind, value_of, set_named, Evaluate, Execute, Start, evaluated, in_turn, block, otherwise, looped, called_on, init, initialised, created, created_by, number_of, expression_row, statement_row, performed, starts_in, starts_on, starting, evaluate, execute, starts}
+use Rattle.model_eval.specs.Meaning.{Here, Local, locals_of, Flow, next, returned, follow, leave_block, value_of, set_named, Evaluate, Execute, Start, evaluated, in_turn, block, otherwise, looped, called_on, init, run_init, created, created_by, number_of_class, expression_row, statement_row, performed, starts_in, starts_on, starting, evaluate, execute, starts}
 use Rattle.model_eval.specs.Kept.{Anything, CarriesIf, Carries}
 use Rattle.model_eval.proofs.FieldBounds.{nil-in_bounds, with_named-in_bounds, length-with_named}
 use Rattle.model_eval.proofs.Pending.{if_either}
@@ -98,7 +99,7 @@ module _ (program : ProgramTree) (ev : Evaluate) (start : Start) (keeps : Evalua
   called_on-carries H _ x args r valid fit = (kept-refl r, valid)
 
   initialised-carries : (H : Type 0) (c : ClassTree) (v : PlainValue) (id : ℕ) (r : Running)
-      → (H → Valid (field_counts program) r.world) → (H → InBounds v) → CarriesIf H (field_counts program) InBounds r (initialised start c v id r)
+      → (H → Valid (field_counts program) r.world) → (H → InBounds v) → CarriesIf H (field_counts program) InBounds r (run_init start c v id r)
   initialised-carries H c v id r valid fit =
       carries-test (field_counts program) H InBounds r (is_some (method_named init c.methods)) (and_then (start id init (v ∷ []) r) (λ _. Gives (ref id))) (Gives (ref id) r)
       (λ _. carries-next (field_counts program) H (Valid (field_counts program) r.world × AllInBounds (v ∷ [])) InBounds InBounds r (start id init (v ∷ []) r) (λ _. Gives (ref id))
@@ -117,10 +118,10 @@ module _ (program : ProgramTree) (ev : Evaluate) (start : Start) (keeps : Evalua
       (λ _. (kept-refl r, λ x. (valid x, tt)))
 
   pub handled-carries : (H : Type 0) (v : PlainValue) (hs : List Handler) (r : Running)
-      → (H → Valid (field_counts program) r.world) → (H → InBounds v) → CarriesIf H (field_counts program) Anything r (handled start v hs r)
+      → (H → Valid (field_counts program) r.world) → (H → InBounds v) → CarriesIf H (field_counts program) Anything r (run_handlers start v hs r)
   handled-carries H v [] r valid fit = (kept-refl r, λ x. (valid x, tt))
   handled-carries H v (h ∷ hs) r valid fit =
-      carries-then (field_counts program) H Anything Anything r (handled_by start v h r) (λ _. handled start v hs) (handled_by-carries H v h r valid fit)
+      carries-then (field_counts program) H Anything Anything r (handled_by start v h r) (λ _. run_handlers start v hs) (handled_by-carries H v h r valid fit)
       (λ u s. handled-carries (H × Valid (field_counts program) s.world × Anything u) v hs s (λ x. x.1) (λ x. fit x.0))
 
   published-carries : (H : Type 0) (scope event : Name) (v : PlainValue) (r : Running)
@@ -128,7 +129,7 @@ module _ (program : ProgramTree) (ev : Evaluate) (start : Start) (keeps : Evalua
   published-carries H scope event v r valid fit =
       let s : Running = with_outgoing scope event v r in
       carries-after (field_counts program) H H InBounds r s (published start scope event v r) (kept-published r (record { time = r.world.time; scope = scope; event = event; value = v } ∷ [])) (λ x. x)
-      (carries-then (field_counts program) H Anything InBounds s (told start scope event v s) (λ _. Gives nil)
+      (carries-then (field_counts program) H Anything InBounds s (tell_handlers start scope event v s) (λ _. Gives nil)
       (handled-carries H v (handlers_of scope event s.world.subscriptions) s valid fit) (λ _ t. (kept-refl t, λ x. (x.1, nil-in_bounds))))
 
   on_event-carries : (H : Type 0) (args : List PlainValue) (r : Running)
@@ -150,7 +151,7 @@ module _ (program : ProgramTree) (ev : Evaluate) (start : Start) (keeps : Evalua
       → (H → Valid (field_counts program) r.world) → (H → InBounds v) → slice_get program n ≡ c → CarriesIf H (field_counts program) InBounds r (created start n c v r)
   created-carries H n None v r valid fit e = (kept-refl r, valid)
   created-carries H n (Some c) v r valid fit e =
-      carries-then (field_counts program) H Anything InBounds r (made n (length c.fields) r) (initialised start c v)
+      carries-then (field_counts program) H Anything InBounds r (made n (length c.fields) r) (run_init start c v)
       (made-carries (field_counts program) H n (length c.fields) r valid (get-mapped (λ c. length c.fields) program n c e))
       (λ id s. initialised-carries (H × Valid (field_counts program) s.world × Anything id) c v id s (λ x. x.1) (λ x. fit x.0))
 
@@ -215,8 +216,8 @@ module _ (program : ProgramTree) (ev : Evaluate) (start : Start) (keeps : Evalua
       (λ vs t. called_on-carries _ o x vs t (λ y. y.1) (λ y. y.2.0)))
   expression-carries here (future object delay x args) locals r few short = future-carries (Ready (field_counts program) locals r) here object delay x args locals r (λ y. y) few short
   expression-carries here (create x options) locals r few short =
-      part-carries (Ready (field_counts program) locals r) here options locals r (created_by program start (number_of x program)) (λ y. y) few short.1
-      (λ v s. created_by-carries _ (number_of x program) v s (λ y. y.1) (λ y. y.2))
+      part-carries (Ready (field_counts program) locals r) here options locals r (created_by program start (number_of_class x program)) (λ y. y) few short.1
+      (λ v s. created_by-carries _ (number_of_class x program) v s (λ y. y.1) (λ y. y.2))
 
 -- ---- statements
 
@@ -237,7 +238,7 @@ module _ (counts : List ℕ) (ex : Execute) (keeps : Executes counts ex) where
   pub block-carries : (here : Here) (ss : Statements) (locals : List Local) (r : Running) → AllHaveFewArguments ss → AllNamesAreShort ss
       → CarriesIf (Ready counts locals r) counts FlowFits r (block ex here ss locals r)
   block-carries here ss locals r few short =
-      carries-then counts (Ready counts locals r) FlowFits FlowFits r (in_turn ex here ss locals r) (λ f. Gives (behind (length locals) f)) (in_turn-carries here ss locals r few short)
+      carries-then counts (Ready counts locals r) FlowFits FlowFits r (in_turn ex here ss locals r) (λ f. Gives (leave_block (length locals) f)) (in_turn-carries here ss locals r few short)
       (λ f s. (kept-refl s, λ x. (x.1, behind-fits (length locals) f x.2)))
 
   otherwise-carries : (here : Here) (o : Otherwise) (locals : List Local) (r : Running) → ElseHasFewArguments o → ElseNamesAreShort o
@@ -374,7 +375,7 @@ starts-kept program room object x args r fit short bounds =
 
 -- models that are told of an event
 pub told-kept : (program : ProgramTree) (room : ℕ) (scope event : Name) (v : PlainValue) (r : Running)
-    → ClassesFit program → ClassNamesAreShort program → InBounds v → Carries (field_counts program) Anything r (told (starts program room) scope event v r)
+    → ClassesFit program → ClassNamesAreShort program → InBounds v → Carries (field_counts program) Anything r (tell_handlers (starts program room) scope event v r)
 told-kept program room scope event v r fit short bounds =
     let below = row-kept program room fit short in
     handled-carries program (evaluate program room) (starts program room) below.0 (starting-begins (field_counts program) (execute program room) below.1 program fit short)

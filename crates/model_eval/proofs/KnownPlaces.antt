@@ -3,9 +3,10 @@ use Rattle.std.proofs.Common.{◌≡◌, ℕ, zero, suc, ◌<◌, ◌≤◌, Boo
 use Rattle.std.specs.Prelude.{insert, bytes_eq}
 use Rattle.std.proofs.lemmas.Bool.{false≢true}
 use Rattle.std.proofs.lemmas.Slice.Eq.{bytes_eq-Decides}
-use Rattle.model_value.specs.declared.world.Known.{Known}
+use Rattle.world_plain.specs.declared.world.Known.{Known}
 use Rattle.model_lang.specs.Tree.{Name}
-use Rattle.model_eval.specs.Objects.{with_known, comes_before}
+use Rattle.model_eval.specs.Objects.{with_known}
+use Rattle.tea_base.specs.Order.{comes_before}
 
 differs : (x y : Name) → ¬ (x ≡ y) → bytes_eq x y ≡ false
 differs x y h = no (bytes_eq x y) (λ e. h ((bytes_eq-Decides x y).0 e))

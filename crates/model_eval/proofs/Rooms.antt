@@ -5,25 +5,26 @@ use Rattle.std.proofs.lemmas.Bool.{false≢true}
 use Rattle.std.proofs.lemmas.List.{take-append-drop}
 use Rattle.std.proofs.lemmas.Option.{none-some}
 use Rattle.model_value.specs.Room.{IsRoomBehind}
-use Rattle.model_value.specs.World.{text_weight, known_weight, total}
-use Rattle.model_value.specs.declared.world.Known.{Known}
+use Rattle.model_value.specs.Plain.{text_weight}
+use Rattle.world_plain.specs.World.{known_weight, total_weight}
+use Rattle.world_plain.specs.declared.world.Known.{Known}
 
 -- a known name that is handed over weighs as before
-pub same_weight : (ks : List Known) (i : ℕ) (k new : Known) → slice_get ks i ≡ Some k → k.name ≡ new.name → total known_weight (set ks i new) ≡ total known_weight ks
+pub same_weight : (ks : List Known) (i : ℕ) (k new : Known) → slice_get ks i ≡ Some k → k.name ≡ new.name → total_weight known_weight (set ks i new) ≡ total_weight known_weight ks
 same_weight [] i k new e same = refl
 same_weight (l ∷ ls) zero k new e same =
     let is : l ≡ k = cc in
-    ap (λ (name : List ℕ). 1 + text_weight name + total known_weight ls) (sym same ∙ ap (λ (j : Known). j.name) (sym is))
+    ap (λ (name : List ℕ). 1 + text_weight name + total_weight known_weight ls) (sym same ∙ ap (λ (j : Known). j.name) (sym is))
 same_weight (l ∷ ls) (suc i) k new e same = ap (λ (n : ℕ). known_weight l + n) (same_weight ls i k new e same)
 
-total-append : (ks ls : List Known) → total known_weight (ks ++ ls) ≡ total known_weight ks + total known_weight ls
-total-append [] ls = let z : total known_weight [] + total known_weight ls ≡ total known_weight ls = zero-add (total known_weight ls) in sym z
+total-append : (ks ls : List Known) → total_weight known_weight (ks ++ ls) ≡ total_weight known_weight ks + total_weight known_weight ls
+total-append [] ls = let z : total_weight known_weight [] + total_weight known_weight ls ≡ total_weight known_weight ls = zero-add (total_weight known_weight ls) in sym z
 total-append (k ∷ ks) ls = let rest = total-append ks ls in omega arith
 
-pub weight-insert : (ks : List Known) (i : ℕ) (new : Known) → total known_weight (insert ks i new) ≡ total known_weight ks + known_weight new
+pub weight-insert : (ks : List Known) (i : ℕ) (new : Known) → total_weight known_weight (insert ks i new) ≡ total_weight known_weight ks + known_weight new
 weight-insert ks i new =
     let parts = total-append (take i ks) (drop i ks) in
-    let whole = ap (total known_weight) (take-append-drop i ks) in
+    let whole = ap (total_weight known_weight) (take-append-drop i ks) in
     let with_new = total-append (take i ks) (new ∷ drop i ks) in
     omega arith
 

@@ -10,8 +10,8 @@ use Rattle.std.proofs.lemmas.Bool.Decides.{nat_tests}
 use Rattle.std.proofs.Math.Seq.{take-length, take-append_seam}
 use Rattle.model_value.specs.Plain.{PlainValue}
 use Rattle.model_value.specs.Plain as plain
-use Rattle.model_value.specs.World.{ObjectRecord}
-use Rattle.model_value.specs.Valid.{object_at}
+use Rattle.world_plain.specs.World.{ObjectRecord}
+use Rattle.world_plain.specs.Valid.{object_at}
 use Rattle.model_lang.specs.Tree.{Name, Expression, nil, bool, int, text, this, local, field, list, unary, binary, builtin, call, future, create, Expressions, no_expressions, expression, Statement, declare, assign, set_field, when, while, give, do_, Statements, no_statements, statement, Otherwise, no_else, else_block, MethodTree, ClassTree, ProgramTree}
 use Rattle.model_lang.specs.declared.tree.UnaryOp.{UnaryOp}
 use Rattle.model_lang.specs.declared.tree.BinaryOp.{BinaryOp}
@@ -28,10 +28,10 @@ use Rattle.model_eval.specs.declared.fault.Fault.{Fault}
 use Rattle.model_eval.specs.declared.fault.Fault.TheVariants.{Depth}
 use Rattle.model_eval.specs.Running.{Running, Outcome, Gives, Faults, and_then, entering, bounded, truth, deciding, replying}
 use Rattle.model_eval.specs.Operators.{operating, unary_operated}
-use Rattle.model_eval.specs.Objects.{value_named, with_named, got, put}
+use Rattle.model_eval.specs.Objects.{value_named, with_named, got, put_fields}
 use Rattle.model_eval.specs.Futures.{send}
 use Rattle.model_eval.specs.Builtins.{answered_by}
-use Rattle.model_eval.specs.Meaning.{Here, Local, local_value, with_local, locals_of, Flow, next, returned, follow, behind, value_of, set_named, Start, called_on, created_by, Evaluate, Execute, evaluated, in_turn, block, otherwise, looped, expression_row, statement_row, evaluate, execute, performed, starts}
+use Rattle.model_eval.specs.Meaning.{Here, Local, local_value, with_local, locals_of, Flow, next, returned, follow, leave_block, value_of, set_named, Start, called_on, created_by, Evaluate, Execute, evaluated, in_turn, block, otherwise, looped, expression_row, statement_row, evaluate, execute, performed, starts}
 use Rattle.model_eval.specs.Slots as slots
 
 -- ---- fields
@@ -92,7 +92,7 @@ got-stands fields x slot (Some o) r h = ap (λ (v : PlainValue). Gives v r) (sym
 set-stands : (here : Here) (x : Name) (slot : ℕ) (v : PlainValue) (r : Running) → IsPlace here.class.fields x slot → slots.set_slot here.object slot v r ≡ set_named here x v r
 set-stands here x slot v r h =
     let e : (λ (vs : List PlainValue). set vs slot v) ≡ with_named x v here.class.fields = fun_ext (λ vs. sym ((slot_read here.class.fields x slot h).written v vs)) in
-    ap (λ (change : List PlainValue → List PlainValue). put (object_at r.world.objects here.object) here.object change r) e
+    ap (λ (change : List PlainValue → List PlainValue). put_fields (object_at r.world.objects here.object) here.object change r) e
 
 -- ---- branches
 
@@ -202,7 +202,7 @@ follow_matches mid scope (Gives (returned v) r) (Gives (returned w) s) f g h sam
 follow_matches mid scope (Faults t r) (Faults u s) f g h same = h
 follow_matches mid scope _ _ f g h same = absurd h
 
-behind_matches : (n : ℕ) (mid scope : List Name) (o : Outcome (Flow (List PlainValue))) (p : Outcome (Flow (List Local))) → take n mid ≡ scope → Matches mid o p → Matches scope (and_then o (λ f. Gives (behind n f))) (and_then p (λ f. Gives (behind n f)))
+behind_matches : (n : ℕ) (mid scope : List Name) (o : Outcome (Flow (List PlainValue))) (p : Outcome (Flow (List Local))) → take n mid ≡ scope → Matches mid o p → Matches scope (and_then o (λ f. Gives (leave_block n f))) (and_then p (λ f. Gives (leave_block n f)))
 behind_matches n mid scope (Gives (next vs) r) (Gives (next ls) s) e h =
     (ap (λ (ws : List PlainValue). take n ws) h.0 ∙ take-map (λ (l : Local). l.value) n ls, sym (take-map (λ (l : Local). l.name) n ls) ∙ ap (λ (xs : List Name). take n xs) h.1 ∙ e, h.2)
 behind_matches n mid scope (Gives (returned v) r) (Gives (returned w) s) e h = h
@@ -275,7 +275,7 @@ module _ (program : ProgramTree) (here : Here) (ev : Evaluate) (by_slots : slots
     block-matches ss ts ls r h =
         let long : length (values_of ls) ≡ length ls = length-map ls (λ (l : Local). l.value) in
         let named : length ls ≡ length (names_of ls) = sym (length-map ls (λ (l : Local). l.name)) in
-        subst (λ (n : ℕ). Matches (names_of ls) (and_then (slots.in_turn blocks_by_slots here.object ts (values_of ls) r) (λ f. Gives (behind n f))) (block ex here ss ls r)) (sym long)
+        subst (λ (n : ℕ). Matches (names_of ls) (and_then (slots.in_turn blocks_by_slots here.object ts (values_of ls) r) (λ f. Gives (leave_block n f))) (block ex here ss ls r)) (sym long)
         (behind_matches (length ls) (scope_behind_all (names_of ls) ss) (names_of ls) _ _ (take-extended (length ls) (names_of ls) _ named (behind_all-extends (names_of ls) ss)) (in_turn-matches ss ts ls r h))
 
     otherwise-matches : (other : Otherwise) (o : SolvedOtherwise) (ls : List Local) (r : Running) → StandsForElse (class_names program) here.class.fields (names_of ls) other o → Matches (names_of ls) (slots.otherwise blocks_by_slots here.object o (values_of ls) r) (otherwise ex here other ls r)

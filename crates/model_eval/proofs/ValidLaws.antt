@@ -4,18 +4,19 @@ use Rattle.std.specs.List.{filter}
 use Rattle.std.proofs.lemmas.Bool.{ltb-true, leb-true, and_parts}
 use Rattle.std.proofs.lemmas.List.{length_push, length-replicate}
 use Rattle.model_value.specs.Plain.{PlainValue, nil}
-use Rattle.model_value.specs.Messages.{PlainMessage}
-use Rattle.model_value.specs.World.{ObjectRecord, WorldRecord, object_weight, message_weight, subscription_weight, known_weight, world_weight, most_world_weight}
-use Rattle.model_value.specs.Valid.{Valid, RiseFrom, AllInBounds, IsHeld, ObjectFits, TextFits, SubscriptionFits, MessageFits, IsUnused, most_objects, most_pending}
-use Rattle.model_value.specs.declared.message.Subscription.{Subscription}
-use Rattle.model_value.specs.declared.world.Known.{Known}
+use Rattle.world_plain.specs.Messages.{PlainMessage}
+use Rattle.world_plain.specs.World.{ObjectRecord, WorldRecord, object_weight, message_weight, subscription_weight, known_weight, world_weight, most_world_weight}
+use Rattle.world_plain.specs.Valid.{Valid, RiseFrom, IsHeld, ObjectFits, SubscriptionFits, MessageFits, IsUnused, most_objects, most_pending}
+use Rattle.model_value.specs.Plain.{AllInBounds, TextFits}
+use Rattle.world_plain.specs.declared.message.Subscription.{Subscription}
+use Rattle.world_plain.specs.declared.world.Known.{Known}
 use Rattle.model_lang.specs.Tree.{Name}
 use Rattle.model_eval.specs.Running.{Running}
 use Rattle.model_eval.specs.Objects.{with_fields, with_objects, new_object, has_room_for, with_object, last_id, without_object, with_known}
 use Rattle.model_eval.specs.Futures.{with_message, has_room}
 use Rattle.model_eval.specs.Publishing.{has_room_to, with_subscription}
-use Rattle.message_queue.specs.Queue.{last_number}
-use Rattle.pubsub.specs.Topics.{is_held}
+use Rattle.message_queue.specs.Queue.{last_message_number}
+use Rattle.pubsub.specs.Topics.{is_subscribed}
 use Rattle.pubsub.proofs.Subscriptions.{SubscriptionsDiffer-appended}
 use Rattle.model_eval.proofs.FieldBounds.{StillHeld, Alike, with_fields-alike, Alike-ids, Alike-length, Alike-held, with_fields-fit, KnownFit-held, SubscriptionsFit-held, nil-in_bounds}
 use Rattle.model_eval.proofs.Pending.{AreInOrder-inserted, NumbersDiffer-inserted, next_number-unused, MessagesFit-inserted, MessagesFit-later, length-inserted, total-inserted}
@@ -34,23 +35,29 @@ valid-fields counts id change r long bound light v =
     let alike : Alike os ps = with_fields-alike id change os long in
     let held : StillHeld os ps = Alike-held os ps alike in
     record {
-      time = v.time;
-      next_object = v.next_object;
-      turns = v.turns;
+      clock = v.clock;
       views = v.views;
-      views_fit = v.views_fit;
-      ids = subst (RiseFrom 0) (sym (Alike-ids os ps alike)) v.ids;
-      objects = with_fields-fit counts r.world.next_object id change os long bound v.objects;
-      objects_fit = omega (arith, Alike-length os ps alike, v.objects_fit);
-      known_order = v.known_order;
-      known = KnownFit-held os ps r.world.known held v.known;
-      subscriptions_differ = v.subscriptions_differ;
-      subscriptions = SubscriptionsFit-held os ps r.world.subscriptions held v.subscriptions;
-      subscriptions_fit = v.subscriptions_fit;
-      order = v.order;
-      numbers_differ = v.numbers_differ;
-      pending = MessagesFit-later r.world ((with_objects r ps).world) r.world.pending refl (omega arith) held v.pending;
-      pending_fit = v.pending_fit;
+      objects = record {
+        positive = v.objects.positive;
+        rise = subst (RiseFrom 0) (sym (Alike-ids os ps alike)) v.objects.rise;
+        fit = with_fields-fit counts r.world.next_object id change os long bound v.objects.fit;
+        few = omega (arith, Alike-length os ps alike, v.objects.few);
+      };
+      names = record {
+        rise = v.names.rise;
+        fit = KnownFit-held os ps r.world.known held v.names.fit;
+      };
+      subscriptions = record {
+        differ = v.subscriptions.differ;
+        fit = SubscriptionsFit-held os ps r.world.subscriptions held v.subscriptions.fit;
+        few = v.subscriptions.few;
+      };
+      messages = record {
+        order = v.messages.order;
+        differ = v.messages.differ;
+        fit = MessagesFit-later r.world.time r.world.next_number r.world.next_number os ps r.world.pending (omega arith) held v.messages.fit;
+        few = v.messages.few;
+      };
       weight = light;
     }
 
@@ -59,34 +66,28 @@ pub weight-message : (m : PlainMessage) (r : Running) → world_weight ((with_me
 weight-message m r = omega (arith, total-inserted message_weight m r.world.pending)
 
 -- with one more message, if there is room for it
-pub valid-message : (counts : List ℕ) (m : PlainMessage) (r : Running) → m.number ≡ r.world.next_number → MessageFits ((with_message r m).world) m → has_room r.world m ≡ true
+pub valid-message : (counts : List ℕ) (m : PlainMessage) (r : Running) → m.number ≡ r.world.next_number → MessageFits r.world.time (r.world.next_number + 1) r.world.objects m → has_room r.world m ≡ true
     → Valid counts r.world → Valid counts ((with_message r m).world)
 valid-message counts m r new fits room v =
     let ms = r.world.pending in
-    let parts = and_parts (nat_lt (length ms) most_pending && nat_lt r.world.next_number last_number) (nat_le (world_weight r.world + message_weight m) most_world_weight) room in
-    let few : length ms < most_pending = ltb-true (length ms) most_pending (and_parts (nat_lt (length ms) most_pending) (nat_lt r.world.next_number last_number) parts.0).0 in
+    let parts = and_parts (nat_lt (length ms) most_pending && nat_lt r.world.next_number last_message_number) (nat_le (world_weight r.world + message_weight m) most_world_weight) room in
+    let few : length ms < most_pending = ltb-true (length ms) most_pending (and_parts (nat_lt (length ms) most_pending) (nat_lt r.world.next_number last_message_number) parts.0).0 in
     let light : world_weight r.world + message_weight m ≤ most_world_weight = leb-true (world_weight r.world + message_weight m) most_world_weight parts.1 in
-    let unused : IsUnused m.number ms = subst (λ k. IsUnused k ms) (sym new) (next_number-unused r.world ms v.pending) in
+    let unused : IsUnused m.number ms = subst (λ k. IsUnused k ms) (sym new) (next_number-unused r.world.time r.world.next_number r.world.objects ms v.messages.fit) in
     record {
-      time = v.time;
-      next_object = v.next_object;
-      turns = v.turns;
+      clock = v.clock;
       views = v.views;
-      views_fit = v.views_fit;
-      ids = v.ids;
       objects = v.objects;
-      objects_fit = v.objects_fit;
-      known_order = v.known_order;
-      known = v.known;
-      subscriptions_differ = v.subscriptions_differ;
+      names = v.names;
       subscriptions = v.subscriptions;
-      subscriptions_fit = v.subscriptions_fit;
-      order = AreInOrder-inserted m ms unused v.order;
-      numbers_differ = NumbersDiffer-inserted m ms unused v.numbers_differ;
-      pending =
-          MessagesFit-inserted ((with_message r m).world) m ms fits
-          (MessagesFit-later r.world ((with_message r m).world) ms refl (omega arith) (λ id held. held) v.pending);
-      pending_fit = omega (arith, length-inserted m ms);
+      messages = record {
+        order = AreInOrder-inserted m ms unused v.messages.order;
+        differ = NumbersDiffer-inserted m ms unused v.messages.differ;
+        fit =
+            MessagesFit-inserted r.world.time (r.world.next_number + 1) r.world.objects m ms fits
+            (MessagesFit-later r.world.time r.world.next_number (r.world.next_number + 1) r.world.objects r.world.objects ms (omega arith) (λ id held. held) v.messages.fit);
+        few = omega (arith, length-inserted m ms);
+      };
       weight = omega (arith, weight-message m r, light);
     }
 
@@ -103,23 +104,29 @@ valid-object counts class fields w known room v =
     let fits : ObjectFits counts (w.next_object + 1) o =
     (omega arith, known ∙ ap Some (sym (length-replicate fields nil)), replicate-in_bounds fields nil nil-in_bounds) in
     record {
-      time = v.time;
-      next_object = omega arith;
-      turns = v.turns;
+      clock = v.clock;
       views = v.views;
-      views_fit = v.views_fit;
-      ids = ids-appended counts 0 os o v.objects v.next_object v.ids;
-      objects = ObjectsFit-appended counts w.next_object os o v.objects fits;
-      objects_fit = omega (arith, length_push os o, few);
-      known_order = v.known_order;
-      known = KnownFit-held os (os ++ o ∷ []) w.known held v.known;
-      subscriptions_differ = v.subscriptions_differ;
-      subscriptions = SubscriptionsFit-held os (os ++ o ∷ []) w.subscriptions held v.subscriptions;
-      subscriptions_fit = v.subscriptions_fit;
-      order = v.order;
-      numbers_differ = v.numbers_differ;
-      pending = MessagesFit-later w (with_object w o) w.pending refl (omega arith) held v.pending;
-      pending_fit = v.pending_fit;
+      objects = record {
+        positive = omega arith;
+        rise = ids-appended counts 0 os o v.objects.fit v.objects.positive v.objects.rise;
+        fit = ObjectsFit-appended counts w.next_object os o v.objects.fit fits;
+        few = omega (arith, length_push os o, few);
+      };
+      names = record {
+        rise = v.names.rise;
+        fit = KnownFit-held os (os ++ o ∷ []) w.known held v.names.fit;
+      };
+      subscriptions = record {
+        differ = v.subscriptions.differ;
+        fit = SubscriptionsFit-held os (os ++ o ∷ []) w.subscriptions held v.subscriptions.fit;
+        few = v.subscriptions.few;
+      };
+      messages = record {
+        order = v.messages.order;
+        differ = v.messages.differ;
+        fit = MessagesFit-later w.time w.next_number w.next_number os (os ++ o ∷ []) w.pending (omega arith) held v.messages.fit;
+        few = v.messages.few;
+      };
       weight = omega (arith, total-appended object_weight os o, light);
     }
 
@@ -131,23 +138,29 @@ valid-others counts id w v =
     let s : Subscription → Bool = λ s. not (nat_eq s.object id) in
     let m : PlainMessage → Bool = λ m. not (nat_eq m.object id) in
     record {
-      time = v.time;
-      next_object = v.next_object;
-      turns = v.turns;
+      clock = v.clock;
       views = v.views;
-      views_fit = v.views_fit;
-      ids = ids-filtered o 0 w.objects v.ids;
-      objects = ObjectsFit-filtered counts w.next_object o w.objects v.objects;
-      objects_fit = omega (arith, length-filtered o w.objects, v.objects_fit);
-      known_order = KnownRise-filtered k w.known v.known_order;
-      known = KnownFit-others id w.objects w.known v.known;
-      subscriptions_differ = SubscriptionsDiffer-filtered s w.subscriptions v.subscriptions_differ;
-      subscriptions = SubscriptionsFit-others id w.objects w.subscriptions v.subscriptions;
-      subscriptions_fit = omega (arith, length-filtered s w.subscriptions, v.subscriptions_fit);
-      order = AreInOrder-filtered m w.pending v.order;
-      numbers_differ = NumbersDiffer-filtered m w.pending v.numbers_differ;
-      pending = MessagesFit-others id w w.pending v.pending;
-      pending_fit = omega (arith, length-filtered m w.pending, v.pending_fit);
+      objects = record {
+        positive = v.objects.positive;
+        rise = ids-filtered o 0 w.objects v.objects.rise;
+        fit = ObjectsFit-filtered counts w.next_object o w.objects v.objects.fit;
+        few = omega (arith, length-filtered o w.objects, v.objects.few);
+      };
+      names = record {
+        rise = KnownRise-filtered k w.known v.names.rise;
+        fit = KnownFit-others id w.objects w.known v.names.fit;
+      };
+      subscriptions = record {
+        differ = SubscriptionsDiffer-filtered s w.subscriptions v.subscriptions.differ;
+        fit = SubscriptionsFit-others id w.objects w.subscriptions v.subscriptions.fit;
+        few = omega (arith, length-filtered s w.subscriptions, v.subscriptions.few);
+      };
+      messages = record {
+        order = AreInOrder-filtered m w.pending v.messages.order;
+        differ = NumbersDiffer-filtered m w.pending v.messages.differ;
+        fit = MessagesFit-others w.time w.next_number id w.objects w.pending v.messages.fit;
+        few = omega (arith, length-filtered m w.pending, v.messages.few);
+      };
       weight = omega (arith, v.weight, total-filtered object_weight o w.objects, total-filtered message_weight m w.pending, total-filtered subscription_weight s w.subscriptions, total-filtered known_weight k w.known);
     }
 
@@ -157,23 +170,15 @@ pub valid-known : (counts : List ℕ) (x : Name) (object : ℕ) (w : WorldRecord
     → Valid counts w → Valid counts (record w { known = with_known x object w.known })
 valid-known counts x object w fits held light v =
     record {
-      time = v.time;
-      next_object = v.next_object;
-      turns = v.turns;
+      clock = v.clock;
       views = v.views;
-      views_fit = v.views_fit;
-      ids = v.ids;
       objects = v.objects;
-      objects_fit = v.objects_fit;
-      known_order = KnownRise-with_known x object w.known v.known_order;
-      known = KnownFit-with_known w.objects x object w.known fits held v.known;
-      subscriptions_differ = v.subscriptions_differ;
+      names = record {
+        rise = KnownRise-with_known x object w.known v.names.rise;
+        fit = KnownFit-with_known w.objects x object w.known fits held v.names.fit;
+      };
       subscriptions = v.subscriptions;
-      subscriptions_fit = v.subscriptions_fit;
-      order = v.order;
-      numbers_differ = v.numbers_differ;
-      pending = MessagesFit-later w (record w { known = with_known x object w.known }) w.pending refl (omega arith) (λ id held. held) v.pending;
-      pending_fit = v.pending_fit;
+      messages = v.messages;
       weight = light;
     }
 
@@ -181,23 +186,12 @@ valid-known counts x object w fits held light v =
 pub valid-random : (counts : List ℕ) (random : ℕ) (w : WorldRecord) → Valid counts w → Valid counts (record w { random = random })
 valid-random counts random w v =
     record {
-      time = v.time;
-      next_object = v.next_object;
-      turns = v.turns;
+      clock = v.clock;
       views = v.views;
-      views_fit = v.views_fit;
-      ids = v.ids;
       objects = v.objects;
-      objects_fit = v.objects_fit;
-      known_order = v.known_order;
-      known = v.known;
-      subscriptions_differ = v.subscriptions_differ;
+      names = v.names;
       subscriptions = v.subscriptions;
-      subscriptions_fit = v.subscriptions_fit;
-      order = v.order;
-      numbers_differ = v.numbers_differ;
-      pending = MessagesFit-later w (record w { random = random }) w.pending refl (omega arith) (λ id held. held) v.pending;
-      pending_fit = v.pending_fit;
+      messages = v.messages;
       weight = v.weight;
     }
 
@@ -206,7 +200,7 @@ filter-true [] = refl
 filter-true (x ∷ xs) = ap (λ (rest : List _). x ∷ rest) (filter-true xs)
 
 -- with one more subscription, which is new, if there is room for it
-pub valid-subscription : (counts : List ℕ) (s : Subscription) (w : WorldRecord) → is_held s w.subscriptions ≡ false → SubscriptionFits w.objects s → has_room_to w s ≡ true
+pub valid-subscription : (counts : List ℕ) (s : Subscription) (w : WorldRecord) → is_subscribed s w.subscriptions ≡ false → SubscriptionFits w.objects s → has_room_to w s ≡ true
     → Valid counts w → Valid counts (with_subscription s w)
 valid-subscription counts s w new fits room v =
     let ss = w.subscriptions in
@@ -214,23 +208,16 @@ valid-subscription counts s w new fits room v =
     let few : length ss < most_pending = ltb-true (length ss) most_pending parts.0 in
     let light : world_weight w + subscription_weight s ≤ most_world_weight = leb-true (world_weight w + subscription_weight s) most_world_weight parts.1 in
     record {
-      time = v.time;
-      next_object = v.next_object;
-      turns = v.turns;
+      clock = v.clock;
       views = v.views;
-      views_fit = v.views_fit;
-      ids = v.ids;
       objects = v.objects;
-      objects_fit = v.objects_fit;
-      known_order = v.known_order;
-      known = v.known;
-      subscriptions_differ = SubscriptionsDiffer-appended s ss new v.subscriptions_differ;
-      subscriptions = SubscriptionsFit-appended w.objects ss s v.subscriptions fits;
-      subscriptions_fit = omega (arith, length_push ss s, few);
-      order = v.order;
-      numbers_differ = v.numbers_differ;
-      pending = MessagesFit-later w (with_subscription s w) w.pending refl (omega arith) (λ id held. held) v.pending;
-      pending_fit = v.pending_fit;
+      names = v.names;
+      subscriptions = record {
+        differ = SubscriptionsDiffer-appended s ss new v.subscriptions.differ;
+        fit = SubscriptionsFit-appended w.objects ss s v.subscriptions.fit fits;
+        few = omega (arith, length_push ss s, few);
+      };
+      messages = v.messages;
       weight = omega (arith, total-appended subscription_weight ss s, light);
     }
 
@@ -238,26 +225,22 @@ valid-subscription counts s w new fits room v =
 pub valid-fewer : (counts : List ℕ) (keeps : Subscription → Bool) (keeps_too : PlainMessage → Bool) (w : WorldRecord)
     → Valid counts w → Valid counts (record w { subscriptions = filter keeps w.subscriptions; pending = filter keeps_too w.pending })
 valid-fewer counts keeps keeps_too w v =
-    let left : WorldRecord = record w { subscriptions = filter keeps w.subscriptions; pending = filter keeps_too w.pending } in
     record {
-      time = v.time;
-      next_object = v.next_object;
-      turns = v.turns;
+      clock = v.clock;
       views = v.views;
-      views_fit = v.views_fit;
-      ids = v.ids;
       objects = v.objects;
-      objects_fit = v.objects_fit;
-      known_order = v.known_order;
-      known = v.known;
-      subscriptions_differ = SubscriptionsDiffer-filtered keeps w.subscriptions v.subscriptions_differ;
-      subscriptions = SubscriptionsFit-filtered w.objects keeps w.subscriptions v.subscriptions;
-      subscriptions_fit = omega (arith, length-filtered keeps w.subscriptions, v.subscriptions_fit);
-      order = AreInOrder-filtered keeps_too w.pending v.order;
-      numbers_differ = NumbersDiffer-filtered keeps_too w.pending v.numbers_differ;
-      pending =
-          MessagesFit-filtered left keeps_too w.pending (MessagesFit-later w left w.pending refl (omega arith) (λ id held. held) v.pending);
-      pending_fit = omega (arith, length-filtered keeps_too w.pending, v.pending_fit);
+      names = v.names;
+      subscriptions = record {
+        differ = SubscriptionsDiffer-filtered keeps w.subscriptions v.subscriptions.differ;
+        fit = SubscriptionsFit-filtered w.objects keeps w.subscriptions v.subscriptions.fit;
+        few = omega (arith, length-filtered keeps w.subscriptions, v.subscriptions.few);
+      };
+      messages = record {
+        order = AreInOrder-filtered keeps_too w.pending v.messages.order;
+        differ = NumbersDiffer-filtered keeps_too w.pending v.messages.differ;
+        fit = MessagesFit-filtered w.time w.next_number w.objects keeps_too w.pending v.messages.fit;
+        few = omega (arith, length-filtered keeps_too w.pending, v.messages.few);
+      };
       weight = omega (arith, v.weight, total-filtered message_weight keeps_too w.pending, total-filtered subscription_weight keeps w.subscriptions);
     }
 

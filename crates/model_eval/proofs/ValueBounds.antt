@@ -5,8 +5,8 @@ use Rattle.std.proofs.lemmas.Bool.{leb-true, le-leb, and_parts, and_from, cond-t
 use Rattle.hex.specs.Hex.{encode_lower, lower_digits}
 use Rattle.hex.proofs.HexLemmas.{length-encode_with}
 use Rattle.model_value.specs.Plain.{PlainValue, bool, int, text, ref, weight, depth, InBounds, most_weight, most_depth, is_in_bounds}
-use Rattle.model_value.specs.Valid.{AllInBounds}
-use Rattle.model_value.specs.declared.world.Known.{Known}
+use Rattle.model_value.specs.Plain.{AllInBounds}
+use Rattle.world_plain.specs.declared.world.Known.{Known}
 use Rattle.model_lang.specs.Tree.{Name}
 use Rattle.model_lang.specs.declared.tree.UnaryOp.{UnaryOp}
 use Rattle.model_lang.specs.declared.tree.UnaryOp.TheVariants as unary_op
@@ -16,15 +16,15 @@ use Rattle.model_builtin.specs.Builtins.{in_64_bits}
 use Rattle.model_builtin.specs.Builtins as without_world
 use Rattle.model_builtin.specs.declared.builtin.Pure.{Pure}
 use Rattle.model_eval.specs.declared.fault.Fault.TheVariants.{Overflow, ZeroDivisor, Size}
-use Rattle.model_eval.specs.Running.{Running, Gives, Faults, bounded, Reply, value, fails}
+use Rattle.model_eval.specs.Running.{Running, Gives, Faults, bounded, PureOutcome, value, fails}
 use Rattle.model_eval.specs.Operators.{same, fitting, on_ints, compared, divided, operated, unary_operated}
 use Rattle.model_eval.specs.Objects.{known_by}
-use Rattle.model_eval.specs.Meaning.{Local, local_value, with_local, locals_of, Flow, next, returned, behind, value_of}
+use Rattle.model_eval.specs.Meaning.{Local, local_value, with_local, locals_of, Flow, next, returned, leave_block, value_of}
 use Rattle.model_eval.proofs.FieldBounds.{if_both, nil-in_bounds}
 use Rattle.model_eval.proofs.Pending.{if_either, encoded-length}
 
 -- of the value that an operator gives, if it gives one
-abbrev pub Replies : (PlainValue → Type 0) → Reply → Type 0
+abbrev pub Replies : (PlainValue → Type 0) → PureOutcome → Type 0
 Replies P (value a) = P a
 Replies P (fails f) = Unit {0}
 
@@ -72,7 +72,7 @@ AllInBounds-push (w ∷ vs) v h g = (h.0, AllInBounds-push vs v h.1 g)
 fitting-in_bounds : (n : ℤ) → Replies InBounds (fitting n)
 fitting-in_bounds n = if_both (Replies InBounds) (in_64_bits n) (value (int n)) (fails Overflow) (int-in_bounds n) tt
 
-on_ints-in_bounds : (f : ℤ → ℤ → Reply) → ((m n : ℤ) → Replies InBounds (f m n)) → (v w : PlainValue) → Replies InBounds (on_ints f v w)
+on_ints-in_bounds : (f : ℤ → ℤ → PureOutcome) → ((m n : ℤ) → Replies InBounds (f m n)) → (v w : PlainValue) → Replies InBounds (on_ints f v w)
 on_ints-in_bounds f h (int m) (int n) = h m n
 on_ints-in_bounds f h _ _ = tt
 
@@ -109,18 +109,18 @@ unary_operated-in_bounds unary_op.Not _ = tt
 -- ---- the builtins that need no world
 
 -- of the value that such a one gives, if it gives one
-abbrev pub PureReplies : (PlainValue → Type 0) → without_world.Reply → Type 0
+abbrev pub PureReplies : (PlainValue → Type 0) → without_world.BuiltinReply → Type 0
 PureReplies P (without_world.value v) = P v
 PureReplies P _ = Unit {0}
 
-sized-in_bounds : (reply : without_world.Reply) → PureReplies InBounds (without_world.sized reply)
+sized-in_bounds : (reply : without_world.BuiltinReply) → PureReplies InBounds (without_world.sized reply)
 sized-in_bounds (without_world.value v) = if_either (PureReplies InBounds) (is_in_bounds v) (without_world.value v) without_world.too_large (fits-true v) (λ _. tt)
 sized-in_bounds without_world.bad_kind = tt
 sized-in_bounds without_world.bad_index = tt
 sized-in_bounds without_world.too_large = tt
 
 pub applied-in_bounds : (f : Pure) (args : List PlainValue) → PureReplies InBounds (without_world.applied f args)
-applied-in_bounds f args = sized-in_bounds (without_world.given f args)
+applied-in_bounds f args = sized-in_bounds (without_world.builtin_gives f args)
 
 -- ---- locals
 
@@ -156,7 +156,7 @@ abbrev pub FlowFits : Flow (List Local) → Type 0
 FlowFits (next ls) = LocalsFit ls
 FlowFits (returned v) = InBounds v
 
-pub behind-fits : (n : ℕ) (f : Flow (List Local)) → FlowFits f → FlowFits (behind n f)
+pub behind-fits : (n : ℕ) (f : Flow (List Local)) → FlowFits f → FlowFits (leave_block n f)
 behind-fits n (next ls) h = take-fit n ls h
 behind-fits n (returned v) h = h
 

@@ -3,17 +3,13 @@ use Rattle.std.specs.Prelude.{◌≡◌, ◌-◌, ℕ, nat_eq, ℤ, List, Vec, m
 use Rattle.std.specs.declared.alloc.Global.{Global}
 use Rattle.model_value.specs.Plain.{PlainValue, nil, int}
 use Rattle.model_value.specs.View.{plain, plain_values}
-use Rattle.model_value.specs.Messages.{plain_outgoing}
-use Rattle.model_value.specs.World.{ObjectRecord, WorldRecord}
+use Rattle.world_plain.specs.Messages.{plain_outgoing}
+use Rattle.world_plain.specs.World.{ObjectRecord, WorldRecord}
 use Rattle.model_value.specs.declared.value.Value.{Value}
 use Rattle.model_builtin.specs.declared.fault.BuiltinStop.{BuiltinStop}
 use Rattle.model_builtin.specs.declared.fault.BuiltinStop.TheVariants as builtin_stop
-use Rattle.object_store.specs.declared.refusal.StoreRefusal.{StoreRefusal}
-use Rattle.object_store.specs.declared.refusal.StoreRefusal.TheVariants as store_refusal
-use Rattle.message_queue.specs.declared.refusal.QueueRefusal.{QueueRefusal}
-use Rattle.message_queue.specs.declared.refusal.QueueRefusal.TheVariants as queue_refusal
-use Rattle.pubsub.specs.declared.refusal.TopicRefusal.{TopicRefusal}
-use Rattle.pubsub.specs.declared.refusal.TopicRefusal.TheVariants as topic_refusal
+use Rattle.world_plain.specs.declared.refusal.StoreRefusal.{StoreRefusal}
+use Rattle.world_plain.specs.declared.refusal.StoreRefusal.TheVariants as refusal
 use Rattle.model_eval.specs.declared.fault.Fault.TheVariants.{BadKind, BadIndex, NoObject, Fuel, Size, Full}
 use Rattle.model_eval.specs.declared.fault.Stop.{Stop}
 use Rattle.model_eval.specs.declared.fault.Stop.TheVariants as stop
@@ -21,11 +17,14 @@ use Rattle.model_eval.specs.declared.evaluator.Flow.{Flow as Held}
 use Rattle.model_eval.specs.declared.evaluator.Flow.TheVariants as held
 use Rattle.model_eval.specs.declared.state.State.{State}
 use Rattle.model_eval.specs.declared.state.Budget.{Budget}
-use Rattle.model_eval.specs.Running.{Running, Outcome, Gives, Faults, Reply, value, fails}
+use Rattle.model_eval.specs.Running.{Running, Outcome, Gives, Faults, PureOutcome, value, fails}
 use Rattle.model_eval.specs.Operators.{on_ints}
 use Rattle.model_lang.specs.Tree.{Name, ClassTree}
 use Rattle.model_check.specs.Methods.{method_named}
-use Rattle.model_eval.specs.Meaning.{Flow, next, returned, init}
+use Rattle.model_lang.specs.TreeView.{program_tree}
+use Rattle.model_eval.specs.Meaning.{Start, Flow, next, returned, init, starts}
+use Rattle.model_eval.specs.Slots.{Evaluate, Execute, evaluate, execute}
+use Rattle.model_eval.specs.declared.here.Starter.{Starter}
 
 -- the world that a state holds
 abbrev pub world_of : State → WorldRecord
@@ -48,6 +47,16 @@ world_of s = record {
 abbrev pub running : State → Budget → Running
 running state budget = record { fuel = budget.fuel; world = world_of state; published = map plain_outgoing state.published }
 
+-- how methods start, and what expressions and statements mean
+abbrev pub starts_by : Starter → Start
+starts_by s = starts (program_tree s.program.now) s.room
+
+abbrev pub evaluates_by : Starter → Evaluate
+evaluates_by s = evaluate (program_tree s.program.now) s.room
+
+abbrev pub executes_by : Starter → Execute
+executes_by s = execute (program_tree s.program.now) s.room
+
 -- a fault of what needs no world
 abbrev pub stop_of : BuiltinStop → Stop
 stop_of builtin_stop.BadKind = stop.Fault BadKind
@@ -56,19 +65,10 @@ stop_of builtin_stop.Size = stop.Fault Size
 stop_of builtin_stop.WantOfMemory = stop.WantOfMemory
 
 -- what a world holds no more of
-abbrev pub stop_of_store : StoreRefusal → Stop
-stop_of_store (store_refusal.Full count) = stop.Fault Full
-stop_of_store store_refusal.Spent = stop.Fault Full
-stop_of_store store_refusal.WantOfMemory = stop.WantOfMemory
-
-abbrev pub stop_of_queue : QueueRefusal → Stop
-stop_of_queue (queue_refusal.Full count) = stop.Fault Full
-stop_of_queue queue_refusal.Spent = stop.Fault Full
-stop_of_queue queue_refusal.WantOfMemory = stop.WantOfMemory
-
-abbrev pub stop_of_topics : TopicRefusal → Stop
-stop_of_topics (topic_refusal.Full count) = stop.Fault Full
-stop_of_topics topic_refusal.WantOfMemory = stop.WantOfMemory
+abbrev pub stop_of_refusal : StoreRefusal → Stop
+stop_of_refusal (refusal.Full count) = stop.Fault Full
+stop_of_refusal refusal.Spent = stop.Fault Full
+stop_of_refusal refusal.WantOfMemory = stop.WantOfMemory
 
 -- the answer, and what runs after it, are what was meant, unless memory ran out
 abbrev pub Answers : Result Value Stop → State → Budget → Outcome PlainValue → Type 0
@@ -120,7 +120,7 @@ Spends (Err (stop.Fault f)) budget meant = (state : State) → meant state ≡ F
 Spends (Err stop.WantOfMemory) budget meant = Unit {0}
 
 -- the same of what changes nothing
-abbrev pub Replies : Result Value Stop → Reply → Type 0
+abbrev pub Replies : Result Value Stop → PureOutcome → Type 0
 Replies (Ok v) meant = meant ≡ value (plain v)
 Replies (Err (stop.Fault f)) meant = meant ≡ fails f
 Replies (Err stop.WantOfMemory) meant = Unit {0}
@@ -134,7 +134,7 @@ IsAbsent (Err stop.WantOfMemory) found = ⊥
 -- two values are Ints, or what needs two Ints fails
 abbrev pub AreInts : Result (ℤ × ℤ) Stop → PlainValue → PlainValue → Type 0
 AreInts (Ok ints) v w = (v ≡ int ints.0) × (w ≡ int ints.1)
-AreInts (Err (stop.Fault f)) v w = (f ≡ BadKind) × ((row : ℤ → ℤ → Reply) → on_ints row v w ≡ fails BadKind)
+AreInts (Err (stop.Fault f)) v w = (f ≡ BadKind) × ((row : ℤ → ℤ → PureOutcome) → on_ints row v w ≡ fails BadKind)
 AreInts (Err stop.WantOfMemory) v w = Unit {0}
 
 abbrev pub Decides : Result Bool Stop → Option Bool → Type 0

@@ -44,16 +44,16 @@ takes_steps pure.Text = true
 takes_steps _ = false
 
 -- what such a one gives
-abbrev pub given : Bool → without_world.Reply → Running → Outcome PlainValue
-given true (without_world.value v) r = spending (weight v) r (Gives v)
-given false (without_world.value v) r = Gives v r
-given costs without_world.bad_kind r = Faults BadKind r
-given costs without_world.bad_index r = Faults BadIndex r
-given costs without_world.too_large r = Faults Size r
+abbrev pub builtin_outcome : Bool → without_world.BuiltinReply → Running → Outcome PlainValue
+builtin_outcome true (without_world.value v) r = spending (weight v) r (Gives v)
+builtin_outcome false (without_world.value v) r = Gives v r
+builtin_outcome costs without_world.bad_kind r = Faults BadKind r
+builtin_outcome costs without_world.bad_index r = Faults BadIndex r
+builtin_outcome costs without_world.too_large r = Faults Size r
 
 abbrev pub pure_answered : Option Pure → List PlainValue → Running → Outcome PlainValue
 pure_answered None args r = Faults BadKind r
-pure_answered (Some f) args r = given (takes_steps f) (applied f args) r
+pure_answered (Some f) args r = builtin_outcome (takes_steps f) (applied f args) r
 
 -- the arguments that a builtin takes: none, one Int, one Text, three Texts, two Texts and a value, or one Ref
 abbrev pub on_none : (Running → Outcome PlainValue) → List PlainValue → Running → Outcome PlainValue

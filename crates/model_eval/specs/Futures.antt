@@ -1,10 +1,11 @@
 -- Messages to come.
 use Rattle.std.specs.Prelude.{ℕ, ◌+◌, ◌*◌, ℤ, pos, negsuc, Bool, nat_eq, nat_lt, nat_le, if◌then◌else◌, ◌&&◌, List, length, Option, Some, None}
 use Rattle.model_value.specs.Plain.{PlainValue, nil, int, ref}
-use Rattle.model_value.specs.Messages.{PlainMessage}
-use Rattle.model_value.specs.World.{ObjectRecord, WorldRecord, message_weight, world_weight, most_world_weight}
-use Rattle.model_value.specs.Valid.{object_at, time_limit, most_turns, most_pending}
-use Rattle.message_queue.specs.Queue.{inserted, last_number}
+use Rattle.world_plain.specs.Messages.{PlainMessage}
+use Rattle.world_plain.specs.World.{ObjectRecord, WorldRecord, message_weight, world_weight, most_world_weight}
+use Rattle.world_plain.specs.Valid.{object_at, most_turns, most_pending}
+use Rattle.tea_base.specs.Limits.{time_limit}
+use Rattle.message_queue.specs.Queue.{inserted, last_message_number}
 use Rattle.model_lang.specs.Tree.{Name}
 use Rattle.model_eval.specs.declared.fault.Fault.TheVariants.{BadKind, NoObject, Instant, Time, Full}
 use Rattle.model_eval.specs.Running.{Running, with_world, Outcome, Gives, Faults}
@@ -15,7 +16,7 @@ ahead time (pos n) = if nat_lt (time + 1000 * n) time_limit then Some (time + 10
 ahead time (negsuc n) = None
 
 abbrev pub has_room : WorldRecord → PlainMessage → Bool
-has_room w m = nat_lt (length w.pending) most_pending && nat_lt w.next_number last_number && nat_le (world_weight w + message_weight m) most_world_weight
+has_room w m = nat_lt (length w.pending) most_pending && nat_lt w.next_number last_message_number && nat_le (world_weight w + message_weight m) most_world_weight
 
 abbrev pub with_message : Running → PlainMessage → Running
 with_message r m = with_world r (record (r.world) { pending = inserted m r.world.pending; next_number = r.world.next_number + 1 })

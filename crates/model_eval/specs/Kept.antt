@@ -1,18 +1,18 @@
 -- What a part of a method keeps of a world.
 use Rattle.std.specs.Prelude.{◌≡◌, ℕ, ◌+◌, ◌≤◌, List, [], ◌∷◌, ◌++◌, nat_le, if◌then◌else◌, ⊤}
-use Rattle.model_value.specs.Messages.{PlainMessage, PlainOutgoing}
-use Rattle.model_value.specs.World.{WorldRecord}
-use Rattle.model_value.specs.Valid.{Valid, most_turns}
+use Rattle.world_plain.specs.Messages.{PlainMessage, PlainOutgoing}
+use Rattle.world_plain.specs.World.{WorldRecord}
+use Rattle.world_plain.specs.Valid.{Valid, most_turns}
 use Rattle.model_eval.specs.Running.{Running, Outcome, Gives, Faults}
 
 -- how many messages are due by a time
-abbrev pub due : ℕ → List PlainMessage → ℕ
-due time [] = 0
-due time (m ∷ ms) = (if nat_le m.time time then 1 else 0) + due time ms
+abbrev pub count_due : ℕ → List PlainMessage → ℕ
+count_due time [] = 0
+count_due time (m ∷ ms) = (if nat_le m.time time then 1 else 0) + count_due time ms
 
 -- how many are due at the world's own time
 abbrev pub now_due : WorldRecord → ℕ
-now_due w = due w.time w.pending
+now_due w = count_due w.time w.pending
 
 -- what stays of what runs, from the first to the second
 pub record Kept (r s : Running) : Type 0 where

@@ -3,8 +3,8 @@ use Rattle.std.specs.Prelude.{ℕ, zero, suc, nat_eq, if◌then◌else◌, List,
 use Rattle.std.specs.List.{position_from}
 use Rattle.model_value.specs.Plain.{PlainValue, nil, bool, int, text, ref, list}
 use Rattle.model_value.specs.View.{plains_of}
-use Rattle.model_value.specs.World.{ObjectRecord}
-use Rattle.model_value.specs.Valid.{object_at}
+use Rattle.world_plain.specs.World.{ObjectRecord}
+use Rattle.world_plain.specs.Valid.{object_at}
 use Rattle.model_lang.specs.Tree.{Name, Expression, this, local, field, unary, binary, builtin, call, future, create, Expressions, no_expressions, expression, Statement, declare, assign, set_field, when, while, give, do_, Statements, no_statements, statement, Otherwise, no_else, else_block, MethodTree, ClassTree, ProgramTree}
 use Rattle.model_lang.specs.Tree as tree
 use Rattle.model_check.specs.Builtins.{builtin_named}
@@ -14,7 +14,7 @@ use Rattle.model_eval.specs.declared.fault.Fault.TheVariants.{BadKind, NoObject,
 pub use Rattle.model_eval.specs.Running.{Start}
 use Rattle.model_eval.specs.Running.{Running, Outcome, Gives, Faults, and_then, entering, bounded, weighed, replying, truth, deciding}
 use Rattle.model_eval.specs.Operators.{operating, unary_operated}
-use Rattle.model_eval.specs.Objects.{got, put, with_named, made}
+use Rattle.model_eval.specs.Objects.{got, put_fields, with_named, made}
 use Rattle.model_eval.specs.Futures.{send}
 use Rattle.model_eval.specs.Builtins.{answered_by}
 
@@ -55,9 +55,9 @@ follow go (next locals) r = go locals r
 follow go (returned v) r = Gives (returned v) r
 
 -- the locals that were there before a block are those that are there behind it
-abbrev pub behind : {A : Type 0} → ℕ → Flow (List A) → Flow (List A)
-behind before (next locals) = next (take before locals)
-behind before (returned v) = returned v
+abbrev pub leave_block : {A : Type 0} → ℕ → Flow (List A) → Flow (List A)
+leave_block before (next locals) = next (take before locals)
+leave_block before (returned v) = returned v
 
 -- the value of a method is nil at the end of its body
 abbrev pub value_of : {L : Type 0} → Flow L → PlainValue
@@ -70,7 +70,7 @@ abbrev pub get_field : Here → Name → Running → Outcome PlainValue
 get_field here x r = got (object_at r.world.objects here.object) x here.class.fields r
 
 abbrev pub set_named : Here → Name → PlainValue → Running → Outcome ⊤
-set_named here x v r = put (object_at r.world.objects here.object) here.object (with_named x v here.class.fields) r
+set_named here x v r = put_fields (object_at r.world.objects here.object) here.object (with_named x v here.class.fields) r
 
 -- ---- the table
 
@@ -91,7 +91,7 @@ in_turn ex here no_statements locals r = Gives (next locals) r
 in_turn ex here (statement s ss) locals r = and_then (ex here s locals r) (follow (in_turn ex here ss))
 
 abbrev pub block : Execute → Here → Statements → List Local → Running → Outcome (Flow (List Local))
-block ex here ss locals r = and_then (in_turn ex here ss locals r) (λ f. Gives (behind (length locals) f))
+block ex here ss locals r = and_then (in_turn ex here ss locals r) (λ f. Gives (leave_block (length locals) f))
 
 abbrev pub otherwise : Execute → Here → Otherwise → List Local → Running → Outcome (Flow (List Local))
 otherwise ex here no_else locals r = Gives (next locals) r
@@ -118,22 +118,22 @@ abbrev pub init : Name
 init = codes "init"
 
 -- the method `init` of a new object starts with the one argument, where its class has one
-abbrev pub initialised : Start → ClassTree → PlainValue → ℕ → Running → Outcome PlainValue
-initialised start c v id r =
+abbrev pub run_init : Start → ClassTree → PlainValue → ℕ → Running → Outcome PlainValue
+run_init start c v id r =
     if is_some (method_named init c.methods) then and_then (start id init (v ∷ []) r) (λ _. Gives (ref id)) else Gives (ref id) r
 
 -- an object of the class of this number. A checked program has the class
 abbrev pub created : Start → ℕ → Option ClassTree → PlainValue → Running → Outcome PlainValue
 created start n None v r = Faults BadKind r
-created start n (Some c) v r = and_then (made n (length c.fields) r) (initialised start c v)
+created start n (Some c) v r = and_then (made n (length c.fields) r) (run_init start c v)
 
 abbrev pub created_by : ProgramTree → Start → Option ℕ → PlainValue → Running → Outcome PlainValue
 created_by program start None v r = Faults BadKind r
 created_by program start (Some n) v r = created start n (slice_get program n) v r
 
 -- the number of a class
-abbrev pub number_of : Name → ProgramTree → Option ℕ
-number_of x program = position_from (bytes_eq x) 0 (class_names program)
+abbrev pub number_of_class : Name → ProgramTree → Option ℕ
+number_of_class x program = position_from (bytes_eq x) 0 (class_names program)
 
 -- what an expression means, once what its parts mean is known
 abbrev pub expression_row : ProgramTree → Evaluate → Start → Here → Expression → List Local → Running → Outcome PlainValue
@@ -152,7 +152,7 @@ expression_row program ev start here (call object x args) locals r =
     and_then (ev here object locals r) (λ o r1. and_then (evaluated ev here args locals [] r1) (called_on start o x))
 expression_row program ev start here (future object delay x args) locals r =
     and_then (ev here object locals r) (λ o r1. and_then (ev here delay locals r1) (λ d r2. and_then (evaluated ev here args locals [] r2) (send o d x)))
-expression_row program ev start here (create x options) locals r = and_then (ev here options locals r) (created_by program start (number_of x program))
+expression_row program ev start here (create x options) locals r = and_then (ev here options locals r) (created_by program start (number_of_class x program))
 
 -- what a statement does
 abbrev pub statement_row : Evaluate → Execute → Here → Statement → List Local → Running → Outcome (Flow (List Local))

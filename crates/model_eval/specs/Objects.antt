@@ -1,10 +1,11 @@
 -- Objects: their fields, how one is made and taken away, and the names by which they are known.
-use Rattle.std.specs.Prelude.{ℕ, ◌+◌, ◌-◌, ◌^◌, Bool, true, false, not, nat_eq, nat_lt, nat_le, if◌then◌else◌, ◌&&◌, ◌||◌, List, [], ◌∷◌, ◌++◌, length, replicate, bytes_eq, Option, Some, None, is_some, ⊤}
+use Rattle.std.specs.Prelude.{ℕ, ◌+◌, ◌-◌, ◌^◌, Bool, not, nat_eq, nat_lt, nat_le, if◌then◌else◌, ◌&&◌, List, [], ◌∷◌, ◌++◌, length, replicate, bytes_eq, Option, Some, None, is_some, ⊤}
 use Rattle.std.specs.List.{filter}
+use Rattle.tea_base.specs.Order.{comes_before}
 use Rattle.model_value.specs.Plain.{PlainValue, nil, ref}
-use Rattle.model_value.specs.World.{ObjectRecord, WorldRecord, object_weight, world_weight, most_world_weight}
-use Rattle.model_value.specs.Valid.{object_at, most_objects}
-use Rattle.model_value.specs.declared.world.Known.{Known}
+use Rattle.world_plain.specs.World.{ObjectRecord, WorldRecord, object_weight, world_weight, most_world_weight}
+use Rattle.world_plain.specs.Valid.{object_at, most_objects}
+use Rattle.world_plain.specs.declared.world.Known.{Known}
 use Rattle.model_lang.specs.Tree.{Name}
 use Rattle.model_eval.specs.declared.fault.Fault.TheVariants.{NoObject, Full}
 use Rattle.model_eval.specs.Running.{Running, with_world, Outcome, Gives, Faults}
@@ -37,9 +38,9 @@ with_objects r objects = with_world r (record (r.world) { objects = objects })
 abbrev pub if_light : {A : Type 0} → A → Running → Running → Outcome A
 if_light a r changed = if nat_le (world_weight changed.world) most_world_weight then Gives a changed else Faults Full r
 
-abbrev pub put : Option ObjectRecord → ℕ → (List PlainValue → List PlainValue) → Running → Outcome ⊤
-put None id change r = Faults NoObject r
-put (Some o) id change r = if_light tt r (with_objects r (with_fields id change r.world.objects))
+abbrev pub put_fields : Option ObjectRecord → ℕ → (List PlainValue → List PlainValue) → Running → Outcome ⊤
+put_fields None id change r = Faults NoObject r
+put_fields (Some o) id change r = if_light tt r (with_objects r (with_fields id change r.world.objects))
 
 -- ---- making one
 
@@ -86,12 +87,6 @@ destroyed id r = if is_held id r.world then Gives nil (with_world r (without_obj
 abbrev pub known_by : Name → List Known → PlainValue
 known_by x [] = nil
 known_by x (k ∷ ks) = if bytes_eq x k.name then ref k.object else known_by x ks
-
--- in the order of characters, a shorter name before what it begins
-abbrev pub comes_before : Name → Name → Bool
-comes_before x [] = false
-comes_before [] (d ∷ ds) = true
-comes_before (c ∷ cs) (d ∷ ds) = nat_lt c d || (nat_eq c d && comes_before cs ds)
 
 -- an object in place of any other that is known by that name
 abbrev pub with_known : Name → ℕ → List Known → List Known

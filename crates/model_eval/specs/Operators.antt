@@ -8,7 +8,7 @@ use Rattle.model_lang.specs.declared.tree.UnaryOp.TheVariants as unary_op
 use Rattle.model_lang.specs.declared.tree.BinaryOp.{BinaryOp}
 use Rattle.model_lang.specs.declared.tree.BinaryOp.TheVariants as op
 use Rattle.model_eval.specs.declared.fault.Fault.TheVariants.{Overflow, ZeroDivisor, BadKind}
-use Rattle.model_eval.specs.Running.{Running, Outcome, Gives, and_then, Reply, value, fails, replying, truth, deciding}
+use Rattle.model_eval.specs.Running.{Running, Outcome, Gives, and_then, PureOutcome, value, fails, replying, truth, deciding}
 
 -- values of different kinds differ
 abbrev mutual
@@ -27,22 +27,22 @@ abbrev mutual
   all_same (item v vs) (item w ws) = same v w && all_same vs ws
   all_same _ _ = false
 
-abbrev pub fitting : ℤ → Reply
+abbrev pub fitting : ℤ → PureOutcome
 fitting n = if in_64_bits n then value (int n) else fails Overflow
 
-abbrev pub on_ints : (ℤ → ℤ → Reply) → PlainValue → PlainValue → Reply
+abbrev pub on_ints : (ℤ → ℤ → PureOutcome) → PlainValue → PlainValue → PureOutcome
 on_ints f (int m) (int n) = f m n
 on_ints f _ _ = fails BadKind
 
-abbrev pub compared : (ℤ → ℤ → Bool) → PlainValue → PlainValue → Reply
+abbrev pub compared : (ℤ → ℤ → Bool) → PlainValue → PlainValue → PureOutcome
 compared test = on_ints (λ m n. value (bool (test m n)))
 
 -- the quotient, cut towards zero, has to fit, also where the remainder is asked for, which has the sign of the left
-abbrev pub divided : (ℤ → ℤ → ℤ) → PlainValue → PlainValue → Reply
+abbrev pub divided : (ℤ → ℤ → ℤ) → PlainValue → PlainValue → PureOutcome
 divided part = on_ints (λ m n. if int_eq n (pos 0) then fails ZeroDivisor else (if in_64_bits (int_div m n) then value (int (part m n)) else fails Overflow))
 
 -- of two values; `||` and `&&` stand below
-abbrev pub operated : BinaryOp → PlainValue → PlainValue → Reply
+abbrev pub operated : BinaryOp → PlainValue → PlainValue → PureOutcome
 operated op.Or v w = fails BadKind
 operated op.And v w = fails BadKind
 operated op.Same v w = value (bool (same v w))
@@ -67,14 +67,14 @@ operating op.Or v right r = deciding (truth v) (λ b r1. if b then Gives (bool t
 operating op.And v right r = deciding (truth v) (λ b r1. if b then truly right r1 else Gives (bool false) r1) r
 operating o v right r = and_then (right r) (λ w. replying (operated o v w))
 
-abbrev pub negated : PlainValue → Reply
+abbrev pub negated : PlainValue → PureOutcome
 negated (int n) = fitting (neg_ℤ n)
 negated _ = fails BadKind
 
-abbrev pub inverted : PlainValue → Reply
+abbrev pub inverted : PlainValue → PureOutcome
 inverted (bool b) = value (bool (not b))
 inverted _ = fails BadKind
 
-abbrev pub unary_operated : UnaryOp → PlainValue → Reply
+abbrev pub unary_operated : UnaryOp → PlainValue → PureOutcome
 unary_operated unary_op.Minus v = negated v
 unary_operated unary_op.Not v = inverted v

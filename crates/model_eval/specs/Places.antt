@@ -1,6 +1,6 @@
 -- Known names by their place in a list.
 use Rattle.std.specs.Prelude.{◌≡◌, ◌≤◌, Some, length, slice_get, slice_set, insert, ℕ, List}
-use Rattle.model_value.specs.declared.world.Known.{Known}
+use Rattle.world_plain.specs.declared.world.Known.{Known}
 use Rattle.model_lang.specs.Tree.{Name}
 use Rattle.model_eval.specs.declared.known.Place.{Place}
 use Rattle.model_eval.specs.declared.known.Place.TheVariants.{Held, Free}

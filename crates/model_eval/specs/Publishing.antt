@@ -3,12 +3,12 @@ use Rattle.std.specs.Prelude.{ℕ, ◌+◌, ◌-◌, pos, Bool, not, nat_lt, nat
 use Rattle.std.specs.List.{filter}
 use Rattle.model_value.specs.Plain.{PlainValue, nil, int, list}
 use Rattle.model_value.specs.View.{plains_of}
-use Rattle.model_value.specs.Messages.{PlainMessage}
-use Rattle.model_value.specs.World.{WorldRecord, subscription_weight, world_weight, most_world_weight}
-use Rattle.model_value.specs.Valid.{most_pending}
-use Rattle.model_value.specs.declared.message.Subscription.{Subscription}
+use Rattle.world_plain.specs.Messages.{PlainMessage}
+use Rattle.world_plain.specs.World.{WorldRecord, subscription_weight, world_weight, most_world_weight}
+use Rattle.world_plain.specs.Valid.{most_pending}
+use Rattle.world_plain.specs.declared.message.Subscription.{Subscription}
 use Rattle.pubsub.specs.declared.handler.Handler.{Handler}
-use Rattle.pubsub.specs.Topics.{is_held as is_subscribed, without as without_subscription, handlers_of}
+use Rattle.pubsub.specs.Topics.{is_subscribed, without_subscription, handlers_of}
 use Rattle.message_queue.specs.Queue.{calls}
 use Rattle.model_lang.specs.Tree.{Name}
 use Rattle.model_eval.specs.declared.fault.Fault.TheVariants.{NoObject, Full}
@@ -22,13 +22,13 @@ abbrev pub handled_by : Start → PlainValue → Handler → Running → Outcome
 handled_by start v h r =
     if is_held h.object r.world then entering r (λ s. and_then (start h.object h.method (v ∷ []) s) (λ _. Gives tt)) else Gives tt r
 
-abbrev pub handled : Start → PlainValue → List Handler → Running → Outcome ⊤
-handled start v [] r = Gives tt r
-handled start v (h ∷ hs) r = and_then (handled_by start v h r) (λ _. handled start v hs)
+abbrev pub run_handlers : Start → PlainValue → List Handler → Running → Outcome ⊤
+run_handlers start v [] r = Gives tt r
+run_handlers start v (h ∷ hs) r = and_then (handled_by start v h r) (λ _. run_handlers start v hs)
 
 -- models are told of an event: its handlers are those that are subscribed now, each in turn
-abbrev pub told : Start → Name → Name → PlainValue → Running → Outcome ⊤
-told start scope event v r = handled start v (handlers_of scope event r.world.subscriptions) r
+abbrev pub tell_handlers : Start → Name → Name → PlainValue → Running → Outcome ⊤
+tell_handlers start scope event v r = run_handlers start v (handlers_of scope event r.world.subscriptions) r
 
 -- the event stands last in what was published
 abbrev pub with_outgoing : Name → Name → PlainValue → Running → Running
@@ -36,7 +36,7 @@ with_outgoing scope event v r =
     record r { published = r.published ++ record { time = r.world.time; scope = scope; event = event; value = v } ∷ [] }
 
 abbrev pub published : Start → Name → Name → PlainValue → Running → Outcome PlainValue
-published start scope event v r = and_then (told start scope event v (with_outgoing scope event v r)) (λ _. Gives nil)
+published start scope event v r = and_then (tell_handlers start scope event v (with_outgoing scope event v r)) (λ _. Gives nil)
 
 -- ---- subscriptions
 

@@ -1,8 +1,8 @@
 -- What runs, and how a part of a program ends.
 use Rattle.std.specs.Prelude.{ℕ, ◌-◌, Bool, nat_eq, nat_le, if◌then◌else◌, List, Option, Some, None}
 use Rattle.model_value.specs.Plain.{PlainValue, bool, weight, is_in_bounds}
-use Rattle.model_value.specs.Messages.{PlainOutgoing}
-use Rattle.model_value.specs.World.{WorldRecord}
+use Rattle.world_plain.specs.Messages.{PlainOutgoing}
+use Rattle.world_plain.specs.World.{WorldRecord}
 use Rattle.model_eval.specs.declared.fault.Fault.{Fault}
 use Rattle.model_eval.specs.declared.fault.Fault.TheVariants.{BadKind, Fuel, Size}
 
@@ -43,11 +43,11 @@ abbrev pub weighed : PlainValue → Running → Outcome PlainValue
 weighed v r = if is_in_bounds v then spending (weight v) r (Gives v) else Faults Size r
 
 -- a value or a fault, of what changes nothing
-pub data Reply : Type 0 where
-  value : PlainValue → Reply
-  fails : Fault → Reply
+pub data PureOutcome : Type 0 where
+  value : PlainValue → PureOutcome
+  fails : Fault → PureOutcome
 
-abbrev pub replying : Reply → Running → Outcome PlainValue
+abbrev pub replying : PureOutcome → Running → Outcome PlainValue
 replying (value v) r = Gives v r
 replying (fails f) r = Faults f r
 

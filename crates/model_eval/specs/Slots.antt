@@ -3,20 +3,20 @@
 use Rattle.std.specs.Prelude.{ℕ, zero, suc, nat_eq, if◌then◌else◌, List, [], ◌∷◌, ◌++◌, length, take, Option, Some, None, slice_get, slice_index_or, slice_set, ⊤}
 use Rattle.model_value.specs.Plain.{PlainValue, nil, bool, int, text, ref, list}
 use Rattle.model_value.specs.View.{plains_of}
-use Rattle.model_value.specs.World.{ObjectRecord}
-use Rattle.model_value.specs.Valid.{object_at}
+use Rattle.world_plain.specs.World.{ObjectRecord}
+use Rattle.world_plain.specs.Valid.{object_at}
 use Rattle.model_lang.specs.Tree.{ProgramTree}
 use Rattle.model_check.specs.SolvedTree.{SolvedExpression, this, local, field, unary, binary, builtin, call, future, create, SolvedExpressions, no_expressions, expression, SolvedStatement, declare, assign, set_field, when, while, give, do_, SolvedStatements, no_statements, statement, SolvedOtherwise, no_else, else_block, SolvedMethod}
 use Rattle.model_check.specs.SolvedTree as solved
 use Rattle.model_eval.specs.declared.fault.Fault.TheVariants.{NoObject, Fuel, Depth, Arity}
-use Rattle.model_eval.specs.Running.{Running, Outcome, Gives, Faults, and_then, entering, bounded, weighed, Reply, value, fails, replying, truth, deciding, Start}
+use Rattle.model_eval.specs.Running.{Running, Outcome, Gives, Faults, and_then, entering, bounded, weighed, PureOutcome, value, fails, replying, truth, deciding, Start}
 use Rattle.model_eval.specs.Operators.{operating, unary_operated}
-use Rattle.model_eval.specs.Objects.{put}
+use Rattle.model_eval.specs.Objects.{put_fields}
 use Rattle.model_eval.specs.Futures.{send}
 use Rattle.model_eval.specs.Builtins.{answered}
-use Rattle.model_eval.specs.Meaning.{Flow, next, returned, follow, behind, value_of, called_on, created, starts}
+use Rattle.model_eval.specs.Meaning.{Flow, next, returned, follow, leave_block, value_of, called_on, created, starts}
 
-abbrev pub slot_value : Option ObjectRecord → ℕ → Reply
+abbrev pub slot_value : Option ObjectRecord → ℕ → PureOutcome
 slot_value None slot = fails NoObject
 slot_value (Some o) slot = value (slice_index_or o.fields slot nil)
 
@@ -24,7 +24,7 @@ abbrev pub get_slot : ℕ → ℕ → Running → Outcome PlainValue
 get_slot object slot r = replying (slot_value (object_at r.world.objects object) slot) r
 
 abbrev pub set_slot : ℕ → ℕ → PlainValue → Running → Outcome ⊤
-set_slot object slot v r = put (object_at r.world.objects object) object (λ fields. slice_set fields slot v) r
+set_slot object slot v r = put_fields (object_at r.world.objects object) object (λ fields. slice_set fields slot v) r
 
 abbrev pub Evaluate : Type 0
 Evaluate = ℕ → SolvedExpression → List PlainValue → Running → Outcome PlainValue
@@ -41,7 +41,7 @@ in_turn ex object no_statements locals r = Gives (next locals) r
 in_turn ex object (statement s ss) locals r = and_then (ex object s locals r) (follow (in_turn ex object ss))
 
 abbrev pub block : Execute → ℕ → SolvedStatements → List PlainValue → Running → Outcome (Flow (List PlainValue))
-block ex object ss locals r = and_then (in_turn ex object ss locals r) (λ f. Gives (behind (length locals) f))
+block ex object ss locals r = and_then (in_turn ex object ss locals r) (λ f. Gives (leave_block (length locals) f))
 
 abbrev pub otherwise : Execute → ℕ → SolvedOtherwise → List PlainValue → Running → Outcome (Flow (List PlainValue))
 otherwise ex object no_else locals r = Gives (next locals) r

@@ -11,6 +11,7 @@ ghost use Rattle.model_eval.specs.declared.state.Budget.{Budget};
 
 use crate::events::{subscribe, unsubscribe, view_count, views};
 use crate::fault::{Fault, Stop};
+use crate::here::Here;
 use crate::known::{be_known, known_object};
 use crate::messages::cancel;
 use crate::objects::{destroy, is_held};
@@ -23,17 +24,18 @@ use seeded_random::Source64;
 use std::alloc::Global;
 use tea_base::{SessionId, Text, WantOfMemory};
 
-/// What a builtin answers that starts no method, where a method of this object calls it.
+/// What a builtin answers that starts no method.
 pub fn answer(
-    alloc: Global,
+    here: &Here<'_>,
     builtin: Builtin,
-    object: u32,
     args: &Values,
     state: &mut State,
     budget: &mut Budget,
 ) -> Result<Value, Stop>
-    ensures { Answers result state.new budget.new (answered_alone builtin object (plain_values args.now) (running state.old budget.old)) }
+    ensures { Answers result state.new budget.new (answered_alone builtin here.now.object (plain_values args.now) (running state.old budget.old)) }
 {
+    let alloc = here.starter.alloc;
+    let object = here.object;
     match builtin {
         Builtin::Now => now(args.as_slice(), state),
         Builtin::Random => random(args.as_slice(), state),

@@ -8,15 +8,17 @@ ghost use Rattle.model_value.specs.View.{plain, plain_values};
 ghost use Rattle.model_eval.specs.Running.{and_then, Gives};
 ghost use Rattle.model_eval.specs.Operators.{operating, truly as truth_of_right};
 ghost use Rattle.model_eval.specs.Builtins.{answered, on_event};
-ghost use Rattle.model_eval.specs.Publishing.{handled, handled_by, published, told};
-ghost use Rattle.model_eval.specs.Meaning.{called_on, created, initialised, starts};
-ghost use Rattle.model_eval.specs.Slots.{block as block_of, entered, evaluate as evaluates, evaluated, execute as executes, expression_row as row_of_expression, in_turn, looped, performed, statement_row as row_of_statement};
-ghost use Rattle.model_eval.specs.Answer.{Answers, AnswersAll, Did, Enters, Flows, Steps, running};
+ghost use Rattle.model_eval.specs.Publishing.{run_handlers, handled_by, published, tell_handlers};
+ghost use Rattle.model_eval.specs.Meaning.{called_on, created, run_init};
+ghost use Rattle.model_eval.specs.Slots.{block as block_of, entered, evaluated, expression_row as row_of_expression, in_turn, looped, performed, statement_row as row_of_statement};
+ghost use Rattle.model_eval.specs.Answer.{Answers, AnswersAll, Did, Enters, Flows, Steps, evaluates_by, executes_by, running, starts_by};
 ghost use Rattle.model_eval.specs.declared.state.State.{State};
 
 use crate::builtins::answer;
+use crate::calls::Event;
 use crate::events::announce;
 use crate::fault::{Fault, Stop};
+use crate::here::{Here, Starter};
 use crate::locals::{assign, declare, get_local};
 use crate::messages::send;
 use crate::methods::init_of;
@@ -24,11 +26,10 @@ use crate::objects::{get_slot, is_held, make, set_slot};
 use crate::operator::{operate, operate_on_one, truth};
 use crate::state::{Budget, State};
 use crate::values::{list_of, literal, only};
-use model_check::{Builtin, Checked, Solved, SolvedExpr, SolvedStmt};
+use model_check::{Builtin, Solved, SolvedExpr, SolvedStmt};
 use model_lang::BinaryOp;
 use model_value::{Value, Values, copy};
 use pubsub::Handler;
-use std::alloc::Global;
 use tea_base::{List, Text};
 
 /// What follows on a statement.
@@ -40,608 +41,537 @@ pub enum Flow {
     Return(Value),
 }
 
-// What an expression gives, where so many more may be open.
-#[cycle(evaluate)]
-#[tactic(auto, using(crate::proofs::Steps::by_room))]
-fn evaluate(
-    alloc: Global,
-    program: &Checked,
-    room: u32,
-    object: u32,
-    expr: &SolvedExpr,
-    locals: &[Value],
-    state: &mut State,
-    budget: &mut Budget,
-) -> Result<Value, Stop>
-    ensures { Answers result state.new budget.new (evaluates (program_tree program.now) room object (solved_expression expr.now) (plain_values locals.now) (running state.old budget.old)) }
-{
-    let inside = enter(room, budget)?;
-    expression_row(alloc, program, inside, object, expr, locals, state, budget)
-}
-
-#[cycle(evaluate)]
-fn expression_row(
-    alloc: Global,
-    program: &Checked,
-    room: u32,
-    object: u32,
-    expr: &SolvedExpr,
-    locals: &[Value],
-    state: &mut State,
-    budget: &mut Budget,
-) -> Result<Value, Stop>
-    ensures { let tree = program_tree program.now in
-        Answers result state.new budget.new (row_of_expression tree (evaluates tree room) (starts tree room) object (solved_expression expr.now) (plain_values locals.now) (running state.old budget.old)) }
-{
-    match expr {
-        SolvedExpr::Nil => Ok(Value::Nil),
-        SolvedExpr::Bool(truth) => Ok(Value::Bool(*truth)),
-        SolvedExpr::Int(number) => Ok(Value::Int(*number)),
-        SolvedExpr::Text(text) => literal(text),
-        SolvedExpr::This => Ok(Value::Ref(object)),
-        SolvedExpr::Local { slot } => get_local(alloc, locals, *slot),
-        SolvedExpr::Field { slot } => get_slot(alloc, state, object, *slot),
-        SolvedExpr::List { items } => {
-            let values = evaluate_all(alloc, program, room, object, items, locals, state, budget)?;
-            list_of(values, budget)
-        }
-        SolvedExpr::Unary { op, of } => {
-            let value = evaluate(alloc, program, room, object, of, locals, state, budget)?;
-            operate_on_one(*op, &value)
-        }
-        SolvedExpr::Binary { op, left, right } => {
-            let left = evaluate(alloc, program, room, object, left, locals, state, budget)?;
-            right_side(
-                alloc, program, room, object, *op, &left, right, locals, state, budget,
-            )
-        }
-        SolvedExpr::Builtin { name, args } => {
-            let values = evaluate_all(alloc, program, room, object, args, locals, state, budget)?;
-            answer_builtin(alloc, program, room, *name, object, &values, state, budget)
-        }
-        SolvedExpr::Call {
-            object: target,
-            name,
-            args,
-        } => {
-            let target = evaluate(alloc, program, room, object, target, locals, state, budget)?;
-            let values = evaluate_all(alloc, program, room, object, args, locals, state, budget)?;
-            call(alloc, program, room, &target, name, values, state, budget)
-        }
-        SolvedExpr::Future {
-            object: target,
-            delay,
-            name,
-            args,
-        } => {
-            let target = evaluate(alloc, program, room, object, target, locals, state, budget)?;
-            let delay = evaluate(alloc, program, room, object, delay, locals, state, budget)?;
-            let values = evaluate_all(alloc, program, room, object, args, locals, state, budget)?;
-            send(state, &target, &delay, name, values)
-        }
-        SolvedExpr::Create { class, options } => {
-            let options = evaluate(alloc, program, room, object, options, locals, state, budget)?;
-            create(alloc, program, room, *class, options, state, budget)
-        }
+impl Here<'_> {
+    // What an expression gives.
+    #[cycle(evaluate)]
+    #[tactic(auto, using(crate::proofs::Steps::by_room))]
+    fn evaluate(
+        &self,
+        expr: &SolvedExpr,
+        locals: &[Value],
+        state: &mut State,
+        budget: &mut Budget,
+    ) -> Result<Value, Stop>
+        ensures { let here = self.now in
+            Answers result state.new budget.new (evaluates_by here.starter here.object (solved_expression expr.now) (plain_values locals.now) (running state.old budget.old)) }
+    {
+        let room = enter(self.starter.room, budget)?;
+        self.with_room(room)
+            .expression_row(expr, locals, state, budget)
     }
-}
 
-// What an operator gives of its left value and its right side, which `||` and `&&` may leave alone.
-#[cycle(evaluate)]
-fn right_side(
-    alloc: Global,
-    program: &Checked,
-    room: u32,
-    object: u32,
-    op: BinaryOp,
-    left: &Value,
-    right: &SolvedExpr,
-    locals: &[Value],
-    state: &mut State,
-    budget: &mut Budget,
-) -> Result<Value, Stop>
-    ensures { Answers result state.new budget.new (operating op (plain left.now) (evaluates (program_tree program.now) room object (solved_expression right.now) (plain_values locals.now)) (running state.old budget.old)) }
-{
-    match op {
-        BinaryOp::Or => {
-            if truth(left)? {
-                Ok(Value::Bool(true))
-            } else {
-                truly(alloc, program, room, object, right, locals, state, budget)
+    #[cycle(evaluate)]
+    fn expression_row(
+        &self,
+        expr: &SolvedExpr,
+        locals: &[Value],
+        state: &mut State,
+        budget: &mut Budget,
+    ) -> Result<Value, Stop>
+        ensures { let here = self.now in
+            Answers result state.new budget.new (row_of_expression (program_tree here.starter.program.now) (evaluates_by here.starter) (starts_by here.starter) here.object (solved_expression expr.now) (plain_values locals.now) (running state.old budget.old)) }
+    {
+        match expr {
+            SolvedExpr::Nil => Ok(Value::Nil),
+            SolvedExpr::Bool(truth) => Ok(Value::Bool(*truth)),
+            SolvedExpr::Int(number) => Ok(Value::Int(*number)),
+            SolvedExpr::Text(text) => literal(text),
+            SolvedExpr::This => Ok(Value::Ref(self.object)),
+            SolvedExpr::Local { slot } => get_local(self.starter.alloc, locals, *slot),
+            SolvedExpr::Field { slot } => get_slot(self.starter.alloc, state, self.object, *slot),
+            SolvedExpr::List { items } => {
+                let values = self.evaluate_all(items, locals, state, budget)?;
+                list_of(values, budget)
+            }
+            SolvedExpr::Unary { op, of } => {
+                let value = self.evaluate(of, locals, state, budget)?;
+                operate_on_one(*op, &value)
+            }
+            SolvedExpr::Binary { op, left, right } => match op {
+                BinaryOp::Or => self.evaluate_or(left, right, locals, state, budget),
+                BinaryOp::And => self.evaluate_and(left, right, locals, state, budget),
+                _ => {
+                    let left = self.evaluate(left, locals, state, budget)?;
+                    let right = self.evaluate(right, locals, state, budget)?;
+                    operate(*op, &left, &right)
+                }
+            },
+            SolvedExpr::Builtin { name, args } => {
+                let values = self.evaluate_all(args, locals, state, budget)?;
+                self.answer_builtin(*name, &values, state, budget)
+            }
+            SolvedExpr::Call { object, name, args } => {
+                let object = self.evaluate(object, locals, state, budget)?;
+                let values = self.evaluate_all(args, locals, state, budget)?;
+                self.starter.call(&object, name, values, state, budget)
+            }
+            SolvedExpr::Future {
+                object,
+                delay,
+                name,
+                args,
+            } => {
+                let object = self.evaluate(object, locals, state, budget)?;
+                let delay = self.evaluate(delay, locals, state, budget)?;
+                let values = self.evaluate_all(args, locals, state, budget)?;
+                send(state, &object, &delay, name, values)
+            }
+            SolvedExpr::Create { class, options } => {
+                let options = self.evaluate(options, locals, state, budget)?;
+                self.starter.create(*class, options, state, budget)
             }
         }
-        BinaryOp::And => {
-            if truth(left)? {
-                truly(alloc, program, room, object, right, locals, state, budget)
-            } else {
-                Ok(Value::Bool(false))
+    }
+
+    // What `||` gives. The right side is evaluated only where the left is false.
+    #[cycle(evaluate)]
+    fn evaluate_or(
+        &self,
+        left: &SolvedExpr,
+        right: &SolvedExpr,
+        locals: &[Value],
+        state: &mut State,
+        budget: &mut Budget,
+    ) -> Result<Value, Stop>
+        ensures { let here = self.now in let ev = evaluates_by here.starter here.object in
+            Answers result state.new budget.new (and_then (ev (solved_expression left.now) (plain_values locals.now) (running state.old budget.old)) (λ v. operating BinaryOp.Or v (ev (solved_expression right.now) (plain_values locals.now)))) }
+    {
+        let value = self.evaluate(left, locals, state, budget)?;
+        if truth(&value)? {
+            Ok(Value::Bool(true))
+        } else {
+            self.truly(right, locals, state, budget)
+        }
+    }
+
+    // What `&&` gives. The right side is evaluated only where the left is true.
+    #[cycle(evaluate)]
+    fn evaluate_and(
+        &self,
+        left: &SolvedExpr,
+        right: &SolvedExpr,
+        locals: &[Value],
+        state: &mut State,
+        budget: &mut Budget,
+    ) -> Result<Value, Stop>
+        ensures { let here = self.now in let ev = evaluates_by here.starter here.object in
+            Answers result state.new budget.new (and_then (ev (solved_expression left.now) (plain_values locals.now) (running state.old budget.old)) (λ v. operating BinaryOp.And v (ev (solved_expression right.now) (plain_values locals.now)))) }
+    {
+        let value = self.evaluate(left, locals, state, budget)?;
+        if truth(&value)? {
+            self.truly(right, locals, state, budget)
+        } else {
+            Ok(Value::Bool(false))
+        }
+    }
+
+    // The right side of `||` and `&&`, which has to be a truth.
+    #[cycle(evaluate)]
+    fn truly(
+        &self,
+        right: &SolvedExpr,
+        locals: &[Value],
+        state: &mut State,
+        budget: &mut Budget,
+    ) -> Result<Value, Stop>
+        ensures { let here = self.now in
+            Answers result state.new budget.new (truth_of_right (evaluates_by here.starter here.object (solved_expression right.now) (plain_values locals.now)) (running state.old budget.old)) }
+    {
+        let value = self.evaluate(right, locals, state, budget)?;
+        Ok(Value::Bool(truth(&value)?))
+    }
+
+    #[cycle(evaluate)]
+    fn evaluate_all(
+        &self,
+        exprs: &[SolvedExpr],
+        locals: &[Value],
+        state: &mut State,
+        budget: &mut Budget,
+    ) -> Result<Values, Stop>
+        ensures { let here = self.now in
+            AnswersAll result state.new budget.new (evaluated (evaluates_by here.starter) here.object (solved_expressions exprs.now) (plain_values locals.now) [] (running state.old budget.old)) }
+    {
+        let mut values = List::new(self.starter.alloc);
+        for expr in exprs {
+            let value = self.evaluate(expr, locals, state, budget)?;
+            values.push(value)?;
+        }
+        Ok(values)
+    }
+
+    // What a builtin answers. Publishing alone starts methods.
+    #[cycle(evaluate)]
+    fn answer_builtin(
+        &self,
+        builtin: Builtin,
+        args: &Values,
+        state: &mut State,
+        budget: &mut Budget,
+    ) -> Result<Value, Stop>
+        ensures { let here = self.now in
+            Answers result state.new budget.new (answered (starts_by here.starter) builtin here.object (plain_values args.now) (running state.old budget.old)) }
+    {
+        match builtin {
+            Builtin::Publish => self.starter.publish(args.as_slice(), state, budget),
+            _ => answer(self, builtin, args, state, budget),
+        }
+    }
+
+    // Runs a statement.
+    #[cycle(evaluate)]
+    #[tactic(auto, using(crate::proofs::Steps::by_room))]
+    fn execute(
+        &self,
+        stmt: &SolvedStmt,
+        locals: &mut Vec<Value>,
+        state: &mut State,
+        budget: &mut Budget,
+    ) -> Result<Flow, Stop>
+        ensures { let here = self.now in
+            Flows result locals.new state.new budget.new (executes_by here.starter here.object (solved_statement stmt.now) (plain_values locals.old.items) (running state.old budget.old)) }
+    {
+        let room = enter(self.starter.room, budget)?;
+        self.with_room(room)
+            .statement_row(stmt, locals, state, budget)
+    }
+
+    #[cycle(evaluate)]
+    fn statement_row(
+        &self,
+        stmt: &SolvedStmt,
+        locals: &mut Vec<Value>,
+        state: &mut State,
+        budget: &mut Budget,
+    ) -> Result<Flow, Stop>
+        ensures { let here = self.now in
+            Flows result locals.new state.new budget.new (row_of_statement (evaluates_by here.starter) (executes_by here.starter) here.object (solved_statement stmt.now) (plain_values locals.old.items) (running state.old budget.old)) }
+    {
+        match stmt {
+            SolvedStmt::Let { slot, value } => {
+                let value = self.evaluate(value, locals, state, budget)?;
+                declare(locals, *slot, value)?;
+                Ok(Flow::Next)
             }
-        }
-        _ => {
-            let right = evaluate(alloc, program, room, object, right, locals, state, budget)?;
-            operate(op, left, &right)
-        }
-    }
-}
-
-// The right side of `||` and `&&`, which has to be a truth.
-#[cycle(evaluate)]
-fn truly(
-    alloc: Global,
-    program: &Checked,
-    room: u32,
-    object: u32,
-    right: &SolvedExpr,
-    locals: &[Value],
-    state: &mut State,
-    budget: &mut Budget,
-) -> Result<Value, Stop>
-    ensures { Answers result state.new budget.new (truth_of_right (evaluates (program_tree program.now) room object (solved_expression right.now) (plain_values locals.now)) (running state.old budget.old)) }
-{
-    let value = evaluate(alloc, program, room, object, right, locals, state, budget)?;
-    Ok(Value::Bool(truth(&value)?))
-}
-
-#[cycle(evaluate)]
-fn evaluate_all(
-    alloc: Global,
-    program: &Checked,
-    room: u32,
-    object: u32,
-    exprs: &[SolvedExpr],
-    locals: &[Value],
-    state: &mut State,
-    budget: &mut Budget,
-) -> Result<Values, Stop>
-    ensures { AnswersAll result state.new budget.new (evaluated (evaluates (program_tree program.now) room) object (solved_expressions exprs.now) (plain_values locals.now) [] (running state.old budget.old)) }
-{
-    let mut values = List::new(alloc);
-    for expr in exprs {
-        let value = evaluate(alloc, program, room, object, expr, locals, state, budget)?;
-        values.push(value)?;
-    }
-    Ok(values)
-}
-
-// What a builtin answers that a method of this object calls. Publishing alone starts methods.
-#[cycle(evaluate)]
-fn answer_builtin(
-    alloc: Global,
-    program: &Checked,
-    room: u32,
-    builtin: Builtin,
-    object: u32,
-    args: &Values,
-    state: &mut State,
-    budget: &mut Budget,
-) -> Result<Value, Stop>
-    ensures { Answers result state.new budget.new (answered (starts (program_tree program.now) room) builtin object (plain_values args.now) (running state.old budget.old)) }
-{
-    match builtin {
-        Builtin::Publish => { publish(alloc, program, room, args.as_slice(), state, budget) }
-        _ => answer(alloc, builtin, object, args, state, budget),
-    }
-}
-
-#[cycle(evaluate)]
-fn publish(
-    alloc: Global,
-    program: &Checked,
-    room: u32,
-    args: &[Value],
-    state: &mut State,
-    budget: &mut Budget,
-) -> Result<Value, Stop>
-    ensures { Answers result state.new budget.new (on_event (published (starts (program_tree program.now) room)) (plain_values args.now) (running state.old budget.old)) }
-{
-    match args {
-        [scope, event, value] => {
-            publish_to(alloc, program, room, scope, event, value, state, budget)
-        }
-        _ => Err(Stop::Fault(Fault::BadKind)),
-    }
-}
-
-#[cycle(evaluate)]
-fn publish_to(
-    alloc: Global,
-    program: &Checked,
-    room: u32,
-    scope: &Value,
-    event: &Value,
-    value: &Value,
-    state: &mut State,
-    budget: &mut Budget,
-) -> Result<Value, Stop>
-    ensures { Answers result state.new budget.new (on_event (published (starts (program_tree program.now) room)) (plain scope.now ∷ plain event.now ∷ plain value.now ∷ []) (running state.old budget.old)) }
-{
-    match (scope, event) {
-        (Value::Text(scope), Value::Text(event)) => {
-            publish_event(alloc, program, room, scope, event, value, state, budget)
-        }
-        _ => Err(Stop::Fault(Fault::BadKind)),
-    }
-}
-
-// An event stands behind all that was published, and models are told of it.
-#[cycle(evaluate)]
-fn publish_event(
-    alloc: Global,
-    program: &Checked,
-    room: u32,
-    scope: &Text,
-    event: &Text,
-    value: &Value,
-    state: &mut State,
-    budget: &mut Budget,
-) -> Result<Value, Stop>
-    ensures { Answers result state.new budget.new (published (starts (program_tree program.now) room) scope.now event.now (plain value.now) (running state.old budget.old)) }
-{
-    announce(alloc, scope, event, value, state)?;
-    tell(alloc, program, room, scope, event, value, state, budget)?;
-    Ok(Value::Nil)
-}
-
-/// Tells models of an event: the methods that are subscribed to it now start with the value, in order, each unless its object
-/// is gone, where so many statements and expressions may be open.
-#[cycle(evaluate)]
-pub fn tell(
-    alloc: Global,
-    program: &Checked,
-    room: u32,
-    scope: &Text,
-    event: &Text,
-    value: &Value,
-    state: &mut State,
-    budget: &mut Budget,
-) -> Result<(), Stop>
-    ensures { Did result state.new budget.new (told (starts (program_tree program.now) room) scope.now event.now (plain value.now) (running state.old budget.old)) }
-{
-    let handlers = state.topics.handlers(scope, event)?;
-    tell_all(
-        alloc,
-        program,
-        room,
-        handlers.as_slice(),
-        value,
-        state,
-        budget,
-    )
-}
-
-#[cycle(evaluate)]
-fn tell_all(
-    alloc: Global,
-    program: &Checked,
-    room: u32,
-    handlers: &[Handler],
-    value: &Value,
-    state: &mut State,
-    budget: &mut Budget,
-) -> Result<(), Stop>
-    ensures { Did result state.new budget.new (handled (starts (program_tree program.now) room) (plain value.now) handlers.now (running state.old budget.old)) }
-{
-    for handler in handlers {
-        tell_one(alloc, program, room, handler, value, state, budget)?;
-    }
-    Ok(())
-}
-
-#[cycle(evaluate)]
-fn tell_one(
-    alloc: Global,
-    program: &Checked,
-    room: u32,
-    handler: &Handler,
-    value: &Value,
-    state: &mut State,
-    budget: &mut Budget,
-) -> Result<(), Stop>
-    ensures { Did result state.new budget.new (handled_by (starts (program_tree program.now) room) (plain value.now) handler.now (running state.old budget.old)) }
-{
-    if !is_held(state, handler.object) {
-        return Ok(());
-    }
-    take_step(budget)?;
-    let args = only(alloc, copy(alloc, value)?)?;
-    start(
-        alloc,
-        program,
-        room,
-        handler.object,
-        &handler.method,
-        args,
-        state,
-        budget,
-    )?;
-    Ok(())
-}
-
-#[cycle(evaluate)]
-fn call(
-    alloc: Global,
-    program: &Checked,
-    room: u32,
-    target: &Value,
-    method: &Text,
-    args: Values,
-    state: &mut State,
-    budget: &mut Budget,
-) -> Result<Value, Stop>
-    ensures { Answers result state.new budget.new (called_on (starts (program_tree program.now) room) (plain target.now) method.now (plain_values args) (running state.old budget.old)) }
-{
-    match target {
-        Value::Ref(object) => start(alloc, program, room, *object, method, args, state, budget),
-        _ => Err(Stop::Fault(Fault::BadKind)),
-    }
-}
-
-// A new object of a class, whose method `init` starts with the options, where its class has one.
-#[cycle(evaluate)]
-fn create(
-    alloc: Global,
-    program: &Checked,
-    room: u32,
-    class: u16,
-    options: Value,
-    state: &mut State,
-    budget: &mut Budget,
-) -> Result<Value, Stop>
-    ensures { let tree = program_tree program.now in
-        Answers result state.new budget.new (created (starts tree room) class (slice_get tree class) (plain options) (running state.old budget.old)) }
-{
-    let Some(fields) = program.fields(class) else {
-        return Err(Stop::Fault(Fault::BadKind));
-    };
-    let id = make(alloc, state, class, fields)?;
-    initialise(alloc, program, room, class, id, options, state, budget)
-}
-
-#[cycle(evaluate)]
-fn initialise(
-    alloc: Global,
-    program: &Checked,
-    room: u32,
-    class: u16,
-    id: u32,
-    options: Value,
-    state: &mut State,
-    budget: &mut Budget,
-) -> Result<Value, Stop>
-    ensures { let tree = program_tree program.now in (c : ClassTree) → slice_get tree class ≡ Some c →
-        Answers result state.new budget.new (initialised (starts tree room) c (plain options) id (running state.old budget.old)) }
-{
-    match init_of(alloc, program, class)? {
-        None => Ok(Value::Ref(id)),
-        Some(init) => start_init(alloc, program, room, id, &init, options, state, budget),
-    }
-}
-
-// Starts a method of a new object with the one argument, and answers the object.
-#[cycle(evaluate)]
-fn start_init(
-    alloc: Global,
-    program: &Checked,
-    room: u32,
-    id: u32,
-    init: &Text,
-    options: Value,
-    state: &mut State,
-    budget: &mut Budget,
-) -> Result<Value, Stop>
-    ensures { Answers result state.new budget.new (and_then (starts (program_tree program.now) room id init.now (plain options ∷ []) (running state.old budget.old)) (λ _. Gives (ref id))) }
-{
-    let args = only(alloc, options)?;
-    start(alloc, program, room, id, init, args, state, budget)?;
-    Ok(Value::Ref(id))
-}
-
-/// Starts a method on an object, where so many statements and expressions may be open.
-#[cycle(evaluate)]
-pub fn start(
-    alloc: Global,
-    program: &Checked,
-    room: u32,
-    object: u32,
-    method: &Text,
-    args: Values,
-    state: &mut State,
-    budget: &mut Budget,
-) -> Result<Value, Stop>
-    ensures { Answers result state.new budget.new (starts (program_tree program.now) room object method.now (plain_values args) (running state.old budget.old)) }
-{
-    let class = match state.objects.class(object) {
-        None => return Err(Stop::Fault(Fault::NoObject)),
-        Some(class) => class,
-    };
-    match program.method(class, method) {
-        None => Err(Stop::Fault(Fault::NoMethod)),
-        Some(solved) => perform(alloc, program, room, object, solved, args, state, budget),
-    }
-}
-
-#[cycle(evaluate)]
-fn perform(
-    alloc: Global,
-    program: &Checked,
-    room: u32,
-    object: u32,
-    method: &Solved,
-    args: Values,
-    state: &mut State,
-    budget: &mut Budget,
-) -> Result<Value, Stop>
-    ensures { Answers result state.new budget.new (performed (program_tree program.now) room object (solved_method method.now) (plain_values args) (running state.old budget.old)) }
-{
-    if args.len() != method.params as usize {
-        return Err(Stop::Fault(Fault::Arity));
-    }
-    let mut locals = args.into_vec();
-    match run_in_turn(
-        alloc,
-        program,
-        room,
-        object,
-        &method.body,
-        &mut locals,
-        state,
-        budget,
-    )? {
-        Flow::Next => Ok(Value::Nil),
-        Flow::Return(value) => Ok(value),
-    }
-}
-
-#[cycle(evaluate)]
-#[tactic(auto, using(crate::proofs::Steps::by_room))]
-fn execute(
-    alloc: Global,
-    program: &Checked,
-    room: u32,
-    object: u32,
-    stmt: &SolvedStmt,
-    locals: &mut Vec<Value>,
-    state: &mut State,
-    budget: &mut Budget,
-) -> Result<Flow, Stop>
-    ensures { Flows result locals.new state.new budget.new (executes (program_tree program.now) room object (solved_statement stmt.now) (plain_values locals.old.items) (running state.old budget.old)) }
-{
-    let inside = enter(room, budget)?;
-    statement_row(alloc, program, inside, object, stmt, locals, state, budget)
-}
-
-#[cycle(evaluate)]
-fn statement_row(
-    alloc: Global,
-    program: &Checked,
-    room: u32,
-    object: u32,
-    stmt: &SolvedStmt,
-    locals: &mut Vec<Value>,
-    state: &mut State,
-    budget: &mut Budget,
-) -> Result<Flow, Stop>
-    ensures { let tree = program_tree program.now in
-        Flows result locals.new state.new budget.new (row_of_statement (evaluates tree room) (executes tree room) object (solved_statement stmt.now) (plain_values locals.old.items) (running state.old budget.old)) }
-{
-    match stmt {
-        SolvedStmt::Let { slot, value } => {
-            let value = evaluate(alloc, program, room, object, value, locals, state, budget)?;
-            declare(locals, *slot, value)?;
-            Ok(Flow::Next)
-        }
-        SolvedStmt::Assign { slot, value } => {
-            let value = evaluate(alloc, program, room, object, value, locals, state, budget)?;
-            assign(locals, *slot, value);
-            Ok(Flow::Next)
-        }
-        SolvedStmt::SetField { slot, value } => {
-            let value = evaluate(alloc, program, room, object, value, locals, state, budget)?;
-            set_slot(state, object, *slot, value)?;
-            Ok(Flow::Next)
-        }
-        SolvedStmt::If { test, yes, no } => {
-            let value = evaluate(alloc, program, room, object, test, locals, state, budget)?;
-            if truth(&value)? {
-                run_block(alloc, program, room, object, yes, locals, state, budget)
-            } else if let Some(block) = no {
-                run_block(alloc, program, room, object, block, locals, state, budget)
-            } else {
+            SolvedStmt::Assign { slot, value } => {
+                let value = self.evaluate(value, locals, state, budget)?;
+                assign(locals, *slot, value);
+                Ok(Flow::Next)
+            }
+            SolvedStmt::SetField { slot, value } => {
+                let value = self.evaluate(value, locals, state, budget)?;
+                set_slot(state, self.object, *slot, value)?;
+                Ok(Flow::Next)
+            }
+            SolvedStmt::If { test, yes, no } => {
+                let value = self.evaluate(test, locals, state, budget)?;
+                if truth(&value)? {
+                    self.run_block(yes, locals, state, budget)
+                } else if let Some(block) = no {
+                    self.run_block(block, locals, state, budget)
+                } else {
+                    Ok(Flow::Next)
+                }
+            }
+            SolvedStmt::While { test, body } => self.run_loop(test, body, locals, state, budget),
+            SolvedStmt::Return { value } => {
+                let value = self.evaluate(value, locals, state, budget)?;
+                Ok(Flow::Return(value))
+            }
+            SolvedStmt::Do { value } => {
+                self.evaluate(value, locals, state, budget)?;
                 Ok(Flow::Next)
             }
         }
-        SolvedStmt::While { test, body } => {
-            run_loop(
-                alloc, program, room, object, test, body, locals, state, budget,
-            )
+    }
+
+    // Each test takes a step of fuel, so there are at most so many turns as there are steps left.
+    #[cycle(evaluate)]
+    #[tactic(auto, using(crate::proofs::Steps::by_turn))]
+    fn run_loop(
+        &self,
+        test: &SolvedExpr,
+        body: &[SolvedStmt],
+        locals: &mut Vec<Value>,
+        state: &mut State,
+        budget: &mut Budget,
+    ) -> Result<Flow, Stop>
+        ensures { let here = self.now in
+            Flows result locals.new state.new budget.new (looped budget.old.fuel (evaluates_by here.starter) (executes_by here.starter) here.object (solved_expression test.now) (solved_statements body.now) (plain_values locals.old.items) (running state.old budget.old)) }
+    {
+        let turns = budget.fuel;
+        for _turn in 0..turns {
+            let value = self.evaluate(test, locals, state, budget)?;
+            if !truth(&value)? {
+                return Ok(Flow::Next);
+            }
+            let flow = self.run_block(body, locals, state, budget)?;
+            if let Flow::Return(value) = flow {
+                return Ok(Flow::Return(value));
+            }
         }
-        SolvedStmt::Return { value } => {
-            let value = evaluate(alloc, program, room, object, value, locals, state, budget)?;
-            Ok(Flow::Return(value))
+        Err(Stop::Fault(Fault::Fuel))
+    }
+
+    // Behind a block the locals are those that were there before it.
+    #[cycle(evaluate)]
+    #[tactic(auto, using(crate::proofs::Steps::by_local))]
+    fn run_block(
+        &self,
+        stmts: &[SolvedStmt],
+        locals: &mut Vec<Value>,
+        state: &mut State,
+        budget: &mut Budget,
+    ) -> Result<Flow, Stop>
+        ensures { let here = self.now in
+            Flows result locals.new state.new budget.new (block_of (executes_by here.starter) here.object (solved_statements stmts.now) (plain_values locals.old.items) (running state.old budget.old)) }
+    {
+        let before = locals.len();
+        match self.run_in_turn(stmts, locals, state, budget)? {
+            Flow::Next => {
+                locals.truncate(before);
+                Ok(Flow::Next)
+            }
+            Flow::Return(value) => Ok(Flow::Return(value)),
         }
-        SolvedStmt::Do { value } => {
-            evaluate(alloc, program, room, object, value, locals, state, budget)?;
-            Ok(Flow::Next)
+    }
+
+    #[cycle(evaluate)]
+    fn run_in_turn(
+        &self,
+        stmts: &[SolvedStmt],
+        locals: &mut Vec<Value>,
+        state: &mut State,
+        budget: &mut Budget,
+    ) -> Result<Flow, Stop>
+        ensures { let here = self.now in
+            Flows result locals.new state.new budget.new (in_turn (executes_by here.starter) here.object (solved_statements stmts.now) (plain_values locals.old.items) (running state.old budget.old)) }
+    {
+        for stmt in stmts {
+            let flow = self.execute(stmt, locals, state, budget)?;
+            if let Flow::Return(value) = flow {
+                return Ok(Flow::Return(value));
+            }
         }
+        Ok(Flow::Next)
     }
 }
 
-// Each test takes a step of fuel, so there are at most so many turns as there are steps left.
-#[cycle(evaluate)]
-#[tactic(auto, using(crate::proofs::Steps::by_turn))]
-fn run_loop(
-    alloc: Global,
-    program: &Checked,
-    room: u32,
-    object: u32,
-    test: &SolvedExpr,
-    body: &[SolvedStmt],
-    locals: &mut Vec<Value>,
-    state: &mut State,
-    budget: &mut Budget,
-) -> Result<Flow, Stop>
-    ensures { let tree = program_tree program.now in
-        Flows result locals.new state.new budget.new (looped budget.old.fuel (evaluates tree room) (executes tree room) object (solved_expression test.now) (solved_statements body.now) (plain_values locals.old.items) (running state.old budget.old)) }
-{
-    let turns = budget.fuel;
-    for _turn in 0..turns {
-        let value = evaluate(alloc, program, room, object, test, locals, state, budget)?;
-        if !truth(&value)? {
-            return Ok(Flow::Next);
-        }
-        let flow = run_block(alloc, program, room, object, body, locals, state, budget)?;
-        if let Flow::Return(value) = flow {
-            return Ok(Flow::Return(value));
+impl Starter<'_> {
+    /// Starts a method on an object.
+    #[cycle(evaluate)]
+    pub fn start(
+        &self,
+        object: u32,
+        method: &Text,
+        args: Values,
+        state: &mut State,
+        budget: &mut Budget,
+    ) -> Result<Value, Stop>
+        ensures { Answers result state.new budget.new (starts_by self.now object method.now (plain_values args) (running state.old budget.old)) }
+    {
+        let class = match state.objects.class(object) {
+            None => return Err(Stop::Fault(Fault::NoObject)),
+            Some(class) => class,
+        };
+        match self.program.method(class, method) {
+            None => Err(Stop::Fault(Fault::NoMethod)),
+            Some(solved) => self.perform(object, solved, args, state, budget),
         }
     }
-    Err(Stop::Fault(Fault::Fuel))
-}
 
-// Behind a block the locals are those that were there before it.
-#[cycle(evaluate)]
-#[tactic(auto, using(crate::proofs::Steps::by_local))]
-fn run_block(
-    alloc: Global,
-    program: &Checked,
-    room: u32,
-    object: u32,
-    stmts: &[SolvedStmt],
-    locals: &mut Vec<Value>,
-    state: &mut State,
-    budget: &mut Budget,
-) -> Result<Flow, Stop>
-    ensures { Flows result locals.new state.new budget.new (block_of (executes (program_tree program.now) room) object (solved_statements stmts.now) (plain_values locals.old.items) (running state.old budget.old)) }
-{
-    let before = locals.len();
-    match run_in_turn(alloc, program, room, object, stmts, locals, state, budget)? {
-        Flow::Next => {
-            locals.truncate(before);
-            Ok(Flow::Next)
+    // Runs a method on an object.
+    #[cycle(evaluate)]
+    fn perform(
+        &self,
+        object: u32,
+        method: &Solved,
+        args: Values,
+        state: &mut State,
+        budget: &mut Budget,
+    ) -> Result<Value, Stop>
+        ensures { Answers result state.new budget.new (performed (program_tree self.now.program.now) self.now.room object (solved_method method.now) (plain_values args) (running state.old budget.old)) }
+    {
+        if args.len() != method.params as usize {
+            return Err(Stop::Fault(Fault::Arity));
         }
-        Flow::Return(value) => Ok(Flow::Return(value)),
+        let here = Here {
+            starter: *self,
+            object,
+        };
+        let mut locals = args.into_vec();
+        match here.run_in_turn(&method.body, &mut locals, state, budget)? {
+            Flow::Next => Ok(Value::Nil),
+            Flow::Return(value) => Ok(value),
+        }
     }
-}
 
-#[cycle(evaluate)]
-fn run_in_turn(
-    alloc: Global,
-    program: &Checked,
-    room: u32,
-    object: u32,
-    stmts: &[SolvedStmt],
-    locals: &mut Vec<Value>,
-    state: &mut State,
-    budget: &mut Budget,
-) -> Result<Flow, Stop>
-    ensures { Flows result locals.new state.new budget.new (in_turn (executes (program_tree program.now) room) object (solved_statements stmts.now) (plain_values locals.old.items) (running state.old budget.old)) }
-{
-    for stmt in stmts {
-        let flow = execute(alloc, program, room, object, stmt, locals, state, budget)?;
-        if let Flow::Return(value) = flow {
-            return Ok(Flow::Return(value));
+    #[cycle(evaluate)]
+    fn call(
+        &self,
+        object: &Value,
+        method: &Text,
+        args: Values,
+        state: &mut State,
+        budget: &mut Budget,
+    ) -> Result<Value, Stop>
+        ensures { Answers result state.new budget.new (called_on (starts_by self.now) (plain object.now) method.now (plain_values args) (running state.old budget.old)) }
+    {
+        match object {
+            Value::Ref(object) => self.start(*object, method, args, state, budget),
+            _ => Err(Stop::Fault(Fault::BadKind)),
         }
     }
-    Ok(Flow::Next)
+
+    // A new object of a class, whose method `init` starts with the options, where its class has one.
+    #[cycle(evaluate)]
+    fn create(
+        &self,
+        class: u16,
+        options: Value,
+        state: &mut State,
+        budget: &mut Budget,
+    ) -> Result<Value, Stop>
+        ensures { let tree = program_tree self.now.program.now in
+            Answers result state.new budget.new (created (starts_by self.now) class (slice_get tree class) (plain options) (running state.old budget.old)) }
+    {
+        let Some(fields) = self.program.fields(class) else {
+            return Err(Stop::Fault(Fault::BadKind));
+        };
+        let id = make(self.alloc, state, class, fields)?;
+        self.initialise(class, id, options, state, budget)
+    }
+
+    // Starts the method `init` of a new object, where its class has one, and answers the object.
+    #[cycle(evaluate)]
+    fn initialise(
+        &self,
+        class: u16,
+        id: u32,
+        options: Value,
+        state: &mut State,
+        budget: &mut Budget,
+    ) -> Result<Value, Stop>
+        ensures { let tree = program_tree self.now.program.now in (c : ClassTree) → slice_get tree class ≡ Some c →
+            Answers result state.new budget.new (run_init (starts_by self.now) c (plain options) id (running state.old budget.old)) }
+    {
+        match init_of(self.alloc, self.program, class)? {
+            None => Ok(Value::Ref(id)),
+            Some(init) => self.start_init(id, &init, options, state, budget),
+        }
+    }
+
+    // Starts a method of a new object with the one argument, and answers the object.
+    #[cycle(evaluate)]
+    fn start_init(
+        &self,
+        id: u32,
+        init: &Text,
+        options: Value,
+        state: &mut State,
+        budget: &mut Budget,
+    ) -> Result<Value, Stop>
+        ensures { Answers result state.new budget.new (and_then (starts_by self.now id init.now (plain options ∷ []) (running state.old budget.old)) (λ _. Gives (ref id))) }
+    {
+        let args = only(self.alloc, options)?;
+        self.start(id, init, args, state, budget)?;
+        Ok(Value::Ref(id))
+    }
+
+    #[cycle(evaluate)]
+    fn publish(&self, args: &[Value], state: &mut State, budget: &mut Budget) -> Result<Value, Stop>
+        ensures { Answers result state.new budget.new (on_event (published (starts_by self.now)) (plain_values args.now) (running state.old budget.old)) }
+    {
+        match args {
+            [scope, event, value] => self.publish_to(scope, event, value, state, budget),
+            _ => Err(Stop::Fault(Fault::BadKind)),
+        }
+    }
+
+    #[cycle(evaluate)]
+    fn publish_to(
+        &self,
+        scope: &Value,
+        name: &Value,
+        value: &Value,
+        state: &mut State,
+        budget: &mut Budget,
+    ) -> Result<Value, Stop>
+        ensures { Answers result state.new budget.new (on_event (published (starts_by self.now)) (plain scope.now ∷ plain name.now ∷ plain value.now ∷ []) (running state.old budget.old)) }
+    {
+        match (scope, name) {
+            (Value::Text(scope), Value::Text(name)) => {
+                let event = Event { scope, name, value };
+                self.publish_event(&event, state, budget)
+            }
+            _ => Err(Stop::Fault(Fault::BadKind)),
+        }
+    }
+
+    // An event stands behind all that was published, and models are told of it.
+    #[cycle(evaluate)]
+    fn publish_event(
+        &self,
+        event: &Event<'_>,
+        state: &mut State,
+        budget: &mut Budget,
+    ) -> Result<Value, Stop>
+        ensures { Answers result state.new budget.new (published (starts_by self.now) event.now.scope.now event.now.name.now (plain event.now.value.now) (running state.old budget.old)) }
+    {
+        announce(self.alloc, event, state)?;
+        self.tell(event, state, budget)?;
+        Ok(Value::Nil)
+    }
+
+    /// Tells models of an event: the methods that are subscribed to it now start with the value, in order, each unless its
+    /// object is gone.
+    #[cycle(evaluate)]
+    pub fn tell(
+        &self,
+        event: &Event<'_>,
+        state: &mut State,
+        budget: &mut Budget,
+    ) -> Result<(), Stop>
+        ensures { Did result state.new budget.new (tell_handlers (starts_by self.now) event.now.scope.now event.now.name.now (plain event.now.value.now) (running state.old budget.old)) }
+    {
+        let handlers = state.topics.handlers(event.scope, event.name)?;
+        self.tell_all(handlers.as_slice(), event.value, state, budget)
+    }
+
+    #[cycle(evaluate)]
+    fn tell_all(
+        &self,
+        handlers: &[Handler],
+        value: &Value,
+        state: &mut State,
+        budget: &mut Budget,
+    ) -> Result<(), Stop>
+        ensures { Did result state.new budget.new (run_handlers (starts_by self.now) (plain value.now) handlers.now (running state.old budget.old)) }
+    {
+        for handler in handlers {
+            self.tell_one(handler, value, state, budget)?;
+        }
+        Ok(())
+    }
+
+    #[cycle(evaluate)]
+    fn tell_one(
+        &self,
+        handler: &Handler,
+        value: &Value,
+        state: &mut State,
+        budget: &mut Budget,
+    ) -> Result<(), Stop>
+        ensures { Did result state.new budget.new (handled_by (starts_by self.now) (plain value.now) handler.now (running state.old budget.old)) }
+    {
+        if !is_held(state, handler.object) {
+            return Ok(());
+        }
+        take_step(budget)?;
+        let args = only(self.alloc, copy(self.alloc, value)?)?;
+        self.start(handler.object, &handler.method, args, state, budget)?;
+        Ok(())
+    }
 }
 
 // Enters a statement or an expression, where so many may be open: takes a step, and answers how many more may be open.

@@ -2,33 +2,29 @@
 ghost use Rattle.std.specs.Prelude.{◌≡◌, ◌+◌, IfOk, OnOk, length, map, nat_le, pos};
 ghost use Rattle.model_value.specs.Plain.{int};
 ghost use Rattle.model_value.specs.View.{plain, plain_values};
-ghost use Rattle.model_value.specs.World.{subscription_weight, world_weight, most_world_weight};
+ghost use Rattle.world_plain.specs.World.{subscription_weight, world_weight, most_world_weight};
 ghost use Rattle.model_eval.specs.declared.state.Budget.{Budget};
 ghost use Rattle.model_eval.specs.Publishing.{added, has_room_to, subscribed, subscription, unsubscribed, with_outgoing};
 ghost use Rattle.model_eval.specs.Answer.{Answers, running, world_of};
 
+use crate::calls::Event;
 use crate::fault::{Fault, Stop};
 use crate::objects::is_held;
 use crate::state::State;
-use model_value::{Outgoing, Subscription, Value, Values, copy, subscription_fits};
+use model_value::{Value, Values, copy};
 use std::alloc::Global;
 use tea_base::{List, Text, WantOfMemory};
+use world_plain::{Outgoing, Subscription, subscription_fits};
 
 /// Puts an event behind all that was published.
-pub fn announce(
-    alloc: Global,
-    scope: &Text,
-    event: &Text,
-    value: &Value,
-    state: &mut State,
-) -> Result<(), WantOfMemory>
-    ensures { OnOk result ((budget : Budget) → running state.new budget ≡ with_outgoing scope.now event.now (plain value.now) (running state.old budget)) }
+pub fn announce(alloc: Global, event: &Event<'_>, state: &mut State) -> Result<(), WantOfMemory>
+    ensures { let e = event.now in OnOk result ((budget : Budget) → running state.new budget ≡ with_outgoing e.scope.now e.name.now (plain e.value.now) (running state.old budget)) }
 {
     let outgoing = Outgoing {
         time: state.time,
-        scope: scope.clone()?,
-        event: event.clone()?,
-        value: copy(alloc, value)?,
+        scope: event.scope.clone()?,
+        event: event.name.clone()?,
+        value: copy(alloc, event.value)?,
     };
     state.published.push(outgoing)
 }

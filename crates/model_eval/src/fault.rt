@@ -1,11 +1,8 @@
 //! How a message ends before its time.
 
-use message_queue::QueueRefusal;
 use model_builtin::BuiltinStop;
-use object_store::StoreRefusal;
-use pubsub::TopicRefusal;
-use std::alloc::{AllocError, AllocFailed};
 use tea_base::WantOfMemory;
+use world_plain::StoreRefusal;
 
 /// A fault of a model's program. It ends the whole message, and what was done until then stays.
 #[derive(Clone, Copy, Debug, PartialEq, Eq)]
@@ -47,28 +44,6 @@ pub enum Stop {
     WantOfMemory,
 }
 
-impl From<AllocError> for Stop {
-    ghost use Rattle.std.specs.Prelude.{◌≡◌};
-    ghost use Rattle.model_eval.specs.declared.fault.Stop.TheVariants.{WantOfMemory};
-
-    ghost from_gives = { λ _ r. r ≡ WantOfMemory };
-
-    fn from(_error: AllocError) -> Stop {
-        Stop::WantOfMemory
-    }
-}
-
-impl<T: Drop> From<AllocFailed<T>> for Stop {
-    ghost use Rattle.std.specs.Prelude.{◌≡◌};
-    ghost use Rattle.model_eval.specs.declared.fault.Stop.TheVariants.{WantOfMemory};
-
-    ghost from_gives = { λ _ r. r ≡ WantOfMemory };
-
-    fn from(_error: AllocFailed<T>) -> Stop {
-        Stop::WantOfMemory
-    }
-}
-
 impl From<WantOfMemory> for Stop {
     ghost use Rattle.std.specs.Prelude.{◌≡◌};
     ghost use Rattle.model_eval.specs.declared.fault.Stop.TheVariants.{WantOfMemory as NoMemory};
@@ -98,42 +73,14 @@ impl From<BuiltinStop> for Stop {
 
 impl From<StoreRefusal> for Stop {
     ghost use Rattle.std.specs.Prelude.{◌≡◌};
-    ghost use Rattle.model_eval.specs.Answer.{stop_of_store};
+    ghost use Rattle.model_eval.specs.Answer.{stop_of_refusal};
 
-    ghost from_gives = { λ refusal r. r ≡ stop_of_store refusal };
+    ghost from_gives = { λ refusal r. r ≡ stop_of_refusal refusal };
 
     fn from(refusal: StoreRefusal) -> Stop {
         match refusal {
             StoreRefusal::Full { .. } | StoreRefusal::Spent => Stop::Fault(Fault::Full),
             StoreRefusal::WantOfMemory => Stop::WantOfMemory,
-        }
-    }
-}
-
-impl From<QueueRefusal> for Stop {
-    ghost use Rattle.std.specs.Prelude.{◌≡◌};
-    ghost use Rattle.model_eval.specs.Answer.{stop_of_queue};
-
-    ghost from_gives = { λ refusal r. r ≡ stop_of_queue refusal };
-
-    fn from(refusal: QueueRefusal) -> Stop {
-        match refusal {
-            QueueRefusal::Full { .. } | QueueRefusal::Spent => Stop::Fault(Fault::Full),
-            QueueRefusal::WantOfMemory => Stop::WantOfMemory,
-        }
-    }
-}
-
-impl From<TopicRefusal> for Stop {
-    ghost use Rattle.std.specs.Prelude.{◌≡◌};
-    ghost use Rattle.model_eval.specs.Answer.{stop_of_topics};
-
-    ghost from_gives = { λ refusal r. r ≡ stop_of_topics refusal };
-
-    fn from(refusal: TopicRefusal) -> Stop {
-        match refusal {
-            TopicRefusal::Full { .. } => Stop::Fault(Fault::Full),
-            TopicRefusal::WantOfMemory => Stop::WantOfMemory,
         }
     }
 }

@@ -2,9 +2,10 @@
 ghost use Rattle.std.specs.Prelude.{◌≡◌, ◌+◌, ◌<◌, ◌≤◌, OnOk, nat_le, length, insert, slice_set};
 ghost use Rattle.model_value.specs.Plain.{nil};
 ghost use Rattle.model_value.specs.View.{plain};
-ghost use Rattle.model_value.specs.World.{world_weight, known_weight, most_world_weight};
+ghost use Rattle.world_plain.specs.World.{world_weight, known_weight, most_world_weight};
 ghost use Rattle.model_eval.specs.Running.{with_world};
-ghost use Rattle.model_eval.specs.Objects.{known_by, comes_before as before, if_light, made_known};
+ghost use Rattle.model_eval.specs.Objects.{known_by, if_light, made_known};
+ghost use Rattle.tea_base.specs.Order.{comes_before as before};
 ghost use Rattle.model_eval.specs.Places.{IsKnownAt, IsPlaceFor};
 ghost use Rattle.model_eval.specs.Answer.{Answers, running, world_of};
 ghost use Rattle.model_eval.specs.declared.state.Budget.{Budget};
@@ -12,10 +13,10 @@ ghost use Rattle.model_eval.specs.declared.state.Budget.{Budget};
 use crate::fault::{Fault, Stop};
 use crate::objects::{is_held, take_items};
 use crate::state::State;
-use model_builtin::order;
-use model_value::{Known, KnownNames, Value, known_fits};
+use model_value::Value;
 use std::alloc::Global;
 use tea_base::{List, Text, WantOfMemory};
+use world_plain::{Known, KnownNames, known_fits};
 
 /// The object that is known by a name, or nil.
 pub fn known_object(known: &[Known], name: &Text) -> Value
@@ -38,7 +39,7 @@ pub fn be_known(alloc: Global, name: &Text, object: u32, state: &mut State) -> R
         return Err(Stop::Fault(Fault::NoObject));
     }
     let known = Known {
-        name: name.clone()?,
+        name: name.try_clone()?,
         object,
     };
     match place_for(state.known.as_slice(), name) {
@@ -62,18 +63,11 @@ fn place_for(known: &[Known], name: &Text) -> Place
         if name.is_text(&known[i].name) {
             return Place::Held(i);
         }
-        if comes_before(name, &known[i].name) {
+        if name.is_before(&known[i].name) {
             return Place::Free(i);
         }
     }
     Place::Free(known.len())
-}
-
-// Whether a text stands before another in the order of characters.
-fn comes_before(text: &Text, other: &Text) -> bool
-    ensures { result ≡ before text.now other.now }
-{
-    order(text.as_str(), other.as_str()).is_lt()
 }
 
 // The name at this place is known already, so the world becomes no heavier.

@@ -1,14 +1,14 @@
 //! What a method keeps of a world, and how its loops end.
 ghost use Rattle.std.specs.Prelude.{◌≡◌, ℕ, List};
 ghost use Rattle.model_value.specs.Plain.{PlainValue, InBounds};
-ghost use Rattle.model_value.specs.Valid.{AllInBounds};
+ghost use Rattle.model_value.specs.Plain.{AllInBounds};
 ghost use Rattle.model_lang.specs.Program.{IsProgram};
 ghost use Rattle.model_lang.specs.Tree.{Name, Expression, Statements, while, ProgramTree};
 ghost use Rattle.model_lang.specs.Bounds.{HasFewArguments};
 ghost use Rattle.model_lang.specs.Names.{NamesAreShort};
 ghost use Rattle.model_check.specs.Methods.{field_counts};
 ghost use Rattle.model_eval.specs.Running.{Running};
-ghost use Rattle.model_eval.specs.Publishing.{told};
+ghost use Rattle.model_eval.specs.Publishing.{tell_handlers};
 ghost use Rattle.model_eval.specs.Kept.{Carries, Anything};
 ghost use Rattle.model_eval.specs.Meaning.{Here, Local, looped, goes_round, evaluate, execute, starts};
 
@@ -20,7 +20,7 @@ pub fn method_keeps()
 
 /// Models that are told of an event leave a valid world valid too, where its value is in bounds, and keep all that a method keeps.
 pub fn telling_keeps()
-    ensures { (program : ProgramTree) (room : ℕ) (scope event : Name) (v : PlainValue) (r : Running) → IsProgram program → InBounds v → Carries (field_counts program) Anything r (told (starts program room) scope event v r) }
+    ensures { (program : ProgramTree) (room : ℕ) (scope event : Name) (v : PlainValue) (r : Running) → IsProgram program → InBounds v → Carries (field_counts program) Anything r (tell_handlers (starts program room) scope event v r) }
 {}
 
 /// The bound on the turns of a loop is never met. A loop is its test and, where that is true, its block and then the loop

@@ -2,9 +2,11 @@
 #![tactic(auto)]
 
 mod builtins;
+mod calls;
 mod evaluator;
 mod events;
 mod fault;
+mod here;
 mod known;
 mod laws;
 mod locals;
@@ -17,6 +19,7 @@ mod state;
 mod values;
 
 pub use builtins::session_text;
+pub use calls::{Call, Event};
 pub use fault::{Fault, Stop};
 pub use laws::{loops_end_by_fuel_alone, method_keeps, telling_keeps};
 pub use method::{run_method, tell_models};

@@ -1,8 +1,9 @@
 //! Messages to come.
 ghost use Rattle.std.specs.Prelude.{◌≡◌, ◌+◌, nat_le, Some};
 ghost use Rattle.model_value.specs.View.{plain, plain_values};
-ghost use Rattle.model_value.specs.Valid.{object_at};
-ghost use Rattle.model_value.specs.World.{text_weight, values_weight, world_weight, most_world_weight};
+ghost use Rattle.world_plain.specs.Valid.{object_at};
+ghost use Rattle.model_value.specs.Plain.{text_weight, values_weight};
+ghost use Rattle.world_plain.specs.World.{world_weight, most_world_weight};
 ghost use Rattle.model_eval.specs.declared.state.Budget.{Budget};
 ghost use Rattle.model_eval.specs.Futures.{ahead as ahead_of, send as sends, sent, sent_to};
 ghost use Rattle.model_eval.specs.Publishing.{cancelled};
@@ -11,14 +12,9 @@ ghost use Rattle.model_eval.specs.Answer.{Answers, running, world_of};
 use crate::fault::{Fault, Stop};
 use crate::objects::is_held;
 use crate::state::State;
-use model_value::{Value, Values, message_fits};
-use tea_base::Text;
-
-/// Times are below this, in microseconds.
-const TIME_LIMIT: u64 = 1 << 53;
-
-/// How many messages may run at one time before none more is sent to it.
-const MOST_TURNS: u32 = 1024;
+use model_value::{Value, Values};
+use tea_base::{TIME_LIMIT, Text};
+use world_plain::{MOST_TURNS, message_fits};
 
 /// Sends a message to an object, to come so many milliseconds ahead. It gets the world's next number.
 ///
@@ -74,7 +70,7 @@ fn send_at(
     if !has_room(state, method, &args) {
         return Err(Stop::Fault(Fault::Full));
     }
-    let method = method.clone()?;
+    let method = method.try_clone()?;
     state.pending.push(time, object, method, args)?;
     Ok(Value::Nil)
 }

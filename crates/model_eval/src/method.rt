@@ -3,11 +3,12 @@ ghost use Rattle.std.specs.Prelude.{◌≡◌};
 ghost use Rattle.model_value.specs.View.{plain, plain_values};
 ghost use Rattle.model_lang.specs.TreeView.{program_tree};
 ghost use Rattle.model_eval.specs.Meaning.{starts};
-ghost use Rattle.model_eval.specs.Publishing.{told};
+ghost use Rattle.model_eval.specs.Publishing.{tell_handlers};
 ghost use Rattle.model_eval.specs.Answer.{Answers, Did, running};
 
-use crate::evaluator::{start, tell};
+use crate::calls::{Call, Event};
 use crate::fault::Stop;
+use crate::here::Starter;
 use crate::state::{Budget, State};
 use model_check::Checked;
 use model_value::{Value, Values};
@@ -24,17 +25,26 @@ use tea_base::Text;
 pub fn run_method(
     alloc: Global,
     program: &Checked,
+    call: Call<'_>,
     state: &mut State,
-    object: u32,
-    method: &Text,
-    args: Values,
     budget: &mut Budget,
 ) -> Result<Value, Stop>
-    ensures answers { Answers result state.new budget.new (starts (program_tree program.now) budget.old.room object method.now (plain_values args) (running state.old budget.old)) }
+    ensures answers { let c = call.entry in
+        Answers result state.new budget.new (starts (program_tree program.now) budget.old.room c.object c.method.now (plain_values c.args) (running state.old budget.old)) }
     ensures room { budget.new.room ≡ budget.old.room }
 {
     let room = budget.room;
-    let outcome = start(alloc, program, room, object, method, args, state, budget);
+    let Call {
+        object,
+        method,
+        args,
+    } = call;
+    let starter = Starter {
+        alloc,
+        program,
+        room,
+    };
+    let outcome = starter.start(object, method, args, state, budget);
     // All that was opened is closed again.
     budget.room = room;
     outcome
@@ -49,17 +59,21 @@ pub fn run_method(
 pub fn tell_models(
     alloc: Global,
     program: &Checked,
+    event: &Event<'_>,
     state: &mut State,
-    scope: &Text,
-    event: &Text,
-    value: &Value,
     budget: &mut Budget,
 ) -> Result<(), Stop>
-    ensures tells { Did result state.new budget.new (told (starts (program_tree program.now) budget.old.room) scope.now event.now (plain value.now) (running state.old budget.old)) }
+    ensures tells { let e = event.now in
+        Did result state.new budget.new (tell_handlers (starts (program_tree program.now) budget.old.room) e.scope.now e.name.now (plain e.value.now) (running state.old budget.old)) }
     ensures room { budget.new.room ≡ budget.old.room }
 {
     let room = budget.room;
-    let outcome = tell(alloc, program, room, scope, event, value, state, budget);
+    let starter = Starter {
+        alloc,
+        program,
+        room,
+    };
+    let outcome = starter.tell(event, state, budget);
     // All that was opened is closed again.
     budget.room = room;
     outcome

@@ -3,8 +3,9 @@ ghost use Rattle.std.specs.Prelude.{◌≡◌, ◌+◌, ◌≤◌, IfOk, nat_le,
 ghost use Rattle.std.specs.List.{filter};
 ghost use Rattle.model_value.specs.Plain.{nil};
 ghost use Rattle.model_value.specs.View.{plain, plain_values};
-ghost use Rattle.model_value.specs.Valid.{object_at};
-ghost use Rattle.model_value.specs.World.{values_weight, world_weight, most_world_weight};
+ghost use Rattle.world_plain.specs.Valid.{object_at};
+ghost use Rattle.model_value.specs.Plain.{values_weight};
+ghost use Rattle.world_plain.specs.World.{world_weight, most_world_weight};
 ghost use Rattle.model_eval.specs.declared.state.Budget.{Budget};
 ghost use Rattle.model_eval.specs.Objects.{destroyed, is_held as held, made, with_fields, without_object};
 ghost use Rattle.model_eval.specs.Slots.{slot_value, set_slot as slot_set};
@@ -13,12 +14,11 @@ ghost use Rattle.model_eval.specs.Answer.{Answers, Did, IsAbsent, Numbers, Repli
 
 use crate::fault::{Fault, Stop};
 use crate::state::State;
-use model_value::{
-    KnownNames, MOST_WORLD_WEIGHT, Value, Values, copy, object_fits, value_fits, weight,
-};
+use model_value::{Value, Values, copy, weight};
 use std::alloc::Global;
 use std::mem;
 use tea_base::{List, WantOfMemory};
+use world_plain::{KnownNames, MOST_WORLD_WEIGHT, object_fits, value_fits};
 
 /// A copy of what an object's field holds. Gives the fault NoObject where the object is gone.
 pub fn get_slot(alloc: Global, state: &State, object: u32, slot: u32) -> Result<Value, Stop>

@@ -1,20 +1,21 @@
 //! What a message runs on, and what it may take.
 ghost use Rattle.std.specs.Prelude.{◌≡◌, IfOk, map};
-ghost use Rattle.model_value.specs.World.{world_record, world_weight, most_world_weight, object_record};
+ghost use Rattle.world_plain.specs.World.{world_record, world_weight, most_world_weight, object_record};
 ghost use Rattle.model_value.specs.Room.{IsRoomBehind};
 ghost use Rattle.object_store.specs.View.{objects_seen};
 ghost use Rattle.model_eval.specs.Meaning.{most_fuel, most_open};
 ghost use Rattle.model_eval.specs.Answer.{world_of};
 
 use message_queue::Queue;
-use model_value::{
-    KnownNames, MOST_WORLD_WEIGHT, PlainObject, PlainObjects, PlainWorld, Published, copy_all,
-    copy_known_names, copy_messages, copy_numbers, copy_subscriptions, room_behind_known,
-};
+use model_value::copy_all;
 use object_store::{Object, Store};
 use pubsub::Topics;
 use std::alloc::Global;
 use tea_base::{List, Numbers, SessionId, WantOfMemory};
+use world_plain::{
+    KnownNames, MOST_WORLD_WEIGHT, PlainObject, PlainObjects, PlainWorld, Published,
+    copy_known_names, copy_messages, copy_numbers, copy_subscriptions, room_behind_known,
+};
 
 /// A world, and what its models published since the list was last taken.
 #[derive(Drop)]

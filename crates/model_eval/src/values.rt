@@ -17,7 +17,7 @@ use tea_base::{List, Text, WantOfMemory};
 pub fn literal(text: &Text) -> Result<Value, Stop>
     ensures { (state : State) (budget : Budget) → Answers result state budget (bounded (text_value text.now) (running state budget)) }
 {
-    let value = Value::Text(text.clone()?);
+    let value = Value::Text(text.try_clone()?);
     if in_bounds(&value) {
         Ok(value)
     } else {

@@ -8,16 +8,16 @@ use Rattle.model_tokens.specs.declared.token.Symbol.TheVariants as s
 use Rattle.model_lang.specs.declared.tree.UnaryOp.{UnaryOp}
 use Rattle.model_lang.specs.declared.tree.UnaryOp.TheVariants as sign
 use Rattle.model_lang.specs.Tree.{Expression}
-use Rattle.model_lang.specs.Grammar.{Phrase, a_bool, a_list, brackets, a_call, a_future, signed, joined, Phrases, no_phrases, phrase, in_round, word_of, sign_symbol, op_symbol, spelled, spelled_args, spelled_more, tree_of}
-use Rattle.model_lang.specs.Reader.{Read, Reader, reading, behind, either_way, after_symbol, read_more, read_args}
+use Rattle.model_lang.specs.Grammar.{Phrase, a_bool, a_list, brackets, a_call, a_future, signed, joined, Phrases, no_phrases, phrase, in_round, truth_word, sign_symbol, op_symbol, spelled, spelled_args, spelled_more, tree_of}
+use Rattle.model_lang.specs.Reader.{Read, ExpressionReader, reading, behind, either_way, after_symbol, read_more, read_args}
 use Rattle.model_lang.proofs.GoesOn.{front_line}
 use Rattle.model_lang.proofs.Phrases.{list_of}
 
 -- what the grammar spells by this phrase is read, wherever nothing of so tight a line goes on with it
-abbrev pub IsReadBy : Reader → ℕ → Phrase → Type 0
+abbrev pub IsReadBy : ExpressionReader → ℕ → Phrase → Type 0
 IsReadBy inner k p = (rest : List Token) → k < front_line rest → inner (spelled p ++ rest) ≡ Some (tree_of p, rest)
 
-abbrev pub AreReadBy : Reader → Phrases → Type 0
+abbrev pub AreReadBy : ExpressionReader → Phrases → Type 0
 AreReadBy inner no_phrases = Unit {0}
 AreReadBy inner (phrase a more) = IsReadBy inner 6 a × AreReadBy inner more
 
@@ -53,7 +53,7 @@ open_sign round sign.Not ts = refl
 open_sign square sign.Minus ts = refl
 open_sign square sign.Not ts = refl
 
-open_bool : (c : Bracket) (b : Bool) (ts : List Token) → after_symbol (close_of c) (word_of b ∷ ts) ≡ None
+open_bool : (c : Bracket) (b : Bool) (ts : List Token) → after_symbol (close_of c) (truth_word b ∷ ts) ≡ None
 open_bool c true ts = refl
 open_bool c false ts = refl
 
@@ -82,7 +82,7 @@ more_ends round no_phrases rest = omega arith
 more_ends square no_phrases rest = omega arith
 more_ends c (phrase a more) rest = omega arith
 
-more_read : (c : Bracket) (inner : Reader) (es : Phrases) → AreReadBy inner es → (turns : ℕ) (found : List Expression) (rest : List Token) → length (spelled_more es) < turns → read_more (close_of c) inner turns found (spelled_more es ++ symbol (close_of c) ∷ rest) ≡ Some (found ++ list_of es, rest)
+more_read : (c : Bracket) (inner : ExpressionReader) (es : Phrases) → AreReadBy inner es → (turns : ℕ) (found : List Expression) (rest : List Token) → length (spelled_more es) < turns → read_more (close_of c) inner turns found (spelled_more es ++ symbol (close_of c) ∷ rest) ≡ Some (found ++ list_of es, rest)
 more_read c inner es all zero found rest many = absurd (omega arith)
 more_read c inner no_phrases all (suc turns) found rest many =
     let ts = symbol (close_of c) ∷ rest in
@@ -98,7 +98,7 @@ more_read c inner (phrase a more) all (suc turns) found rest many =
     ∙ more_read c inner more all.1 turns (found ++ tree_of a ∷ []) rest (omega (arith, length-append (spelled a) (spelled_more more)))
     ∙ ap (λ es. Some (es, rest)) (append_assoc found (tree_of a ∷ []) (list_of more))
 
-pub args_read : (c : Bracket) (inner : Reader) (es : Phrases) → AreReadBy inner es → (rest : List Token) → read_args (close_of c) inner (spelled_args es ++ symbol (close_of c) ∷ rest) ≡ Some (list_of es, rest)
+pub args_read : (c : Bracket) (inner : ExpressionReader) (es : Phrases) → AreReadBy inner es → (rest : List Token) → read_args (close_of c) inner (spelled_args es ++ symbol (close_of c) ∷ rest) ≡ Some (list_of es, rest)
 args_read c inner no_phrases all rest =
     let ts = symbol (close_of c) ∷ rest in
     ap (λ o. either_way o (λ rest. Some ([], rest)) (reading (inner ts) (λ e rest. read_more (close_of c) inner (length ts) (e ∷ []) rest))) (close_found c rest)
@@ -112,7 +112,7 @@ args_read c inner (phrase a more) all rest =
     ∙ more_read c inner more all.1 (length whole) (tree_of a ∷ []) rest (omega (arith, length-append (spelled a) ts, length-append (spelled_more more) (symbol (close_of c) ∷ rest)))
 
 -- arguments, their closing bracket, and what is done behind it
-pub args_then : {B : Type 0} (c : Bracket) (inner : Reader) (es : Phrases) → AreReadBy inner es → (rest : List Token) (next : List Expression → List Token → Option B) → reading (read_args (close_of c) inner ((spelled_args es ++ symbol (close_of c) ∷ []) ++ rest)) next ≡ next (list_of es) rest
+pub args_then : {B : Type 0} (c : Bracket) (inner : ExpressionReader) (es : Phrases) → AreReadBy inner es → (rest : List Token) (next : List Expression → List Token → Option B) → reading (read_args (close_of c) inner ((spelled_args es ++ symbol (close_of c) ∷ []) ++ rest)) next ≡ next (list_of es) rest
 args_then c inner es all rest next =
     ap (λ ts. reading (read_args (close_of c) inner ts) next) (append_assoc (spelled_args es) (symbol (close_of c) ∷ []) rest)
     ∙ ap (λ o. reading o next) (args_read c inner es all rest)

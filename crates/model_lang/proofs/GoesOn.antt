@@ -11,12 +11,12 @@ use Rattle.model_lang.specs.declared.tree.UnaryOp.{UnaryOp}
 use Rattle.model_lang.specs.declared.tree.UnaryOp.TheVariants as sign
 use Rattle.model_lang.specs.declared.tree.BinaryOp.{BinaryOp}
 use Rattle.model_lang.specs.declared.tree.BinaryOp.TheVariants as op
-use Rattle.model_lang.specs.Grammar.{line_of, left_of, sign_symbol, op_symbol}
-use Rattle.model_lang.specs.Reader.{reading, behind, either_way, only_where, symbol_number, after_symbol, name_at, field_at, sign_of, operator_of, with_rest, sign_at, of_line, operator_at}
+use Rattle.model_lang.specs.Grammar.{operator_line, left_of, sign_symbol, op_symbol}
+use Rattle.model_lang.specs.Reader.{reading, behind, either_way, only_where, symbol_number, after_symbol, name_at, field_at, unary_of_symbol, operator_of, with_rest, sign_at, of_line, operator_at}
 
 abbrev pub line_if : Option BinaryOp → ℕ
 line_if None = 7
-line_if (Some o) = line_of o
+line_if (Some o) = operator_line o
 
 abbrev pub symbol_line : Symbol → ℕ
 symbol_line s.Dot = 0
@@ -38,7 +38,7 @@ symbol_line-le _ = omega arith
 of_line-none : (o : Option BinaryOp) (k j : ℕ) → j ≤ k → k < line_if o → of_line j o ≡ None
 of_line-none None k j le lt = refl
 of_line-none (Some o) k j le lt =
-    ap (λ b. if b then Some o else None) (ne_eqb (line_of o) j (omega arith))
+    ap (λ b. if b then Some o else None) (ne_eqb (operator_line o) j (omega arith))
 
 pub no_operator : (k j : ℕ) (ts : List Token) → j ≤ k → k < front_line ts → operator_at j ts ≡ None
 no_operator k j (token.Symbol x ∷ ts) le lt =
@@ -67,7 +67,7 @@ no_field k ts h =
 
 -- ---- operators and signs, and the symbols that they are spelled by
 
-pub operator_found : (o : BinaryOp) (ts : List Token) → operator_at (line_of o) (symbol (op_symbol o) ∷ ts) ≡ Some (o, ts)
+pub operator_found : (o : BinaryOp) (ts : List Token) → operator_at (operator_line o) (symbol (op_symbol o) ∷ ts) ≡ Some (o, ts)
 operator_found op.Or ts = refl
 operator_found op.And ts = refl
 operator_found op.Same ts = refl
@@ -82,7 +82,7 @@ operator_found op.Times ts = refl
 operator_found op.Divide ts = refl
 operator_found op.Rest ts = refl
 
-pub operator-front_line : (o : BinaryOp) (ts : List Token) → front_line (symbol (op_symbol o) ∷ ts) ≡ line_of o
+pub operator-front_line : (o : BinaryOp) (ts : List Token) → front_line (symbol (op_symbol o) ∷ ts) ≡ operator_line o
 operator-front_line op.Or ts = refl
 operator-front_line op.And ts = refl
 operator-front_line op.Same ts = refl
@@ -97,7 +97,7 @@ operator-front_line op.Times ts = refl
 operator-front_line op.Divide ts = refl
 operator-front_line op.Rest ts = refl
 
-pub line_of-two : (o : BinaryOp) → line_of o ≡ suc (suc (line_of o - 2))
+pub line_of-two : (o : BinaryOp) → operator_line o ≡ suc (suc (operator_line o - 2))
 line_of-two op.Or = refl
 line_of-two op.And = refl
 line_of-two op.Same = refl
@@ -112,12 +112,12 @@ line_of-two op.Times = refl
 line_of-two op.Divide = refl
 line_of-two op.Rest = refl
 
-pub line_of-le : (o : BinaryOp) → line_of o ≤ 6
+pub line_of-le : (o : BinaryOp) → operator_line o ≤ 6
 line_of-le op.Or = omega arith
 line_of-le op.And = omega arith
 line_of-le _ = omega arith
 
-pub left_of-le : (o : BinaryOp) → left_of o ≤ line_of o
+pub left_of-le : (o : BinaryOp) → left_of o ≤ operator_line o
 left_of-le op.Or = omega arith
 left_of-le op.And = omega arith
 left_of-le op.Plus = omega arith
@@ -128,7 +128,7 @@ left_of-le op.Rest = omega arith
 left_of-le _ = omega arith
 
 -- a relation has a sum on its left, and all others what their own line spells
-pub left_of-fits : (o : BinaryOp) (n : ℕ) → n ≤ line_of o → (line_of o ≡ 4 → n ≤ 3) → n ≤ left_of o
+pub left_of-fits : (o : BinaryOp) (n : ℕ) → n ≤ operator_line o → (operator_line o ≡ 4 → n ≤ 3) → n ≤ left_of o
 left_of-fits op.Or n h relation = h
 left_of-fits op.And n h relation = h
 left_of-fits op.Plus n h relation = h
@@ -138,7 +138,7 @@ left_of-fits op.Divide n h relation = h
 left_of-fits op.Rest n h relation = h
 left_of-fits _ n h relation = relation refl
 
-pub left_of-relation : (o : BinaryOp) → line_of o ≡ 4 → left_of o ≡ 3
+pub left_of-relation : (o : BinaryOp) → operator_line o ≡ 4 → left_of o ≡ 3
 left_of-relation op.Or h = absurd (omega arith)
 left_of-relation op.And h = absurd (omega arith)
 left_of-relation op.Plus h = absurd (omega arith)
@@ -180,7 +180,7 @@ same_sign p o h =
     let e : p ≡ o = cc in
     ap sign_symbol e
 
-signed_symbol : (x : Symbol) (o : UnaryOp) → sign_of x ≡ Some o → x ≡ sign_symbol o
+signed_symbol : (x : Symbol) (o : UnaryOp) → unary_of_symbol x ≡ Some o → x ≡ sign_symbol o
 signed_symbol s.Minus o h = same_sign sign.Minus o h
 signed_symbol s.Not o h = same_sign sign.Not o h
 signed_symbol _ o h = cc
@@ -191,18 +191,18 @@ with_rest-parts {A} (Some a) ts o rest h =
     let p : ◌≡◌ {A = A × List Token} (a, ts) (o, rest) = cc in
     (ap (λ q. Some q.0) p, ap (λ q. q.1) p)
 
-tested : (b : Bool) (p o : BinaryOp) (k : ℕ) → nat_eq (line_of p) k ≡ b → (if b then Some p else None) ≡ Some o → (line_of o ≡ k) × (Some p ≡ Some o)
+tested : (b : Bool) (p o : BinaryOp) (k : ℕ) → nat_eq (operator_line p) k ≡ b → (if b then Some p else None) ≡ Some o → (operator_line o ≡ k) × (Some p ≡ Some o)
 tested true p o k is h =
-    let same : line_of p ≡ k = grind (arith, nat_tests) in
+    let same : operator_line p ≡ k = grind (arith, nat_tests) in
     let e : p ≡ o = cc in
-    (ap line_of (sym e) ∙ same, h)
+    (ap operator_line (sym e) ∙ same, h)
 tested false p o k is h = cc
 
-of_line-parts : (p : Option BinaryOp) (k : ℕ) (o : BinaryOp) → of_line k p ≡ Some o → (line_of o ≡ k) × (p ≡ Some o)
+of_line-parts : (p : Option BinaryOp) (k : ℕ) (o : BinaryOp) → of_line k p ≡ Some o → (operator_line o ≡ k) × (p ≡ Some o)
 of_line-parts None k o h = cc
-of_line-parts (Some p) k o h = tested (nat_eq (line_of p) k) p o k refl h
+of_line-parts (Some p) k o h = tested (nat_eq (operator_line p) k) p o k refl h
 
-pub operator_front : (k : ℕ) (ts : List Token) (o : BinaryOp) (rest : List Token) → operator_at k ts ≡ Some (o, rest) → (line_of o ≡ k) × (symbol (op_symbol o) ∷ rest ≡ ts)
+pub operator_front : (k : ℕ) (ts : List Token) (o : BinaryOp) (rest : List Token) → operator_at k ts ≡ Some (o, rest) → (operator_line o ≡ k) × (symbol (op_symbol o) ∷ rest ≡ ts)
 operator_front k (token.Symbol x ∷ ts) o rest h =
     let q = with_rest-parts (of_line k (operator_of x)) ts o rest h in
     let l = of_line-parts (operator_of x) k o q.0 in
@@ -212,7 +212,7 @@ operator_front k _ o rest h = cc
 
 pub sign_front : (ts : List Token) (o : UnaryOp) (rest : List Token) → sign_at ts ≡ Some (o, rest) → symbol (sign_symbol o) ∷ rest ≡ ts
 sign_front (token.Symbol x ∷ ts) o rest h =
-    let q = with_rest-parts (sign_of x) ts o rest h in
+    let q = with_rest-parts (unary_of_symbol x) ts o rest h in
     let is : x ≡ sign_symbol o = signed_symbol x o q.0 in
     cc (is, q.1)
 sign_front _ o rest h = cc

@@ -4,7 +4,7 @@ use Rattle.model_tokens.specs.declared.token.Token.{Token}
 use Rattle.model_tokens.specs.declared.token.Symbol.{Symbol}
 use Rattle.model_tokens.specs.declared.token.Symbol.TheVariants as s
 use Rattle.model_lang.specs.Tree.{Name, Expression, call, future, create, expressions_of}
-use Rattle.model_lang.specs.Reader.{Read, Reader, reading, behind, after_symbol, name_at, class_name_at, read_args, call_head, message_head, create_head, read_call, read_message, read_create}
+use Rattle.model_lang.specs.Reader.{Read, ExpressionReader, reading, behind, after_symbol, name_at, class_name_at, read_args, call_head, message_head, create_head, read_call, read_message, read_create}
 
 behind_then : {A B : Type 0} (o : Option (List Token)) (x : A) (next : A → List Token → Option B) → behind o (next x) ≡ reading (behind o (λ ts. Some (x, ts))) next
 behind_then None x next = refl
@@ -18,16 +18,16 @@ opened_then : {A C : Type 0} (o : Option (List Token)) (read : List Token → Op
 opened_then None read first next each = refl
 opened_then (Some ts) read first next each = each ts
 
-pub read_call-head : (inner : Reader) (object : Expression) (ts : List Token) → read_call inner object ts ≡ reading (call_head ts) (λ x ts. reading (read_args s.CloseRound inner ts) (λ args ts. Some (call object x (expressions_of args), ts)))
+pub read_call-head : (inner : ExpressionReader) (object : Expression) (ts : List Token) → read_call inner object ts ≡ reading (call_head ts) (λ x ts. reading (read_args s.CloseRound inner ts) (λ args ts. Some (call object x (expressions_of args), ts)))
 read_call-head inner object ts = named_then s.OpenRound (name_at ts) (λ x ts. reading (read_args s.CloseRound inner ts) (λ args ts. Some (call object x (expressions_of args), ts)))
 
-pub read_message-head : (inner : Reader) (object delay : Expression) (ts : List Token) → behind (after_symbol s.CloseRound ts) (read_message inner object delay) ≡ reading (message_head ts) (λ x ts. reading (read_args s.CloseRound inner ts) (λ args ts. Some (future object delay x (expressions_of args), ts)))
+pub read_message-head : (inner : ExpressionReader) (object delay : Expression) (ts : List Token) → behind (after_symbol s.CloseRound ts) (read_message inner object delay) ≡ reading (message_head ts) (λ x ts. reading (read_args s.CloseRound inner ts) (λ args ts. Some (future object delay x (expressions_of args), ts)))
 read_message-head inner object delay ts =
     let next : Name → List Token → Read Expression = λ x ts. reading (read_args s.CloseRound inner ts) (λ args ts. Some (future object delay x (expressions_of args), ts)) in
     opened_then (after_symbol s.CloseRound ts) (read_message inner object delay) (λ ts. behind (after_symbol s.Dot ts) call_head) next
     (λ ts. opened_then (after_symbol s.Dot ts) (λ ts. reading (name_at ts) (λ x ts. behind (after_symbol s.OpenRound ts) (next x))) call_head next (λ ts. named_then s.OpenRound (name_at ts) next))
 
-pub read_create-head : (inner : Reader) (ts : List Token) → read_create inner ts ≡ reading (create_head ts) (λ x ts. reading (inner ts) (λ e ts. behind (after_symbol s.CloseRound ts) (λ ts. Some (create x e, ts))))
+pub read_create-head : (inner : ExpressionReader) (ts : List Token) → read_create inner ts ≡ reading (create_head ts) (λ x ts. reading (inner ts) (λ e ts. behind (after_symbol s.CloseRound ts) (λ ts. Some (create x e, ts))))
 read_create-head inner ts =
     let next : Name → List Token → Read Expression = λ x ts. reading (inner ts) (λ e ts. behind (after_symbol s.CloseRound ts) (λ ts. Some (create x e, ts))) in
     opened_then (after_symbol s.OpenRound ts) (λ ts. reading (class_name_at ts) (λ x ts. behind (after_symbol s.Comma ts) (next x))) (λ ts. reading (class_name_at ts) (λ x ts. behind (after_symbol s.Comma ts) (λ ts. Some (x, ts)))) next (λ ts. named_then s.Comma (class_name_at ts) next)

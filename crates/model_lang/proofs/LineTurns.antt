@@ -5,27 +5,27 @@ use Rattle.model_tokens.specs.declared.token.Token.{Token}
 use Rattle.model_tokens.specs.declared.token.Token.TheVariants.{Symbol as symbol}
 use Rattle.model_lang.specs.declared.tree.BinaryOp.{BinaryOp}
 use Rattle.model_lang.specs.Tree.{Expression, binary}
-use Rattle.model_lang.specs.Grammar.{Phrase, joined, line_of, op_symbol, spelled, tree_of}
-use Rattle.model_lang.specs.Reader.{Read, Reader, reading, on_found, operator_at, more_of, turns_of, read_line}
+use Rattle.model_lang.specs.Grammar.{Phrase, joined, operator_line, op_symbol, spelled, tree_of}
+use Rattle.model_lang.specs.Reader.{Read, ExpressionReader, reading, on_found, operator_at, more_of, turns_of, read_operator_line}
 use Rattle.model_lang.proofs.GoesOn.{front_line, no_operator, operator_found, operator-front_line}
 use Rattle.model_lang.proofs.Arguments.{IsReadBy}
 use Rattle.model_lang.proofs.Turns.{read_line-next}
 
 -- The turns of the loop of line `suc k`, and the operators of that line that the phrase has at its end. `inner` reads the sides.
-abbrev pub IsLine : Reader → ℕ → Phrase → ℕ → Type 0
+abbrev pub IsLine : ExpressionReader → ℕ → Phrase → ℕ → Type 0
 IsLine inner k p many =
     (turns : ℕ) (rest : List Token) → k < front_line rest → reading (inner (spelled p ++ rest)) (more_of (suc k) inner (turns + many)) ≡ more_of (suc k) inner turns (tree_of p) rest
 
 -- a side of an operator
-pub side_line : (inner : Reader) (k : ℕ) (p : Phrase) → IsReadBy inner k p → IsLine inner k p 0
+pub side_line : (inner : ExpressionReader) (k : ℕ) (p : Phrase) → IsReadBy inner k p → IsLine inner k p 0
 side_line inner k p at turns rest h =
     let e : turns + 0 ≡ turns = omega arith in
     ap (λ o. reading o (more_of (suc k) inner (turns + 0))) (at rest h) ∙ ap (λ n. more_of (suc k) inner n (tree_of p) rest) e
 
-operator_there : (o : BinaryOp) (k : ℕ) (ts : List Token) → line_of o ≡ k → operator_at k (symbol (op_symbol o) ∷ ts) ≡ Some (o, ts)
+operator_there : (o : BinaryOp) (k : ℕ) (ts : List Token) → operator_line o ≡ k → operator_at k (symbol (op_symbol o) ∷ ts) ≡ Some (o, ts)
 operator_there o k ts e = subst (λ k. operator_at k (symbol (op_symbol o) ∷ ts) ≡ Some (o, ts)) e (operator_found o ts)
 
-pub joined_line : (inner : Reader) (k : ℕ) (o : BinaryOp) (a b : Phrase) (many : ℕ) → line_of o ≡ suc k → IsLine inner k a many → IsReadBy inner k b → IsLine inner k (joined o a b) (suc many)
+pub joined_line : (inner : ExpressionReader) (k : ℕ) (o : BinaryOp) (a b : Phrase) (many : ℕ) → operator_line o ≡ suc k → IsLine inner k a many → IsReadBy inner k b → IsLine inner k (joined o a b) (suc many)
 joined_line inner k o a b many here at_a at_b turns rest h =
     let more = symbol (op_symbol o) ∷ spelled b in
     let e : turns + suc many ≡ suc turns + many = omega arith in
@@ -36,7 +36,7 @@ joined_line inner k o a b many here at_a at_b turns rest h =
     ∙ ap (λ f. on_found f (λ o ts. reading (inner ts) (λ t. more_of (suc k) inner turns (binary o (tree_of a) t))) (Some (tree_of a, more ++ rest))) (operator_there o (suc k) (spelled b ++ rest) here)
     ∙ ap (λ f. reading f next) (at_b rest h)
 
-no_more : (k : ℕ) (inner : Reader) (turns : ℕ) (left : Expression) (ts : List Token) → operator_at k ts ≡ None → more_of k inner turns left ts ≡ Some (left, ts)
+no_more : (k : ℕ) (inner : ExpressionReader) (turns : ℕ) (left : Expression) (ts : List Token) → operator_at k ts ≡ None → more_of k inner turns left ts ≡ Some (left, ts)
 no_more k inner zero left ts h = refl
 no_more k inner (suc turns) left ts h = rw h refl
 
@@ -50,10 +50,10 @@ turns_by false k m n is le relation = le
 turns_of-le : (k m n : ℕ) → m ≤ n → (k ≡ 4 → m ≤ 1) → m ≤ turns_of k n
 turns_of-le k m n le relation = turns_by (nat_eq k 4) k m n refl le relation
 
-pub line_read : (u : Reader) (k : ℕ) (p : Phrase) (many : ℕ) → many ≤ length (spelled p) → (suc (suc k) ≡ 4 → many ≤ 1) → IsLine (read_line u (suc k)) (suc k) p many → IsReadBy (read_line u (suc (suc k))) (suc (suc k)) p
+pub line_read : (u : ExpressionReader) (k : ℕ) (p : Phrase) (many : ℕ) → many ≤ length (spelled p) → (suc (suc k) ≡ 4 → many ≤ 1) → IsLine (read_operator_line u (suc k)) (suc k) p many → IsReadBy (read_operator_line u (suc (suc k))) (suc (suc k)) p
 line_read u k p many few relation at rest h =
     let ts = spelled p ++ rest in
-    let inner = read_line u (suc k) in
+    let inner = read_operator_line u (suc k) in
     let turns = turns_of (suc (suc k)) (length ts) in
     let enough : many ≤ turns = turns_of-le (suc (suc k)) many (length ts) (omega (arith, length-append (spelled p) rest)) relation in
     let e : turns - many + many ≡ turns = omega (arith, enough) in
@@ -63,17 +63,17 @@ line_read u k p many few relation at rest h =
     ∙ no_more (suc (suc k)) inner (turns - many) (tree_of p) rest (no_operator (suc (suc k)) (suc (suc k)) rest (omega arith) h)
 
 -- what is read on one line is read on the next looser one
-looser : (u : Reader) (k : ℕ) (p : Phrase) → IsReadBy (read_line u (suc k)) (suc k) p → IsReadBy (read_line u (suc (suc k))) (suc (suc k)) p
-looser u k p at = line_read u k p 0 (omega arith) (λ h. omega arith) (side_line (read_line u (suc k)) (suc k) p at)
+looser : (u : ExpressionReader) (k : ℕ) (p : Phrase) → IsReadBy (read_operator_line u (suc k)) (suc k) p → IsReadBy (read_operator_line u (suc (suc k))) (suc (suc k)) p
+looser u k p at = line_read u k p 0 (omega arith) (λ h. omega arith) (side_line (read_operator_line u (suc k)) (suc k) p at)
 
 -- and on all looser ones
-pub climb : (u : Reader) (p : Phrase) (k j : ℕ) → j ≤ k → IsReadBy (read_line u (suc j)) (suc j) p → IsReadBy (read_line u (suc k)) (suc k) p
+pub climb : (u : ExpressionReader) (p : Phrase) (k j : ℕ) → j ≤ k → IsReadBy (read_operator_line u (suc j)) (suc j) p → IsReadBy (read_operator_line u (suc k)) (suc k) p
 climb u p zero j le at =
     let e : j ≡ zero = omega arith in
-    subst (λ j. IsReadBy (read_line u (suc j)) (suc j) p) e at
+    subst (λ j. IsReadBy (read_operator_line u (suc j)) (suc j) p) e at
 climb u p (suc k) j le at =
     let either : (j ≡ suc k) ⊎ (j ≤ k) = grind (arith, nat_tests) in
     ⊎_elim
-    (λ e. subst (λ j. IsReadBy (read_line u (suc j)) (suc j) p) e at)
+    (λ e. subst (λ j. IsReadBy (read_operator_line u (suc j)) (suc j) p) e at)
     (λ less. looser u k p (climb u p k j less at))
     either

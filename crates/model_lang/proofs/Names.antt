@@ -7,7 +7,7 @@ use Rattle.model_tokens.specs.declared.token.Word.TheVariants as w
 use Rattle.model_tokens.specs.Spelling.{IsNamed, IsToken}
 use Rattle.model_tokens.specs.Division.{Piece, blank, comment, taken, ArePieces, tokens_of, Divides}
 use Rattle.model_lang.specs.Tree.{Name, ProgramTree}
-use Rattle.model_lang.specs.Names.{IsShort, AreShort, HasShortNames, AllHaveShortNames, NamesAreShort, AllNamesAreShort, MethodNamesAreShort, ClassNamesAreShort}
+use Rattle.model_lang.specs.Names.{IsShortName, AreShort, HasShortNames, AllHaveShortNames, NamesAreShort, AllNamesAreShort, MethodNamesAreShort, ClassNamesAreShort}
 use Rattle.model_lang.specs.Grammar.{Phrase, a_number, a_text, a_nil, a_bool, a_this, a_field, a_local, a_builtin, a_create, a_list, brackets, a_call, a_future, signed, joined, Phrases, no_phrases, phrase, in_round, in_braces, op_symbol, spelled, spelled_args, spelled_more, spelled_end, tree_of, trees_of, Action, declaring, assigning, setting, choice, choice_else, looping, giving, doing, Block, closed, first, spelled_action, spelled_block, tree_of_action, trees_of_block, MethodForm, ClassForm, spelled_further, spelled_params, spelled_method, spelled_methods, spelled_fields, spelled_class, spelled_classes, tree_of_method, tree_of_class}
 use Rattle.model_lang.specs.Program.{IsRead, IsProgram}
 
@@ -32,14 +32,14 @@ back : (ts us : List Token) → AreTokens (ts ++ us) → AreTokens us
 back [] us h = h
 back (t ∷ ts) us h = back ts us h.1
 
-short_named : (begins : ℕ → Bool) (x : Name) → IsNamed begins x → IsShort x
+short_named : (begins : ℕ → Bool) (x : Name) → IsNamed begins x → IsShortName x
 short_named begins [] h = absurd h
 short_named begins (b ∷ bs) h = omega (arith, h.2)
 
-short : (x : Name) → IsToken (name x) → IsShort x
+short : (x : Name) → IsToken (name x) → IsShortName x
 short x h = short_named _ x h.0
 
-short_class : (x : Name) → IsToken (class_name x) → IsShort x
+short_class : (x : Name) → IsToken (class_name x) → IsShortName x
 short_class x h = short_named _ x h
 
 -- between round brackets

@@ -13,7 +13,7 @@ use Rattle.model_lang.specs.declared.tree.UnaryOp.TheVariants as sign
 use Rattle.model_lang.specs.declared.tree.BinaryOp.{BinaryOp}
 use Rattle.model_lang.specs.declared.tree.BinaryOp.TheVariants as op
 use Rattle.model_lang.specs.Tree.{Expression, expressions_of, expression}
-use Rattle.model_lang.specs.Grammar.{Phrase, a_number, a_text, a_nil, a_bool, a_this, a_field, a_local, a_builtin, a_create, a_list, brackets, a_call, a_future, signed, joined, Phrases, no_phrases, phrase, in_round, in_square, sign_symbol, op_symbol, word_of, spelled, spelled_args, spelled_more, tree_of, trees_of}
+use Rattle.model_lang.specs.Grammar.{Phrase, a_number, a_text, a_nil, a_bool, a_this, a_field, a_local, a_builtin, a_create, a_list, brackets, a_call, a_future, signed, joined, Phrases, no_phrases, phrase, in_round, in_square, sign_symbol, op_symbol, truth_word, spelled, spelled_args, spelled_more, tree_of, trees_of}
 use Rattle.model_lang.specs.Reader.{behind, only_where, word_number, symbol_number, after_word, after_symbol, assigned_at, set_at}
 
 -- ---- the trees of arguments, as a list
@@ -94,7 +94,7 @@ operator_inside op.Times = tt
 operator_inside op.Divide = tt
 operator_inside op.Rest = tt
 
-bool_inside : (b : Bool) → IsInside (word_of b)
+bool_inside : (b : Bool) → IsInside (truth_word b)
 bool_inside true = tt
 bool_inside false = tt
 

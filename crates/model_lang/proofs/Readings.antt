@@ -6,7 +6,7 @@ use Rattle.model_lang.specs.declared.fault.Bound.{Bound}
 use Rattle.model_lang.specs.declared.fault.Bound.TheVariants as bound
 use Rattle.model_lang.specs.Tree.{ProgramTree}
 use Rattle.model_lang.specs.Grammar.{Derives}
-use Rattle.model_lang.specs.Bounds.{most_bytes, most_nested, greatest, brackets_after, operators_after, passed}
+use Rattle.model_lang.specs.Bounds.{most_program_bytes, most_nested, greatest, brackets_after, operators_after, passed}
 use Rattle.model_lang.specs.Program.{FewBrackets, FewOperators, IsSpelled, IsRead, ArePast, IsTooLarge, AreNoProgram, IsNoProgram, Reading, a_program, no_program, too_large, IsReading}
 use Rattle.model_lang.proofs.Whole.{OneDivision, one_derived, one_read, many_members, too_long, tokens_past}
 
@@ -84,13 +84,13 @@ one-reading one text (too_large a m) (too_large b n) p q = large_same a b m n (o
 abbrev Never : List ℕ → Type 0
 Never text = (reading : Reading) → ¬ IsReading text reading
 
-never_derived : (text : List ℕ) → Never text → length text ≤ most_bytes → (ts : List Token) → Divides ts text → FewBrackets ts → FewOperators ts → (tree : ProgramTree) → Derives ts tree → (found : Option (Bound × ℕ)) → passed tree ≡ found → ⊥
+never_derived : (text : List ℕ) → Never text → length text ≤ most_program_bytes → (ts : List Token) → Divides ts text → FewBrackets ts → FewOperators ts → (tree : ProgramTree) → Derives ts tree → (found : Option (Bound × ℕ)) → passed tree ≡ found → ⊥
 never_derived text never few ts divides brackets operators tree d None is =
     never (a_program tree) (record { bytes = few; tokens = ts; divides = divides; spelled = record { brackets = brackets; operators = operators; derives = d; fits = is } })
 never_derived text never few ts divides brackets operators tree d (Some p) is =
     never (too_large p.0 p.1) (tokens_past text ts p.0 p.1 few divides (many_members ts tree p.0 p.1 brackets operators d is))
 
-no_program_tokens : (text : List ℕ) → Never text → length text ≤ most_bytes → (ts : List Token) → Divides ts text → AreNoProgram ts
+no_program_tokens : (text : List ℕ) → Never text → length text ≤ most_program_bytes → (ts : List Token) → Divides ts text → AreNoProgram ts
 no_program_tokens text never few ts divides =
     let one : most_nested < greatest brackets_after 0 ts → ⊥ = λ many. never (too_large bound.Brackets 33) (tokens_past text ts bound.Brackets 33 few divides (inl (many, refl, refl))) in
     let brackets : FewBrackets ts = omega (arith, one) in
@@ -100,6 +100,6 @@ no_program_tokens text never few ts divides =
 
 pub some-reading : (text : List ℕ) → ¬ ((reading : Reading) → ¬ IsReading text reading)
 some-reading text never =
-    let long : most_bytes < length text → ⊥ = λ many. never (too_large bound.Bytes (length text)) (too_long text many) in
-    let few : length text ≤ most_bytes = omega (arith, long) in
+    let long : most_program_bytes < length text → ⊥ = λ many. never (too_large bound.Bytes (length text)) (too_long text many) in
+    let few : length text ≤ most_program_bytes = omega (arith, long) in
     never no_program (few, no_program_tokens text never few)

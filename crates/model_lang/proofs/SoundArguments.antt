@@ -6,7 +6,7 @@ use Rattle.model_tokens.specs.declared.token.Symbol.{Symbol}
 use Rattle.model_tokens.specs.declared.token.Symbol.TheVariants as s
 use Rattle.model_lang.specs.Tree.{Expression}
 use Rattle.model_lang.specs.Grammar.{Phrase, Phrases, no_phrases, phrase, Stands, AllStand, line, in_round, spelled, spelled_args, spelled_more, tree_of}
-use Rattle.model_lang.specs.Reader.{Read, Reader, reading, behind, after_symbol, read_more, read_args}
+use Rattle.model_lang.specs.Reader.{Read, ExpressionReader, reading, behind, after_symbol, read_more, read_args}
 use Rattle.model_lang.proofs.Fronts.{parts, apart, symbol_or, symbol_then, both_spelled}
 use Rattle.model_lang.proofs.Phrases.{list_of}
 
@@ -15,11 +15,11 @@ abbrev pub Found : ℕ → List Token → Expression → List Token → Type 0
 Found k ts e rest = (p : Phrase) × Stands p × (line p ≤ k) × (spelled p ++ rest ≡ ts) × (tree_of p ≡ e)
 
 -- what this reader reads is spelled by a phrase of so tight a line
-pub record IsSound (k : ℕ) (inner : Reader) : Type 0 where
+pub record IsSound (k : ℕ) (inner : ExpressionReader) : Type 0 where
   pub by : (ts : List Token) (e : Expression) (rest : List Token) → inner ts ≡ Some (e, rest) → Found k ts e rest
 
 -- such a phrase was at the front
-pub sound_then : {B : Type 0} (k : ℕ) (inner : Reader) → IsSound k inner → (ts : List Token) (next : Expression → List Token → Option B) (y : B) → reading (inner ts) next ≡ Some y
+pub sound_then : {B : Type 0} (k : ℕ) (inner : ExpressionReader) → IsSound k inner → (ts : List Token) (next : Expression → List Token → Option B) (y : B) → reading (inner ts) next ≡ Some y
     → (p : Phrase) × Stands p × (line p ≤ k) × (rest : List Token) × (spelled p ++ rest ≡ ts) × (next (tree_of p) rest ≡ Some y)
 sound_then k inner sound ts next y h =
     let q = parts (inner ts) next y h in
@@ -42,7 +42,7 @@ one_further close found a ts more after es rest st p q l = (
   sym (append_assoc found (tree_of a ∷ []) (list_of l.0)) ∙ l.3,
 )
 
-more_sound : (close : Symbol) (inner : Reader) → IsSound 6 inner → (turns : ℕ) (found : List Expression) (ts : List Token) (es : List Expression) (rest : List Token) → read_more close inner turns found ts ≡ Some (es, rest) → MoreFound close found ts es rest
+more_sound : (close : Symbol) (inner : ExpressionReader) → IsSound 6 inner → (turns : ℕ) (found : List Expression) (ts : List Token) (es : List Expression) (rest : List Token) → read_more close inner turns found ts ≡ Some (es, rest) → MoreFound close found ts es rest
 more_sound close inner sound zero found ts es rest h = cc
 more_sound close inner sound (suc turns) found ts es rest h =
     let next : Expression → List Token → Read (List Expression) = λ e. read_more close inner turns (found ++ e ∷ []) in
@@ -59,7 +59,7 @@ more_sound close inner sound (suc turns) found ts es rest h =
 abbrev ArgsFound : Symbol → List Token → List Expression → List Token → Type 0
 ArgsFound close ts es rest = (l : Phrases) × AllStand l × (spelled_args l ++ symbol close ∷ rest ≡ ts) × (list_of l ≡ es)
 
-args_sound : (close : Symbol) (inner : Reader) → IsSound 6 inner → (ts : List Token) (es : List Expression) (rest : List Token) → read_args close inner ts ≡ Some (es, rest) → ArgsFound close ts es rest
+args_sound : (close : Symbol) (inner : ExpressionReader) → IsSound 6 inner → (ts : List Token) (es : List Expression) (rest : List Token) → read_args close inner ts ≡ Some (es, rest) → ArgsFound close ts es rest
 args_sound close inner sound ts es rest h =
     let next : Expression → List Token → Read (List Expression) = λ e rest. read_more close inner (length ts) (e ∷ []) rest in
     let none : List Token → Read (List Expression) = λ rest. Some ([], rest) in
@@ -72,7 +72,7 @@ args_sound close inner sound ts es rest h =
     (symbol_or close ts none (reading (inner ts) next) (Some (es, rest)) h)
 
 -- arguments and their closing bracket were at the front
-pub args_found : {B : Type 0} (close : Symbol) (inner : Reader) → IsSound 6 inner → (ts : List Token) (next : List Expression → List Token → Option B) (y : B) → reading (read_args close inner ts) next ≡ Some y
+pub args_found : {B : Type 0} (close : Symbol) (inner : ExpressionReader) → IsSound 6 inner → (ts : List Token) (next : List Expression → List Token → Option B) (y : B) → reading (read_args close inner ts) next ≡ Some y
     → (l : Phrases) × AllStand l × (rest : List Token) × (spelled_args l ++ symbol close ∷ rest ≡ ts) × (next (list_of l) rest ≡ Some y)
 args_found close inner sound ts next y h =
     let q = parts (read_args close inner ts) next y h in

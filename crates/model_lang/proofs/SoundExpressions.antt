@@ -6,7 +6,7 @@ use Rattle.model_lang.specs.declared.tree.UnaryOp.{UnaryOp}
 use Rattle.model_lang.specs.declared.tree.BinaryOp.{BinaryOp}
 use Rattle.model_lang.specs.Tree.{Expression, unary, binary}
 use Rattle.model_lang.specs.Grammar.{Phrase, signed, joined, Stands, line, sign_symbol, op_symbol, spelled, tree_of}
-use Rattle.model_lang.specs.Reader.{Read, Reader, reading, sign_at, operator_at, more_of, turns_of, read_line, read_unary, read_post, read_expression}
+use Rattle.model_lang.specs.Reader.{Read, ExpressionReader, reading, sign_at, operator_at, more_of, turns_of, read_operator_line, read_unary, read_post, read_expression}
 use Rattle.model_lang.proofs.Fronts.{parts, apart, found_or, both_spelled}
 use Rattle.model_lang.proofs.GoesOn.{operator_front, sign_front, left_of-fits}
 use Rattle.model_lang.proofs.Turns.{read_line-one, read_line-next}
@@ -16,7 +16,7 @@ use Rattle.model_lang.proofs.SoundPosts.{made, retold, post_sound}
 -- ---- lines of operators
 
 -- a phrase of line `suc k`, and what the loop of that line reads behind it. Of relations it reads one, behind a sum
-turns_sound : (k : ℕ) (inner : Reader) → IsSound k inner → (turns : ℕ) (p : Phrase) → Stands p → line p ≤ suc k → (suc k ≡ 4 → turns + line p ≤ 4) → (suc k ≡ 4 → turns ≤ 1) → (ts : List Token) (e : Expression) (rest : List Token) → more_of (suc k) inner turns (tree_of p) ts ≡ Some (e, rest) → Found (suc k) (spelled p ++ ts) e rest
+turns_sound : (k : ℕ) (inner : ExpressionReader) → IsSound k inner → (turns : ℕ) (p : Phrase) → Stands p → line p ≤ suc k → (suc k ≡ 4 → turns + line p ≤ 4) → (suc k ≡ 4 → turns ≤ 1) → (ts : List Token) (e : Expression) (rest : List Token) → more_of (suc k) inner turns (tree_of p) ts ≡ Some (e, rest) → Found (suc k) (spelled p ++ ts) e rest
 turns_sound k inner sound zero p st low sum few ts e rest h = made (suc k) p st low (spelled p ++ ts) e ts rest refl (apart (tree_of p) e ts rest h)
 turns_sound k inner sound (suc turns) p st low sum few ts e rest h =
     let next : BinaryOp → Expression → List Token → Read Expression = λ o e. more_of (suc k) inner turns (binary o (tree_of p) e) in
@@ -32,9 +32,9 @@ turns_sound k inner sound (suc turns) p st low sum few ts e rest h =
     (λ n. made (suc k) p st low (spelled p ++ ts) e ts rest refl (apart (tree_of p) e ts rest n.1))
     (found_or (operator_at (suc k) ts) (λ o ts. reading (inner ts) (next o)) (Some (tree_of p, ts)) (Some (e, rest)) h)
 
-next_sound : (u : Reader) (k : ℕ) → IsSound (suc k) (read_line u (suc k)) → (ts : List Token) (e : Expression) (rest : List Token) → read_line u (suc (suc k)) ts ≡ Some (e, rest) → Found (suc (suc k)) ts e rest
+next_sound : (u : ExpressionReader) (k : ℕ) → IsSound (suc k) (read_operator_line u (suc k)) → (ts : List Token) (e : Expression) (rest : List Token) → read_operator_line u (suc (suc k)) ts ≡ Some (e, rest) → Found (suc (suc k)) ts e rest
 next_sound u k sound ts e rest h =
-    let inner = read_line u (suc k) in
+    let inner = read_operator_line u (suc k) in
     let turns = turns_of (suc (suc k)) (length ts) in
     let q = parts (inner ts) (more_of (suc (suc k)) inner turns) (e, rest) (sym (read_line-next u k ts) ∙ h) in
     let p = sound.by ts q.0.0 q.0.1 q.1 in
@@ -42,15 +42,15 @@ next_sound u k sound ts e rest h =
     retold (suc (suc k)) (spelled p.0 ++ q.0.1) ts e rest p.3
     (turns_sound (suc k) inner sound turns p.0 p.1 (omega (arith, p.2)) (λ is. omega (arith, one is, p.2)) (λ is. omega (arith, one is)) q.0.1 e rest (ap (λ t. more_of (suc (suc k)) inner turns t q.0.1) p.4 ∙ q.2))
 
-line_sound : (u : Reader) → IsSound 1 u → (k : ℕ) → IsSound (suc k) (read_line u (suc k))
-line_sound u sound zero = record { by = λ ts e rest h. sound.by ts e rest (sym (ap (λ (f : Reader). f ts) (read_line-one u)) ∙ h) }
+line_sound : (u : ExpressionReader) → IsSound 1 u → (k : ℕ) → IsSound (suc k) (read_operator_line u (suc k))
+line_sound u sound zero = record { by = λ ts e rest h. sound.by ts e rest (sym (ap (λ (f : ExpressionReader). f ts) (read_line-one u)) ∙ h) }
 line_sound u sound (suc k) = record { by = next_sound u k (line_sound u sound k) }
 
 -- ---- signs
 
 one_sound : (room : ℕ) → IsSound 1 (read_unary room) → (ts : List Token) (e : Expression) (rest : List Token) → read_unary (suc room) ts ≡ Some (e, rest) → Found 1 ts e rest
 one_sound room sound ts e rest h =
-    let inner = read_line (read_unary room) 6 in
+    let inner = read_operator_line (read_unary room) 6 in
     let next : UnaryOp → Expression → List Token → Read Expression = λ o e ts. Some (unary o e, ts) in
     ⊎_elim
     (λ f.

@@ -9,7 +9,7 @@ use Rattle.model_tokens.specs.declared.token.Symbol.{Symbol}
 use Rattle.model_tokens.specs.declared.token.Symbol.TheVariants as s
 use Rattle.model_lang.specs.Tree.{Name, Expression, nil, bool, int, text, this, local, field, list, builtin, call, future, create, expressions_of}
 use Rattle.model_lang.specs.Grammar.{Phrase, a_number, a_text, a_nil, a_bool, a_this, a_field, a_local, a_builtin, a_create, a_list, brackets, a_call, a_future, Stands, line, in_round, spelled, spelled_args, tree_of}
-use Rattle.model_lang.specs.Reader.{Read, Reader, reading, behind, either_way, after_symbol, name_at, class_name_at, field_at, read_args, read_named, read_this, read_create, read_word, read_opened, read_prim, read_call, read_message, read_future, read_suffix, suffixes_of, read_post}
+use Rattle.model_lang.specs.Reader.{Read, ExpressionReader, reading, behind, either_way, after_symbol, name_at, class_name_at, field_at, read_args, read_named, read_this, read_create, read_word, read_opened, read_prim, read_call, read_message, read_future, read_suffix, suffixes_of, read_post}
 use Rattle.model_lang.proofs.Fronts.{parts, apart, word_or, symbol_or, symbol_then, name_then, class_name_front, found_or, both_spelled}
 use Rattle.model_lang.proofs.Phrases.{list_of, list_of-trees}
 use Rattle.model_lang.proofs.SoundArguments.{Found, IsSound, sound_then, args_found, round_spelled}
@@ -23,7 +23,7 @@ retold k ts us e rest q f = (f.0, f.1, f.2, f.3 ∙ q, f.4)
 
 -- ---- primaries
 
-named_sound : (inner : Reader) → IsSound 6 inner → (x : Name) (ts : List Token) (e : Expression) (rest : List Token) → read_named inner x ts ≡ Some (e, rest) → Found 0 (name x ∷ ts) e rest
+named_sound : (inner : ExpressionReader) → IsSound 6 inner → (x : Name) (ts : List Token) (e : Expression) (rest : List Token) → read_named inner x ts ≡ Some (e, rest) → Found 0 (name x ∷ ts) e rest
 named_sound inner sound x ts e rest h =
     let with_args : List Expression → List Token → Read Expression = λ args ts. Some (builtin x (expressions_of args), ts) in
     ⊎_elim
@@ -59,7 +59,7 @@ create_made x p st opened in_class behind after rest ts e named front more comma
     let inside : (class_name x ∷ symbol s.Comma ∷ spelled p) ++ symbol s.CloseRound ∷ after ≡ opened = cc in
     made 0 (a_create x p) st (omega arith) (word w.Create ∷ ts) e after rest (ap (λ r. word w.Create ∷ r) (round_spelled (class_name x ∷ symbol s.Comma ∷ spelled p) after opened ts inside front)) each
 
-create_sound : (inner : Reader) → IsSound 6 inner → (ts : List Token) (e : Expression) (rest : List Token) → read_create inner ts ≡ Some (e, rest) → Found 0 (word w.Create ∷ ts) e rest
+create_sound : (inner : ExpressionReader) → IsSound 6 inner → (ts : List Token) (e : Expression) (rest : List Token) → read_create inner ts ≡ Some (e, rest) → Found 0 (word w.Create ∷ ts) e rest
 create_sound inner sound ts e rest h =
     let closed : Name → Expression → List Token → Read Expression = λ x e ts. behind (after_symbol s.CloseRound ts) (λ ts. Some (create x e, ts)) in
     let options : Name → List Token → Read Expression = λ x ts. behind (after_symbol s.Comma ts) (λ ts. reading (inner ts) (closed x)) in
@@ -70,7 +70,7 @@ create_sound inner sound ts e rest h =
     let c = symbol_then s.CloseRound p.3 (λ ts. Some (create x.0.0 (tree_of p.0), ts)) (e, rest) p.5 in
     create_made x.0.0 p.0 p.1 a.0 x.0.1 p.3 c.0 rest ts e (class_name_front a.0 x.0 x.1) a.1 b.0 b.1 p.4 c.1 (apart (create x.0.0 (tree_of p.0)) e c.0 rest c.2)
 
-word_sound : (inner : Reader) → IsSound 6 inner → (x : Word) (ts : List Token) (e : Expression) (rest : List Token) → read_word inner x ts ≡ Some (e, rest) → Found 0 (word x ∷ ts) e rest
+word_sound : (inner : ExpressionReader) → IsSound 6 inner → (x : Word) (ts : List Token) (e : Expression) (rest : List Token) → read_word inner x ts ≡ Some (e, rest) → Found 0 (word x ∷ ts) e rest
 word_sound inner sound w.Nil ts e rest h = made 0 a_nil tt (omega arith) (word w.Nil ∷ ts) e ts rest refl (apart nil e ts rest h)
 word_sound inner sound w.True ts e rest h = made 0 (a_bool true) tt (omega arith) (word w.True ∷ ts) e ts rest refl (apart (bool true) e ts rest h)
 word_sound inner sound w.False ts e rest h = made 0 (a_bool false) tt (omega arith) (word w.False ∷ ts) e ts rest refl (apart (bool false) e ts rest h)
@@ -82,24 +82,24 @@ brackets_made : (p : Phrase) → Stands p → (ts : List Token) (e : Expression)
 brackets_made p st ts e after behind rest q c each =
     made 0 (brackets p) st (omega arith) (symbol s.OpenRound ∷ ts) e after rest (round_spelled (spelled p) after ts (symbol s.OpenRound ∷ ts) (ap (λ r. spelled p ++ r) c ∙ q) refl) each
 
-brackets_sound : (inner : Reader) → IsSound 6 inner → (ts : List Token) (e : Expression) (rest : List Token) → read_opened inner s.OpenRound ts ≡ Some (e, rest) → Found 0 (symbol s.OpenRound ∷ ts) e rest
+brackets_sound : (inner : ExpressionReader) → IsSound 6 inner → (ts : List Token) (e : Expression) (rest : List Token) → read_opened inner s.OpenRound ts ≡ Some (e, rest) → Found 0 (symbol s.OpenRound ∷ ts) e rest
 brackets_sound inner sound ts e rest h =
     let p = sound_then 6 inner sound ts (λ e ts. behind (after_symbol s.CloseRound ts) (λ ts. Some (e, ts))) (e, rest) h in
     let c = symbol_then s.CloseRound p.3 (λ ts. Some (tree_of p.0, ts)) (e, rest) p.5 in
     brackets_made p.0 p.1 ts e c.0 p.3 rest p.4 c.1 (apart (tree_of p.0) e c.0 rest c.2)
 
-list_sound : (inner : Reader) → IsSound 6 inner → (ts : List Token) (e : Expression) (rest : List Token) → read_opened inner s.OpenSquare ts ≡ Some (e, rest) → Found 0 (symbol s.OpenSquare ∷ ts) e rest
+list_sound : (inner : ExpressionReader) → IsSound 6 inner → (ts : List Token) (e : Expression) (rest : List Token) → read_opened inner s.OpenSquare ts ≡ Some (e, rest) → Found 0 (symbol s.OpenSquare ∷ ts) e rest
 list_sound inner sound ts e rest h =
     let l = args_found s.CloseSquare inner sound ts (λ items ts. Some (list (expressions_of items), ts)) (e, rest) h in
     let each = apart (list (expressions_of (list_of l.0))) e l.2 rest l.4 in
     made 0 (a_list l.0) l.1 (omega arith) (symbol s.OpenSquare ∷ ts) e l.2 rest (ap (λ r. symbol s.OpenSquare ∷ r) (append_assoc (spelled_args l.0) (symbol s.CloseSquare ∷ []) l.2 ∙ l.3)) (ap list (sym (list_of-trees l.0)) ∙ each.0, each.1)
 
-opened_sound : (inner : Reader) → IsSound 6 inner → (x : Symbol) (ts : List Token) (e : Expression) (rest : List Token) → read_opened inner x ts ≡ Some (e, rest) → Found 0 (symbol x ∷ ts) e rest
+opened_sound : (inner : ExpressionReader) → IsSound 6 inner → (x : Symbol) (ts : List Token) (e : Expression) (rest : List Token) → read_opened inner x ts ≡ Some (e, rest) → Found 0 (symbol x ∷ ts) e rest
 opened_sound inner sound s.OpenRound ts e rest h = brackets_sound inner sound ts e rest h
 opened_sound inner sound s.OpenSquare ts e rest h = list_sound inner sound ts e rest h
 opened_sound inner sound _ ts e rest h = cc
 
-prim_sound : (inner : Reader) → IsSound 6 inner → (ts : List Token) (e : Expression) (rest : List Token) → read_prim inner ts ≡ Some (e, rest) → Found 0 ts e rest
+prim_sound : (inner : ExpressionReader) → IsSound 6 inner → (ts : List Token) (e : Expression) (rest : List Token) → read_prim inner ts ≡ Some (e, rest) → Found 0 ts e rest
 prim_sound inner sound (token.Number n ∷ ts) e rest h = made 0 (a_number n) tt (omega arith) (token.Number n ∷ ts) e ts rest refl (apart (int n) e ts rest h)
 prim_sound inner sound (token.Text t ∷ ts) e rest h = made 0 (a_text t) tt (omega arith) (token.Text t ∷ ts) e ts rest refl (apart (text t) e ts rest h)
 prim_sound inner sound (token.Name x ∷ ts) e rest h = named_sound inner sound x ts e rest h
@@ -109,7 +109,7 @@ prim_sound inner sound _ e rest h = cc
 
 -- ---- calls and futures
 
-call_sound : (inner : Reader) → IsSound 6 inner → (p : Phrase) → Stands p → line p ≤ 0 → (ts : List Token) (e : Expression) (rest : List Token) → read_call inner (tree_of p) ts ≡ Some (e, rest) → Found 0 (spelled p ++ symbol s.Dot ∷ ts) e rest
+call_sound : (inner : ExpressionReader) → IsSound 6 inner → (p : Phrase) → Stands p → line p ≤ 0 → (ts : List Token) (e : Expression) (rest : List Token) → read_call inner (tree_of p) ts ≡ Some (e, rest) → Found 0 (spelled p ++ symbol s.Dot ∷ ts) e rest
 call_sound inner sound p st low ts e rest h =
     let with_args : Name → List Expression → List Token → Read Expression = λ x args ts. Some (call (tree_of p) x (expressions_of args), ts) in
     let named : Name → List Token → Read Expression = λ x ts. behind (after_symbol s.OpenRound ts) (λ ts. reading (read_args s.CloseRound inner ts) (with_args x)) in
@@ -123,7 +123,7 @@ call_sound inner sound p st low ts e rest h =
     (ap (call (tree_of p) x.0) (sym (list_of-trees l.0)) ∙ each.0, each.1)
 
 -- behind the delay of a future
-message_sound : (inner : Reader) → IsSound 6 inner → (p d : Phrase) → Stands p → line p ≤ 0 → Stands d → (ts : List Token) (e : Expression) (rest before : List Token) → read_message inner (tree_of p) (tree_of d) ts ≡ Some (e, rest) → in_round (spelled d) ++ ts ≡ before → Found 0 (spelled p ++ symbol s.Dot ∷ word w.Future ∷ before) e rest
+message_sound : (inner : ExpressionReader) → IsSound 6 inner → (p d : Phrase) → Stands p → line p ≤ 0 → Stands d → (ts : List Token) (e : Expression) (rest before : List Token) → read_message inner (tree_of p) (tree_of d) ts ≡ Some (e, rest) → in_round (spelled d) ++ ts ≡ before → Found 0 (spelled p ++ symbol s.Dot ∷ word w.Future ∷ before) e rest
 message_sound inner sound p d st low st_d ts e rest before h q =
     let with_args : Name → List Expression → List Token → Read Expression = λ x args ts. Some (future (tree_of p) (tree_of d) x (expressions_of args), ts) in
     let named : Name → List Token → Read Expression = λ x ts. behind (after_symbol s.OpenRound ts) (λ ts. reading (read_args s.CloseRound inner ts) (with_args x)) in
@@ -140,7 +140,7 @@ message_sound inner sound p d st low st_d ts e rest before h q =
     (both_spelled (spelled p) (symbol s.Dot ∷ word w.Future ∷ (in_round (spelled d) ++ message)) l.2 (symbol s.Dot ∷ word w.Future ∷ before) whole refl (ap (λ r. symbol s.Dot ∷ word w.Future ∷ r) all))
     (ap (future (tree_of p) (tree_of d) x.0) (sym (list_of-trees l.0)) ∙ each.0, each.1)
 
-future_sound : (inner : Reader) → IsSound 6 inner → (p : Phrase) → Stands p → line p ≤ 0 → (ts : List Token) (e : Expression) (rest : List Token) → read_future inner (tree_of p) ts ≡ Some (e, rest) → Found 0 (spelled p ++ symbol s.Dot ∷ word w.Future ∷ ts) e rest
+future_sound : (inner : ExpressionReader) → IsSound 6 inner → (p : Phrase) → Stands p → line p ≤ 0 → (ts : List Token) (e : Expression) (rest : List Token) → read_future inner (tree_of p) ts ≡ Some (e, rest) → Found 0 (spelled p ++ symbol s.Dot ∷ word w.Future ∷ ts) e rest
 future_sound inner sound p st low ts e rest h =
     let delayed : Expression → List Token → Read Expression = λ delay ts. behind (after_symbol s.CloseRound ts) (read_message inner (tree_of p) delay) in
     let a = symbol_then s.OpenRound ts (λ ts. reading (inner ts) delayed) (e, rest) h in
@@ -148,14 +148,14 @@ future_sound inner sound p st low ts e rest h =
     let c = symbol_then s.CloseRound d.3 (read_message inner (tree_of p) (tree_of d.0)) (e, rest) d.5 in
     message_sound inner sound p d.0 st low d.1 c.0 e rest ts c.2 (round_spelled (spelled d.0) c.0 a.0 ts (ap (λ r. spelled d.0 ++ r) c.1 ∙ d.4) a.1)
 
-suffix_sound : (inner : Reader) → IsSound 6 inner → (p : Phrase) → Stands p → line p ≤ 0 → (ts : List Token) (e : Expression) (rest : List Token) → read_suffix inner (tree_of p) ts ≡ Some (e, rest) → Found 0 (spelled p ++ symbol s.Dot ∷ ts) e rest
+suffix_sound : (inner : ExpressionReader) → IsSound 6 inner → (p : Phrase) → Stands p → line p ≤ 0 → (ts : List Token) (e : Expression) (rest : List Token) → read_suffix inner (tree_of p) ts ≡ Some (e, rest) → Found 0 (spelled p ++ symbol s.Dot ∷ ts) e rest
 suffix_sound inner sound p st low ts e rest h =
     ⊎_elim
     (λ f. retold 0 (spelled p ++ symbol s.Dot ∷ word w.Future ∷ f.0) (spelled p ++ symbol s.Dot ∷ ts) e rest (ap (λ r. spelled p ++ symbol s.Dot ∷ r) f.1) (future_sound inner sound p st low f.0 e rest f.2))
     (λ k. call_sound inner sound p st low ts e rest k)
     (word_or w.Future ts (read_future inner (tree_of p)) (read_call inner (tree_of p) ts) (Some (e, rest)) h)
 
-suffixes_sound : (inner : Reader) → IsSound 6 inner → (turns : ℕ) (p : Phrase) → Stands p → line p ≤ 0 → (ts : List Token) (e : Expression) (rest : List Token) → suffixes_of inner turns (tree_of p) ts ≡ Some (e, rest) → Found 0 (spelled p ++ ts) e rest
+suffixes_sound : (inner : ExpressionReader) → IsSound 6 inner → (turns : ℕ) (p : Phrase) → Stands p → line p ≤ 0 → (ts : List Token) (e : Expression) (rest : List Token) → suffixes_of inner turns (tree_of p) ts ≡ Some (e, rest) → Found 0 (spelled p ++ ts) e rest
 suffixes_sound inner sound zero p st low ts e rest h = made 0 p st low (spelled p ++ ts) e ts rest refl (apart (tree_of p) e ts rest h)
 suffixes_sound inner sound (suc turns) p st low ts e rest h =
     ⊎_elim
@@ -166,7 +166,7 @@ suffixes_sound inner sound (suc turns) p st low ts e rest h =
     (λ k. made 0 p st low (spelled p ++ ts) e ts rest refl (apart (tree_of p) e ts rest k))
     (symbol_or s.Dot ts (λ ts. reading (read_suffix inner (tree_of p) ts) (suffixes_of inner turns)) (Some (tree_of p, ts)) (Some (e, rest)) h)
 
-pub post_sound : (inner : Reader) → IsSound 6 inner → (ts : List Token) (e : Expression) (rest : List Token) → read_post inner ts ≡ Some (e, rest) → Found 0 ts e rest
+pub post_sound : (inner : ExpressionReader) → IsSound 6 inner → (ts : List Token) (e : Expression) (rest : List Token) → read_post inner ts ≡ Some (e, rest) → Found 0 ts e rest
 post_sound inner sound ts e rest h =
     let q = parts (read_prim inner ts) (suffixes_of inner (length ts)) (e, rest) h in
     let p = prim_sound inner sound ts q.0.0 q.0.1 q.1 in

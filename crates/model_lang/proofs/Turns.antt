@@ -9,34 +9,34 @@ use Rattle.model_lang.specs.declared.operators.Line.{Line}
 use Rattle.model_lang.specs.declared.operators.Line.TheVariants as line
 use Rattle.model_lang.specs.Lines.{line_number, tighter_of}
 use Rattle.model_lang.specs.Tree.{Name, Expression, unary, binary, Statement, MethodTree, ClassTree}
-use Rattle.model_lang.specs.Reader.{Read, Reader, reading, behind, either_way, on_found, operator_at, more_of, turns_of, suffixes_of, read_suffix, read_more, read_line, read_unary, read_post, sign_at, after_symbol, after_word, name_at, read_actions, read_action, read_block, read_fields, read_methods, read_method, read_further, read_classes, read_class}
+use Rattle.model_lang.specs.Reader.{Read, ExpressionReader, reading, behind, either_way, on_found, operator_at, more_of, turns_of, suffixes_of, read_suffix, read_more, read_operator_line, read_unary, read_post, sign_at, after_symbol, after_word, name_at, read_actions, read_action, read_block, read_fields, read_methods, read_method, read_further, read_classes, read_class}
 
-pub more_of-turn : (k : ℕ) (inner : Reader) (turns i : ℕ) (left : Expression) (ts : List Token) → i < turns → more_of k inner (turns - i) left ts ≡ on_found (operator_at k ts) (λ o rest. reading (inner rest) (λ e. more_of k inner (turns - (i + 1)) (binary o left e))) (Some (left, ts))
+pub more_of-turn : (k : ℕ) (inner : ExpressionReader) (turns i : ℕ) (left : Expression) (ts : List Token) → i < turns → more_of k inner (turns - i) left ts ≡ on_found (operator_at k ts) (λ o rest. reading (inner rest) (λ e. more_of k inner (turns - (i + 1)) (binary o left e))) (Some (left, ts))
 more_of-turn k inner turns i left ts h =
     let e : turns - i ≡ suc (turns - (i + 1)) = omega arith in
     rw e refl
 
-pub more_of-over : (k : ℕ) (inner : Reader) (turns i : ℕ) (left : Expression) (ts : List Token) → turns ≤ i → more_of k inner (turns - i) left ts ≡ Some (left, ts)
+pub more_of-over : (k : ℕ) (inner : ExpressionReader) (turns i : ℕ) (left : Expression) (ts : List Token) → turns ≤ i → more_of k inner (turns - i) left ts ≡ Some (left, ts)
 more_of-over k inner turns i left ts h =
     let e : turns - i ≡ 0 = omega arith in
     rw e refl
 
-pub suffixes_of-turn : (inner : Reader) (turns i : ℕ) (object : Expression) (ts : List Token) → i < turns → suffixes_of inner (turns - i) object ts ≡ either_way (after_symbol s.Dot ts) (λ ts. reading (read_suffix inner object ts) (suffixes_of inner (turns - (i + 1)))) (Some (object, ts))
+pub suffixes_of-turn : (inner : ExpressionReader) (turns i : ℕ) (object : Expression) (ts : List Token) → i < turns → suffixes_of inner (turns - i) object ts ≡ either_way (after_symbol s.Dot ts) (λ ts. reading (read_suffix inner object ts) (suffixes_of inner (turns - (i + 1)))) (Some (object, ts))
 suffixes_of-turn inner turns i object ts h =
     let e : turns - i ≡ suc (turns - (i + 1)) = omega arith in
     rw e refl
 
-pub suffixes_of-over : (inner : Reader) (turns i : ℕ) (object : Expression) (ts : List Token) → turns ≤ i → suffixes_of inner (turns - i) object ts ≡ Some (object, ts)
+pub suffixes_of-over : (inner : ExpressionReader) (turns i : ℕ) (object : Expression) (ts : List Token) → turns ≤ i → suffixes_of inner (turns - i) object ts ≡ Some (object, ts)
 suffixes_of-over inner turns i object ts h =
     let e : turns - i ≡ 0 = omega arith in
     rw e refl
 
-pub read_more-turn : (close : Symbol) (inner : Reader) (turns i : ℕ) (found : List Expression) (ts : List Token) → i < turns → read_more close inner (turns - i) found ts ≡ either_way (after_symbol s.Comma ts) (λ ts. reading (inner ts) (λ e. read_more close inner (turns - (i + 1)) (found ++ e ∷ []))) (behind (after_symbol close ts) (λ rest. Some (found, rest)))
+pub read_more-turn : (close : Symbol) (inner : ExpressionReader) (turns i : ℕ) (found : List Expression) (ts : List Token) → i < turns → read_more close inner (turns - i) found ts ≡ either_way (after_symbol s.Comma ts) (λ ts. reading (inner ts) (λ e. read_more close inner (turns - (i + 1)) (found ++ e ∷ []))) (behind (after_symbol close ts) (λ rest. Some (found, rest)))
 read_more-turn close inner turns i found ts h =
     let e : turns - i ≡ suc (turns - (i + 1)) = omega arith in
     rw e refl
 
-pub read_more-over : (close : Symbol) (inner : Reader) (turns i : ℕ) (found : List Expression) (ts : List Token) → turns ≤ i → read_more close inner (turns - i) found ts ≡ None
+pub read_more-over : (close : Symbol) (inner : ExpressionReader) (turns i : ℕ) (found : List Expression) (ts : List Token) → turns ≤ i → read_more close inner (turns - i) found ts ≡ None
 read_more-over close inner turns i found ts h =
     let e : turns - i ≡ 0 = omega arith in
     rw e refl
@@ -97,12 +97,12 @@ pub read_classes-end : (turns : ℕ) (found : List ClassTree) (ts : List Token) 
 read_classes-end turns found [] none = refl
 read_classes-end turns found (t ∷ ts) none = absurd (omega arith)
 
-pub read_line-one : (inner : Reader) → read_line inner 1 ≡ inner
-unfolding read_line
+pub read_line-one : (inner : ExpressionReader) → read_operator_line inner 1 ≡ inner
+unfolding read_operator_line
 read_line-one inner = refl
 
-pub read_line-next : (inner : Reader) (k : ℕ) (ts : List Token) → read_line inner (suc (suc k)) ts ≡ reading (read_line inner (suc k) ts) (more_of (suc (suc k)) (read_line inner (suc k)) (turns_of (suc (suc k)) (length ts)))
-unfolding read_line
+pub read_line-next : (inner : ExpressionReader) (k : ℕ) (ts : List Token) → read_operator_line inner (suc (suc k)) ts ≡ reading (read_operator_line inner (suc k) ts) (more_of (suc (suc k)) (read_operator_line inner (suc k)) (turns_of (suc (suc k)) (length ts)))
+unfolding read_operator_line
 read_line-next inner k ts = refl
 
 abbrev line_number_if : Option Line → ℕ
@@ -110,7 +110,7 @@ line_number_if None = 0
 line_number_if (Some l) = line_number l
 
 -- the same by the lines of operators
-pub read_line-turns : (inner : Reader) (l : Line) (ts : List Token) → read_line inner (line_number l) ts ≡ reading (read_line inner (line_number l - 1) ts) (more_of (line_number l) (read_line inner (line_number l - 1)) (turns_of (line_number l) (length ts)))
+pub read_line-turns : (inner : ExpressionReader) (l : Line) (ts : List Token) → read_operator_line inner (line_number l) ts ≡ reading (read_operator_line inner (line_number l - 1) ts) (more_of (line_number l) (read_operator_line inner (line_number l - 1)) (turns_of (line_number l) (length ts)))
 read_line-turns inner line.Term ts = read_line-next inner 0 ts
 read_line-turns inner line.Sum ts = read_line-next inner 1 ts
 read_line-turns inner line.Relation ts = read_line-next inner 2 ts
@@ -132,20 +132,20 @@ tightest-number line.And h = cc
 tightest-number line.Or h = cc
 
 -- a line whose first side is read, or is not
-pub line_begins : (inner : Reader) (l : Line) (ts : List Token) (e : Expression) (rest : List Token) → read_line inner (line_number l - 1) ts ≡ Some (e, rest) → more_of (line_number l) (read_line inner (line_number l - 1)) (turns_of (line_number l) (length ts) - 0) e rest ≡ read_line inner (line_number l) ts
+pub line_begins : (inner : ExpressionReader) (l : Line) (ts : List Token) (e : Expression) (rest : List Token) → read_operator_line inner (line_number l - 1) ts ≡ Some (e, rest) → more_of (line_number l) (read_operator_line inner (line_number l - 1)) (turns_of (line_number l) (length ts) - 0) e rest ≡ read_operator_line inner (line_number l) ts
 line_begins inner l ts e rest h =
-    let next = more_of (line_number l) (read_line inner (line_number l - 1)) in
+    let next = more_of (line_number l) (read_operator_line inner (line_number l - 1)) in
     let all : turns_of (line_number l) (length ts) - 0 ≡ turns_of (line_number l) (length ts) = omega arith in
     ap (λ n. next n e rest) all ∙ sym (ap (λ o. reading o (next (turns_of (line_number l) (length ts)))) h) ∙ sym (read_line-turns inner l ts)
 
-pub line_stops : (inner : Reader) (l : Line) (ts : List Token) → read_line inner (line_number l - 1) ts ≡ None → read_line inner (line_number l) ts ≡ None
-line_stops inner l ts h = read_line-turns inner l ts ∙ ap (λ o. reading o (more_of (line_number l) (read_line inner (line_number l - 1)) (turns_of (line_number l) (length ts)))) h
+pub line_stops : (inner : ExpressionReader) (l : Line) (ts : List Token) → read_operator_line inner (line_number l - 1) ts ≡ None → read_operator_line inner (line_number l) ts ≡ None
+line_stops inner l ts h = read_line-turns inner l ts ∙ ap (λ o. reading o (more_of (line_number l) (read_operator_line inner (line_number l - 1)) (turns_of (line_number l) (length ts)))) h
 
 -- the sides of the tightest line
-pub tightest_sides : (inner : Reader) (l : Line) (ts : List Token) → tighter_of l ≡ None → read_line inner (line_number l - 1) ts ≡ inner ts
+pub tightest_sides : (inner : ExpressionReader) (l : Line) (ts : List Token) → tighter_of l ≡ None → read_operator_line inner (line_number l - 1) ts ≡ inner ts
 tightest_sides inner l ts h =
     let e : line_number l - 1 ≡ 1 = omega (arith, tightest-number l h) in
-    ap (λ k. read_line inner k ts) e ∙ ap (λ (f : Reader). f ts) (read_line-one inner)
+    ap (λ k. read_operator_line inner k ts) e ∙ ap (λ (f : ExpressionReader). f ts) (read_line-one inner)
 
 pub ruleset by_line = (line_stops, more_of-turn, more_of-over)
 
@@ -157,7 +157,7 @@ read_block-inside (suc room) ts h =
     let e : suc room - 1 ≡ room = omega arith in
     rw e refl
 
-pub read_unary-inside : (room : ℕ) (ts : List Token) → 0 < room → read_unary room ts ≡ on_found (sign_at ts) (λ o ts. reading (read_unary (room - 1) ts) (λ e ts. Some (unary o e, ts))) (read_post (read_line (read_unary (room - 1)) 6) ts)
+pub read_unary-inside : (room : ℕ) (ts : List Token) → 0 < room → read_unary room ts ≡ on_found (sign_at ts) (λ o ts. reading (read_unary (room - 1) ts) (λ e ts. Some (unary o e, ts))) (read_post (read_operator_line (read_unary (room - 1)) 6) ts)
 read_unary-inside zero ts h = absurd (omega arith)
 read_unary-inside (suc room) ts h =
     let e : suc room - 1 ≡ room = omega arith in

@@ -8,7 +8,7 @@ use Rattle.model_lang.specs.declared.fault.LangFault.{LangFault}
 use Rattle.model_lang.specs.declared.fault.LangFault.TheVariants.{Syntax, TooLarge, WantOfMemory}
 use Rattle.model_lang.specs.Tree.{ProgramTree}
 use Rattle.model_lang.specs.Grammar.{Derives}
-use Rattle.model_lang.specs.Bounds.{most_bytes, passed}
+use Rattle.model_lang.specs.Bounds.{most_program_bytes, passed}
 use Rattle.model_lang.specs.Program.{FewBrackets, FewOperators, IsSpelled, IsRead, ArePast, IsTooLarge, AreNoProgram, IsNoProgram}
 use Rattle.model_lang.specs.Reader.{read_program}
 use Rattle.model_lang.specs.Answer.{ParsesTokens, Parses}
@@ -51,19 +51,19 @@ one_read one text tree other r q =
     let same : q.tokens ≡ r.tokens = one text q.tokens r.tokens q.divides r.divides in
     one_derived r.tokens tree other r.spelled.derives (subst (λ ts. Derives ts other) same q.spelled.derives)
 
-pub too_long : (text : List ℕ) → most_bytes < length text → IsTooLarge bound.Bytes (length text) text
+pub too_long : (text : List ℕ) → most_program_bytes < length text → IsTooLarge bound.Bytes (length text) text
 too_long text many = inl (many, refl, refl)
 
-pub tokens_past : (text : List ℕ) (ts : List Token) (what : Bound) (count : ℕ) → length text ≤ most_bytes → Divides ts text → ArePast what count ts → IsTooLarge what count text
+pub tokens_past : (text : List ℕ) (ts : List Token) (what : Bound) (count : ℕ) → length text ≤ most_program_bytes → Divides ts text → ArePast what count ts → IsTooLarge what count text
 tokens_past text ts what count few divides past = inr (few, (ts, divides, past))
 
-pub tokens_no_program : OneDivision → (text : List ℕ) (ts : List Token) → length text ≤ most_bytes → Divides ts text → AreNoProgram ts → IsNoProgram text
+pub tokens_no_program : OneDivision → (text : List ℕ) (ts : List Token) → length text ≤ most_program_bytes → Divides ts text → AreNoProgram ts → IsNoProgram text
 tokens_no_program one text ts few divides none = (few, λ us d. subst AreNoProgram (one text ts us divides d) none)
 
-pub no_tokens : (text : List ℕ) → length text ≤ most_bytes → ((ts : List Token) → ¬ Divides ts text) → IsNoProgram text
+pub no_tokens : (text : List ℕ) → length text ≤ most_program_bytes → ((ts : List Token) → ¬ Divides ts text) → IsNoProgram text
 no_tokens text few never = (few, λ ts d. absurd (never ts d))
 
-pub parse_failed : OneDivision → (text : List ℕ) (ts : List Token) → length text ≤ most_bytes → Divides ts text → (fault : LangFault) → ParsesTokens (Err fault) ts → Parses (Err fault) text
+pub parse_failed : OneDivision → (text : List ℕ) (ts : List Token) → length text ≤ most_program_bytes → Divides ts text → (fault : LangFault) → ParsesTokens (Err fault) ts → Parses (Err fault) text
 parse_failed one text ts few divides (TooLarge what count) h = tokens_past text ts what count few divides h
 parse_failed one text ts few divides (Syntax at) h = tokens_no_program one text ts few divides h
 parse_failed one text ts few divides WantOfMemory h = tt

@@ -2,7 +2,7 @@
 use Rattle.std.specs.Prelude.{◌≡◌, ◌≤◌, ℕ, List, Option, Some, None, Result, Ok, Err, Vec}
 use Rattle.std.specs.Borrow.{Bor}
 use Rattle.std.specs.declared.alloc.Global.{Global}
-use Rattle.std.specs.declared.alloc.AllocError.{AllocError}
+use Rattle.tea_base.specs.declared.want.WantOfMemory.{WantOfMemory as NoMemory}
 use Rattle.model_tokens.specs.declared.token.Token.{Token}
 use Rattle.model_lang.specs.declared.tree.Class.{Class}
 use Rattle.model_lang.specs.declared.tree.Expr.{Expr}
@@ -65,7 +65,7 @@ ExpectsName (Ok found) meant = meant ≡ Some (found.0.now, found.1.now)
 ExpectsName (Err (stop.NoProgram left)) meant = meant ≡ None
 ExpectsName (Err stop.WantOfMemory) meant = ⊥
 
-abbrev pub Makes : Result Expr AllocError → Expression → Type 0
+abbrev pub Makes : Result Expr NoMemory → Expression → Type 0
 Makes (Ok e) meant = expression_tree e ≡ meant
 Makes (Err e) meant = Unit {0}
 

@@ -10,8 +10,8 @@ use Rattle.model_lang.specs.declared.fault.Bound.{Bound}
 use Rattle.model_lang.specs.declared.fault.Bound.TheVariants as bound
 use Rattle.model_lang.specs.Tree.{Expression, nil, bool, int, text, this, local, field, list, unary, binary, builtin, call, future, create, Expressions, no_expressions, expression, Statement, declare, assign, set_field, when, while, give, do_, Statements, no_statements, statement, Otherwise, no_else, else_block, MethodTree, ClassTree, ProgramTree}
 
-abbrev pub most_bytes : ℕ
-most_bytes = 65536
+abbrev pub most_program_bytes : ℕ
+most_program_bytes = 65536
 
 -- of brackets that are open at a token, and of operators since the last `,`, `;`, `{` or `}`
 abbrev pub most_nested : ℕ
@@ -49,9 +49,9 @@ operators_after before symbol.Assign = before
 operators_after before _ = before + 1
 
 -- the counts that are bounded
-abbrev pub counted : Counted → ℕ → Symbol → ℕ
-counted what.Brackets = brackets_after
-counted what.Operators = operators_after
+abbrev pub count_symbol : Counted → ℕ → Symbol → ℕ
+count_symbol what.Brackets = brackets_after
+count_symbol what.Operators = operators_after
 
 -- what a count that symbols change is behind a token
 abbrev pub count_after : (ℕ → Symbol → ℕ) → ℕ → Token → ℕ

@@ -48,24 +48,24 @@ mutual
 
 -- The lines by number, from the tightest: post 0, unary 1, term 2, sum 3, rel 4, and 5, expr 6. A phrase of a line may stand
 -- wherever a looser line may.
-abbrev pub line_of : BinaryOp → ℕ
-line_of op.Or = 6
-line_of op.And = 5
-line_of op.Same = 4
-line_of op.Differs = 4
-line_of op.Less = 4
-line_of op.AtMost = 4
-line_of op.Greater = 4
-line_of op.AtLeast = 4
-line_of op.Plus = 3
-line_of op.Minus = 3
-line_of op.Times = 2
-line_of op.Divide = 2
-line_of op.Rest = 2
+abbrev pub operator_line : BinaryOp → ℕ
+operator_line op.Or = 6
+operator_line op.And = 5
+operator_line op.Same = 4
+operator_line op.Differs = 4
+operator_line op.Less = 4
+operator_line op.AtMost = 4
+operator_line op.Greater = 4
+operator_line op.AtLeast = 4
+operator_line op.Plus = 3
+operator_line op.Minus = 3
+operator_line op.Times = 2
+operator_line op.Divide = 2
+operator_line op.Rest = 2
 
 abbrev pub line : Phrase → ℕ
 line (signed o a) = 1
-line (joined o a b) = line_of o
+line (joined o a b) = operator_line o
 line _ = 0
 
 -- The loosest line that may stand on the left of an operator: its own, since the operators of a line group to the left. But
@@ -102,7 +102,7 @@ abbrev mutual
   Stands (a_call object x args) = Stands object × (line object ≤ 0) × AllStand args
   Stands (a_future object delay x args) = Stands object × (line object ≤ 0) × Stands delay × AllStand args
   Stands (signed o a) = Stands a × (line a ≤ 1)
-  Stands (joined o a b) = Stands a × (line a ≤ left_of o) × Stands b × (line b < line_of o)
+  Stands (joined o a b) = Stands a × (line a ≤ left_of o) × Stands b × (line b < operator_line o)
 
   pub AllStand : Phrases → Type 0
   AllStand no_phrases = Unit {0}
@@ -136,16 +136,16 @@ op_symbol op.Times = s.Times
 op_symbol op.Divide = s.Divide
 op_symbol op.Rest = s.Rest
 
-abbrev pub word_of : Bool → Token
-word_of true = word w.True
-word_of false = word w.False
+abbrev pub truth_word : Bool → Token
+truth_word true = word w.True
+truth_word false = word w.False
 
 abbrev mutual
   pub spelled : Phrase → List Token
   spelled (a_number n) = number n ∷ []
   spelled (a_text t) = literal t ∷ []
   spelled a_nil = word w.Nil ∷ []
-  spelled (a_bool b) = word_of b ∷ []
+  spelled (a_bool b) = truth_word b ∷ []
   spelled a_this = word w.This ∷ []
   spelled (a_field x) = word w.This ∷ symbol s.Dot ∷ name x ∷ []
   spelled (a_local x) = name x ∷ []

@@ -2,15 +2,15 @@
 use Rattle.std.specs.Prelude.{ℕ, ◌≤◌, List, [], ◌∷◌, length}
 use Rattle.model_lang.specs.Tree.{Name, Expression, nil, bool, int, text, this, local, field, list, unary, binary, builtin, call, future, create, Expressions, no_expressions, expression, Statement, declare, assign, set_field, when, while, give, do_, Statements, no_statements, statement, Otherwise, no_else, else_block, MethodTree, ProgramTree}
 
-abbrev pub most_name : ℕ
-most_name = 64
+abbrev pub longest_name : ℕ
+longest_name = 64
 
-abbrev pub IsShort : Name → Type 0
-IsShort x = length x ≤ most_name
+abbrev pub IsShortName : Name → Type 0
+IsShortName x = length x ≤ longest_name
 
 abbrev pub AreShort : List Name → Type 0
 AreShort [] = Unit {0}
-AreShort (x ∷ xs) = IsShort x × AreShort xs
+AreShort (x ∷ xs) = IsShortName x × AreShort xs
 
 abbrev mutual
   pub HasShortNames : Expression → Type 0
@@ -19,15 +19,15 @@ abbrev mutual
   HasShortNames (int n) = Unit {0}
   HasShortNames (text s) = Unit {0}
   HasShortNames this = Unit {0}
-  HasShortNames (local x) = IsShort x
-  HasShortNames (field x) = IsShort x
+  HasShortNames (local x) = IsShortName x
+  HasShortNames (field x) = IsShortName x
   HasShortNames (list items) = AllHaveShortNames items
   HasShortNames (unary op e) = HasShortNames e
   HasShortNames (binary op a b) = HasShortNames a × HasShortNames b
-  HasShortNames (builtin x args) = IsShort x × AllHaveShortNames args
-  HasShortNames (call object x args) = HasShortNames object × IsShort x × AllHaveShortNames args
-  HasShortNames (future object delay x args) = HasShortNames object × HasShortNames delay × IsShort x × AllHaveShortNames args
-  HasShortNames (create x options) = IsShort x × HasShortNames options
+  HasShortNames (builtin x args) = IsShortName x × AllHaveShortNames args
+  HasShortNames (call object x args) = HasShortNames object × IsShortName x × AllHaveShortNames args
+  HasShortNames (future object delay x args) = HasShortNames object × HasShortNames delay × IsShortName x × AllHaveShortNames args
+  HasShortNames (create x options) = IsShortName x × HasShortNames options
 
   pub AllHaveShortNames : Expressions → Type 0
   AllHaveShortNames no_expressions = Unit {0}
@@ -35,9 +35,9 @@ abbrev mutual
 
 abbrev mutual
   pub NamesAreShort : Statement → Type 0
-  NamesAreShort (declare x e) = IsShort x × HasShortNames e
-  NamesAreShort (assign x e) = IsShort x × HasShortNames e
-  NamesAreShort (set_field x e) = IsShort x × HasShortNames e
+  NamesAreShort (declare x e) = IsShortName x × HasShortNames e
+  NamesAreShort (assign x e) = IsShortName x × HasShortNames e
+  NamesAreShort (set_field x e) = IsShortName x × HasShortNames e
   NamesAreShort (when test block other) = HasShortNames test × AllNamesAreShort block × ElseNamesAreShort other
   NamesAreShort (while test block) = HasShortNames test × AllNamesAreShort block
   NamesAreShort (give e) = HasShortNames e
@@ -53,8 +53,8 @@ abbrev mutual
 
 abbrev pub MethodNamesAreShort : List MethodTree → Type 0
 MethodNamesAreShort [] = Unit {0}
-MethodNamesAreShort (m ∷ ms) = (IsShort m.name × AreShort m.params × AllNamesAreShort m.body) × MethodNamesAreShort ms
+MethodNamesAreShort (m ∷ ms) = (IsShortName m.name × AreShort m.params × AllNamesAreShort m.body) × MethodNamesAreShort ms
 
 abbrev pub ClassNamesAreShort : ProgramTree → Type 0
 ClassNamesAreShort [] = Unit {0}
-ClassNamesAreShort (c ∷ cs) = (IsShort c.name × AreShort c.fields × MethodNamesAreShort c.methods) × ClassNamesAreShort cs
+ClassNamesAreShort (c ∷ cs) = (IsShortName c.name × AreShort c.fields × MethodNamesAreShort c.methods) × ClassNamesAreShort cs

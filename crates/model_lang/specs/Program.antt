@@ -6,7 +6,7 @@ use Rattle.model_lang.specs.declared.fault.Bound.{Bound}
 use Rattle.model_lang.specs.declared.fault.Bound.TheVariants as bound
 use Rattle.model_lang.specs.Tree.{ProgramTree}
 use Rattle.model_lang.specs.Grammar.{Derives}
-use Rattle.model_lang.specs.Bounds.{most_bytes, most_nested, greatest, brackets_after, operators_after, passed}
+use Rattle.model_lang.specs.Bounds.{most_program_bytes, most_nested, greatest, brackets_after, operators_after, passed}
 
 abbrev pub FewBrackets : List Token → Type 0
 FewBrackets ts = greatest brackets_after 0 ts ≤ most_nested
@@ -23,7 +23,7 @@ pub record IsSpelled (tokens : List Token) (tree : ProgramTree) : Type 0 where
 
 -- this text is a program within the bounds, which stands for this tree
 pub record IsRead (text : List ℕ) (tree : ProgramTree) : Type 0 where
-  pub bytes : length text ≤ most_bytes
+  pub bytes : length text ≤ most_program_bytes
   pub tokens : List Token
   pub divides : Divides tokens text
   pub spelled : IsSpelled tokens tree
@@ -45,8 +45,8 @@ ArePast what count ts =
 -- the bound that the text passes first, and the count
 abbrev pub IsTooLarge : Bound → ℕ → List ℕ → Type 0
 IsTooLarge what count text =
-    ((most_bytes < length text) × (what ≡ bound.Bytes) × (count ≡ length text))
-    ⊎ ((length text ≤ most_bytes) × ((ts : List Token) × Divides ts text × ArePast what count ts))
+    ((most_program_bytes < length text) × (what ≡ bound.Bytes) × (count ≡ length text))
+    ⊎ ((length text ≤ most_program_bytes) × ((ts : List Token) × Divides ts text × ArePast what count ts))
 
 -- these tokens are within the bounds for brackets and operators, and no program
 pub record AreNoProgram (tokens : List Token) : Type 0 where
@@ -56,7 +56,7 @@ pub record AreNoProgram (tokens : List Token) : Type 0 where
 
 -- This text is not too long, and no program: it is divided into no tokens, or into tokens that are none.
 abbrev pub IsNoProgram : List ℕ → Type 0
-IsNoProgram text = (length text ≤ most_bytes) × ((ts : List Token) → Divides ts text → AreNoProgram ts)
+IsNoProgram text = (length text ≤ most_program_bytes) × ((ts : List Token) → Divides ts text → AreNoProgram ts)
 
 -- ---- what comes of a text: a program within the bounds, none, or a bound that is passed
 

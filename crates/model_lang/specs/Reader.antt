@@ -11,7 +11,7 @@ use Rattle.model_lang.specs.declared.tree.UnaryOp.TheVariants as sign
 use Rattle.model_lang.specs.declared.tree.BinaryOp.{BinaryOp}
 use Rattle.model_lang.specs.declared.tree.BinaryOp.TheVariants as op
 use Rattle.model_lang.specs.Tree.{Name, Expression, nil, bool, int, text, this, local, field, list, unary, binary, builtin, call, future, create, expressions_of, Statement, declare, assign, set_field, when, while, give, do_, statements_of, no_else, else_block, MethodTree, ClassTree}
-use Rattle.model_lang.specs.Grammar.{line_of}
+use Rattle.model_lang.specs.Grammar.{operator_line}
 
 -- what was read, and the tokens behind it
 abbrev pub Read : Type 0 → Type 0
@@ -100,20 +100,20 @@ class_name_at _ = None
 
 -- ---- expressions
 
-abbrev pub Reader : Type 0
-Reader = List Token → Read Expression
+abbrev pub ExpressionReader : Type 0
+ExpressionReader = List Token → Read Expression
 
 -- expressions behind the first, up to the closing bracket, which is read too
-abbrev pub read_more : Symbol → Reader → ℕ → List Expression → List Token → Read (List Expression)
+abbrev pub read_more : Symbol → ExpressionReader → ℕ → List Expression → List Token → Read (List Expression)
 read_more close inner zero found ts = None
 read_more close inner (suc turns) found ts =
     either_way (after_symbol s.Comma ts) (λ ts. reading (inner ts) (λ e. read_more close inner turns (found ++ e ∷ []))) (behind (after_symbol close ts) (λ rest. Some (found, rest)))
 
-abbrev pub read_args : Symbol → Reader → List Token → Read (List Expression)
+abbrev pub read_args : Symbol → ExpressionReader → List Token → Read (List Expression)
 read_args close inner ts = either_way (after_symbol close ts) (λ rest. Some ([], rest)) (reading (inner ts) (λ e rest. read_more close inner (length ts) (e ∷ []) rest))
 
 -- behind a name at the start of a prim
-abbrev pub read_named : Reader → Name → Reader
+abbrev pub read_named : ExpressionReader → Name → ExpressionReader
 read_named inner x ts =
     either_way (after_symbol s.OpenRound ts) (λ ts. reading (read_args s.CloseRound inner ts) (λ args ts. Some (builtin x (expressions_of args), ts))) (Some (local x, ts))
 
@@ -122,16 +122,16 @@ abbrev pub field_at : List Token → Read Name
 field_at ts = behind (after_symbol s.Dot ts) (λ ts. reading (name_at ts) (λ x ts. either_way (after_symbol s.OpenRound ts) (λ rest. None) (Some (x, ts))))
 
 -- behind `this`
-abbrev pub read_this : Reader
+abbrev pub read_this : ExpressionReader
 read_this ts = on_found (field_at ts) (λ x ts. Some (field x, ts)) (Some (this, ts))
 
 -- behind `create`
-abbrev pub read_create : Reader → Reader
+abbrev pub read_create : ExpressionReader → ExpressionReader
 read_create inner ts =
     behind (after_symbol s.OpenRound ts) (λ ts. reading (class_name_at ts) (λ x ts. behind (after_symbol s.Comma ts) (λ ts.
     reading (inner ts) (λ e ts. behind (after_symbol s.CloseRound ts) (λ ts. Some (create x e, ts))))))
 
-abbrev pub read_word : Reader → Word → Reader
+abbrev pub read_word : ExpressionReader → Word → ExpressionReader
 read_word inner w.Nil ts = Some (nil, ts)
 read_word inner w.True ts = Some (bool true, ts)
 read_word inner w.False ts = Some (bool false, ts)
@@ -139,12 +139,12 @@ read_word inner w.This ts = read_this ts
 read_word inner w.Create ts = read_create inner ts
 read_word inner _ ts = None
 
-abbrev pub read_opened : Reader → Symbol → Reader
+abbrev pub read_opened : ExpressionReader → Symbol → ExpressionReader
 read_opened inner s.OpenRound ts = reading (inner ts) (λ e ts. behind (after_symbol s.CloseRound ts) (λ ts. Some (e, ts)))
 read_opened inner s.OpenSquare ts = reading (read_args s.CloseSquare inner ts) (λ items ts. Some (list (expressions_of items), ts))
 read_opened inner _ ts = None
 
-abbrev pub read_prim : Reader → Reader
+abbrev pub read_prim : ExpressionReader → ExpressionReader
 read_prim inner (token.Number n ∷ ts) = Some (int n, ts)
 read_prim inner (token.Text t ∷ ts) = Some (text t, ts)
 read_prim inner (token.Name x ∷ ts) = read_named inner x ts
@@ -165,37 +165,37 @@ abbrev pub create_head : List Token → Read Name
 create_head ts = behind (after_symbol s.OpenRound ts) (λ ts. reading (class_name_at ts) (λ x ts. behind (after_symbol s.Comma ts) (λ ts. Some (x, ts))))
 
 -- a call behind its `.`
-abbrev pub read_call : Reader → Expression → Reader
+abbrev pub read_call : ExpressionReader → Expression → ExpressionReader
 read_call inner object ts =
     reading (name_at ts) (λ x ts. behind (after_symbol s.OpenRound ts) (λ ts. reading (read_args s.CloseRound inner ts) (λ args ts. Some (call object x (expressions_of args), ts))))
 
 -- a future behind its delay
-abbrev pub read_message : Reader → Expression → Expression → Reader
+abbrev pub read_message : ExpressionReader → Expression → Expression → ExpressionReader
 read_message inner object delay ts =
     behind (after_symbol s.Dot ts) (λ ts. reading (name_at ts) (λ x ts. behind (after_symbol s.OpenRound ts) (λ ts.
     reading (read_args s.CloseRound inner ts) (λ args ts. Some (future object delay x (expressions_of args), ts)))))
 
 -- a future behind `.future`
-abbrev pub read_future : Reader → Expression → Reader
+abbrev pub read_future : ExpressionReader → Expression → ExpressionReader
 read_future inner object ts =
     behind (after_symbol s.OpenRound ts) (λ ts. reading (inner ts) (λ delay ts. behind (after_symbol s.CloseRound ts) (read_message inner object delay)))
 
 -- behind the `.` of a call or a future
-abbrev pub read_suffix : Reader → Expression → Reader
+abbrev pub read_suffix : ExpressionReader → Expression → ExpressionReader
 read_suffix inner object ts = either_way (after_word w.Future ts) (read_future inner object) (read_call inner object ts)
 
 -- at most so many calls and futures, each of what stands before it
-abbrev pub suffixes_of : Reader → ℕ → Expression → Reader
+abbrev pub suffixes_of : ExpressionReader → ℕ → Expression → ExpressionReader
 suffixes_of inner zero object ts = Some (object, ts)
 suffixes_of inner (suc turns) object ts = either_way (after_symbol s.Dot ts) (λ ts. reading (read_suffix inner object ts) (suffixes_of inner turns)) (Some (object, ts))
 
-abbrev pub read_post : Reader → Reader
+abbrev pub read_post : ExpressionReader → ExpressionReader
 read_post inner ts = reading (read_prim inner ts) (suffixes_of inner (length ts))
 
-abbrev pub sign_of : Symbol → Option UnaryOp
-sign_of s.Minus = Some sign.Minus
-sign_of s.Not = Some sign.Not
-sign_of _ = None
+abbrev pub unary_of_symbol : Symbol → Option UnaryOp
+unary_of_symbol s.Minus = Some sign.Minus
+unary_of_symbol s.Not = Some sign.Not
+unary_of_symbol _ = None
 
 abbrev pub operator_of : Symbol → Option BinaryOp
 operator_of s.Or = Some op.Or
@@ -218,12 +218,12 @@ with_rest None ts = None
 with_rest (Some o) ts = Some (o, ts)
 
 abbrev pub sign_at : List Token → Read UnaryOp
-sign_at (token.Symbol x ∷ ts) = with_rest (sign_of x) ts
+sign_at (token.Symbol x ∷ ts) = with_rest (unary_of_symbol x) ts
 sign_at _ = None
 
 abbrev pub of_line : ℕ → Option BinaryOp → Option BinaryOp
 of_line k None = None
-of_line k (Some o) = if nat_eq (line_of o) k then Some o else None
+of_line k (Some o) = if nat_eq (operator_line o) k then Some o else None
 
 -- an operator of this line at the front
 abbrev pub operator_at : ℕ → List Token → Read BinaryOp
@@ -231,7 +231,7 @@ operator_at k (token.Symbol x ∷ ts) = with_rest (of_line k (operator_of x)) ts
 operator_at k _ = None
 
 -- at most so many operators of this line, each with its right side
-abbrev pub more_of : ℕ → Reader → ℕ → Expression → Reader
+abbrev pub more_of : ℕ → ExpressionReader → ℕ → Expression → ExpressionReader
 more_of k inner zero left ts = Some (left, ts)
 more_of k inner (suc turns) left ts =
     on_found (operator_at k ts) (λ o ts. reading (inner ts) (λ e. more_of k inner turns (binary o left e))) (Some (left, ts))
@@ -241,25 +241,25 @@ abbrev pub turns_of : ℕ → ℕ → ℕ
 turns_of k many = if nat_eq k 4 then 1 else many
 
 -- an expression of this line or a tighter one
-unfoldable pub read_line : Reader → ℕ → Reader
-read_line inner zero ts = inner ts
-read_line inner (suc zero) ts = inner ts
-read_line inner (suc (suc k)) ts =
-    reading (read_line inner (suc k) ts) (more_of (suc (suc k)) (read_line inner (suc k)) (turns_of (suc (suc k)) (length ts)))
+unfoldable pub read_operator_line : ExpressionReader → ℕ → ExpressionReader
+read_operator_line inner zero ts = inner ts
+read_operator_line inner (suc zero) ts = inner ts
+read_operator_line inner (suc (suc k)) ts =
+    reading (read_operator_line inner (suc k) ts) (more_of (suc (suc k)) (read_operator_line inner (suc k)) (turns_of (suc (suc k)) (length ts)))
 
 -- with at most so many signs and brackets one in another
-abbrev pub read_unary : ℕ → Reader
+abbrev pub read_unary : ℕ → ExpressionReader
 read_unary zero ts = None
 read_unary (suc room) ts =
-    on_found (sign_at ts) (λ o ts. reading (read_unary room ts) (λ e ts. Some (unary o e, ts))) (read_post (read_line (read_unary room) 6) ts)
+    on_found (sign_at ts) (λ o ts. reading (read_unary room ts) (λ e ts. Some (unary o e, ts))) (read_post (read_operator_line (read_unary room) 6) ts)
 
-abbrev pub read_expression : Reader
-read_expression ts = read_line (read_unary (length ts)) 6 ts
+abbrev pub read_expression : ExpressionReader
+read_expression ts = read_operator_line (read_unary (length ts)) 6 ts
 
 -- ---- statements
 
 -- an expression and the `;` behind it
-abbrev pub read_ended : Reader
+abbrev pub read_ended : ExpressionReader
 read_ended ts = reading (read_expression ts) (λ e ts. behind (after_symbol s.Semicolon ts) (λ ts. Some (e, ts)))
 
 -- a statement that ends with an expression

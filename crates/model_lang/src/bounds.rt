@@ -1,7 +1,7 @@
 //! The bounds of a program.
 ghost use Rattle.std.specs.Prelude.{◌≡◌, ◌↔◌, ◌≤◌, IsTrue, map, length};
 ghost use Rattle.model_lang.specs.TreeView.{expression_tree, expression_trees, statement_tree, statement_trees, method_tree, program_tree};
-ghost use Rattle.model_lang.specs.Bounds.{greatest, counted, count_after, most_nested, most_members, most_arguments, how_many, above as too_many, first_found, many_arguments as many_in_expression, all_many_arguments, many_in_statement, many_in_block, many_in_methods, many_parameters, many_fields as too_many_fields, many_methods as too_many_methods, passed as first_passed};
+ghost use Rattle.model_lang.specs.Bounds.{greatest, count_symbol, count_after, most_nested, most_members, most_arguments, how_many, above as too_many, first_found, many_arguments as many_in_expression, all_many_arguments, many_in_statement, many_in_block, many_in_methods, many_parameters, many_fields as too_many_fields, many_methods as too_many_methods, passed as first_passed};
 
 use crate::fault::Bound;
 use crate::tree::{Class, Expr, Method, Stmt};
@@ -31,7 +31,7 @@ pub enum Counted {
 /// Whether a count stays within the bound at each token.
 #[tactic(auto, using(crate::proofs::Counts::by_greatest))]
 pub fn stays_low(tokens: &[Token], what: Counted) -> bool
-    ensures { IsTrue result ↔ greatest (counted what) 0 tokens.now ≤ most_nested }
+    ensures { IsTrue result ↔ greatest (count_symbol what) 0 tokens.now ≤ most_nested }
 {
     let mut count = 0;
     for token in tokens {
@@ -45,7 +45,7 @@ pub fn stays_low(tokens: &[Token], what: Counted) -> bool
 
 fn after_token(what: Counted, count: usize, token: &Token) -> usize
     requires { count ≤ most_nested }
-    ensures { result ≡ count_after (counted what) count token.now }
+    ensures { result ≡ count_after (count_symbol what) count token.now }
 {
     match token {
         Token::Symbol(symbol) => after_symbol(what, count, *symbol),
@@ -55,7 +55,7 @@ fn after_token(what: Counted, count: usize, token: &Token) -> usize
 
 fn after_symbol(what: Counted, count: usize, symbol: Symbol) -> usize
     requires { count ≤ most_nested }
-    ensures { result ≡ counted what count symbol }
+    ensures { result ≡ count_symbol what count symbol }
 {
     match what {
         Counted::Brackets => match symbol {

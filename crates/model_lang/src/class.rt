@@ -10,7 +10,7 @@ use crate::statement::block;
 use crate::tree::{Class, Method};
 use model_tokens::{Symbol, Token, Word};
 use std::alloc::Global;
-use tea_base::Text;
+use tea_base::{Text, push};
 
 /// Reads `program = class class*`, all the tokens.
 #[tactic(auto, using(crate::proofs::Turns::by_turn))]
@@ -19,13 +19,13 @@ pub fn program(alloc: Global, tokens: &[Token]) -> Result<Vec<Class>, Stop>
 {
     let mut found = Vec::new(alloc);
     let (first, mut rest) = class(alloc, tokens)?;
-    found.push(first)?;
+    push(&mut found, first)?;
     for _turn in 0..tokens.len() {
         if rest.is_empty() {
             return Ok(found);
         }
         let (next, behind) = class(alloc, rest)?;
-        found.push(next)?;
+        push(&mut found, next)?;
         rest = behind;
     }
     if !rest.is_empty() {
@@ -69,7 +69,7 @@ fn fields(alloc: Global, tokens: &[Token]) -> Result<(Vec<Text>, &[Token]), Stop
         };
         let (field, behind) = name(behind)?;
         rest = expect_symbol(behind, Symbol::Semicolon)?;
-        found.push(field)?;
+        push(&mut found, field)?;
     }
     Ok((found, rest))
 }
@@ -86,7 +86,7 @@ fn methods(alloc: Global, tokens: &[Token]) -> Result<(Vec<Method>, &[Token]), S
             return Ok((found, behind));
         }
         let (next, behind) = method(alloc, rest)?;
-        found.push(next)?;
+        push(&mut found, next)?;
         rest = behind;
     }
     Err(Stop::at(rest))
@@ -124,7 +124,7 @@ fn params(alloc: Global, tokens: &[Token]) -> Result<(Vec<Text>, &[Token]), Stop
         return Ok((found, rest));
     }
     let (first, rest) = name(tokens)?;
-    found.push(first)?;
+    push(&mut found, first)?;
     further(tokens.len(), found, rest)
 }
 
@@ -143,7 +143,7 @@ fn further(
             return Ok((found, behind));
         };
         let (next, behind) = name(behind)?;
-        found.push(next)?;
+        push(&mut found, next)?;
         rest = behind;
     }
     Err(Stop::at(rest))

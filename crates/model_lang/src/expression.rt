@@ -1,18 +1,18 @@
 //! Expressions, read from tokens.
 ghost use Rattle.std.specs.Prelude.{◌≡◌, ◌-◌, [], length, map, Result, Ok, Err};
 ghost use Rattle.model_lang.specs.Answer.{Reads, FindsName, Makes};
-ghost use Rattle.model_lang.specs.Tree.{binary, call, create, expressions_of, future};
+ghost use Rattle.model_lang.specs.Tree.{binary, call, create, expressions_of, future, unary};
 ghost use Rattle.model_lang.specs.TreeView.{expression_tree};
 ghost use Rattle.model_lang.specs.Lines.{line_number};
-ghost use Rattle.model_lang.specs.Reader.{read_expression, read_line, read_unary, read_post, suffixes_of, read_suffix, read_call, read_future, read_prim, read_word, read_opened, read_named, read_this, field_at as read_field, read_create, read_args, read_more};
+ghost use Rattle.model_lang.specs.Reader.{read_expression, read_operator_line, read_unary, read_post, suffixes_of, read_suffix, read_call, read_future, read_prim, read_word, read_opened, read_named, read_this, field_at as read_field, read_create, read_args, read_more};
 
 use crate::fault::Stop;
 use crate::front::{call_head, create_head, expect_symbol, message_head, named, symbol, word};
 use crate::operators::{Line, operator_at, sign_at};
-use crate::tree::{BinaryOp, Expr};
+use crate::tree::{BinaryOp, Expr, UnaryOp};
 use model_tokens::{Symbol, Token, Word};
-use std::alloc::{AllocError, Global};
-use tea_base::Text;
+use std::alloc::Global;
+use tea_base::{Text, WantOfMemory, push};
 
 /// Reads `expr`, with at most as many signs and brackets one in another as there are tokens.
 pub fn expression(alloc: Global, tokens: &[Token]) -> Result<(Expr, &[Token]), Stop>
@@ -25,7 +25,7 @@ pub fn expression(alloc: Global, tokens: &[Token]) -> Result<(Expr, &[Token]), S
 #[cycle(line)]
 #[tactic(auto, using(crate::proofs::Turns::by_line))]
 fn line(alloc: Global, room: usize, line: Line, tokens: &[Token]) -> Result<(Expr, &[Token]), Stop>
-    ensures { Reads expression_tree result (read_line (read_unary room) (line_number line) tokens.now) }
+    ensures { Reads expression_tree result (read_operator_line (read_unary room) (line_number line) tokens.now) }
 {
     let (mut left, mut rest) = inner(alloc, room, line, tokens)?;
     for _turn in 0..line.turns(tokens.len()) {
@@ -42,7 +42,7 @@ fn line(alloc: Global, room: usize, line: Line, tokens: &[Token]) -> Result<(Exp
 // A side of an operator of this line.
 #[cycle(line)]
 fn inner(alloc: Global, room: usize, line: Line, tokens: &[Token]) -> Result<(Expr, &[Token]), Stop>
-    ensures { Reads expression_tree result (read_line (read_unary room) (line_number line - 1) tokens.now) }
+    ensures { Reads expression_tree result (read_operator_line (read_unary room) (line_number line - 1) tokens.now) }
 {
     match line.tighter() {
         Some(tighter) => crate::expression::line(alloc, room, tighter, tokens),
@@ -50,7 +50,16 @@ fn inner(alloc: Global, room: usize, line: Line, tokens: &[Token]) -> Result<(Ex
     }
 }
 
-fn joined(alloc: Global, op: BinaryOp, left: Expr, right: Expr) -> Result<Expr, AllocError>
+fn signed(alloc: Global, op: UnaryOp, of: Expr) -> Result<Expr, WantOfMemory>
+    ensures { Makes result (unary op (expression_tree of)) }
+{
+    Ok(Expr::Unary {
+        op,
+        of: Box::new(alloc, of)?,
+    })
+}
+
+fn joined(alloc: Global, op: BinaryOp, left: Expr, right: Expr) -> Result<Expr, WantOfMemory>
     ensures { Makes result (binary op (expression_tree left) (expression_tree right)) }
 {
     Ok(Expr::Binary {
@@ -60,7 +69,7 @@ fn joined(alloc: Global, op: BinaryOp, left: Expr, right: Expr) -> Result<Expr, 
     })
 }
 
-fn called(alloc: Global, object: Expr, name: &Text, args: Vec<Expr>) -> Result<Expr, AllocError>
+fn called(alloc: Global, object: Expr, name: &Text, args: Vec<Expr>) -> Result<Expr, WantOfMemory>
     ensures { Makes result (call (expression_tree object) name.now (expressions_of (map expression_tree args.items))) }
 {
     Ok(Expr::Call {
@@ -76,7 +85,7 @@ fn sent(
     delay: Expr,
     name: &Text,
     args: Vec<Expr>,
-) -> Result<Expr, AllocError>
+) -> Result<Expr, WantOfMemory>
     ensures { Makes result (future (expression_tree object) (expression_tree delay) name.now (expressions_of (map expression_tree args.items))) }
 {
     Ok(Expr::Future {
@@ -87,7 +96,7 @@ fn sent(
     })
 }
 
-fn created(alloc: Global, class: &Text, options: Expr) -> Result<Expr, AllocError>
+fn created(alloc: Global, class: &Text, options: Expr) -> Result<Expr, WantOfMemory>
     ensures { Makes result (create class.now (expression_tree options)) }
 {
     Ok(Expr::Create {
@@ -109,15 +118,14 @@ fn unary(alloc: Global, room: usize, tokens: &[Token]) -> Result<(Expr, &[Token]
         return post(alloc, room - 1, tokens);
     };
     let (of, rest) = unary(alloc, room - 1, rest)?;
-    let of = Box::new(alloc, of)?;
-    Ok((Expr::Unary { op, of }, rest))
+    Ok((signed(alloc, op, of)?, rest))
 }
 
 // A prim, and the calls and futures behind it.
 #[cycle(line)]
 #[tactic(auto, using(crate::proofs::Turns::by_turn))]
 fn post(alloc: Global, room: usize, tokens: &[Token]) -> Result<(Expr, &[Token]), Stop>
-    ensures { Reads expression_tree result (read_post (read_line (read_unary room) 6) tokens.now) }
+    ensures { Reads expression_tree result (read_post (read_operator_line (read_unary room) 6) tokens.now) }
 {
     let (mut object, mut rest) = prim(alloc, room, tokens)?;
     for _turn in 0..tokens.len() {
@@ -137,7 +145,7 @@ fn suffix(
     object: Expr,
     tokens: &[Token],
 ) -> Result<(Expr, &[Token]), Stop>
-    ensures { Reads expression_tree result (read_suffix (read_line (read_unary room) 6) (expression_tree object) tokens.now) }
+    ensures { Reads expression_tree result (read_suffix (read_operator_line (read_unary room) 6) (expression_tree object) tokens.now) }
 {
     match word(tokens, Word::Future) {
         Some(rest) => future(alloc, room, object, rest),
@@ -153,7 +161,7 @@ fn call(
     object: Expr,
     tokens: &[Token],
 ) -> Result<(Expr, &[Token]), Stop>
-    ensures { Reads expression_tree result (read_call (read_line (read_unary room) 6) (expression_tree object) tokens.now) }
+    ensures { Reads expression_tree result (read_call (read_operator_line (read_unary room) 6) (expression_tree object) tokens.now) }
 {
     let (name, rest) = call_head(tokens)?;
     let (args, rest) = arguments(alloc, room, Symbol::CloseRound, rest)?;
@@ -169,7 +177,7 @@ fn future(
     object: Expr,
     tokens: &[Token],
 ) -> Result<(Expr, &[Token]), Stop>
-    ensures { Reads expression_tree result (read_future (read_line (read_unary room) 6) (expression_tree object) tokens.now) }
+    ensures { Reads expression_tree result (read_future (read_operator_line (read_unary room) 6) (expression_tree object) tokens.now) }
 {
     let rest = expect_symbol(tokens, Symbol::OpenRound)?;
     let (delay, rest) = line(alloc, room, Line::Or, rest)?;
@@ -180,12 +188,12 @@ fn future(
 
 #[cycle(line)]
 fn prim(alloc: Global, room: usize, tokens: &[Token]) -> Result<(Expr, &[Token]), Stop>
-    ensures { Reads expression_tree result (read_prim (read_line (read_unary room) 6) tokens.now) }
+    ensures { Reads expression_tree result (read_prim (read_operator_line (read_unary room) 6) tokens.now) }
 {
     match tokens.split_first() {
         Some((Token::Number(number), rest)) => Ok((Expr::Int(*number), rest)),
-        Some((Token::Text(text), rest)) => Ok((Expr::Text(text.clone()?), rest)),
-        Some((Token::Name(name), rest)) => builtin_or_local(alloc, room, name.clone()?, rest),
+        Some((Token::Text(text), rest)) => Ok((Expr::Text(text.try_clone()?), rest)),
+        Some((Token::Name(name), rest)) => builtin_or_local(alloc, room, name.try_clone()?, rest),
         Some((Token::Word(word), rest)) => worded(alloc, room, *word, rest),
         Some((Token::Symbol(symbol), rest)) => opened(alloc, room, *symbol, rest),
         _ => Err(Stop::at(tokens)),
@@ -200,7 +208,7 @@ fn builtin_or_local(
     name: Text,
     tokens: &[Token],
 ) -> Result<(Expr, &[Token]), Stop>
-    ensures { Reads expression_tree result (read_named (read_line (read_unary room) 6) name tokens.now) }
+    ensures { Reads expression_tree result (read_named (read_operator_line (read_unary room) 6) name tokens.now) }
 {
     let Some(rest) = symbol(tokens, Symbol::OpenRound) else {
         return Ok((Expr::Local { name }, tokens));
@@ -217,7 +225,7 @@ fn worded(
     word: Word,
     tokens: &[Token],
 ) -> Result<(Expr, &[Token]), Stop>
-    ensures { Reads expression_tree result (read_word (read_line (read_unary room) 6) word tokens.now) }
+    ensures { Reads expression_tree result (read_word (read_operator_line (read_unary room) 6) word tokens.now) }
 {
     match word {
         Word::Nil => Ok((Expr::Nil, tokens)),
@@ -238,7 +246,7 @@ fn this(tokens: &[Token]) -> Result<(Expr, &[Token]), Stop>
     };
     Ok((
         Expr::Field {
-            name: name.clone()?,
+            name: name.try_clone()?,
         },
         rest,
     ))
@@ -259,7 +267,7 @@ fn field_at(tokens: &[Token]) -> Option<(&Text, &[Token])>
 #[cycle(line)]
 #[tactic(auto, using(crate::proofs::Heads::by_head))]
 fn create(alloc: Global, room: usize, tokens: &[Token]) -> Result<(Expr, &[Token]), Stop>
-    ensures { Reads expression_tree result (read_create (read_line (read_unary room) 6) tokens.now) }
+    ensures { Reads expression_tree result (read_create (read_operator_line (read_unary room) 6) tokens.now) }
 {
     let (class, rest) = create_head(tokens)?;
     let (options, rest) = line(alloc, room, Line::Or, rest)?;
@@ -275,7 +283,7 @@ fn opened(
     bracket: Symbol,
     tokens: &[Token],
 ) -> Result<(Expr, &[Token]), Stop>
-    ensures { Reads expression_tree result (read_opened (read_line (read_unary room) 6) bracket tokens.now) }
+    ensures { Reads expression_tree result (read_opened (read_operator_line (read_unary room) 6) bracket tokens.now) }
 {
     match bracket {
         Symbol::OpenRound => {
@@ -299,14 +307,14 @@ fn arguments(
     close: Symbol,
     tokens: &[Token],
 ) -> Result<(Vec<Expr>, &[Token]), Stop>
-    ensures { Reads (λ args. map expression_tree args.items) result (read_args close (read_line (read_unary room) 6) tokens.now) }
+    ensures { Reads (λ args. map expression_tree args.items) result (read_args close (read_operator_line (read_unary room) 6) tokens.now) }
 {
     let mut found = Vec::new(alloc);
     if let Some(rest) = symbol(tokens, close) {
         return Ok((found, rest));
     }
     let (first, rest) = line(alloc, room, Line::Or, tokens)?;
-    found.push(first)?;
+    push(&mut found, first)?;
     further(alloc, room, close, tokens.len(), found, rest)
 }
 
@@ -320,7 +328,7 @@ fn further(
     mut found: Vec<Expr>,
     tokens: &[Token],
 ) -> Result<(Vec<Expr>, &[Token]), Stop>
-    ensures { Reads (λ args. map expression_tree args.items) result (read_more close (read_line (read_unary room) 6) turns (map expression_tree found.items) tokens.now) }
+    ensures { Reads (λ args. map expression_tree args.items) result (read_more close (read_operator_line (read_unary room) 6) turns (map expression_tree found.items) tokens.now) }
 {
     let mut rest = tokens;
     for _turn in 0..turns {
@@ -329,7 +337,7 @@ fn further(
             return Ok((found, behind));
         };
         let (next, behind) = line(alloc, room, Line::Or, more)?;
-        found.push(next)?;
+        push(&mut found, next)?;
         rest = behind;
     }
     Err(Stop::at(rest))

@@ -2,7 +2,6 @@
 ghost use Rattle.std.specs.Prelude.{ℕ, ◌≡◌, length};
 
 use model_tokens::Token;
-use std::alloc::{AllocError, AllocFailed};
 use tea_base::WantOfMemory;
 
 /// Why a text was not read as a program.
@@ -63,28 +62,6 @@ impl Stop {
     }
 }
 
-impl From<AllocError> for LangFault {
-    ghost use Rattle.std.specs.Prelude.{◌≡◌};
-    ghost use Rattle.model_lang.specs.declared.fault.LangFault.TheVariants.{WantOfMemory};
-
-    ghost from_gives = { λ _ r. r ≡ WantOfMemory };
-
-    fn from(_error: AllocError) -> LangFault {
-        LangFault::WantOfMemory
-    }
-}
-
-impl<T: Drop> From<AllocFailed<T>> for LangFault {
-    ghost use Rattle.std.specs.Prelude.{◌≡◌};
-    ghost use Rattle.model_lang.specs.declared.fault.LangFault.TheVariants.{WantOfMemory};
-
-    ghost from_gives = { λ _ r. r ≡ WantOfMemory };
-
-    fn from(_error: AllocFailed<T>) -> LangFault {
-        LangFault::WantOfMemory
-    }
-}
-
 impl From<WantOfMemory> for LangFault {
     ghost use Rattle.std.specs.Prelude.{◌≡◌};
     ghost use Rattle.model_lang.specs.declared.fault.LangFault.TheVariants.{WantOfMemory};
@@ -93,28 +70,6 @@ impl From<WantOfMemory> for LangFault {
 
     fn from(_error: WantOfMemory) -> LangFault {
         LangFault::WantOfMemory
-    }
-}
-
-impl From<AllocError> for Stop {
-    ghost use Rattle.std.specs.Prelude.{◌≡◌};
-    ghost use Rattle.model_lang.specs.declared.fault.Stop.TheVariants.{WantOfMemory};
-
-    ghost from_gives = { λ _ r. r ≡ WantOfMemory };
-
-    fn from(_error: AllocError) -> Stop {
-        Stop::WantOfMemory
-    }
-}
-
-impl<T: Drop> From<AllocFailed<T>> for Stop {
-    ghost use Rattle.std.specs.Prelude.{◌≡◌};
-    ghost use Rattle.model_lang.specs.declared.fault.Stop.TheVariants.{WantOfMemory};
-
-    ghost from_gives = { λ _ r. r ≡ WantOfMemory };
-
-    fn from(_error: AllocFailed<T>) -> Stop {
-        Stop::WantOfMemory
     }
 }
 

@@ -98,7 +98,7 @@ pub fn name(tokens: &[Token]) -> Result<(Text, &[Token]), Stop>
     ensures { Reads (λ name. name) result (name_at tokens.now) }
 {
     match tokens.split_first() {
-        Some((Token::Name(found), rest)) => Ok((found.clone()?, rest)),
+        Some((Token::Name(found), rest)) => Ok((found.try_clone()?, rest)),
         _ => Err(Stop::at(tokens)),
     }
 }
@@ -108,7 +108,7 @@ pub fn class_name(tokens: &[Token]) -> Result<(Text, &[Token]), Stop>
     ensures { Reads (λ name. name) result (class_name_at tokens.now) }
 {
     match tokens.split_first() {
-        Some((Token::ClassName(found), rest)) => Ok((found.clone()?, rest)),
+        Some((Token::ClassName(found), rest)) => Ok((found.try_clone()?, rest)),
         _ => Err(Stop::at(tokens)),
     }
 }

@@ -1,9 +1,9 @@
 //! The operators, and the lines of the grammar that they stand on.
 ghost use Rattle.std.specs.Prelude.{◌≡◌, Some};
-ghost use Rattle.model_lang.specs.Grammar.{line_of as number_of};
+ghost use Rattle.model_lang.specs.Grammar.{operator_line as number_of};
 ghost use Rattle.model_lang.specs.Lines.{line_number, tighter_of};
 ghost use Rattle.model_lang.specs.Answer.{Finds};
-ghost use Rattle.model_lang.specs.Reader.{operator_of, sign_of, sign_at as read_sign, operator_at as read_operator, of_line, turns_of};
+ghost use Rattle.model_lang.specs.Reader.{operator_of, unary_of_symbol, sign_at as read_sign, operator_at as read_operator, of_line, turns_of};
 
 use crate::tree::{BinaryOp, UnaryOp};
 use model_tokens::{Symbol, Token};
@@ -83,7 +83,7 @@ fn operator_of(symbol: Symbol) -> Option<BinaryOp>
 }
 
 fn sign_of(symbol: Symbol) -> Option<UnaryOp>
-    ensures { result ≡ sign_of symbol }
+    ensures { result ≡ unary_of_symbol symbol }
 {
     match symbol {
         Symbol::Minus => Some(UnaryOp::Minus),

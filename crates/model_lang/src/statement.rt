@@ -10,7 +10,7 @@ use crate::front::{expect_symbol, name, named, symbol, word};
 use crate::tree::{Expr, Stmt};
 use model_tokens::{Symbol, Token, Word};
 use std::alloc::Global;
-use tea_base::Text;
+use tea_base::{Text, push};
 
 /// Reads the statements of a block behind its opening brace, and the closing one. At most `room` blocks may stand one in
 /// another.
@@ -37,7 +37,7 @@ fn statements(alloc: Global, room: usize, tokens: &[Token]) -> Result<(Vec<Stmt>
             return Ok((found, behind));
         }
         let (next, behind) = statement(alloc, room, rest)?;
-        found.push(next)?;
+        push(&mut found, next)?;
         rest = behind;
     }
     Err(Stop::at(rest))
@@ -143,12 +143,12 @@ fn simple(alloc: Global, tokens: &[Token]) -> Result<(Stmt, &[Token]), Stop>
     ensures { Reads statement_tree result (read_simple tokens.now) }
 {
     if let Some((name, rest)) = assigned_at(tokens) {
-        let name = name.clone()?;
+        let name = name.try_clone()?;
         let (value, rest) = ended(alloc, rest)?;
         return Ok((Stmt::Assign { name, value }, rest));
     }
     if let Some((name, rest)) = set_at(tokens) {
-        let name = name.clone()?;
+        let name = name.try_clone()?;
         let (value, rest) = ended(alloc, rest)?;
         return Ok((Stmt::SetField { name, value }, rest));
     }

@@ -12,7 +12,7 @@ use Rattle.model_lang.specs.declared.tree.UnaryOp.TheVariants as sign
 use Rattle.model_lang.specs.declared.tree.BinaryOp.{BinaryOp}
 use Rattle.model_lang.specs.declared.tree.BinaryOp.TheVariants as op
 use Rattle.model_lang.specs.Tree.{Name}
-use Rattle.model_lang.specs.Grammar.{Phrase, a_number, a_text, a_nil, a_bool, a_this, a_field, a_local, a_builtin, a_create, a_list, brackets, a_call, a_future, signed, joined, Phrases, no_phrases, phrase, in_round, in_braces, sign_symbol, op_symbol, word_of, spelled, spelled_args, spelled_more, Action, declaring, assigning, setting, choice, choice_else, looping, giving, doing, Block, closed, first, spelled_end, spelled_action, spelled_block, MethodForm, ClassForm, spelled_further, spelled_params, spelled_method, spelled_methods, spelled_fields, spelled_class, spelled_classes}
+use Rattle.model_lang.specs.Grammar.{Phrase, a_number, a_text, a_nil, a_bool, a_this, a_field, a_local, a_builtin, a_create, a_list, brackets, a_call, a_future, signed, joined, Phrases, no_phrases, phrase, in_round, in_braces, sign_symbol, op_symbol, truth_word, spelled, spelled_args, spelled_more, Action, declaring, assigning, setting, choice, choice_else, looping, giving, doing, Block, closed, first, spelled_end, spelled_action, spelled_block, MethodForm, ClassForm, spelled_further, spelled_params, spelled_method, spelled_methods, spelled_fields, spelled_class, spelled_classes}
 use Rattle.model_print.specs.Canonical.{is_worded}
 
 -- the tokens that an expression may begin with
@@ -111,7 +111,7 @@ op_opens op.Times u h = refl
 op_opens op.Divide u h = h
 op_opens op.Rest u h = refl
 
-bool_chain : (b : Bool) (t : Token) (rest : List Token) → Opens t → Ended rest → Chain t (word_of b ∷ rest)
+bool_chain : (b : Bool) (t : Token) (rest : List Token) → Opens t → Ended rest → Chain t (truth_word b ∷ rest)
 bool_chain true t rest o e = (o (word w.True) refl, e (word w.True) refl)
 bool_chain false t rest o e = (o (word w.False) refl, e (word w.False) refl)
 

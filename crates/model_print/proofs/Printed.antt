@@ -8,11 +8,11 @@ use Rattle.std.proofs.lemmas.Str.{IsUtf8-from_ascii, chars-IsAscii, encodes-char
 use Rattle.model_tokens.specs.declared.token.Token.{Token}
 use Rattle.model_tokens.specs.declared.token.Token.TheVariants.{Name as name, ClassName as class_name, Number as number, Text as literal, Word as word, Symbol as symbol}
 use Rattle.model_tokens.specs.Bytes.{goes_on_name, begins_name, begins_class_name}
-use Rattle.model_tokens.specs.Spelling.{spelled, spelled_text, IsNamed, IsToken}
+use Rattle.model_tokens.specs.Spelling.{token_spelling, spelled_text, IsNamed, IsToken}
 use Rattle.model_tokens.proofs.Lists.{both, from_both}
 use Rattle.model_lang.specs.Tree.{ProgramTree}
 use Rattle.model_lang.specs.Program.{IsProgram}
-use Rattle.model_print.specs.Canonical.{is_worded, between, text_behind, canonical_tokens, canonical_text}
+use Rattle.model_print.specs.Canonical.{is_worded, token_gap, text_behind, canonical_tokens, canonical_text}
 use Rattle.model_print.specs.Printing.{Printed, printed, with_token, with_tokens}
 use Rattle.model_print.proofs.ShedCounts.{AreTokens}
 use Rattle.model_print.proofs.Spaced.{name_goes_on, class_name_goes_on}
@@ -43,7 +43,7 @@ named_all : (test : ℕ → Bool) (x : List ℕ) → ((b : ℕ) → test b ≡ t
 named_all test [] f h = absurd h
 named_all test (b ∷ x) f h = from_both (goes_on_name b) (list_all goes_on_name x) (f b h.0) h.1
 
-printed-token : (t : Token) → IsToken t → printed t ≡ spelled t
+printed-token : (t : Token) → IsToken t → printed t ≡ token_spelling t
 printed-token (name x) is = encoded_name x (named_all begins_name x name_goes_on is.0)
 printed-token (class_name x) is = encoded_name x (named_all begins_class_name x class_name_goes_on is)
 printed-token (number n) is = refl
@@ -51,7 +51,7 @@ printed-token (literal x) is = ap spelled_text (chars-encodes x is)
 printed-token (word w) is = refl
 printed-token (symbol s) is = refl
 
-bytes-with_token : (p : Printed) (t : Token) → (with_token p t).0 ≡ p.0 ++ (between p.1 (is_worded t) ++ printed t)
+bytes-with_token : (p : Printed) (t : Token) → (with_token p t).0 ≡ p.0 ++ (token_gap p.1 (is_worded t) ++ printed t)
 unfolding with_token
 bytes-with_token p t = refl
 
@@ -62,13 +62,13 @@ worded-with_token p t = refl
 bytes-with_tokens : (p : Printed) (ts : List Token) → AreTokens ts → (with_tokens p ts).0 ≡ p.0 ++ text_behind p.1 ts
 bytes-with_tokens p [] are = sym (append-nil p.0)
 bytes-with_tokens p (t ∷ ts) are =
-    let gap = between p.1 (is_worded t) in
+    let gap = token_gap p.1 (is_worded t) in
     let more = text_behind (is_worded t) ts in
     bytes-with_tokens (with_token p t) ts are.1
     ∙ ap (λ w. (with_token p t).0 ++ text_behind w ts) (worded-with_token p t)
     ∙ ap (λ xs. xs ++ more) (bytes-with_token p t ∙ ap (λ xs. p.0 ++ (gap ++ xs)) (printed-token t are.0))
-    ∙ append_assoc p.0 (gap ++ spelled t) more
-    ∙ ap (λ xs. p.0 ++ xs) (append_assoc gap (spelled t) more)
+    ∙ append_assoc p.0 (gap ++ token_spelling t) more
+    ∙ ap (λ xs. p.0 ++ xs) (append_assoc gap (token_spelling t) more)
 
 pub printed-canonical : (tree : ProgramTree) → IsProgram tree → (with_tokens ([], false) (canonical_tokens tree)).0 ≡ canonical_text tree
 printed-canonical tree is = bytes-with_tokens ([], false) (canonical_tokens tree) (canonical-tokens tree is)

@@ -9,9 +9,9 @@ use Rattle.model_lang.specs.declared.tree.BinaryOp.{BinaryOp}
 use Rattle.model_lang.specs.declared.tree.Class.{Class}
 use Rattle.model_lang.specs.Tree.{Name, Expression, Expressions, binary, call, future, create, Statement, Statements, when, else_block}
 use Rattle.model_lang.specs.TreeView.{program_tree}
-use Rattle.model_lang.specs.Grammar.{line_of, left_of, op_symbol, in_round, in_braces, spelled, spelled_args, spelled_action, spelled_block}
+use Rattle.model_lang.specs.Grammar.{operator_line, left_of, op_symbol, in_round, in_braces, spelled, spelled_args, spelled_action, spelled_block}
 use Rattle.model_lang.specs.Program.{IsRead, IsProgram}
-use Rattle.model_print.specs.Canonical.{at, written, all_written, written_action, written_block, canonical_tokens, canonical_text}
+use Rattle.model_print.specs.Canonical.{at_line, written, all_written, written_action, written_block, canonical_tokens, canonical_text}
 use Rattle.model_print.specs.Printing.{Printed, with_token, with_tokens}
 use Rattle.model_print.proofs.Canonical.{canonical-reads}
 use Rattle.model_print.proofs.Printed.{with_tokens-append, printed-canonical}
@@ -27,28 +27,28 @@ one_printed old between new a t h k = both_printed old between new a (t ∷ []) 
 -- ---- expressions
 
 pub binary_printed : (old left behind new : Printed) (e a b : Expression) (o : BinaryOp) (o_symbol : Symbol) (m n : ℕ)
-    → e ≡ binary o a b → m ≡ left_of o → o_symbol ≡ op_symbol o → n ≡ line_of o - 1
-    → left ≡ with_tokens old (spelled (at m (written a))) → behind ≡ with_token left (symbol o_symbol) → new ≡ with_tokens behind (spelled (at n (written b)))
+    → e ≡ binary o a b → m ≡ left_of o → o_symbol ≡ op_symbol o → n ≡ operator_line o - 1
+    → left ≡ with_tokens old (spelled (at_line m (written a))) → behind ≡ with_token left (symbol o_symbol) → new ≡ with_tokens behind (spelled (at_line n (written b)))
     → new ≡ with_tokens old (spelled (written e))
 binary_printed old left behind new e a b o o_symbol m n tree lm sy ln first second third =
-    let here : left ≡ with_tokens old (spelled (at (left_of o) (written a))) = first ∙ ap (λ k. with_tokens old (spelled (at k (written a)))) lm in
-    let there : new ≡ with_tokens left (symbol (op_symbol o) ∷ spelled (at (line_of o - 1) (written b))) =
-    third ∙ ap (λ k. with_tokens behind (spelled (at k (written b)))) ln
-    ∙ ap (λ p. with_tokens p (spelled (at (line_of o - 1) (written b)))) (second ∙ ap (λ x. with_token left (symbol x)) sy) in
-    both_printed old left new (spelled (at (left_of o) (written a))) (symbol (op_symbol o) ∷ spelled (at (line_of o - 1) (written b))) here there
+    let here : left ≡ with_tokens old (spelled (at_line (left_of o) (written a))) = first ∙ ap (λ k. with_tokens old (spelled (at_line k (written a)))) lm in
+    let there : new ≡ with_tokens left (symbol (op_symbol o) ∷ spelled (at_line (operator_line o - 1) (written b))) =
+    third ∙ ap (λ k. with_tokens behind (spelled (at_line k (written b)))) ln
+    ∙ ap (λ p. with_tokens p (spelled (at_line (operator_line o - 1) (written b)))) (second ∙ ap (λ x. with_token left (symbol x)) sy) in
+    both_printed old left new (spelled (at_line (left_of o) (written a))) (symbol (op_symbol o) ∷ spelled (at_line (operator_line o - 1) (written b))) here there
     ∙ ap (λ x. with_tokens old (spelled (written x))) (sym tree)
 
 pub call_printed : (old object behind new : Printed) (e a : Expression) (x : Name) (args : Expressions)
-    → e ≡ call a x args → object ≡ with_tokens old (spelled (at 0 (written a))) → behind ≡ with_token object (symbol s.Dot)
+    → e ≡ call a x args → object ≡ with_tokens old (spelled (at_line 0 (written a))) → behind ≡ with_token object (symbol s.Dot)
     → new ≡ with_tokens behind (name x ∷ in_round (spelled_args (all_written args)))
     → new ≡ with_tokens old (spelled (written e))
 call_printed old object behind new e a x args tree first second third =
     let called = name x ∷ in_round (spelled_args (all_written args)) in
     let there : new ≡ with_tokens object (symbol s.Dot ∷ called) = third ∙ ap (λ p. with_tokens p called) second in
-    both_printed old object new (spelled (at 0 (written a))) (symbol s.Dot ∷ called) first there ∙ ap (λ y. with_tokens old (spelled (written y))) (sym tree)
+    both_printed old object new (spelled (at_line 0 (written a))) (symbol s.Dot ∷ called) first there ∙ ap (λ y. with_tokens old (spelled (written y))) (sym tree)
 
 pub future_printed : (old object behind new : Printed) (e a delay : Expression) (x : Name) (args : Expressions)
-    → e ≡ future a delay x args → object ≡ with_tokens old (spelled (at 0 (written a)))
+    → e ≡ future a delay x args → object ≡ with_tokens old (spelled (at_line 0 (written a)))
     → behind ≡ with_tokens object (symbol s.Dot ∷ word w.Future ∷ (in_round (spelled (written delay)) ++ symbol s.Dot ∷ []))
     → new ≡ with_tokens behind (name x ∷ in_round (spelled_args (all_written args)))
     → new ≡ with_tokens old (spelled (written e))
@@ -58,7 +58,7 @@ future_printed old object behind new e a delay x args tree first second third =
     let there : new ≡ with_tokens object (symbol s.Dot ∷ word w.Future ∷ ((delayed ++ symbol s.Dot ∷ []) ++ called)) =
     both_printed object behind new (symbol s.Dot ∷ word w.Future ∷ (delayed ++ symbol s.Dot ∷ [])) called second third in
     let grouped : (delayed ++ symbol s.Dot ∷ []) ++ called ≡ delayed ++ (symbol s.Dot ∷ called) = append_assoc delayed (symbol s.Dot ∷ []) called in
-    both_printed old object new (spelled (at 0 (written a))) (symbol s.Dot ∷ word w.Future ∷ (delayed ++ symbol s.Dot ∷ called)) first
+    both_printed old object new (spelled (at_line 0 (written a))) (symbol s.Dot ∷ word w.Future ∷ (delayed ++ symbol s.Dot ∷ called)) first
     (there ∙ ap (λ ts. with_tokens object (symbol s.Dot ∷ word w.Future ∷ ts)) grouped)
     ∙ ap (λ y. with_tokens old (spelled (written y))) (sym tree)
 

@@ -12,8 +12,8 @@ use Rattle.model_lang.specs.declared.tree.UnaryOp.TheVariants as sign
 use Rattle.model_lang.specs.declared.tree.BinaryOp.{BinaryOp}
 use Rattle.model_lang.specs.declared.tree.BinaryOp.TheVariants as op
 use Rattle.model_lang.specs.Tree.{Name}
-use Rattle.model_lang.specs.Grammar.{Phrase, a_number, a_text, a_nil, a_bool, a_this, a_field, a_local, a_builtin, a_create, a_list, brackets, a_call, a_future, signed, joined, Phrases, no_phrases, phrase, line_of, line, left_of, Stands, AllStand, in_round, in_square, in_braces, sign_symbol, op_symbol, word_of, spelled, spelled_args, spelled_more, tree_of, trees_of, Action, declaring, assigning, setting, choice, choice_else, looping, giving, doing, Block, closed, first, ActionStands, BlockStands, spelled_end, spelled_action, spelled_block, tree_of_action, trees_of_block, MethodForm, ClassForm, MethodsStand, ClassesStand, spelled_further, spelled_params, spelled_method, spelled_methods, spelled_fields, spelled_class, spelled_classes, tree_of_method, tree_of_class}
-use Rattle.model_print.specs.Canonical.{at, written, all_written, written_action, written_block, written_method, written_class}
+use Rattle.model_lang.specs.Grammar.{Phrase, a_number, a_text, a_nil, a_bool, a_this, a_field, a_local, a_builtin, a_create, a_list, brackets, a_call, a_future, signed, joined, Phrases, no_phrases, phrase, operator_line, line, left_of, Stands, AllStand, in_round, in_square, in_braces, sign_symbol, op_symbol, truth_word, spelled, spelled_args, spelled_more, tree_of, trees_of, Action, declaring, assigning, setting, choice, choice_else, looping, giving, doing, Block, closed, first, ActionStands, BlockStands, spelled_end, spelled_action, spelled_block, tree_of_action, trees_of_block, MethodForm, ClassForm, MethodsStand, ClassesStand, spelled_further, spelled_params, spelled_method, spelled_methods, spelled_fields, spelled_class, spelled_classes, tree_of_method, tree_of_class}
+use Rattle.model_print.specs.Canonical.{at_line, written, all_written, written_action, written_block, written_method, written_class}
 use Rattle.model_print.proofs.Written.{either, stays, loosest, right_of}
 
 abbrev pub is_bracket : Token → Bool
@@ -66,7 +66,7 @@ op_no_bracket op.Times = refl
 op_no_bracket op.Divide = refl
 op_no_bracket op.Rest = refl
 
-word_no_bracket : (b : Bool) → is_bracket (word_of b) ≡ false
+word_no_bracket : (b : Bool) → is_bracket (truth_word b) ≡ false
 word_no_bracket true = refl
 word_no_bracket false = refl
 
@@ -76,23 +76,23 @@ before m t a b h rest = m.beside (t ∷ []) (t ∷ []) a b (m.same t h) rest
 
 -- ---- expressions
 
-kept : {M : List Token → List Token → Type 0} (m : Sheds M) (p : Phrase) (wanted : ℕ) (b : List Token) → line p ≤ wanted → M (spelled p) b → M (spelled (at wanted p)) b
+kept : {M : List Token → List Token → Type 0} (m : Sheds M) (p : Phrase) (wanted : ℕ) (b : List Token) → line p ≤ wanted → M (spelled p) b → M (spelled (at_line wanted p)) b
 kept {M = M} m p wanted b h x = subst (λ q. M (spelled q) b) (sym (stays wanted p h)) x
 
 -- where any line may stand
-whole : {M : List Token → List Token → Type 0} (m : Sheds M) (p : Phrase) → M (spelled (at 6 (written (tree_of p)))) (spelled p) → M (spelled (written (tree_of p))) (spelled p)
+whole : {M : List Token → List Token → Type 0} (m : Sheds M) (p : Phrase) → M (spelled (at_line 6 (written (tree_of p)))) (spelled p) → M (spelled (written (tree_of p))) (spelled p)
 whole {M = M} m p x = subst (λ q. M (spelled q) (spelled p)) (stays 6 (written (tree_of p)) (loosest (written (tree_of p)))) x
 
 -- brackets round a part stay where the canonical form has them too
-bracketed : {M : List Token → List Token → Type 0} (m : Sheds M) (p : Phrase) (wanted : ℕ) (b : List Token) → M (spelled p) b → M (spelled (at wanted p)) (in_round b)
+bracketed : {M : List Token → List Token → Type 0} (m : Sheds M) (p : Phrase) (wanted : ℕ) (b : List Token) → M (spelled p) b → M (spelled (at_line wanted p)) (in_round b)
 bracketed {M = M} m p wanted b x = either (λ q. M (spelled q) (in_round b)) (nat_le (line p) wanted) p (brackets p) (m.shed (spelled p) b x) (m.round (spelled p) b x)
 
 mutual
-  phrase_sheds : {M : List Token → List Token → Type 0} (m : Sheds M) (p : Phrase) (wanted : ℕ) → Stands p → line p ≤ wanted → M (spelled (at wanted (written (tree_of p)))) (spelled p)
+  phrase_sheds : {M : List Token → List Token → Type 0} (m : Sheds M) (p : Phrase) (wanted : ℕ) → Stands p → line p ≤ wanted → M (spelled (at_line wanted (written (tree_of p)))) (spelled p)
   phrase_sheds m (a_number n) wanted st h = kept m (a_number n) wanted _ h (m.same (token.Number n) refl)
   phrase_sheds m (a_text t) wanted st h = kept m (a_text t) wanted _ h (m.same (token.Text t) refl)
   phrase_sheds m a_nil wanted st h = kept m a_nil wanted _ h (m.same (word w.Nil) refl)
-  phrase_sheds m (a_bool b) wanted st h = kept m (a_bool b) wanted _ h (m.same (word_of b) (word_no_bracket b))
+  phrase_sheds m (a_bool b) wanted st h = kept m (a_bool b) wanted _ h (m.same (truth_word b) (word_no_bracket b))
   phrase_sheds m a_this wanted st h = kept m a_this wanted _ h (m.same (word w.This) refl)
   phrase_sheds m (a_field x) wanted st h =
       kept m (a_field x) wanted _ h (before m (word w.This) _ _ refl (before m (symbol s.Dot) _ _ refl (m.same (name x) refl)))
@@ -121,7 +121,7 @@ mutual
   phrase_sheds m (joined o a b) wanted st h =
       kept m (written (tree_of (joined o a b))) wanted _ h
       (beside m (phrase_sheds m a (left_of o) st.0 st.1)
-      (before m (symbol (op_symbol o)) _ _ (op_no_bracket o) (phrase_sheds m b (line_of o - 1) st.2 (right_of o (line b) st.3))))
+      (before m (symbol (op_symbol o)) _ _ (op_no_bracket o) (phrase_sheds m b (operator_line o - 1) st.2 (right_of o (line b) st.3))))
 
   args_shed : {M : List Token → List Token → Type 0} (m : Sheds M) (args : Phrases) → AllStand args → M (spelled_args (all_written (trees_of args))) (spelled_args args)
   args_shed m no_phrases st = m.nothing

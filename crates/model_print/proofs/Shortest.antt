@@ -6,9 +6,9 @@ use Rattle.model_tokens.specs.declared.token.Token.TheVariants.{Name as name, Cl
 use Rattle.model_tokens.specs.declared.token.Symbol.{Symbol}
 use Rattle.model_tokens.specs.declared.token.Symbol.TheVariants as s
 use Rattle.model_tokens.specs.Bytes.{goes_on_name}
-use Rattle.model_tokens.specs.Spelling.{spelled, IsToken}
+use Rattle.model_tokens.specs.Spelling.{token_spelling, IsToken}
 use Rattle.model_tokens.specs.Division.{Piece, blank, comment, taken, token_goes_on, EndsBefore, Ends, spelling_of, ArePieces, tokens_of, Divides}
-use Rattle.model_print.specs.Canonical.{is_worded, between, text_behind}
+use Rattle.model_print.specs.Canonical.{is_worded, token_gap, text_behind}
 use Rattle.model_print.proofs.Shedding.{Sheds}
 use Rattle.model_print.proofs.Neighbours.{may_follow, Chain, Free}
 use Rattle.model_print.proofs.Spaced.{FirstIs, worded_first}
@@ -27,12 +27,12 @@ last-append worded (t ∷ a) b = last-append (is_worded t) a b
 pub text-append : (worded : Bool) (a b : List Token) → text_behind worded (a ++ b) ≡ text_behind worded a ++ text_behind (last_worded worded a) b
 text-append worded [] b = refl
 text-append worded (t ∷ a) b =
-    let here = between worded (is_worded t) in
+    let here = token_gap worded (is_worded t) in
     let more = text_behind (is_worded t) a in
     let behind = text_behind (last_worded (is_worded t) a) b in
-    ap (λ xs. here ++ (spelled t ++ xs)) (text-append (is_worded t) a b)
-    ∙ ap (λ xs. here ++ xs) (sym (append_assoc (spelled t) more behind))
-    ∙ sym (append_assoc here (spelled t ++ more) behind)
+    ap (λ xs. here ++ (token_spelling t ++ xs)) (text-append (is_worded t) a b)
+    ∙ ap (λ xs. here ++ xs) (sym (append_assoc (token_spelling t) more behind))
+    ∙ sym (append_assoc here (token_spelling t ++ more) behind)
 
 abbrev pub bytes : Bool → List Token → ℕ
 bytes worded ts = length (text_behind worded ts)
@@ -56,7 +56,7 @@ owed_one false w = omega arith
 abbrev pub Shorter : List Token → List Token → Type 0
 Shorter a b = (v w : Bool) → bytes v a + owed (last_worded v a) (last_worded w b) ≤ bytes w b + owed v w
 
-space_owed : (v w u : Bool) (xs : List ℕ) → length (between v u ++ xs) + owed u u ≤ length (between w u ++ xs) + owed v w
+space_owed : (v w u : Bool) (xs : List ℕ) → length (token_gap v u ++ xs) + owed u u ≤ length (token_gap w u ++ xs) + owed v w
 space_owed true true true xs = omega arith
 space_owed true false true xs = omega arith
 space_owed false true true xs = omega arith
@@ -67,7 +67,7 @@ space_owed false true false xs = omega arith
 space_owed false false false xs = omega arith
 
 shorter_same : (t : Token) → Shorter (t ∷ []) (t ∷ [])
-shorter_same t v w = space_owed v w (is_worded t) (spelled t ++ [])
+shorter_same t v w = space_owed v w (is_worded t) (token_spelling t ++ [])
 
 shorter_beside : (a b c d : List Token) → Shorter a b → Shorter c d → Shorter (a ++ c) (b ++ d)
 shorter_beside a b c d h k v w =
@@ -82,7 +82,7 @@ shorter_between opening closing a b h =
     let ending = shorter_beside a b (symbol closing ∷ []) (symbol closing ∷ []) h (shorter_same (symbol closing)) in
     shorter_beside (symbol opening ∷ []) (symbol opening ∷ []) (a ++ symbol closing ∷ []) (b ++ symbol closing ∷ []) (shorter_same (symbol opening)) ending
 
-no_space : (w : Bool) → between w false ≡ []
+no_space : (w : Bool) → token_gap w false ≡ []
 no_space true = refl
 no_space false = refl
 
@@ -114,19 +114,19 @@ first_twice : (xs : List ℕ) (bytes : List ℕ) → FirstIs goes_on_name xs →
 first_twice [] bytes h k = h
 first_twice (x ∷ xs) bytes h k = cc
 
-not_worded : (t : Token) (bytes : List ℕ) → IsToken t → EndsBefore goes_on_name (spelled t ++ bytes) → (b : Bool) → is_worded t ≡ b → b ≡ false
-not_worded t bytes is ends true h = absurd (first_twice (spelled t) bytes (worded_first t is h) ends)
+not_worded : (t : Token) (bytes : List ℕ) → IsToken t → EndsBefore goes_on_name (token_spelling t ++ bytes) → (b : Bool) → is_worded t ≡ b → b ≡ false
+not_worded t bytes is ends true h = absurd (first_twice (token_spelling t) bytes (worded_first t is h) ends)
 not_worded t bytes is ends false h = refl
 
-name_space : (t : Token) (bytes : List ℕ) → IsToken t → EndsBefore goes_on_name (spelled t ++ bytes) → between true (is_worded t) ≡ []
-name_space t bytes is ends = ap (between true) (not_worded t bytes is ends (is_worded t) refl)
+name_space : (t : Token) (bytes : List ℕ) → IsToken t → EndsBefore goes_on_name (token_spelling t ++ bytes) → token_gap true (is_worded t) ≡ []
+name_space t bytes is ends = ap (token_gap true) (not_worded t bytes is ends (is_worded t) refl)
 
-number_space : (b : Bool) → not b ≡ true → between true b ≡ []
+number_space : (b : Bool) → not b ≡ true → token_gap true b ≡ []
 number_space true h = cc
 number_space false h = refl
 
 -- a token that ends before another, and is no number before a worded one, wants no space before it
-no_space_between : (t u : Token) (bytes : List ℕ) → IsToken u → may_follow t u ≡ true → EndsBefore (token_goes_on t) (spelled u ++ bytes) → between (is_worded t) (is_worded u) ≡ []
+no_space_between : (t u : Token) (bytes : List ℕ) → IsToken u → may_follow t u ≡ true → EndsBefore (token_goes_on t) (token_spelling u ++ bytes) → token_gap (is_worded t) (is_worded u) ≡ []
 no_space_between (name x) u bytes is f ends = name_space u bytes is ends
 no_space_between (class_name x) u bytes is f ends = name_space u bytes is ends
 no_space_between (number n) u bytes is f ends = number_space (is_worded u) f
@@ -134,14 +134,14 @@ no_space_between (literal x) u bytes is f ends = refl
 no_space_between (word v) u bytes is f ends = name_space u bytes is ends
 no_space_between (symbol o) u bytes is f ends = refl
 
-spaces : (u : Bool) (xs : List ℕ) → length (between true u ++ xs) ≤ length xs + 1
+spaces : (u : Bool) (xs : List ℕ) → length (token_gap true u ++ xs) ≤ length xs + 1
 spaces true xs = omega arith
 spaces false xs = omega arith
 
 -- a space more at most
 one_space : (w : Bool) (ts : List Token) → bytes w ts ≤ bytes false ts + 1
 one_space w [] = omega arith
-one_space true (t ∷ ts) = spaces (is_worded t) (spelled t ++ text_behind (is_worded t) ts)
+one_space true (t ∷ ts) = spaces (is_worded t) (token_spelling t ++ text_behind (is_worded t) ts)
 one_space false ts = omega arith
 
 free_chain : (t u : Token) (ts : List Token) → Free u → Chain t ts → Chain u ts
@@ -162,8 +162,8 @@ shortest_behind (comment bs ∷ pieces) t are h ends =
     omega (arith, more, one_space (is_worded t) (tokens_of pieces), length-append bs (spelling_of pieces))
 shortest_behind (taken u ∷ pieces) t are h ends =
     let more = shortest_behind pieces u are.2 h.1 are.1 in
-    let e = ap (λ xs. length (xs ++ (spelled u ++ text_behind (is_worded u) (tokens_of pieces)))) (no_space_between t u (spelling_of pieces) are.0 h.0 ends) in
-    omega (arith, more, e, length-append (spelled u) (text_behind (is_worded u) (tokens_of pieces)), length-append (spelled u) (spelling_of pieces))
+    let e = ap (λ xs. length (xs ++ (token_spelling u ++ text_behind (is_worded u) (tokens_of pieces)))) (no_space_between t u (spelling_of pieces) are.0 h.0 ends) in
+    omega (arith, more, e, length-append (token_spelling u) (text_behind (is_worded u) (tokens_of pieces)), length-append (token_spelling u) (spelling_of pieces))
 
 pub text_is_shortest : (ts : List Token) (text : List ℕ) → Chain (symbol s.Semicolon) ts → Divides ts text → length (text_behind false ts) ≤ length text
 text_is_shortest ts text h divides =

@@ -12,10 +12,10 @@ use Rattle.model_tokens.specs.declared.token.Word.{Word}
 use Rattle.model_tokens.specs.declared.token.Symbol.{Symbol}
 use Rattle.model_tokens.specs.declared.token.Symbol.TheVariants as s
 use Rattle.model_tokens.specs.Bytes.{is_digit, goes_on_name, begins_name, begins_class_name}
-use Rattle.model_tokens.specs.Spelling.{spelled, spelled_word, spelled_symbol, IsNamed, IsToken}
+use Rattle.model_tokens.specs.Spelling.{token_spelling, spelled_word, spelled_symbol, IsNamed, IsToken}
 use Rattle.model_tokens.specs.Division.{Piece, blank, taken, spelling, symbol_goes_on, number_goes_on, token_goes_on, EndsBefore, Ends, spelling_of, ArePieces, tokens_of, Divides}
 use Rattle.model_tokens.proofs.NameLaws.{word_is_named}
-use Rattle.model_print.specs.Canonical.{is_worded, between, text_behind}
+use Rattle.model_print.specs.Canonical.{is_worded, token_gap, text_behind}
 use Rattle.model_print.proofs.ShedCounts.{AreTokens}
 use Rattle.model_print.proofs.Neighbours.{begins, may_follow, Chain}
 
@@ -53,10 +53,10 @@ decimal_first n small =
     digits_first (decimal n) (decimal_nonempty n fits) (decimal_is_IsNumeral n fits).0.1
 
 -- a name, a word or a number begins with a letter, a digit or `_`
-pub worded_first : (t : Token) → IsToken t → is_worded t ≡ true → FirstIs goes_on_name (spelled t)
+pub worded_first : (t : Token) → IsToken t → is_worded t ≡ true → FirstIs goes_on_name (token_spelling t)
 worded_first (name x) is h = named_first begins_name x name_goes_on is.0
 worded_first (class_name x) is h = named_first begins_class_name x class_name_goes_on is
-worded_first (number n) is h = subst (λ z. FirstIs goes_on_name (spelled (number z))) (sym is.2) (decimal_first is.0 is.1)
+worded_first (number n) is h = subst (λ z. FirstIs goes_on_name (token_spelling (number z))) (sym is.2) (decimal_first is.0 is.1)
 worded_first (literal x) is h = cc
 worded_first (word v) is h = named_first begins_name (spelled_word v) name_goes_on (word_is_named v)
 worded_first (symbol o) is h = cc
@@ -120,10 +120,10 @@ first_apart : (bytes : List ℕ) → FirstIs goes_on_name bytes → EndsBefore l
 first_apart [] h = tt
 first_apart (b ∷ bytes) h = name_apart b h
 
-begins_apart : (t : Token) (bytes : List ℕ) → IsToken t → begins t ≡ true → EndsBefore lengthens (spelled t ++ bytes)
+begins_apart : (t : Token) (bytes : List ℕ) → IsToken t → begins t ≡ true → EndsBefore lengthens (token_spelling t ++ bytes)
 begins_apart (name x) bytes is h = first_apart (x ++ bytes) (first-append goes_on_name x bytes (worded_first (name x) is refl))
 begins_apart (class_name x) bytes is h = cc
-begins_apart (number n) bytes is h = first_apart (spelled (number n) ++ bytes) (first-append goes_on_name (spelled (number n)) bytes (worded_first (number n) is refl))
+begins_apart (number n) bytes is h = first_apart (token_spelling (number n) ++ bytes) (first-append goes_on_name (token_spelling (number n)) bytes (worded_first (number n) is refl))
 begins_apart (literal x) bytes is h = refl
 begins_apart (word v) bytes is h = first_apart (spelled_word v ++ bytes) (first-append goes_on_name (spelled_word v) bytes (worded_first (word v) is refl))
 begins_apart (symbol s.OpenRound) bytes is h = refl
@@ -149,7 +149,7 @@ never_ends [] = tt
 never_ends (b ∷ bytes) = refl
 
 pressed_ends : (o : Symbol) (t : Token) (ts : List Token) → IsToken t → begins t ≡ true → EndsBefore (symbol_goes_on o) (text_behind false (t ∷ ts))
-pressed_ends o t ts is h = apart_ends o (spelled t ++ text_behind (is_worded t) ts) (begins_apart t (text_behind (is_worded t) ts) is h)
+pressed_ends o t ts is h = apart_ends o (token_spelling t ++ text_behind (is_worded t) ts) (begins_apart t (text_behind (is_worded t) ts) is h)
 
 symbol_before : (o : Symbol) (ts : List Token) → Chain (symbol o) ts → AreTokens ts → EndsBefore (symbol_goes_on o) (text_behind false ts)
 symbol_before o [] h are = tt
@@ -179,7 +179,7 @@ abbrev pieces_behind : Bool → List Token → List Piece
 pieces_behind worded [] = []
 pieces_behind worded (t ∷ ts) = spaced worded (is_worded t) (taken t ∷ pieces_behind (is_worded t) ts)
 
-spelled-spaced : (v w : Bool) (pieces : List Piece) → spelling_of (spaced v w pieces) ≡ between v w ++ spelling_of pieces
+spelled-spaced : (v w : Bool) (pieces : List Piece) → spelling_of (spaced v w pieces) ≡ token_gap v w ++ spelling_of pieces
 spelled-spaced true true pieces = refl
 spelled-spaced true false pieces = refl
 spelled-spaced false w pieces = refl
@@ -188,7 +188,7 @@ spelled-pieces : (worded : Bool) (ts : List Token) → spelling_of (pieces_behin
 spelled-pieces worded [] = refl
 spelled-pieces worded (t ∷ ts) =
     spelled-spaced worded (is_worded t) (taken t ∷ pieces_behind (is_worded t) ts)
-    ∙ ap (λ xs. between worded (is_worded t) ++ (spelled t ++ xs)) (spelled-pieces (is_worded t) ts)
+    ∙ ap (λ xs. token_gap worded (is_worded t) ++ (token_spelling t ++ xs)) (spelled-pieces (is_worded t) ts)
 
 tokens-spaced : (v w : Bool) (pieces : List Piece) → tokens_of (spaced v w pieces) ≡ tokens_of pieces
 tokens-spaced true true pieces = refl

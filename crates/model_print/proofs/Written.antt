@@ -5,8 +5,8 @@ use Rattle.std.proofs.lemmas.Bool.Decides.{nat_tests}
 use Rattle.model_lang.specs.declared.tree.BinaryOp.{BinaryOp}
 use Rattle.model_lang.specs.declared.tree.BinaryOp.TheVariants as op
 use Rattle.model_lang.specs.Tree.{Expression, nil, bool, int, text, this, local, field, list, unary, binary, builtin, call, future, create, Expressions, no_expressions, expression, Statement, declare, assign, set_field, when, while, give, do_, Statements, no_statements, statement, no_else, else_block, MethodTree, ClassTree, ProgramTree}
-use Rattle.model_lang.specs.Grammar.{Phrase, brackets, joined, line_of, line, left_of, Stands, AllStand, tree_of, trees_of, ActionStands, BlockStands, MethodsStand, ClassesStand, tree_of_action, trees_of_block, tree_of_method, tree_of_class}
-use Rattle.model_print.specs.Canonical.{at, written, all_written, written_action, written_block, written_method, written_class}
+use Rattle.model_lang.specs.Grammar.{Phrase, brackets, joined, operator_line, line, left_of, Stands, AllStand, tree_of, trees_of, ActionStands, BlockStands, MethodsStand, ClassesStand, tree_of_action, trees_of_block, tree_of_method, tree_of_class}
+use Rattle.model_print.specs.Canonical.{at_line, written, all_written, written_action, written_block, written_method, written_class}
 
 -- ---- a phrase where one of a line may stand
 
@@ -18,22 +18,22 @@ line_if : (wanted : ℕ) (p : Phrase) (b : Bool) → nat_le (line p) wanted ≡ 
 line_if wanted p true h = grind (arith, nat_tests)
 line_if wanted p false h = omega arith
 
-line_at : (wanted : ℕ) (p : Phrase) → line (at wanted p) ≤ wanted
+line_at : (wanted : ℕ) (p : Phrase) → line (at_line wanted p) ≤ wanted
 line_at wanted p = line_if wanted p (nat_le (line p) wanted) refl
 
-stands_at : (wanted : ℕ) (p : Phrase) → Stands p → Stands (at wanted p)
+stands_at : (wanted : ℕ) (p : Phrase) → Stands p → Stands (at_line wanted p)
 stands_at wanted p h = either Stands (nat_le (line p) wanted) p (brackets p) h h
 
-tree_at : (wanted : ℕ) (p : Phrase) → tree_of (at wanted p) ≡ tree_of p
+tree_at : (wanted : ℕ) (p : Phrase) → tree_of (at_line wanted p) ≡ tree_of p
 tree_at wanted p = either (λ q. tree_of q ≡ tree_of p) (nat_le (line p) wanted) p (brackets p) refl refl
 
 -- one of that line or of a tighter one gets no brackets
-pub stays : (wanted : ℕ) (p : Phrase) → line p ≤ wanted → at wanted p ≡ p
+pub stays : (wanted : ℕ) (p : Phrase) → line p ≤ wanted → at_line wanted p ≡ p
 stays wanted p h =
     let test : nat_le (line p) wanted ≡ true = grind (arith, nat_tests) in
     ap (λ b. cond b p (brackets p)) test
 
-line_of_within : (o : BinaryOp) → (0 < line_of o) × (line_of o ≤ 6)
+line_of_within : (o : BinaryOp) → (0 < operator_line o) × (operator_line o ≤ 6)
 line_of_within op.Or = (omega arith, omega arith)
 line_of_within op.And = (omega arith, omega arith)
 line_of_within op.Same = (omega arith, omega arith)
@@ -53,11 +53,11 @@ pub loosest : (p : Phrase) → line p ≤ 6
 loosest (joined o a b) = (line_of_within o).1
 loosest p = omega arith
 
-pub right_of : (o : BinaryOp) (n : ℕ) → n < line_of o → n ≤ line_of o - 1
+pub right_of : (o : BinaryOp) (n : ℕ) → n < operator_line o → n ≤ operator_line o - 1
 right_of o n h = omega arith
 
-tighter : (o : BinaryOp) (p : Phrase) → line (at (line_of o - 1) p) < line_of o
-tighter o p = omega (arith, line_at (line_of o - 1) p, (line_of_within o).0)
+tighter : (o : BinaryOp) (p : Phrase) → line (at_line (operator_line o - 1) p) < operator_line o
+tighter o p = omega (arith, line_at (operator_line o - 1) p, (line_of_within o).0)
 
 -- ---- expressions
 
@@ -75,7 +75,7 @@ mutual
   written-stands (binary o a b) = (
     stands_at (left_of o) (written a) (written-stands a),
     line_at (left_of o) (written a),
-    stands_at (line_of o - 1) (written b) (written-stands b),
+    stands_at (operator_line o - 1) (written b) (written-stands b),
     tighter o (written b),
   )
   written-stands (builtin x args) = all_written-stand args
@@ -100,8 +100,8 @@ mutual
   tree-written (list items) = ap list (trees-all_written items)
   tree-written (unary o a) = ap (unary o) (tree_at 1 (written a) ∙ tree-written a)
   tree-written (binary o a b) =
-      ap (λ x. binary o x (tree_of (at (line_of o - 1) (written b)))) (tree_at (left_of o) (written a) ∙ tree-written a)
-      ∙ ap (binary o a) (tree_at (line_of o - 1) (written b) ∙ tree-written b)
+      ap (λ x. binary o x (tree_of (at_line (operator_line o - 1) (written b)))) (tree_at (left_of o) (written a) ∙ tree-written a)
+      ∙ ap (binary o a) (tree_at (operator_line o - 1) (written b) ∙ tree-written b)
   tree-written (builtin x args) = ap (builtin x) (trees-all_written args)
   tree-written (call object x args) =
       ap (λ y. call y x (trees_of (all_written args))) (tree_at 0 (written object) ∙ tree-written object) ∙ ap (call object x) (trees-all_written args)

@@ -3,7 +3,7 @@ use Rattle.std.specs.Prelude.{◌≡◌, ℕ, Bool, List, [], ◌∷◌, ◌++�
 use Rattle.std.specs.Str.{chars}
 use Rattle.model_tokens.specs.declared.token.Token.{Token}
 use Rattle.model_tokens.specs.declared.token.Token.TheVariants as token
-use Rattle.model_tokens.specs.Spelling.{spelled_text, spelled}
+use Rattle.model_tokens.specs.Spelling.{spelled_text, token_spelling}
 use Rattle.model_print.specs.declared.printing.Level.{Level}
 use Rattle.model_print.specs.declared.printing.Level.TheVariants as level
 use Rattle.model_lang.specs.declared.tree.Class.{Class}
@@ -11,26 +11,26 @@ use Rattle.model_lang.specs.declared.fault.LangFault.{LangFault}
 use Rattle.model_lang.specs.declared.fault.LangFault.TheVariants.{Syntax, TooLarge, WantOfMemory}
 use Rattle.model_lang.specs.Tree.{ProgramTree}
 use Rattle.model_lang.specs.TreeView.{program_tree}
-use Rattle.model_print.specs.Canonical.{is_worded, between}
+use Rattle.model_print.specs.Canonical.{is_worded, token_gap}
 
 abbrev pub Printed : Type 0
 Printed = List ℕ × Bool
 
 -- with the spelling of one token more, which is worded or not
-abbrev pub spaced : Printed → Bool → List ℕ → Printed
-spaced p worded bytes = (p.0 ++ (between p.1 worded ++ bytes), worded)
+abbrev pub with_gap : Printed → Bool → List ℕ → Printed
+with_gap p worded bytes = (p.0 ++ (token_gap p.1 worded ++ bytes), worded)
 
 -- what is printed of a token: names and texts are held as UTF-8
 abbrev pub printed : Token → List ℕ
 printed (token.Name x) = encode_utf8_all x
 printed (token.ClassName x) = encode_utf8_all x
-printed (token.Number n) = spelled (token.Number n)
+printed (token.Number n) = token_spelling (token.Number n)
 printed (token.Text x) = spelled_text (chars (encode_utf8_all x))
-printed (token.Word w) = spelled (token.Word w)
-printed (token.Symbol s) = spelled (token.Symbol s)
+printed (token.Word w) = token_spelling (token.Word w)
+printed (token.Symbol s) = token_spelling (token.Symbol s)
 
 unfoldable pub with_token : Printed → Token → Printed
-with_token p t = spaced p (is_worded t) (printed t)
+with_token p t = with_gap p (is_worded t) (printed t)
 
 -- with tokens more, one behind the other
 abbrev pub with_tokens : Printed → List Token → Printed

@@ -12,11 +12,11 @@ ghost use Rattle.model_lang.specs.Tree.{ProgramTree};
 ghost use Rattle.model_lang.specs.declared.tree.Class.{Class as Held};
 ghost use Rattle.model_lang.specs.declared.fault.LangFault.{LangFault};
 ghost use Rattle.model_lang.specs.TreeView.{expression_tree, expression_trees, statement_tree, statement_trees, method_tree, class_tree, program_tree};
-ghost use Rattle.model_lang.specs.Grammar.{line, line_of as number_of, left_of as number_left_of, op_symbol as meant_op, sign_symbol as meant_sign, in_round, in_square, in_braces, spelled, spelled_args, spelled_end, spelled_action, spelled_block, spelled_further, spelled_params, spelled_method, spelled_methods, spelled_fields, spelled_class, spelled_classes};
+ghost use Rattle.model_lang.specs.Grammar.{line, operator_line as number_of, left_of as number_left_of, op_symbol as meant_op, sign_symbol as meant_sign, in_round, in_square, in_braces, spelled, spelled_args, spelled_end, spelled_action, spelled_block, spelled_further, spelled_params, spelled_method, spelled_methods, spelled_fields, spelled_class, spelled_classes};
 ghost use Rattle.model_lang.specs.Program.{IsRead, IsProgram};
 ghost use Rattle.model_lang.specs.Answer.{Parses};
-ghost use Rattle.model_print.specs.Canonical.{at, written, all_written, written_action, written_block, written_method, written_class, canonical_tokens, canonical_text};
-ghost use Rattle.model_print.specs.Printing.{spaced, with_token, with_tokens, level_number, GivesAgain};
+ghost use Rattle.model_print.specs.Canonical.{at_line, written, all_written, written_action, written_block, written_method, written_class, canonical_tokens, canonical_text};
+ghost use Rattle.model_print.specs.Printing.{with_gap, with_token, with_tokens, level_number, GivesAgain};
 
 use model_lang::{BinaryOp, Class, Expr, Method, Program, Stmt, UnaryOp, one_reading};
 use model_tokens::{Symbol, Word};
@@ -329,7 +329,7 @@ impl Printer {
 
     /// A name, a word or a number, behind a space where another stands before it.
     fn worded(&mut self, bytes: &str) -> Result<(), WantOfMemory>
-        ensures { OnOk result (self.new ≡ spaced self.old true bytes.now) }
+        ensures { OnOk result (self.new ≡ with_gap self.old true bytes.now) }
     {
         if self.worded {
             self.text.push_str(" ")?;
@@ -393,7 +393,7 @@ impl Printer {
     /// An expression, in brackets where none of its line may stand.
     #[cycle(print)]
     fn placed(&mut self, wanted: Level, expr: &Expr) -> Result<(), WantOfMemory>
-        ensures { OnOk result (self.new ≡ with_tokens self.old (spelled (at (level_number wanted) (written (expression_tree expr.now))))) }
+        ensures { OnOk result (self.new ≡ with_tokens self.old (spelled (at_line (level_number wanted) (written (expression_tree expr.now))))) }
     {
         if level_of(expr).number() <= wanted.number() {
             self.phrase(expr)

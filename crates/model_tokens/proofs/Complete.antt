@@ -3,9 +3,9 @@ use Rattle.std.proofs.Common.{◌≡◌, ℕ, pos, true, List, ◌∷◌, ◌++�
 use Rattle.std.specs.List.{list_all}
 use Rattle.std.specs.Fmt.{signed_decimal}
 use Rattle.model_tokens.specs.Bytes.{is_blank, goes_on_line}
-use Rattle.model_tokens.specs.Spelling.{spelled, IsToken}
+use Rattle.model_tokens.specs.Spelling.{token_spelling, IsToken}
 use Rattle.model_tokens.specs.Division.{Piece, blank, comment, taken, spelling, IsPiece, Ends, EndsBefore, token_goes_on, number_goes_on}
-use Rattle.model_tokens.specs.Reader.{front, behind, kind_of, row, next}
+use Rattle.model_tokens.specs.Reader.{front, rest_past, kind_of, row, next}
 use Rattle.model_tokens.specs.declared.token.Token.{Token}
 use Rattle.model_tokens.specs.declared.token.Token.TheVariants as token
 use Rattle.model_tokens.specs.declared.bytes.Kind.TheVariants as kind
@@ -21,10 +21,10 @@ blank_kind b h = rw h refl
 comment_next : (bytes rest : List ℕ) → list_all goes_on_line bytes ≡ true → EndsBefore goes_on_line rest → next (47 ∷ 47 ∷ (bytes ++ rest)) ≡ Some (comment bytes, rest)
 comment_next bytes rest all ends =
     let here : front goes_on_line (bytes ++ rest) ≡ bytes = front_is goes_on_line bytes rest all ends in
-    let there : behind goes_on_line (bytes ++ rest) ≡ rest = behind_is goes_on_line bytes rest all ends in
-    ap (λ xs. Some (comment xs, behind goes_on_line (bytes ++ rest))) here ∙ ap (λ xs. Some (comment bytes, xs)) there
+    let there : rest_past goes_on_line (bytes ++ rest) ≡ rest = behind_is goes_on_line bytes rest all ends in
+    ap (λ xs. Some (comment xs, rest_past goes_on_line (bytes ++ rest))) here ∙ ap (λ xs. Some (comment bytes, xs)) there
 
-token_next : (t : Token) (rest : List ℕ) → IsToken t → EndsBefore (token_goes_on t) rest → next (spelled t ++ rest) ≡ Some (taken t, rest)
+token_next : (t : Token) (rest : List ℕ) → IsToken t → EndsBefore (token_goes_on t) rest → next (token_spelling t ++ rest) ≡ Some (taken t, rest)
 token_next (token.Name name) rest is ends = name_next name rest is.0 is.1 ends
 token_next (token.ClassName name) rest is ends = class_name_next name rest is ends
 token_next (token.Number number) rest is ends =

@@ -6,7 +6,7 @@ use Rattle.std.proofs.lemmas.Bool.Decides.{nat_tests}
 use Rattle.std.specs.Prelude.{not, nat_lt, unwrap_or}
 use Rattle.std.specs.List.{prefix_len, list_all}
 use Rattle.model_tokens.specs.Division.{EndsBefore}
-use Rattle.model_tokens.specs.Reader.{front, behind}
+use Rattle.model_tokens.specs.Reader.{front, rest_past}
 
 pub both : (a b : Bool) → (a && b) ≡ true → (a ≡ true) × (b ≡ true)
 both true b h = (refl, h)
@@ -35,11 +35,11 @@ drop_front (x ∷ xs) ys = drop_front xs ys
 pub front_is : (test : ℕ → Bool) (xs ys : List ℕ) → list_all test xs ≡ true → EndsBefore test ys → front test (xs ++ ys) ≡ xs
 front_is test xs ys all ends = ap (λ n. take n (xs ++ ys)) (length_front test xs ys all ends) ∙ take_front xs ys
 
-pub behind_is : (test : ℕ → Bool) (xs ys : List ℕ) → list_all test xs ≡ true → EndsBefore test ys → behind test (xs ++ ys) ≡ ys
+pub behind_is : (test : ℕ → Bool) (xs ys : List ℕ) → list_all test xs ≡ true → EndsBefore test ys → rest_past test (xs ++ ys) ≡ ys
 behind_is test xs ys all ends = ap (λ n. drop n (xs ++ ys)) (length_front test xs ys all ends) ∙ drop_front xs ys
 
 -- what the front and the rest are, whatever the list
-pub whole_is : (test : ℕ → Bool) (xs : List ℕ) → front test xs ++ behind test xs ≡ xs
+pub whole_is : (test : ℕ → Bool) (xs : List ℕ) → front test xs ++ rest_past test xs ≡ xs
 whole_is test xs = take-append-drop (prefix_len test xs) xs
 
 front_all_if : (test : ℕ → Bool) (x : ℕ) (xs : List ℕ) → list_all test (front test xs) ≡ true → (b : Bool) → test x ≡ b → list_all test (take (cond b (1 + prefix_len test xs) 0) (x ∷ xs)) ≡ true
@@ -50,11 +50,11 @@ pub front_all : (test : ℕ → Bool) (xs : List ℕ) → list_all test (front t
 front_all test [] = refl
 front_all test (x ∷ xs) = front_all_if test x xs (front_all test xs) (test x) refl
 
-ends_behind_if : (test : ℕ → Bool) (x : ℕ) (xs : List ℕ) → EndsBefore test (behind test xs) → (b : Bool) → test x ≡ b → EndsBefore test (drop (cond b (1 + prefix_len test xs) 0) (x ∷ xs))
+ends_behind_if : (test : ℕ → Bool) (x : ℕ) (xs : List ℕ) → EndsBefore test (rest_past test xs) → (b : Bool) → test x ≡ b → EndsBefore test (drop (cond b (1 + prefix_len test xs) 0) (x ∷ xs))
 ends_behind_if test x xs ends true h = rw (one-add (prefix_len test xs)) ends
 ends_behind_if test x xs ends false h = h
 
-pub ends_behind : (test : ℕ → Bool) (xs : List ℕ) → EndsBefore test (behind test xs)
+pub ends_behind : (test : ℕ → Bool) (xs : List ℕ) → EndsBefore test (rest_past test xs)
 ends_behind test [] = tt
 ends_behind test (x ∷ xs) = ends_behind_if test x xs (ends_behind test xs) (test x) refl
 

@@ -8,7 +8,7 @@ use Rattle.std.proofs.lemmas.Str.{encode_ascii, inside_one, is_utf8-from_IsUtf8,
 use Rattle.model_tokens.specs.Bytes.{is_digit, is_control}
 use Rattle.model_tokens.specs.Spelling.{hex_digit, spelled_character, spelled_text}
 use Rattle.model_tokens.specs.Division.{taken}
-use Rattle.model_tokens.specs.Reader.{hex_value, control_of, control_at, escape_at, byte_at, with_front, literal_step, literal_at, as_text, next}
+use Rattle.model_tokens.specs.Reader.{hex_value, control_of, control_at, escape_at, literal_byte_at, with_front, literal_step, literal_at, as_text, next}
 use Rattle.model_tokens.specs.declared.token.Token.TheVariants as token
 use Rattle.model_tokens.proofs.Lists.{both}
 
@@ -52,7 +52,7 @@ hex_read d small = hex_read_if d (nat_lt d 10) refl small
 
 -- the first byte of a spelling, the others, and that they are read as the byte
 abbrev SpellsByte : ℕ → List ℕ → Type 0
-SpellsByte byte spelled = (first : ℕ) × (more : List ℕ) × (spelled ≡ first ∷ more) × ((rest : List ℕ) → byte_at (first ∷ (more ++ rest)) ≡ Some (byte, length more))
+SpellsByte byte spelled = (first : ℕ) × (more : List ℕ) × (spelled ≡ first ∷ more) × ((rest : List ℕ) → literal_byte_at (first ∷ (more ++ rest)) ≡ Some (byte, length more))
 
 control_read : (byte high low : ℕ) → is_control byte ≡ true → (byte == 10) ≡ false → high * 16 + low ≡ byte → control_of (Some high) (Some low) ≡ Some (byte, 3)
 control_read byte high low control other e =
@@ -78,7 +78,7 @@ passed_spelling : (more tail : List ℕ) → literal_at (length more) (more ++ t
 passed_spelling [] tail = refl
 passed_spelling (b ∷ more) tail = passed_spelling more tail
 
-literal_more : (byte first : ℕ) (more tail : List ℕ) (found : Option (List ℕ × List ℕ)) → byte_at (first ∷ (more ++ tail)) ≡ Some (byte, length more) → literal_at 0 tail ≡ found → literal_at 0 (first ∷ (more ++ tail)) ≡ with_front byte found
+literal_more : (byte first : ℕ) (more tail : List ℕ) (found : Option (List ℕ × List ℕ)) → literal_byte_at (first ∷ (more ++ tail)) ≡ Some (byte, length more) → literal_at 0 tail ≡ found → literal_at 0 (first ∷ (more ++ tail)) ≡ with_front byte found
 literal_more byte first more tail found here later =
     ap (λ o. literal_step first (more ++ tail) o (λ k. literal_at k (more ++ tail))) here ∙ ap (with_front byte) (passed_spelling more tail ∙ later)
 
@@ -181,7 +181,7 @@ byte_if x bytes byte k false false hs ho h =
     let p = pair_is x 0 byte k h in
     sym (ap (λ b. spelled_byte b ++ drop k bytes) (sym p.0) ∙ ap (λ xs. xs ++ drop k bytes) (spelled_plain x hs ho) ∙ ap (λ n. x ∷ drop n bytes) (sym p.1))
 
-byte_sound : (x : ℕ) (bytes : List ℕ) (byte k : ℕ) → byte_at (x ∷ bytes) ≡ Some (byte, k) → x ∷ bytes ≡ spelled_byte byte ++ drop k bytes
+byte_sound : (x : ℕ) (bytes : List ℕ) (byte k : ℕ) → literal_byte_at (x ∷ bytes) ≡ Some (byte, k) → x ∷ bytes ≡ spelled_byte byte ++ drop k bytes
 byte_sound x bytes byte k h = byte_if x bytes byte k (x == 92) (x == 34 || is_control x) refl refl h
 
 lists_are : (a b c d : List ℕ) → ◌≡◌ {A = Option (List ℕ × List ℕ)} (Some (a, b)) (Some (c, d)) → (a ≡ c) × (b ≡ d)
@@ -199,7 +199,7 @@ quote_if x xs bytes rest true hb h =
     sym (ap (λ bs. flat_map spelled_byte bs ++ 34 ∷ rest) (sym p.0) ∙ ap (λ n. n ∷ rest) (sym (is_number x 34 hb)) ∙ ap (λ ys. x ∷ ys) (sym p.1))
 quote_if x xs bytes rest false hb h = cc
 
-front_if : (x : ℕ) (xs : List ℕ) (byte k : ℕ) (bytes rest : List ℕ) (found : Option (List ℕ × List ℕ)) → byte_at (x ∷ xs) ≡ Some (byte, k) → literal_at k xs ≡ found → with_front byte found ≡ Some (bytes, rest)
+front_if : (x : ℕ) (xs : List ℕ) (byte k : ℕ) (bytes rest : List ℕ) (found : Option (List ℕ × List ℕ)) → literal_byte_at (x ∷ xs) ≡ Some (byte, k) → literal_at k xs ≡ found → with_front byte found ≡ Some (bytes, rest)
     → ((bs r : List ℕ) → literal_at k xs ≡ Some (bs, r) → ClosedBy (drop k xs) bs r) → ClosedBy (x ∷ xs) bytes rest
 front_if x xs byte k bytes rest None here l h later = cc
 front_if x xs byte k bytes rest (Some found) here l h later =
@@ -209,7 +209,7 @@ front_if x xs byte k bytes rest (Some found) here l h later =
     ∙ sym (append_assoc (spelled_byte byte) (flat_map spelled_byte found.0) (34 ∷ found.1))
     ∙ ap (λ bs. flat_map spelled_byte bs ++ 34 ∷ found.1) p.0 ∙ ap (λ r. flat_map spelled_byte bytes ++ 34 ∷ r) p.1
 
-step_sound : (x : ℕ) (xs bytes rest : List ℕ) (found : Option (ℕ × ℕ)) → byte_at (x ∷ xs) ≡ found → literal_step x xs found (λ k. literal_at k xs) ≡ Some (bytes, rest)
+step_sound : (x : ℕ) (xs bytes rest : List ℕ) (found : Option (ℕ × ℕ)) → literal_byte_at (x ∷ xs) ≡ found → literal_step x xs found (λ k. literal_at k xs) ≡ Some (bytes, rest)
     → ((k : ℕ) (bs r : List ℕ) → literal_at k xs ≡ Some (bs, r) → ClosedBy (drop k xs) bs r) → ClosedBy (x ∷ xs) bytes rest
 step_sound x xs bytes rest None here h later = quote_if x xs bytes rest (x == 34) refl h
 step_sound x xs bytes rest (Some found) here h later = front_if x xs found.0 found.1 bytes rest (literal_at found.1 xs) here refl h (later found.1)
@@ -218,7 +218,7 @@ literal_sound : (k : ℕ) (xs bytes rest : List ℕ) → literal_at k xs ≡ Som
 literal_sound zero [] bytes rest h = cc
 literal_sound (suc k) [] bytes rest h = cc
 literal_sound (suc k) (x ∷ xs) bytes rest h = literal_sound k xs bytes rest h
-literal_sound zero (x ∷ xs) bytes rest h = step_sound x xs bytes rest (byte_at (x ∷ xs)) refl h (λ k bs r. literal_sound k xs bs r)
+literal_sound zero (x ∷ xs) bytes rest h = step_sound x xs bytes rest (literal_byte_at (x ∷ xs)) refl h (λ k bs r. literal_sound k xs bs r)
 
 -- ---- characters and their bytes
 
@@ -311,7 +311,7 @@ with_one bytes byte (Some found) =
     ap wrap (append_assoc bytes (byte ∷ []) found.0)
 
 -- the bytes so far, and one more
-pub one_byte : (bytes rest text : List ℕ) (byte more : ℕ) → with_bytes bytes (literal_at 0 rest) ≡ literal_at 0 text → byte_at rest ≡ Some (byte, more) → with_bytes (bytes ++ byte ∷ []) (literal_at 0 (drop (more + 1) rest)) ≡ literal_at 0 text
+pub one_byte : (bytes rest text : List ℕ) (byte more : ℕ) → with_bytes bytes (literal_at 0 rest) ≡ literal_at 0 text → literal_byte_at rest ≡ Some (byte, more) → with_bytes (bytes ++ byte ∷ []) (literal_at 0 (drop (more + 1) rest)) ≡ literal_at 0 text
 one_byte bytes [] text byte more e here = cc
 one_byte bytes (x ∷ rest) text byte more e here =
     let passed : literal_at more rest ≡ literal_at 0 (drop (more + 1) (x ∷ rest)) = rw add-one (passed_over more rest) in

@@ -9,7 +9,7 @@ use Rattle.std.specs.Prelude.{nat_lt}
 use Rattle.model_tokens.specs.Bytes.{begins_name, begins_class_name, goes_on_name}
 use Rattle.model_tokens.specs.Spelling.{spelled_word, IsNamed}
 use Rattle.model_tokens.specs.Division.{taken, EndsBefore}
-use Rattle.model_tokens.specs.Reader.{front, behind, kind_of, word_among, every_word, named_or, name_at, row, next}
+use Rattle.model_tokens.specs.Reader.{front, rest_past, kind_of, word_among, every_word, named_or, name_token_at, row, next}
 use Rattle.model_tokens.specs.declared.token.Token.TheVariants as token
 use Rattle.model_tokens.specs.declared.token.Word.{Word}
 use Rattle.model_tokens.specs.declared.token.Word.TheVariants as word
@@ -89,10 +89,10 @@ either_right false b h = h
 -- ---- what is read of a name
 
 -- a name of so many bytes, and what stands behind it
-read_name : (name rest : List ℕ) → prefix_len goes_on_name (name ++ rest) ≡ length name → length name ≤ 64 → name_at (name ++ rest) ≡ Some (taken (named_or (word_among every_word name) name), rest)
+read_name : (name rest : List ℕ) → prefix_len goes_on_name (name ++ rest) ≡ length name → length name ≤ 64 → name_token_at (name ++ rest) ≡ Some (taken (named_or (word_among every_word name) name), rest)
 read_name name rest len short =
     let here : front goes_on_name (name ++ rest) ≡ name = ap (λ n. take n (name ++ rest)) len ∙ take_front name rest in
-    let there : behind goes_on_name (name ++ rest) ≡ rest = ap (λ n. drop n (name ++ rest)) len ∙ drop_front name rest in
+    let there : rest_past goes_on_name (name ++ rest) ≡ rest = ap (λ n. drop n (name ++ rest)) len ∙ drop_front name rest in
     let test : nat_lt 64 (prefix_len goes_on_name (name ++ rest)) ≡ false = rw len (grind (arith, nat_tests)) in
     rw (test, here, there) refl
 

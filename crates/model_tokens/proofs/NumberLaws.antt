@@ -10,7 +10,7 @@ use Rattle.std.proofs.lemmas.Str.Parse.{IsNumeralModel, numerals_by_value, tells
 use Rattle.std.proofs.lemmas.Fmt.{decimal-digits_value, digits_value-decimal, decimal_is_IsNumeral, decimal_nonempty, first_decimal, decimal_digit}
 use Rattle.model_tokens.specs.Bytes.{is_digit}
 use Rattle.model_tokens.specs.Division.{taken, EndsBefore, number_goes_on}
-use Rattle.model_tokens.specs.Reader.{front, behind, kind_of, valued, row, next}
+use Rattle.model_tokens.specs.Reader.{front, rest_past, kind_of, valued, row, next}
 use Rattle.model_tokens.specs.declared.token.Token.TheVariants as token
 use Rattle.model_tokens.specs.declared.bytes.Kind.TheVariants as kind
 use Rattle.model_tokens.proofs.Lists.{both, from_both, front_is, behind_is, front_all, ends_behind, whole_is}
@@ -59,11 +59,11 @@ positive_next n (d ∷ ds) rest e positive small ends =
     let first : 48 < d = subst (λ xs. 48 < get_or xs 0 0) (sym e) (first_decimal n positive fits) in
     let zero_test : (d == 48) ≡ false = grind (arith, nat_tests) in
     let here : front is_digit ((d ∷ ds) ++ rest) ≡ d ∷ ds = front_is is_digit (d ∷ ds) rest all ends in
-    let there : behind is_digit ((d ∷ ds) ++ rest) ≡ rest = behind_is is_digit (d ∷ ds) rest all ends in
+    let there : rest_past is_digit ((d ∷ ds) ++ rest) ≡ rest = behind_is is_digit (d ∷ ds) rest all ends in
     let digit : kind_of d ≡ kind.Digit = digit_kind d (both (is_digit d) (list_all is_digit ds) all).0 in
     ap (λ k. row k d (ds ++ rest)) digit
-    ∙ ap (λ b. cond b (Some (taken (token.Number (pos zero)), ds ++ rest)) (valued (digits_value 10 (front is_digit ((d ∷ ds) ++ rest))) (behind is_digit ((d ∷ ds) ++ rest)))) zero_test
-    ∙ ap (λ xs. valued (digits_value 10 xs) (behind is_digit ((d ∷ ds) ++ rest))) here
+    ∙ ap (λ b. cond b (Some (taken (token.Number (pos zero)), ds ++ rest)) (valued (digits_value 10 (front is_digit ((d ∷ ds) ++ rest))) (rest_past is_digit ((d ∷ ds) ++ rest)))) zero_test
+    ∙ ap (λ xs. valued (digits_value 10 xs) (rest_past is_digit ((d ∷ ds) ++ rest))) here
     ∙ ap (λ xs. valued (digits_value 10 (d ∷ ds)) xs) there
     ∙ ap (λ m. valued m rest) value
     ∙ valued_small n rest small
@@ -97,15 +97,15 @@ not_zero zero d ds e first =
 not_zero (suc n) d ds e first = omega arith
 
 -- the digits of a number that begins with no 0
-pub digits_read : (text : List ℕ) (d : ℕ) (ds : List ℕ) → front is_digit text ≡ d ∷ ds → (d == 48) ≡ false → digits_value 10 (d ∷ ds) ≤ 9_223_372_036_854_775_807 → NumberRead text (digits_value 10 (d ∷ ds)) (behind is_digit text)
+pub digits_read : (text : List ℕ) (d : ℕ) (ds : List ℕ) → front is_digit text ≡ d ∷ ds → (d == 48) ≡ false → digits_value 10 (d ∷ ds) ≤ 9_223_372_036_854_775_807 → NumberRead text (digits_value 10 (d ∷ ds)) (rest_past is_digit text)
 digits_read text d ds e nonzero small =
     let all : AllDigits 10 (d ∷ ds) = digits_from_all (d ∷ ds) (subst (λ xs. list_all is_digit xs ≡ true) e (front_all is_digit text)) in
     let first : d ≢ 48 = λ is. (let t : (d == 48) ≡ true = grind (arith, nat_tests) in cc) in
     let same : decimal (digits_value 10 (d ∷ ds)) ≡ d ∷ ds = decimal-digits_value own (d ∷ ds) all (omega arith) (λ is. absurd (first is)) (omega arith) in
     record {
       small = small;
-      whole = ap (λ xs. xs ++ behind is_digit text) (same ∙ sym e) ∙ whole_is is_digit text;
-      ends = goes_positive (digits_value 10 (d ∷ ds)) (behind is_digit text) (not_zero (digits_value 10 (d ∷ ds)) d ds same first) (ends_behind is_digit text);
+      whole = ap (λ xs. xs ++ rest_past is_digit text) (same ∙ sym e) ∙ whole_is is_digit text;
+      ends = goes_positive (digits_value 10 (d ∷ ds)) (rest_past is_digit text) (not_zero (digits_value 10 (d ∷ ds)) d ds same first) (ends_behind is_digit text);
     }
 
 -- ---- for the loop over the digits

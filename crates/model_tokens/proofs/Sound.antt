@@ -10,7 +10,7 @@ use Rattle.std.proofs.lemmas.Fmt.{decimal_digit}
 use Rattle.model_tokens.specs.Bytes.{is_blank, is_digit, begins_name, begins_class_name, goes_on_name, goes_on_line}
 use Rattle.model_tokens.specs.Spelling.{spelled_word}
 use Rattle.model_tokens.specs.Division.{Piece, blank, comment, taken, spelling, IsPiece, Ends, EndsBefore, number_goes_on}
-use Rattle.model_tokens.specs.Reader.{Read, front, behind, kind_of, word_among, every_word, named_or, valued, literal_at, as_text, symbol_at, comment_at, as_symbol, or_symbol, row, next}
+use Rattle.model_tokens.specs.Reader.{TokenRead, front, rest_past, kind_of, word_among, every_word, named_or, valued, literal_at, as_text, symbol_at, comment_at, as_symbol, or_symbol, row, next}
 use Rattle.model_tokens.specs.declared.token.Token.TheVariants as token
 use Rattle.model_tokens.specs.declared.token.Word.{Word}
 use Rattle.model_tokens.specs.declared.token.Symbol.{Symbol}
@@ -28,13 +28,13 @@ pub record Begins (text : List ℕ) (piece : Piece) (rest : List ℕ) : Type 0 w
   pub is : IsPiece piece
   pub ends : Ends piece rest
 
-pub same_read : (p q : Piece) (a b : List ℕ) → ◌≡◌ {A = Read} (Some (p, a)) (Some (q, b)) → (p ≡ q) × (a ≡ b)
+pub same_read : (p q : Piece) (a b : List ℕ) → ◌≡◌ {A = TokenRead} (Some (p, a)) (Some (q, b)) → (p ≡ q) × (a ≡ b)
 same_read p q a b h =
     let e : ◌≡◌ {A = Piece × List ℕ} (p, a) (q, b) = cc in
     (ap (λ q. q.0) e, ap (λ q. q.1) e)
 
 -- what is read is this
-found : (text : List ℕ) (p q : Piece) (a b : List ℕ) → ◌≡◌ {A = Read} (Some (p, a)) (Some (q, b)) → Begins text p a → Begins text q b
+found : (text : List ℕ) (p q : Piece) (a b : List ℕ) → ◌≡◌ {A = TokenRead} (Some (p, a)) (Some (q, b)) → Begins text p a → Begins text q b
 found text p q a b h is =
     let e = same_read p q a b h in
     subst (λ r. Begins text r b) e.0 (subst (λ c. Begins text p c) e.1 is)
@@ -78,22 +78,22 @@ name_named byte bytes rest text whole ends all short begins (Some w) e =
     record { whole = ap (λ xs. xs ++ rest) (sym (among_spells every_word (byte ∷ bytes) w e)) ∙ whole; is = tt; ends = ends }
 name_named byte bytes rest text whole ends all short begins None e = name_if byte bytes rest text whole ends all short begins e (begins_class_name byte) refl
 
-name_found : (text name same left : List ℕ) (piece : Piece) (rest : List ℕ) → name ≡ same → ◌≡◌ {A = Read} (Some (taken (named_or (word_among every_word same) same), left)) (Some (piece, rest)) → Begins text (taken (named_or (word_among every_word name) name)) left → Begins text piece rest
+name_found : (text name same left : List ℕ) (piece : Piece) (rest : List ℕ) → name ≡ same → ◌≡◌ {A = TokenRead} (Some (taken (named_or (word_among every_word same) same), left)) (Some (piece, rest)) → Begins text (taken (named_or (word_among every_word name) name)) left → Begins text piece rest
 name_found text name same left piece rest e h is =
-    let wrap : List ℕ → Read = λ xs. Some (taken (named_or (word_among every_word xs) xs), left) in
+    let wrap : List ℕ → TokenRead = λ xs. Some (taken (named_or (word_among every_word xs) xs), left) in
     found text (taken (named_or (word_among every_word name) name)) piece left rest (ap wrap e ∙ h) is
 
 name_read_if : (byte : ℕ) (bytes : List ℕ) (piece : Piece) (rest : List ℕ) (len : ℕ) (b : Bool) → nat_lt 64 len ≡ b → prefix_len goes_on_name (byte ∷ bytes) ≡ len → (begins_name byte || begins_class_name byte) ≡ true → goes_on_name byte ≡ true
-    → cond {A = Read} b None (Some (taken (named_or (word_among every_word (front goes_on_name (byte ∷ bytes))) (front goes_on_name (byte ∷ bytes))), behind goes_on_name (byte ∷ bytes))) ≡ Some (piece, rest) → Begins (byte ∷ bytes) piece rest
+    → cond {A = TokenRead} b None (Some (taken (named_or (word_among every_word (front goes_on_name (byte ∷ bytes))) (front goes_on_name (byte ∷ bytes))), rest_past goes_on_name (byte ∷ bytes))) ≡ Some (piece, rest) → Begins (byte ∷ bytes) piece rest
 name_read_if byte bytes piece rest len true hb e begins goes h = cc
 name_read_if byte bytes piece rest len false hb e begins goes h =
     let is_front : front goes_on_name (byte ∷ bytes) ≡ byte ∷ front goes_on_name bytes = rw goes (rw (one-add (prefix_len goes_on_name bytes)) refl) in
     let counted : length (front goes_on_name (byte ∷ bytes)) ≡ prefix_len goes_on_name (byte ∷ bytes) = length_of_front goes_on_name (byte ∷ bytes) in
     let longer : suc (length (front goes_on_name bytes)) ≡ len = ap length (sym is_front) ∙ counted ∙ e in
     let short : length (front goes_on_name bytes) < 64 = grind (arith, nat_tests) in
-    let whole : (byte ∷ front goes_on_name bytes) ++ behind goes_on_name (byte ∷ bytes) ≡ byte ∷ bytes = ap (λ xs. xs ++ behind goes_on_name (byte ∷ bytes)) (sym is_front) ∙ whole_is goes_on_name (byte ∷ bytes) in
-    let read = name_named byte (front goes_on_name bytes) (behind goes_on_name (byte ∷ bytes)) (byte ∷ bytes) whole (ends_behind goes_on_name (byte ∷ bytes)) (front_all goes_on_name bytes) short begins (word_among every_word (byte ∷ front goes_on_name bytes)) refl in
-    name_found (byte ∷ bytes) (byte ∷ front goes_on_name bytes) (front goes_on_name (byte ∷ bytes)) (behind goes_on_name (byte ∷ bytes)) piece rest (sym is_front) h read
+    let whole : (byte ∷ front goes_on_name bytes) ++ rest_past goes_on_name (byte ∷ bytes) ≡ byte ∷ bytes = ap (λ xs. xs ++ rest_past goes_on_name (byte ∷ bytes)) (sym is_front) ∙ whole_is goes_on_name (byte ∷ bytes) in
+    let read = name_named byte (front goes_on_name bytes) (rest_past goes_on_name (byte ∷ bytes)) (byte ∷ bytes) whole (ends_behind goes_on_name (byte ∷ bytes)) (front_all goes_on_name bytes) short begins (word_among every_word (byte ∷ front goes_on_name bytes)) refl in
+    name_found (byte ∷ bytes) (byte ∷ front goes_on_name bytes) (front goes_on_name (byte ∷ bytes)) (rest_past goes_on_name (byte ∷ bytes)) piece rest (sym is_front) h read
 
 -- ---- numbers
 
@@ -101,26 +101,26 @@ number_found : (text : List ℕ) (n : ℕ) (rest : List ℕ) → NumberRead text
 number_found text n rest h = record { whole = h.whole; is = (n, h.small, refl); ends = h.ends }
 
 valued_if : (text : List ℕ) (d : ℕ) (ds : List ℕ) (piece : Piece) (rest : List ℕ) (b : Bool) → front is_digit text ≡ d ∷ ds → (d == 48) ≡ false → nat_le (digits_value 10 (d ∷ ds)) 9_223_372_036_854_775_807 ≡ b
-    → cond {A = Read} b (Some (taken (token.Number (pos (digits_value 10 (d ∷ ds)))), behind is_digit text)) None ≡ Some (piece, rest) → Begins text piece rest
+    → cond {A = TokenRead} b (Some (taken (token.Number (pos (digits_value 10 (d ∷ ds)))), rest_past is_digit text)) None ≡ Some (piece, rest) → Begins text piece rest
 valued_if text d ds piece rest true e nonzero hb h =
     let n : ℕ = digits_value 10 (d ∷ ds) in
     let small : digits_value 10 (d ∷ ds) ≤ 9_223_372_036_854_775_807 = grind (arith, nat_tests) in
-    found text (taken (token.Number (pos (digits_value 10 (d ∷ ds))))) piece (behind is_digit text) rest h (number_found text (digits_value 10 (d ∷ ds)) (behind is_digit text) (digits_read text d ds e nonzero small))
+    found text (taken (token.Number (pos (digits_value 10 (d ∷ ds))))) piece (rest_past is_digit text) rest h (number_found text (digits_value 10 (d ∷ ds)) (rest_past is_digit text) (digits_read text d ds e nonzero small))
 valued_if text d ds piece rest false e nonzero hb h = cc
 
 number_if : (d : ℕ) (bytes : List ℕ) (piece : Piece) (rest : List ℕ) (b : Bool) → (d == 48) ≡ b → is_digit d ≡ true
-    → cond {A = Read} b (Some (taken (token.Number (pos zero)), bytes)) (valued (digits_value 10 (front is_digit (d ∷ bytes))) (behind is_digit (d ∷ bytes))) ≡ Some (piece, rest) → Begins (d ∷ bytes) piece rest
+    → cond {A = TokenRead} b (Some (taken (token.Number (pos zero)), bytes)) (valued (digits_value 10 (front is_digit (d ∷ bytes))) (rest_past is_digit (d ∷ bytes))) ≡ Some (piece, rest) → Begins (d ∷ bytes) piece rest
 number_if d bytes piece rest true hb digit h =
     let at : 48 ≡ d = grind (arith, nat_tests) in
     let zero_is : decimal 0 ≡ 48 ∷ [] = decimal_digit 0 (omega arith) in
     found (d ∷ bytes) (taken (token.Number (pos zero))) piece bytes rest h (record { whole = ap (λ xs. xs ++ bytes) zero_is ∙ ap (λ n. n ∷ bytes) at; is = (zero, omega arith, refl); ends = zero_ends bytes })
 number_if d bytes piece rest false hb digit h =
     let is_front : front is_digit (d ∷ bytes) ≡ d ∷ front is_digit bytes = rw digit (rw (one-add (prefix_len is_digit bytes)) refl) in
-    valued_if (d ∷ bytes) d (front is_digit bytes) piece rest (nat_le (digits_value 10 (d ∷ front is_digit bytes)) 9_223_372_036_854_775_807) is_front hb refl (ap (λ xs. valued (digits_value 10 xs) (behind is_digit (d ∷ bytes))) (sym is_front) ∙ h)
+    valued_if (d ∷ bytes) d (front is_digit bytes) piece rest (nat_le (digits_value 10 (d ∷ front is_digit bytes)) 9_223_372_036_854_775_807) is_front hb refl (ap (λ xs. valued (digits_value 10 xs) (rest_past is_digit (d ∷ bytes))) (sym is_front) ∙ h)
 
 -- ---- text literals
 
-utf8_if : (text bytes behind_it : List ℕ) (piece : Piece) (rest : List ℕ) (b : Bool) → is_utf8 bytes ≡ b → literal_at 0 text ≡ Some (bytes, behind_it) → cond {A = Read} b (Some (taken (token.Text (chars bytes)), behind_it)) None ≡ Some (piece, rest) → Begins (34 ∷ text) piece rest
+utf8_if : (text bytes behind_it : List ℕ) (piece : Piece) (rest : List ℕ) (b : Bool) → is_utf8 bytes ≡ b → literal_at 0 text ≡ Some (bytes, behind_it) → cond {A = TokenRead} b (Some (taken (token.Text (chars bytes)), behind_it)) None ≡ Some (piece, rest) → Begins (34 ∷ text) piece rest
 utf8_if text bytes behind_it piece rest true hb e h =
     let read = text_read text bytes behind_it e hb in
     found (34 ∷ text) (taken (token.Text (chars bytes))) piece behind_it rest h (record { whole = read.whole; is = read.scalars; ends = text_ends (chars bytes) behind_it })
@@ -141,7 +141,7 @@ symbol_found text piece rest (Some read) c e h =
 other_found : (text : List ℕ) (piece : Piece) (rest : List ℕ) (o : Option (List ℕ)) → comment_at text ≡ o → or_symbol o text ≡ Some (piece, rest) → Begins text piece rest
 other_found text piece rest None e h = symbol_found text piece rest (symbol_at text) e refl h
 other_found text piece rest (Some line) e h =
-    found text (comment (front goes_on_line line)) piece (behind goes_on_line line) rest h (record {
+    found text (comment (front goes_on_line line)) piece (rest_past goes_on_line line) rest h (record {
       whole = ap (λ xs. 47 ∷ 47 ∷ xs) (whole_is goes_on_line line) ∙ sym (comment_read text line e);
       is = front_all goes_on_line line;
       ends = ends_behind goes_on_line line;

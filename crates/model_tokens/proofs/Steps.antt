@@ -1,8 +1,8 @@
 -- A text is divided piece by piece, from the left.
 use Rattle.std.proofs.Common.{◌≡◌, ◌≢◌, ℕ, ◌<◌, List, [], ◌∷◌, ◌++◌, length, Option, Some, None, Err, refl, sym, ap, ◌∙◌, subst, arith, append_assoc, append-nil, length-append}
 use Rattle.model_tokens.specs.Division.{Piece, blank, comment, taken, spelling, spelling_of, IsPiece, ArePieces, token_of, tokens_of, Divides, Tokenizes}
-use Rattle.model_tokens.specs.Reader.{Read, next}
-use Rattle.model_tokens.specs.Answer.{token_in, seen, Reads}
+use Rattle.model_tokens.specs.Reader.{TokenRead, next}
+use Rattle.model_tokens.specs.Answer.{token_in, seen, ReadsPiece}
 use Rattle.model_tokens.specs.declared.token.Token.{Token}
 use Rattle.model_tokens.specs.declared.dividing.TokenFault.{TokenFault}
 use Rattle.model_tokens.specs.declared.dividing.TokenFault.TheVariants.{NoToken, WantOfMemory}
@@ -98,11 +98,11 @@ shorter text piece rest read =
 
 -- ---- what the code sees of the piece
 
-seen_is : (read : Read) (found : Option Token) (behind : List ℕ) → seen read ≡ Some (found, behind) → (piece : Piece) × (read ≡ Some (piece, behind)) × (token_in piece ≡ found)
+seen_is : (read : TokenRead) (found : Option Token) (behind : List ℕ) → seen read ≡ Some (found, behind) → (piece : Piece) × (read ≡ Some (piece, behind)) × (token_in piece ≡ found)
 seen_is None found behind h = cc
 seen_is (Some r) found behind h =
     let p : ◌≡◌ {A = Option Token × List ℕ} (token_in r.0, r.1) (found, behind) = cc in
-    let wrap : List ℕ → Read = λ xs. Some (r.0, xs) in
+    let wrap : List ℕ → TokenRead = λ xs. Some (r.0, xs) in
     (r.0, ap wrap (ap (λ q. q.1) p), ap (λ q. q.0) p)
 
 abbrev listed : Option Token → List Token
@@ -139,6 +139,6 @@ no_bytes (b ∷ rest) e = absurd (omega arith)
 pub all_taken : (ts : List Token) (rest text : List ℕ) → Leaves ts rest text → length rest ≡ 0 → Divides ts text
 all_taken ts rest text leaves e = at_end ts text (subst (λ xs. Leaves ts xs text) (no_bytes rest e) leaves)
 
-pub not_divided : (ts : List Token) (rest text : List ℕ) (fault : TokenFault) → Leaves ts rest text → Reads (Err fault) (next rest) → 0 < length rest → Tokenizes (Err fault) text
+pub not_divided : (ts : List Token) (rest text : List ℕ) (fault : TokenFault) → Leaves ts rest text → ReadsPiece (Err fault) (next rest) → 0 < length rest → Tokenizes (Err fault) text
 not_divided ts rest text NoToken leaves read some = no_more ts rest text leaves read (λ e. (let none : length rest ≡ 0 = ap length e in absurd (omega arith)))
 not_divided ts rest text WantOfMemory leaves read some = tt

@@ -4,14 +4,14 @@ use Rattle.std.specs.Str.{is_utf8, chars}
 use Rattle.std.specs.Borrow.{Bor}
 use Rattle.std.specs.declared.alloc.Global.{Global}
 use Rattle.model_tokens.specs.Division.{Piece, blank, comment, taken}
-use Rattle.model_tokens.specs.Reader.{Read, as_symbol}
+use Rattle.model_tokens.specs.Reader.{TokenRead, as_symbol}
 use Rattle.model_tokens.specs.declared.token.Token.{Token}
 use Rattle.model_tokens.specs.declared.token.Symbol.{Symbol}
 use Rattle.model_tokens.specs.declared.dividing.TokenFault.{TokenFault}
 use Rattle.model_tokens.specs.declared.dividing.TokenFault.TheVariants.{NoToken, WantOfMemory}
 
 -- a token, and the bytes behind it
-abbrev pub ReadsToken : Result (Token × Bor (List ℕ)) TokenFault → Read → Type 0
+abbrev pub ReadsToken : Result (Token × Bor (List ℕ)) TokenFault → TokenRead → Type 0
 ReadsToken (Ok found) read = read ≡ Some (taken found.0, found.1.now)
 ReadsToken (Err NoToken) read = read ≡ None
 ReadsToken (Err WantOfMemory) read = Unit {0}
@@ -21,20 +21,20 @@ token_in (blank _) = None
 token_in (comment _) = None
 token_in (taken token) = Some token
 
-abbrev pub seen : Read → Option (Option Token × List ℕ)
+abbrev pub seen : TokenRead → Option (Option Token × List ℕ)
 seen None = None
 seen (Some found) = Some (token_in found.0, found.1)
 
 -- a token if the piece is one, and the bytes behind the piece
-abbrev pub Reads : Result (Option Token × Bor (List ℕ)) TokenFault → Read → Type 0
-Reads (Ok found) read = seen read ≡ Some (found.0, found.1.now)
-Reads (Err NoToken) read = read ≡ None
-Reads (Err WantOfMemory) read = Unit {0}
+abbrev pub ReadsPiece : Result (Option Token × Bor (List ℕ)) TokenFault → TokenRead → Type 0
+ReadsPiece (Ok found) read = seen read ≡ Some (found.0, found.1.now)
+ReadsPiece (Err NoToken) read = read ≡ None
+ReadsPiece (Err WantOfMemory) read = Unit {0}
 
 -- a symbol, and the bytes behind it
-abbrev pub Finds : Option (Token × Bor (List ℕ)) → Option (Symbol × List ℕ) → Type 0
-Finds None read = read ≡ None
-Finds (Some found) read = as_symbol read ≡ Some (taken found.0, found.1.now)
+abbrev pub FindsSymbolAt : Option (Token × Bor (List ℕ)) → Option (Symbol × List ℕ) → Type 0
+FindsSymbolAt None read = read ≡ None
+FindsSymbolAt (Some found) read = as_symbol read ≡ Some (taken found.0, found.1.now)
 
 abbrev pub FindsComment : Option (Bor (List ℕ)) → Option (List ℕ) → Type 0
 FindsComment None read = read ≡ None

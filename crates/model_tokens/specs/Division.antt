@@ -2,7 +2,7 @@
 use Rattle.std.specs.Prelude.{◌≡◌, ℕ, ℤ, pos, zero, Bool, true, false, ◌==◌, List, [], ◌∷◌, flat_map, Result, Ok, Err}
 use Rattle.std.specs.List.{list_all}
 use Rattle.model_tokens.specs.Bytes.{is_blank, is_digit, goes_on_name, goes_on_line}
-use Rattle.model_tokens.specs.Spelling.{spelled, IsToken}
+use Rattle.model_tokens.specs.Spelling.{token_spelling, IsToken}
 use Rattle.model_tokens.specs.declared.token.Token.{Token}
 use Rattle.model_tokens.specs.declared.token.Token.TheVariants as token
 use Rattle.model_tokens.specs.declared.token.Symbol.{Symbol}
@@ -19,7 +19,7 @@ pub data Piece : Type 0 where
 abbrev pub spelling : Piece → List ℕ
 spelling (blank byte) = byte ∷ []
 spelling (comment bytes) = 47 ∷ 47 ∷ bytes
-spelling (taken token) = spelled token
+spelling (taken token) = token_spelling token
 
 abbrev pub IsPiece : Piece → Type 0
 IsPiece (blank byte) = is_blank byte ≡ true

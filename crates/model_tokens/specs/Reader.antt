@@ -16,15 +16,15 @@ use Rattle.model_tokens.specs.declared.bytes.Kind.{Kind}
 use Rattle.model_tokens.specs.declared.bytes.Kind.TheVariants as kind
 
 -- the piece, and the bytes behind it
-abbrev pub Read : Type 0
-Read = Option (Piece × List ℕ)
+abbrev pub TokenRead : Type 0
+TokenRead = Option (Piece × List ℕ)
 
 -- the bytes that pass the test, up to the first that does not, and those from there on
 abbrev pub front : (ℕ → Bool) → List ℕ → List ℕ
 front test text = take (prefix_len test text) text
 
-abbrev pub behind : (ℕ → Bool) → List ℕ → List ℕ
-behind test text = drop (prefix_len test text) text
+abbrev pub rest_past : (ℕ → Bool) → List ℕ → List ℕ
+rest_past test text = drop (prefix_len test text) text
 
 -- what the first byte begins
 abbrev pub kind_of : ℕ → Kind
@@ -48,20 +48,20 @@ abbrev pub named_or : Option Word → List ℕ → Token
 named_or (Some word) bytes = token.Word word
 named_or None bytes = if begins_class_name (slice_index bytes 0) then token.ClassName bytes else token.Name bytes
 
-abbrev pub name_at : List ℕ → Read
-name_at text =
+abbrev pub name_token_at : List ℕ → TokenRead
+name_token_at text =
     if nat_lt 64 (prefix_len goes_on_name text) then None
-    else Some (taken (named_or (word_among every_word (front goes_on_name text)) (front goes_on_name text)), behind goes_on_name text)
+    else Some (taken (named_or (word_among every_word (front goes_on_name text)) (front goes_on_name text)), rest_past goes_on_name text)
 
 -- ---- numbers
 
-abbrev pub valued : ℕ → List ℕ → Read
+abbrev pub valued : ℕ → List ℕ → TokenRead
 valued number rest = if nat_le number 9_223_372_036_854_775_807 then Some (taken (token.Number (pos number)), rest) else None
 
-abbrev pub number_at : List ℕ → Read
-number_at text =
+abbrev pub number_token_at : List ℕ → TokenRead
+number_token_at text =
     if slice_index text 0 == 48 then Some (taken (token.Number (pos zero)), drop 1 text)
-    else valued (digits_value 10 (front is_digit text)) (behind is_digit text)
+    else valued (digits_value 10 (front is_digit text)) (rest_past is_digit text)
 
 -- ---- text literals
 
@@ -91,9 +91,9 @@ escape_at (byte ∷ bytes) =
     else (if byte == 120 then control_at bytes
     else None)))
 
-abbrev pub byte_at : List ℕ → Option (ℕ × ℕ)
-byte_at [] = None
-byte_at (byte ∷ bytes) =
+abbrev pub literal_byte_at : List ℕ → Option (ℕ × ℕ)
+literal_byte_at [] = None
+literal_byte_at (byte ∷ bytes) =
     if byte == 92 then escape_at bytes
     else (if byte == 34 || is_control byte then None
     else Some (byte, 0))
@@ -110,9 +110,9 @@ literal_step byte bytes (Some found) more = with_front found.0 (more found.1)
 abbrev pub literal_at : ℕ → List ℕ → Option (List ℕ × List ℕ)
 literal_at passed [] = None
 literal_at (suc passed) (byte ∷ bytes) = literal_at passed bytes
-literal_at zero (byte ∷ bytes) = literal_step byte bytes (byte_at (byte ∷ bytes)) (λ passed. literal_at passed bytes)
+literal_at zero (byte ∷ bytes) = literal_step byte bytes (literal_byte_at (byte ∷ bytes)) (λ passed. literal_at passed bytes)
 
-abbrev pub as_text : Option (List ℕ × List ℕ) → Read
+abbrev pub as_text : Option (List ℕ × List ℕ) → TokenRead
 as_text None = None
 as_text (Some found) = if is_utf8 found.0 then Some (taken (token.Text (chars found.0)), found.1) else None
 
@@ -158,26 +158,26 @@ abbrev pub comment_at : List ℕ → Option (List ℕ)
 comment_at (first ∷ second ∷ rest) = if first == 47 && second == 47 then Some rest else None
 comment_at _ = None
 
-abbrev pub as_symbol : Option (Symbol × List ℕ) → Read
+abbrev pub as_symbol : Option (Symbol × List ℕ) → TokenRead
 as_symbol None = None
 as_symbol (Some found) = Some (taken (token.Symbol found.0), found.1)
 
-abbrev pub or_symbol : Option (List ℕ) → List ℕ → Read
-or_symbol (Some line) text = Some (comment (front goes_on_line line), behind goes_on_line line)
+abbrev pub or_symbol : Option (List ℕ) → List ℕ → TokenRead
+or_symbol (Some line) text = Some (comment (front goes_on_line line), rest_past goes_on_line line)
 or_symbol None text = as_symbol (symbol_at text)
 
-abbrev pub other_at : List ℕ → Read
+abbrev pub other_at : List ℕ → TokenRead
 other_at text = or_symbol (comment_at text) text
 
 -- ---- any piece
 
-abbrev pub row : Kind → ℕ → List ℕ → Read
+abbrev pub row : Kind → ℕ → List ℕ → TokenRead
 row kind.Blank byte bytes = Some (blank byte, bytes)
-row kind.Digit byte bytes = number_at (byte ∷ bytes)
-row kind.Letter byte bytes = name_at (byte ∷ bytes)
+row kind.Digit byte bytes = number_token_at (byte ∷ bytes)
+row kind.Letter byte bytes = name_token_at (byte ∷ bytes)
 row kind.Quote byte bytes = as_text (literal_at zero bytes)
 row kind.Other byte bytes = other_at (byte ∷ bytes)
 
-abbrev pub next : List ℕ → Read
+abbrev pub next : List ℕ → TokenRead
 next [] = None
 next (byte ∷ bytes) = row (kind_of byte) byte bytes

@@ -69,13 +69,13 @@ spelled_character character =
 abbrev pub spelled_text : List ℕ → List ℕ
 spelled_text characters = 34 ∷ (flat_map spelled_character characters ++ 34 ∷ [])
 
-abbrev pub spelled : Token → List ℕ
-spelled (token.Name name) = name
-spelled (token.ClassName name) = name
-spelled (token.Number number) = signed_decimal number
-spelled (token.Text characters) = spelled_text characters
-spelled (token.Word word) = spelled_word word
-spelled (token.Symbol symbol) = spelled_symbol symbol
+abbrev pub token_spelling : Token → List ℕ
+token_spelling (token.Name name) = name
+token_spelling (token.ClassName name) = name
+token_spelling (token.Number number) = signed_decimal number
+token_spelling (token.Text characters) = spelled_text characters
+token_spelling (token.Word word) = spelled_word word
+token_spelling (token.Symbol symbol) = spelled_symbol symbol
 
 -- one to 64 letters, digits and `_`, of which the first passes the test
 abbrev pub IsNamed : (ℕ → Bool) → List ℕ → Type 0

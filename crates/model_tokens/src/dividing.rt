@@ -5,7 +5,7 @@ ghost use Rattle.model_tokens.specs.declared.token.Token.{Token as Held};
 
 use crate::pieces::piece;
 use crate::token::Tokens;
-use std::alloc::{AllocFailed, Global};
+use std::alloc::Global;
 use tea_base::{List, WantOfMemory};
 
 /// Why a text was not divided into tokens.
@@ -22,16 +22,6 @@ impl From<WantOfMemory> for TokenFault {
     ghost from_gives = { λ _ fault. fault ≡ WantOfMemory };
 
     fn from(_error: WantOfMemory) -> Self {
-        TokenFault::WantOfMemory
-    }
-}
-
-impl<T: Drop> From<AllocFailed<T>> for TokenFault {
-    ghost use Rattle.model_tokens.specs.declared.dividing.TokenFault.TheVariants.{WantOfMemory};
-
-    ghost from_gives = { λ _ fault. fault ≡ WantOfMemory };
-
-    fn from(_error: AllocFailed<T>) -> Self {
         TokenFault::WantOfMemory
     }
 }

@@ -2,13 +2,13 @@
 ghost use Rattle.std.specs.Prelude.{◌≡◌, ◌<◌, length, Err, IfOk, OnOk, IfSome};
 ghost use Rattle.std.specs.Str.{IsUtf8, chars};
 ghost use Rattle.model_tokens.specs.Bytes.{is_control};
-ghost use Rattle.model_tokens.specs.Reader.{hex_value, control_at, escape_at, byte_at, literal_at, as_text};
+ghost use Rattle.model_tokens.specs.Reader.{hex_value, control_at, escape_at, literal_byte_at, literal_at, as_text};
 ghost use Rattle.model_tokens.specs.Answer.{ReadsText, ReadsToken, ReadsBytes};
 
 use crate::dividing::TokenFault;
 use crate::token::Token;
 use std::alloc::Global;
-use tea_base::{Text, TextFault};
+use tea_base::{Text, TextFault, push};
 
 /// The text of these bytes.
 pub fn text_of(alloc: Global, bytes: &[u8]) -> Result<Text, TokenFault>
@@ -68,7 +68,7 @@ fn escape(text: &[u8]) -> Option<(u8, usize)>
 
 /// The byte that the spelling at the front stands for, and how many bytes of the spelling stand behind the first.
 pub fn spelled_byte(text: &[u8]) -> Option<(u8, usize)>
-    ensures byte { result ≡ byte_at text.now }
+    ensures byte { result ≡ literal_byte_at text.now }
     ensures within { IfSome result (λ found. found.1 < length text.now) }
 {
     let (first, behind) = text.split_first()?;
@@ -87,7 +87,7 @@ fn literal_bytes<'a>(alloc: Global, text: &'a [u8]) -> Result<(Vec<u8>, &'a [u8]
     let mut bytes = Vec::new(alloc);
     let mut rest = text;
     while let Some((byte, more)) = spelled_byte(rest) {
-        bytes.push(byte)?;
+        push(&mut bytes, byte)?;
         rest = rest.split_at(more + 1).1;
     }
     match rest.split_first() {

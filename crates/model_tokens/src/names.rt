@@ -1,7 +1,7 @@
 //! Names, class names and reserved words.
 ghost use Rattle.std.specs.Prelude.{◌≡◌, true};
 ghost use Rattle.std.specs.Str.{is_utf8, chars};
-ghost use Rattle.model_tokens.specs.Reader.{word_among, every_word, named_or, name_at};
+ghost use Rattle.model_tokens.specs.Reader.{word_among, every_word, named_or, name_token_at};
 ghost use Rattle.model_tokens.specs.Answer.{ReadsToken, ReadsNamed};
 
 use crate::bytes::{begins_class_name, name_length};
@@ -53,7 +53,7 @@ fn named(alloc: Global, name: &[u8]) -> Result<Token, TokenFault>
 
 /// The name or the word at the front, and the bytes behind it.
 pub fn name<'a>(alloc: Global, text: &'a [u8]) -> Result<(Token, &'a [u8]), TokenFault>
-    ensures { ReadsToken result (name_at text.now) }
+    ensures { ReadsToken result (name_token_at text.now) }
 {
     let (name, rest) = text.split_at(name_length(text));
     if name.len() > LONGEST_NAME {

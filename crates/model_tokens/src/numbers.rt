@@ -1,7 +1,7 @@
 //! Numbers.
 ghost use Rattle.std.specs.Prelude.{◌≡◌, ◌≤◌, pos, nat_le, if◌then◌else◌, Some, None};
 ghost use Rattle.std.specs.Str.Parse.{digits_value, AllDigits};
-ghost use Rattle.model_tokens.specs.Reader.{number_at};
+ghost use Rattle.model_tokens.specs.Reader.{number_token_at};
 ghost use Rattle.model_tokens.specs.Answer.{ReadsToken};
 
 use crate::bytes::digits_length;
@@ -24,7 +24,7 @@ fn value(digits: &[u8]) -> Option<i64>
 
 /// The number at the front, and the bytes behind it.
 pub fn number(text: &[u8]) -> Result<(Token, &[u8]), TokenFault>
-    ensures { ReadsToken result (number_at text.now) }
+    ensures { ReadsToken result (number_token_at text.now) }
 {
     if let Some((b'0', behind)) = text.split_first() {
         return Ok((Token::Number(0), behind));

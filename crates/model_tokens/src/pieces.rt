@@ -1,7 +1,7 @@
 //! The piece at the front of a text: a blank, a comment or a token.
 ghost use Rattle.std.specs.Prelude.{◌≡◌};
 ghost use Rattle.model_tokens.specs.Reader.{next};
-ghost use Rattle.model_tokens.specs.Answer.{Reads};
+ghost use Rattle.model_tokens.specs.Answer.{ReadsPiece};
 
 use crate::bytes::{Kind, begins};
 use crate::dividing::TokenFault;
@@ -14,7 +14,7 @@ use std::alloc::Global;
 
 /// The token at the front if the piece there is one, and the bytes behind the piece.
 pub fn piece<'a>(alloc: Global, text: &'a [u8]) -> Result<(Option<Token>, &'a [u8]), TokenFault>
-    ensures { Reads result (next text.now) }
+    ensures { ReadsPiece result (next text.now) }
 {
     let Some((first, behind)) = text.split_first() else {
         return Err(TokenFault::NoToken);

@@ -1,7 +1,7 @@
 //! Symbols and comments.
 ghost use Rattle.std.specs.Prelude.{◌≡◌, option_copied};
 ghost use Rattle.model_tokens.specs.Reader.{single_among, singles, double_of, symbol_at, comment_at, other_at};
-ghost use Rattle.model_tokens.specs.Answer.{Reads, Finds, FindsComment};
+ghost use Rattle.model_tokens.specs.Answer.{ReadsPiece, FindsSymbolAt, FindsComment};
 
 use crate::bytes::line_length;
 use crate::dividing::TokenFault;
@@ -49,7 +49,7 @@ fn double(first: u8, second: u8) -> Option<Symbol>
 
 /// The symbol at the front, and the bytes behind it.
 fn symbol(text: &[u8]) -> Option<(Token, &[u8])>
-    ensures { Finds result (symbol_at text.now) }
+    ensures { FindsSymbolAt result (symbol_at text.now) }
 {
     if let [first, second, behind @ ..] = text {
         if let Some(symbol) = double(*first, *second) {
@@ -72,7 +72,7 @@ fn comment(text: &[u8]) -> Option<&[u8]>
 
 /// The symbol or the comment at the front, and the bytes behind it.
 pub fn other(text: &[u8]) -> Result<(Option<Token>, &[u8]), TokenFault>
-    ensures { Reads result (other_at text.now) }
+    ensures { ReadsPiece result (other_at text.now) }
 {
     if let Some(line) = comment(text) {
         return Ok((None, &line[line_length(line)..]));

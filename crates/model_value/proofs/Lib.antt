@@ -1,10 +1,9 @@
 pub mod Lengths
 pub mod Totals
-pub mod Objects
-pub mod Order
 pub mod Spellings
 pub mod Items
 pub mod Plains
 pub mod Rooms
+pub mod Weighing
 pub mod ValueCodec
 pub mod PayloadCodec

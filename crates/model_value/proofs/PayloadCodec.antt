@@ -1,11 +1,14 @@
 -- A payload is read exactly where one has its spelling.
 use Rattle.std.proofs.Common.{◌≡◌, ℕ, Bool, true, false, List, length, Option, Some, None, refl, ap, ◌∙◌, subst, ◌==◌, if◌then◌else◌}
+use Rattle.std.specs.Prelude.{Result, Ok, Err, IfErr}
 use Rattle.std.proofs.lemmas.Option.{none-some, same_Some}
-use Rattle.byte_fields.specs.Fields.{Reading, ◌>>=◌, text_at, paired_at}
+use Rattle.byte_fields.specs.Fields.{Reader, ◌>>=◌, text_at, paired_at}
 use Rattle.byte_fields.proofs.Codecs.{Codec, FitsText, text_codec, paired_codec, made_codec}
+use Rattle.model_value.specs.declared.fault.ValueFault.{ValueFault}
+use Rattle.model_value.specs.declared.fault.ValueFault.TheVariants.{BadValue, WantOfMemory}
 use Rattle.model_value.specs.Plain.{PlainValue, InBounds, is_in_bounds, most_depth}
 use Rattle.model_value.specs.Reading.{value_at, bounded_at}
-use Rattle.model_value.specs.Payload.{PlainPayload, payload_spelling, payload_at, payload_of, IsPayload}
+use Rattle.model_value.specs.Payload.{PlainPayload, payload_spelling, payload_at, whole_payload, IsPayload}
 use Rattle.model_value.proofs.ValueCodec.{FitsBounds, bounded_codec, is_bounded, InBounds-is_in_bounds}
 
 -- its texts and its value have a spelling
@@ -44,14 +47,14 @@ bounded-in_bounds bytes rest v e =
     let p = passed (is_in_bounds x.0.0) x.0 (v, rest) x.2 in
     InBounds-is_in_bounds v (subst (λ (y : PlainValue × List ℕ). is_in_bounds y.0 ≡ true) p.1 p.0)
 
-paired-second : {A B : Type 0} (first : Reading A) (second : Reading B) (bytes rest : List ℕ) (a : A) (b : B) → paired_at first second bytes ≡ Some ((a, b), rest) → (between : List ℕ) × (second between ≡ Some (b, rest))
+paired-second : {A B : Type 0} (first : Reader A) (second : Reader B) (bytes rest : List ℕ) (a : A) (b : B) → paired_at first second bytes ≡ Some ((a, b), rest) → (between : List ℕ) × (second between ≡ Some (b, rest))
 paired-second {A = A} {B = B} first second bytes rest a b e =
     let x = stepped (first bytes) (λ x. second x.1 >>= λ y. Some ((x.0, y.0), y.1)) ((a, b), rest) e in
     let y = stepped (second x.0.1) (λ y. Some ((x.0.0, y.0), y.1)) ((a, b), rest) x.2 in
     let both = same_Some ((x.0.0, y.0.0), y.0.1) ((a, b), rest) y.2 in
     (x.0.1, y.1 ∙ ap (λ (z : (A × B) × List ℕ). Some (z.0.1, z.1)) both)
 
-pub payload_of-in_bounds : (bytes : List ℕ) (p : PlainPayload) → payload_of bytes ≡ Some p → InBounds p.value
+pub payload_of-in_bounds : (bytes : List ℕ) (p : PlainPayload) → whole_payload bytes ≡ Some p → InBounds p.value
 unfolding payload_at
 payload_of-in_bounds bytes p e =
     let x = stepped (payload_at bytes) (λ x. if length x.1 == 0 then Some x.0 else None) p e in
@@ -62,3 +65,11 @@ payload_of-in_bounds bytes p e =
     let last = paired-second text_at bounded_at behind.0 y.0.1 y.0.0.1.0 y.0.0.1.1 behind.1 in
     let bound : InBounds y.0.0.1.1 = bounded-in_bounds last.0 y.0.1 y.0.0.1.1 last.1 in
     subst (λ (q : PlainPayload). InBounds q.value) (ap (λ (z : PlainPayload × List ℕ). z.0) made ∙ is_p) bound
+
+-- ---- what is written
+
+-- where no spelling is refused, there was no memory
+pub only_want : {X : Type 0} (result : Result X ValueFault) → (result ≡ Err BadValue → ⊥) → IfErr result (λ fault. fault ≡ WantOfMemory)
+only_want (Ok x) is_read = tt
+only_want (Err BadValue) is_read = absurd (is_read refl)
+only_want (Err WantOfMemory) is_read = refl

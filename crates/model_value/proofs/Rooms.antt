@@ -12,5 +12,3 @@ value_at-row (suc room) bytes = refl
 pub items_in-room : (room : ℕ) (bytes : List ℕ) → 0 < room → items_in room bytes ≡ made_at plains_of (list_at (λ _. value_at (room - 1))) bytes
 items_in-room zero bytes h = absurd (omega arith)
 items_in-room (suc room) bytes h = let e : suc room - 1 ≡ room = omega arith in rw e refl
-
-pub ruleset by_room = (value_at-row, items_in-room)

@@ -1,17 +1,14 @@
 -- A weight bounds how many items, and how many bytes, a value has.
-use Rattle.std.proofs.Common.{◌≡◌, ℕ, ◌+◌, ◌*◌, ◌≤◌, true, false, List, length, length-append, subst, arith}
-use Rattle.std.proofs.lemmas.Str.{encodes_same}
-use Rattle.std.specs.Str.{IsUtf8, all_scalars}
-use Rattle.std.specs.Prelude.{encode_utf8_all, OnOk, Result, Ok, Err}
-use Rattle.model_value.specs.Plain.{PlainValue, nil, bool, int, text, ref, list, PlainValues, no_items, item, weight, weight_of_all}
-use Rattle.model_value.specs.Spelling.{count, value_spelling, items_spelling}
+use Rattle.std.proofs.Common.{ℕ, ◌+◌, ◌*◌, ◌≤◌, true, false, List, length, length-append, arith}
+use Rattle.std.specs.Prelude.{encode_utf8_all}
+use Rattle.model_value.specs.Plain.{PlainValue, nil, bool, int, text, ref, list, PlainValues, no_items, item, weight, weight_of_all, text_weight}
+use Rattle.model_value.specs.Spelling.{item_count, value_spelling, items_spelling}
 use Rattle.model_value.specs.View.{plains}
-use Rattle.model_value.specs.World.{text_weight}
 use Rattle.model_value.specs.declared.value.Value.{Value}
 use Rattle.model_value.proofs.Lengths.{count-plains}
 
 -- a value weighs something
-weight-positive : (v : PlainValue) → 1 ≤ weight v
+pub weight-positive : (v : PlainValue) → 1 ≤ weight v
 weight-positive nil = omega arith
 weight-positive (bool flag) = omega arith
 weight-positive (int number) = omega arith
@@ -19,7 +16,7 @@ weight-positive (text characters) = omega arith
 weight-positive (ref object) = omega arith
 weight-positive (list items) = omega arith
 
-pub count-le_weight : (vs : PlainValues) → count vs ≤ weight_of_all vs
+pub count-le_weight : (vs : PlainValues) → item_count vs ≤ weight_of_all vs
 count-le_weight no_items = omega arith
 count-le_weight (item v rest) = omega (arith, weight-positive v, count-le_weight rest)
 
@@ -44,15 +41,6 @@ mutual
   items_spelling-le_weight : (vs : PlainValues) → length (items_spelling vs) ≤ 16 * weight_of_all vs
   items_spelling-le_weight no_items = omega arith
   items_spelling-le_weight (item v rest) = omega (arith, length-append (value_spelling v) (items_spelling rest), value_spelling-le_weight v, items_spelling-le_weight rest)
-
--- the characters of a text are scalar values
-pub encode_utf8_all-scalars : (characters : List ℕ) → IsUtf8 (encode_utf8_all characters) → all_scalars characters ≡ true
-encode_utf8_all-scalars characters utf8 = subst (λ (cs : List ℕ). all_scalars cs ≡ true) (encodes_same utf8.0 characters utf8.1.1) utf8.1.0
-
--- what holds anyway
-pub on_ok : {T E P : Type 0} (r : Result T E) → P → OnOk r P
-on_ok (Ok x) p = p
-on_ok (Err e) p = tt
 
 -- for the count of a list
 pub ruleset by_weight = (count-plains, length-le_weight)

@@ -1,12 +1,7 @@
 -- Weights of lists add up, and lists nest no deeper than they weigh.
-use Rattle.std.proofs.Common.{◌≡◌, ℕ, ◌+◌, ◌≤◌, List, [], ◌∷◌, ◌++◌, refl, arith}
-use Rattle.model_value.specs.Plain.{PlainValue, nil, bool, int, text, ref, list, PlainValues, no_items, item, weight, weight_of_all, depth, greatest_depth}
+use Rattle.std.proofs.Common.{◌≡◌, ◌+◌, ◌≤◌, List, [], ◌∷◌, ◌++◌, refl, arith}
+use Rattle.model_value.specs.Plain.{PlainValue, nil, bool, int, text, ref, list, PlainValues, no_items, item, weight, weight_of_all, depth, greatest_depth, values_weight}
 use Rattle.model_value.specs.View.{plains_of}
-use Rattle.model_value.specs.World.{total, values_weight}
-
-pub total-append : {A : Type 0} (weighs : A → ℕ) (xs ys : List A) → total weighs (xs ++ ys) ≡ total weighs xs + total weighs ys
-total-append weighs [] ys = omega arith
-total-append weighs (x ∷ xs) ys = omega (arith, total-append weighs xs ys)
 
 pub values_weight-append : (xs ys : List PlainValue) → values_weight (xs ++ ys) ≡ values_weight xs + values_weight ys
 values_weight-append [] ys = omega arith

@@ -7,11 +7,11 @@ use Rattle.std.proofs.Math.Facts.{sfits_to_z, Fits-of_z}
 use Rattle.std.proofs.lemmas.Int.{to_z-of_z, of_z-to_z}
 use Rattle.std.proofs.lemmas.Bool.{eqb-true, eqb-false, leb-true, le-leb}
 use Rattle.std.proofs.lemmas.List.Concat.{flat_map-cons}
-use Rattle.byte_fields.specs.Fields.{Reading, made_at, list_of, list_at, never_at}
+use Rattle.byte_fields.specs.Fields.{Reader, made_at, list_of, list_at, never_at, text_field}
 use Rattle.byte_fields.proofs.Codecs.{Codec, EachFits, FitsText, wide32, wide64, number_codec, byte_codec, text_codec, list_codec, headed_codec, made_codec, said_codec, tested_codec, chosen_codec, nothing_codec, never_codec}
 use Rattle.model_value.specs.Plain.{PlainValue, nil, bool, int, text, ref, list, PlainValues, no_items, item, items_of, weight, weight_of_all, depth, greatest_depth, InBounds, is_in_bounds, most_weight, most_depth}
 use Rattle.model_value.specs.View.{plains_of}
-use Rattle.model_value.specs.Spelling.{text_field, count, value_spelling, items_spelling, IsValue, AreValues}
+use Rattle.model_value.specs.Spelling.{item_count, value_spelling, items_spelling, IsValue, AreValues}
 use Rattle.model_value.specs.Reading.{value_of_kind, value_row, value_at, bounded_at}
 use Rattle.model_value.proofs.Items.{plains_of-items_of}
 use Rattle.model_value.proofs.Spellings.{count-le_weight, encode_utf8_all-le_weight}
@@ -24,7 +24,7 @@ abbrev mutual
   HasSpelling (int n) = FitsSigned w64 n
   HasSpelling (text s) = FitsText s
   HasSpelling (ref n) = n < 2 ^ 32
-  HasSpelling (list items) = (count items < 2 ^ 32) × HaveSpellings items
+  HasSpelling (list items) = (item_count items < 2 ^ 32) × HaveSpellings items
 
   pub HaveSpellings : PlainValues → Type 0
   HaveSpellings no_items = Unit {0}
@@ -42,7 +42,7 @@ kind_of (ref n) = 5
 kind_of (list items) = 6
 
 abbrev list_spelling : PlainValues → List ℕ
-list_spelling items = to_be_bytes w32 (count items) ++ items_spelling items
+list_spelling items = to_be_bytes w32 (item_count items) ++ items_spelling items
 
 abbrev body : PlainValue → List ℕ
 body nil = []
@@ -162,7 +162,7 @@ no_other kind v a b c d e f g is =
     let g1 = eqb-false kind 6 g in
     omega arith
 
-body_codec : (F : PlainValues → Type 0) (r : Reading PlainValues) → Codec PlainValues list_spelling F r → (kind : ℕ) → Codec PlainValue body (OfKind F kind) (value_of_kind r kind)
+body_codec : (F : PlainValues → Type 0) (r : Reader PlainValues) → Codec PlainValues list_spelling F r → (kind : ℕ) → Codec PlainValue body (OfKind F kind) (value_of_kind r kind)
 body_codec F r items kind =
     chosen_codec (eqb kind 0)
     (λ h. let is = eqb-true kind 0 h in said_codec body (OfKind F kind) (λ v e. rw e refl) (λ v e. subst (OfKind F kind) (sym e) (sym is, tt)) (λ v f. is_nil v (f.0 ∙ is)) (nothing_codec nil))
@@ -189,7 +189,7 @@ spelled_so (text s) = refl
 spelled_so (ref n) = refl
 spelled_so (list items) = refl
 
-row_codec : (F : PlainValues → Type 0) (r : Reading PlainValues) → Codec PlainValues list_spelling F r → Codec PlainValue value_spelling (RowFits F) (value_row r)
+row_codec : (F : PlainValues → Type 0) (r : Reader PlainValues) → Codec PlainValues list_spelling F r → Codec PlainValue value_spelling (RowFits F) (value_row r)
 row_codec F r items = said_codec value_spelling (RowFits F) (λ v _. spelled_so v) (λ v f. f.1) (λ v f. let small = kind-small v in (omega arith, f))
     (headed_codec kind_of body (RowFits F) (value_of_kind r) byte_codec (λ kind _. body_codec F r items kind))
 
@@ -200,13 +200,13 @@ abbrev pub Nests : ℕ → PlainValue → Type 0
 Nests room v = (depth v ≤ room) × HasSpelling v
 
 abbrev NestAll : ℕ → PlainValues → Type 0
-NestAll room items = (count items < 2 ^ 32) × ((greatest_depth items ≤ room) × HaveSpellings items)
+NestAll room items = (item_count items < 2 ^ 32) × ((greatest_depth items ≤ room) × HaveSpellings items)
 
-count-plains_of : (vs : List PlainValue) → count (plains_of vs) ≡ length vs
+count-plains_of : (vs : List PlainValue) → item_count (plains_of vs) ≡ length vs
 count-plains_of [] = refl
 count-plains_of (v ∷ vs) = omega (arith, count-plains_of vs)
 
-length-items_of : (items : PlainValues) → length (items_of items) ≡ count items
+length-items_of : (items : PlainValues) → length (items_of items) ≡ item_count items
 length-items_of no_items = refl
 length-items_of (item v rest) = omega (arith, length-items_of rest)
 

@@ -1,11 +1,7 @@
 pub mod Plain
 pub mod View
 pub mod PlainCode
-pub mod Messages
-pub mod World
-pub mod Valid
-pub mod WorldCode
-pub mod Room
 pub mod Spelling
 pub mod Reading
 pub mod Payload
+pub mod Room

@@ -1,5 +1,6 @@
 -- Values as plain trees, with their weight, their depth and their bounds.
 use Rattle.std.specs.Prelude.{◌≡◌, ◌≤◌, ◌<◌, ℕ, ◌+◌, ◌/◌, max, nat_le, ◌&&◌, ℤ, Bool, List, [], ◌∷◌, length, Option, Some, None, encode_utf8_all}
+use Rattle.std.specs.List.{AllByRecursion}
 
 mutual
   pub data PlainValue : Type 0 where
@@ -64,7 +65,23 @@ InBounds value = (weight value ≤ most_weight) × (depth value ≤ most_depth)
 abbrev pub is_in_bounds : PlainValue → Bool
 is_in_bounds value = nat_le (weight value) most_weight && nat_le (depth value) most_depth
 
+-- a text weighs as the value that it is
+abbrev pub text_weight : List ℕ → ℕ
+text_weight characters = weight (text characters)
+
+abbrev pub TextFits : List ℕ → Type 0
+TextFits characters = text_weight characters ≤ most_weight
+
+-- ---- lists of values
+
+abbrev pub values_weight : List PlainValue → ℕ
+values_weight [] = 0
+values_weight (value ∷ rest) = weight value + values_weight rest
+
+abbrev pub AllInBounds : List PlainValue → Type 0
+AllInBounds = AllByRecursion InBounds
+
 -- what a weight leaves of a room, if it is not above it, and the depth is not above the levels
-abbrev pub Leaves : Option ℕ → ℕ → ℕ → ℕ → ℕ → Type 0
-Leaves None room weight levels depth = weight ≤ room → levels < depth
-Leaves (Some left) room weight levels depth = (left + weight ≡ room) × (depth ≤ levels)
+abbrev pub LeavesRoom : Option ℕ → ℕ → ℕ → ℕ → ℕ → Type 0
+LeavesRoom None room weight levels depth = weight ≤ room → levels < depth
+LeavesRoom (Some left) room weight levels depth = (left + weight ≡ room) × (depth ≤ levels)

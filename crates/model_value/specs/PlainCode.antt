@@ -38,9 +38,9 @@ joined [] rows next = []
 joined (value ∷ values) [] next = []
 joined (value ∷ values) (row ∷ rows) next = next values (item value row ∷ rows)
 
-abbrev pub first_number : List ℕ → ℕ
-first_number [] = 0
-first_number (number ∷ rest) = number
+abbrev pub first_code_number : List ℕ → ℕ
+first_code_number [] = 0
+first_code_number (number ∷ rest) = number
 
 abbrev pub read_mark : ℕ → ℤ → List ℕ → List PlainValue → List PlainValues → (List PlainValue → List PlainValues → List PlainValue) → List PlainValue
 read_mark zero n s values rows next = next (nil ∷ values) rows
@@ -48,7 +48,7 @@ read_mark (suc zero) n s values rows next = next (bool false ∷ values) rows
 read_mark (suc (suc zero)) n s values rows next = next (bool true ∷ values) rows
 read_mark (suc (suc (suc zero))) n s values rows next = next (int n ∷ values) rows
 read_mark (suc (suc (suc (suc zero)))) n s values rows next = next (text s ∷ values) rows
-read_mark (suc (suc (suc (suc (suc zero))))) n s values rows next = next (ref (first_number s) ∷ values) rows
+read_mark (suc (suc (suc (suc (suc zero))))) n s values rows next = next (ref (first_code_number s) ∷ values) rows
 read_mark (suc (suc (suc (suc (suc (suc zero)))))) n s values rows next = wrapped values rows next
 read_mark (suc (suc (suc (suc (suc (suc (suc zero))))))) n s values rows next = next values (no_items ∷ rows)
 read_mark (suc (suc (suc (suc (suc (suc (suc (suc _)))))))) n s values rows next = joined values rows next
@@ -57,12 +57,12 @@ abbrev pub read_marks : List Mark → List PlainValue → List PlainValues → L
 read_marks [] values rows = values
 read_marks (m ∷ ms) values rows = read_mark m.0 m.1.0 m.1.1 values rows (read_marks ms)
 
-abbrev pub first : List PlainValue → PlainValue
-first [] = nil
-first (value ∷ values) = value
+abbrev pub first_value : List PlainValue → PlainValue
+first_value [] = nil
+first_value (value ∷ values) = value
 
 abbrev pub from_marks : List Mark → PlainValue
-from_marks ms = first (read_marks ms [] [])
+from_marks ms = first_value (read_marks ms [] [])
 
 read_bool : (flag : Bool) (more : List Mark) (values : List PlainValue) (rows : List PlainValues) → read_marks (mark_bool flag ∷ more) values rows ≡ read_marks more (bool flag ∷ values) rows
 read_bool false more values rows = refl
@@ -87,7 +87,7 @@ mutual
       ∙ reads value (mark 8 ∷ more) values (rest ∷ rows)
 
 pub from-marks : (value : PlainValue) → from_marks (marks value) ≡ value
-from-marks value = ap (λ ms. first (read_marks ms [] [])) (sym (append-nil (marks value))) ∙ ap first (reads value [] [] [])
+from-marks value = ap (λ ms. first_value (read_marks ms [] [])) (sym (append-nil (marks value))) ∙ ap first_value (reads value [] [] [])
 
 abbrev pub coded_plain : Coded PlainValue
 coded_plain = code_by (List Mark) (coded_list (coded× coded_ℕ (coded× coded_ℤ (coded_list coded_ℕ)))) marks from_marks from-marks

@@ -1,17 +1,14 @@
 -- The one spelling of each value. All numbers are big-endian.
-use Rattle.std.specs.Prelude.{◌≡◌, ◌<◌, ◌^◌, ℕ, true, false, List, [], ◌∷◌, ◌++◌, length, ◌+◌, FitsSigned, encode_utf8_all}
+use Rattle.std.specs.Prelude.{◌≡◌, ◌<◌, ◌^◌, ℕ, true, false, List, [], ◌∷◌, ◌++◌, ◌+◌, FitsSigned}
 use Rattle.std.specs.Int.{to_be_bytes, cast_unsigned, w32, w64}
 use Rattle.std.specs.Str.{all_scalars}
+use Rattle.byte_fields.specs.Fields.{text_field}
 use Rattle.model_value.specs.Plain.{PlainValue, nil, bool, int, text, ref, list, PlainValues, no_items, item}
 
--- a text field: how many bytes of UTF-8 there are, and these
-abbrev pub text_field : List ℕ → List ℕ
-text_field characters = to_be_bytes w32 (length (encode_utf8_all characters)) ++ encode_utf8_all characters
-
 -- how many items there are
-abbrev pub count : PlainValues → ℕ
-count no_items = 0
-count (item value rest) = 1 + count rest
+abbrev pub item_count : PlainValues → ℕ
+item_count no_items = 0
+item_count (item value rest) = 1 + item_count rest
 
 -- a byte for its kind, and what it holds; the bytes of a negative number are those of its two's complement
 abbrev mutual
@@ -22,7 +19,7 @@ abbrev mutual
   value_spelling (int number) = 3 ∷ to_be_bytes w64 (cast_unsigned w64 number)
   value_spelling (text characters) = 4 ∷ text_field characters
   value_spelling (ref object) = 5 ∷ to_be_bytes w32 object
-  value_spelling (list items) = 6 ∷ (to_be_bytes w32 (count items) ++ items_spelling items)
+  value_spelling (list items) = 6 ∷ (to_be_bytes w32 (item_count items) ++ items_spelling items)
 
   pub items_spelling : PlainValues → List ℕ
   items_spelling no_items = []

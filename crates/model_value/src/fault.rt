@@ -1,6 +1,5 @@
 //! Why bytes are not read.
 
-use std::alloc::{AllocError, AllocFailed};
 use tea_base::WantOfMemory;
 
 /// Why no value was read.
@@ -9,28 +8,6 @@ pub enum ValueFault {
     /// No value in bounds has this spelling.
     BadValue,
     WantOfMemory,
-}
-
-impl From<AllocError> for ValueFault {
-    ghost use Rattle.std.specs.Prelude.{◌≡◌};
-    ghost use Rattle.model_value.specs.declared.fault.ValueFault.TheVariants as faults;
-
-    ghost from_gives = { λ _ fault. fault ≡ faults.WantOfMemory };
-
-    fn from(_error: AllocError) -> ValueFault {
-        ValueFault::WantOfMemory
-    }
-}
-
-impl<T: Drop> From<AllocFailed<T>> for ValueFault {
-    ghost use Rattle.std.specs.Prelude.{◌≡◌};
-    ghost use Rattle.model_value.specs.declared.fault.ValueFault.TheVariants as faults;
-
-    ghost from_gives = { λ _ fault. fault ≡ faults.WantOfMemory };
-
-    fn from(_error: AllocFailed<T>) -> ValueFault {
-        ValueFault::WantOfMemory
-    }
 }
 
 impl From<WantOfMemory> for ValueFault {

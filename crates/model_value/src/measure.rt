@@ -1,9 +1,11 @@
 //! The weight and the depth of values, and their bounds.
 ghost use Rattle.std.specs.Prelude.{◌≡◌, ◌↔◌, ◌^◌, ◌<◌, IsTrue};
-ghost use Rattle.model_value.specs.Plain.{weight as weight_of, weight_of_all, depth as depth_of, greatest_depth, InBounds, Leaves};
-ghost use Rattle.model_value.specs.View.{plain, plains};
+ghost use Rattle.model_value.specs.Plain.{weight as weight_of, weight_of_all, depth as depth_of, greatest_depth, values_weight, text_weight, InBounds, AllInBounds, TextFits, LeavesRoom};
+ghost use Rattle.model_value.specs.Room.{IsRoomBehind};
+ghost use Rattle.model_value.specs.View.{plain, plains, plain_values};
 
-use crate::value::Value;
+use crate::value::{Value, Values};
+use tea_base::Text;
 
 /// The greatest weight of a value in bounds.
 pub const MOST_WEIGHT: u32 = 4096;
@@ -72,8 +74,8 @@ pub fn in_bounds(value: &Value) -> bool
 
 /// What a value's weight leaves of the room, or None where the weight is greater or lists nest deeper than the levels.
 #[cycle(room_behind)]
-pub(crate) fn room_behind(value: &Value, room: usize, levels: u32) -> Option<usize>
-    ensures { Leaves result room (weight_of (plain value.now)) levels (depth_of (plain value.now)) }
+fn room_behind(value: &Value, room: usize, levels: u32) -> Option<usize>
+    ensures { LeavesRoom result room (weight_of (plain value.now)) levels (depth_of (plain value.now)) }
 {
     match value {
         Value::Nil | Value::Bool(_) | Value::Int(_) | Value::Ref(_) => room.checked_sub(1),
@@ -85,12 +87,59 @@ pub(crate) fn room_behind(value: &Value, room: usize, levels: u32) -> Option<usi
 }
 
 #[cycle(room_behind)]
-pub(crate) fn room_behind_all(items: &[Value], room: usize, levels: u32) -> Option<usize>
-    ensures { Leaves result room (weight_of_all (plains items.now)) levels (greatest_depth (plains items.now)) }
+fn room_behind_all(items: &[Value], room: usize, levels: u32) -> Option<usize>
+    ensures { LeavesRoom result room (weight_of_all (plains items.now)) levels (greatest_depth (plains items.now)) }
 {
     let mut left = room;
     for item in items {
         left = room_behind(item, left, levels)?;
     }
     Some(left)
+}
+
+/// Whether each value is in bounds.
+pub fn are_in_bounds(values: &[Value]) -> bool
+    ensures { IsTrue result ↔ AllInBounds (plain_values values.now) }
+{
+    for value in values {
+        if !in_bounds(value) {
+            return false;
+        }
+    }
+    true
+}
+
+/// Whether a text weighs no more than a value in bounds.
+pub fn text_fits(text: &Text) -> bool
+    ensures { IsTrue result ↔ TextFits text.now }
+{
+    1 + text.bytes().len().div_ceil(16) <= MOST_WEIGHT as usize
+}
+
+/// What a text's weight leaves of the room, or None where it is greater. A text weighs as the value that it is.
+pub fn room_behind_text(text: &Text, room: u32) -> Option<u32>
+    ensures { IsRoomBehind result room (text_weight text.now) }
+{
+    let left = (room as usize).checked_sub(1 + text.bytes().len().div_ceil(16))?;
+    Some(left as u32)
+}
+
+/// What a value's weight leaves of the room, or None where it is greater. Any value may be asked about.
+#[tactic(auto, using(crate::proofs::Totals::by_weight))]
+pub fn room_behind_value(value: &Value, room: u32) -> Option<u32>
+    ensures { IsRoomBehind result room (weight_of (plain value.now)) }
+{
+    // Lists nest no deeper than their weight.
+    let left = room_behind(value, room as usize, room)?;
+    Some(left as u32)
+}
+
+/// What the weights of values leave of the room, or None where they are greater together.
+#[tactic(auto, using(crate::proofs::Totals::by_weight))]
+pub fn room_behind_values(values: &Values, room: u32) -> Option<u32>
+    ensures { IsRoomBehind result room (values_weight (plain_values values.now)) }
+{
+    // Lists nest no deeper than their weight.
+    let left = room_behind_all(values.as_slice(), room as usize, room)?;
+    Some(left as u32)
 }

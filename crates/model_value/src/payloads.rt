@@ -1,16 +1,17 @@
 //! Payloads: what an event carries from a view to the models.
 ghost use Rattle.std.specs.Prelude.{◌≡◌, ◌≢◌, ◌<◌, ◌^◌, IfOk, Err, length, encode_utf8_all};
 ghost use Rattle.byte_fields.specs.Fields.{Gives};
-ghost use Rattle.model_value.specs.Payload.{PlainPayload, plain_payload, payload_spelling, payload_of, IsPayload};
+ghost use Rattle.model_value.specs.Payload.{PlainPayload, plain_payload, payload_spelling, whole_payload, IsPayload};
 ghost use Rattle.model_value.specs.Plain.{weight as weight_of, InBounds};
 ghost use Rattle.model_value.specs.View.{plain};
 
 use crate::fault::ValueFault;
 use crate::reading::{bounded_at, owned_text_at};
 use crate::value::Value;
-use crate::writing::{put_text, put_value};
+use crate::writing::put_value;
+use byte_fields::Writer;
 use std::alloc::Global;
-use tea_base::{Blob, Text, WantOfMemory, Writer};
+use tea_base::{Blob, Text, WantOfMemory};
 
 /// The one spelling of a scope, an event's name and a value, in memory of its own: two text fields, each of a length in
 /// four bytes and so many bytes of UTF-8, and the value as [`encode`](crate::encode) writes it.
@@ -31,8 +32,8 @@ pub fn payload(
     ensures payload { IfOk result (λ _. InBounds (plain value.now) → IsPayload (record { scope = scope.now; event = event.now; value = plain value.now })) }
 {
     let mut out = Writer::new(alloc);
-    put_text(&mut out, scope)?;
-    put_text(&mut out, event)?;
+    out.put_text(scope)?;
+    out.put_text(event)?;
     put_value(&mut out, value)?;
     Ok(out.done())
 }
@@ -42,7 +43,7 @@ pub fn payload(
 /// `BadValue` comes exactly where no payload has this spelling: it comes too where bytes follow the value, or where the
 /// value is not in bounds. As in [`decode`](crate::decode), no length and no count is trusted.
 pub fn read_payload(alloc: Global, bytes: &[u8]) -> Result<(Text, Text, Value), ValueFault>
-    ensures read { Gives ValueFault.BadValue plain_payload result (payload_of bytes.now) }
+    ensures read { Gives ValueFault.BadValue plain_payload result (whole_payload bytes.now) }
     // What is read is spelled so, and its value is in bounds.
     ensures spelled { IfOk result (λ read. bytes.now ≡ payload_spelling (plain_payload read)) }
     ensures bounds { IfOk result (λ read. InBounds (plain read.2)) }
@@ -56,7 +57,7 @@ pub fn read_payload(alloc: Global, bytes: &[u8]) -> Result<(Text, Text, Value), 
 
 #[tactic(auto, unfolding(crate::specs::Payload::payload_at))]
 fn read_all(alloc: Global, bytes: &[u8]) -> Result<(Text, Text, Value), ValueFault>
-    ensures { Gives ValueFault.BadValue plain_payload result (payload_of bytes.now) }
+    ensures { Gives ValueFault.BadValue plain_payload result (whole_payload bytes.now) }
 {
     let (scope, rest) = owned_text_at(alloc, bytes)?;
     let (event, rest) = owned_text_at(alloc, rest)?;

@@ -54,6 +54,13 @@ pub fn copy_all(alloc: Global, items: &[Value]) -> Result<Vec<Value>, WantOfMemo
     Ok(copies)
 }
 
+/// The same values.
+pub fn copy_values(alloc: Global, values: &Values) -> Result<Values, WantOfMemory>
+    ensures { IfOk result (λ new. plain_values new ≡ plain_values values.now) }
+{
+    Ok(List::from_vec(copy_all(alloc, values.as_slice())?))
+}
+
 /// Whether two values are the same: of one kind, and with the same flag, number, text, object or items.
 #[cycle(same)]
 pub fn same(a: &Value, b: &Value) -> bool

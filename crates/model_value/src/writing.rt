@@ -1,14 +1,14 @@
 //! The spelling of values.
-ghost use Rattle.std.specs.Prelude.{◌≡◌, ◌≤◌, ◌<◌, ◌^◌, ◌*◌, ◌++◌, OnOk, IfOk, length, encode_utf8_all, true};
+ghost use Rattle.std.specs.Prelude.{◌≡◌, ◌≤◌, ◌<◌, ◌^◌, ◌*◌, ◌++◌, OnOk, IfOk, length};
 ghost use Rattle.std.specs.Int.{to_be_bytes, w32};
-ghost use Rattle.std.specs.Str.{all_scalars};
 ghost use Rattle.model_value.specs.Plain.{weight as weight_of, weight_of_all};
-ghost use Rattle.model_value.specs.Spelling.{text_field, count, value_spelling, items_spelling, IsValue, AreValues};
+ghost use Rattle.model_value.specs.Spelling.{item_count, value_spelling, items_spelling, IsValue, AreValues};
 ghost use Rattle.model_value.specs.View.{plain, plains};
 
 use crate::value::Value;
+use byte_fields::Writer;
 use std::alloc::Global;
-use tea_base::{Blob, Text, WantOfMemory, Writer};
+use tea_base::{Blob, WantOfMemory};
 
 /// The one spelling of a value, in memory of its own: a byte for its kind, and what it holds. Numbers are big-endian.
 ///
@@ -56,7 +56,7 @@ pub fn put_value(out: &mut Writer, value: &Value) -> Result<(), WantOfMemory>
         }
         Value::Text(text) => {
             out.put_u8(4)?;
-            put_text(out, text)
+            out.put_text(text)
         }
         Value::Ref(object) => {
             out.put_u8(5)?;
@@ -73,10 +73,10 @@ pub fn put_value(out: &mut Writer, value: &Value) -> Result<(), WantOfMemory>
 #[tactic(auto, using(crate::proofs::Spellings::by_weight))]
 fn put_list(out: &mut Writer, items: &[Value]) -> Result<(), WantOfMemory>
     requires { weight_of_all (plains items.now) < 2 ^ 28 }
-    ensures spelled { OnOk result (out.new ≡ out.old ++ to_be_bytes w32 (count (plains items.now)) ++ items_spelling (plains items.now)) }
+    ensures spelled { OnOk result (out.new ≡ out.old ++ to_be_bytes w32 (item_count (plains items.now)) ++ items_spelling (plains items.now)) }
     ensures values { OnOk result (AreValues (plains items.now)) }
 {
-    out.put_u32(items.len() as u32)?;
+    out.put_count(items.len())?;
     put_items(out, items)
 }
 
@@ -90,15 +90,4 @@ fn put_items(out: &mut Writer, items: &[Value]) -> Result<(), WantOfMemory>
         put_value(out, item)?;
     }
     Ok(())
-}
-
-/// Writes a text field behind what was written before: how many bytes of UTF-8 (RFC 3629) there are in four bytes, and
-/// these. Fails for want of memory alone, and then nothing is said of what the writer holds.
-pub fn put_text(out: &mut Writer, text: &Text) -> Result<(), WantOfMemory>
-    requires { length (encode_utf8_all text.now) < 2 ^ 32 }
-    ensures spelled { OnOk result (out.new ≡ out.old ++ text_field text.now) }
-    ensures scalars { OnOk result (all_scalars text.now ≡ true) }
-{
-    out.put_u32(text.bytes().len() as u32)?;
-    out.put_bytes(text.bytes())
 }

@@ -6,10 +6,12 @@ use Rattle.std.proofs.lemmas.Bool.{false≢true}
 use Rattle.std.proofs.lemmas.List.{length-append}
 use Rattle.std.specs.Cmp.{unsigned_Decides}
 use Rattle.std.proofs.lemmas.Slice.Eq.{bytes_eq-Decides}
-use Rattle.model_value.specs.Valid.{TextFits, IsNew, SubscriptionsDiffer, most_pending}
-use Rattle.model_value.specs.World.{subscription_weight, total}
-use Rattle.model_value.specs.declared.message.Subscription.{Subscription}
-use Rattle.pubsub.specs.Topics.{AreTopics, AllLight, IsLight, is_held, same}
+use Rattle.model_value.specs.Plain.{TextFits}
+use Rattle.world_plain.specs.Valid.{IsNew, SubscriptionsDiffer, most_pending}
+use Rattle.world_plain.specs.World.{subscription_weight, total_weight}
+use Rattle.world_plain.specs.declared.message.Subscription.{Subscription}
+use Rattle.pubsub.specs.Topics.{AreTopics, AreLightSubscriptions, IsLightSubscription, is_subscribed}
+use Rattle.world_plain.specs.ValidTest.{same_subscription}
 
 pub ruleset by_texts = (bytes_eq-Decides)
 
@@ -23,7 +25,7 @@ neither : (a b : Bool) → (a || b) ≡ false → (a ≡ false) × (b ≡ false)
 neither true b e = absurd (false≢true (sym e))
 neither false b e = (refl, e)
 
-pub same_self : (s : Subscription) → same s s ≡ true
+pub same_self : (s : Subscription) → same_subscription s s ≡ true
 same_self s =
     let scope = (bytes_eq-Decides s.scope s.scope).1 refl in
     let event = (bytes_eq-Decides s.event s.event).1 refl in
@@ -32,7 +34,7 @@ same_self s =
     rw (scope, event, object, method) refl
 
 -- those that are the same are equal
-pub same-true : (s t : Subscription) → same s t ≡ true → s ≡ t
+pub same-true : (s t : Subscription) → same_subscription s t ≡ true → s ≡ t
 same-true s t e =
     let topic = both (bytes_eq s.scope t.scope && bytes_eq s.event t.event) (nat_eq s.object t.object && bytes_eq s.method t.method) e in
     let names = both (bytes_eq s.scope t.scope) (bytes_eq s.event t.event) topic.0 in
@@ -51,13 +53,13 @@ new_push : (t s : Subscription) (ts : List Subscription) → IsNew t ts → ¬ (
 new_push t s [] h e = (e, tt)
 new_push t s (u ∷ ts) h e = (h.0, new_push t s ts h.1 e)
 
-pub SubscriptionsDiffer-appended : (s : Subscription) (ts : List Subscription) → is_held s ts ≡ false → SubscriptionsDiffer ts → SubscriptionsDiffer (ts ++ s ∷ [])
+pub SubscriptionsDiffer-appended : (s : Subscription) (ts : List Subscription) → is_subscribed s ts ≡ false → SubscriptionsDiffer ts → SubscriptionsDiffer (ts ++ s ∷ [])
 SubscriptionsDiffer-appended s [] e h = (tt, tt)
 SubscriptionsDiffer-appended s (t ∷ ts) e h =
-    let no = neither (same t s) (is_held s ts) e in
-    (new_push t s ts h.0 (λ is. false≢true (sym no.0 ∙ subst (λ u. same t u ≡ true) is (same_self t))), SubscriptionsDiffer-appended s ts no.1 h.1)
+    let no = neither (same_subscription t s) (is_subscribed s ts) e in
+    (new_push t s ts h.0 (λ is. false≢true (sym no.0 ∙ subst (λ u. same_subscription t u ≡ true) is (same_self t))), SubscriptionsDiffer-appended s ts no.1 h.1)
 
-light_push : (s : Subscription) (ts : List Subscription) → AllLight ts → IsLight s → AllLight (ts ++ s ∷ [])
+light_push : (s : Subscription) (ts : List Subscription) → AreLightSubscriptions ts → IsLightSubscription s → AreLightSubscriptions (ts ++ s ∷ [])
 light_push s [] h e = (e, tt)
 light_push s (t ∷ ts) h e = (h.0, light_push s ts h.1 e)
 
@@ -69,9 +71,9 @@ pub pushed : {T E : Type 0} (r : Result T E) (s : Subscription) (new old : List 
     → new ≡ cond (is_ok r) (old ++ s ∷ []) old
     → is_err r ≡ false
     → AreTopics old
-    → is_held s old ≡ false
+    → is_subscribed s old ≡ false
     → length old < most_pending
-    → IsLight s
+    → IsLightSubscription s
     → AreTopics new
 pushed r s new old is ok topics absent room light =
     let e = added r new old (old ++ s ∷ []) is ok in
@@ -99,11 +101,11 @@ SubscriptionsDiffer-filtered test (t ∷ ts) h =
     let rest = SubscriptionsDiffer-filtered test ts h.1 in
     either SubscriptionsDiffer (test t) (t ∷ filter test ts) (filter test ts) (new_filter test t ts h.0, rest) rest
 
-light_filter : (test : Subscription → Bool) (ts : List Subscription) → AllLight ts → AllLight (filter test ts)
+light_filter : (test : Subscription → Bool) (ts : List Subscription) → AreLightSubscriptions ts → AreLightSubscriptions (filter test ts)
 light_filter test [] h = tt
 light_filter test (t ∷ ts) h =
     let rest = light_filter test ts h.1 in
-    either AllLight (test t) (t ∷ filter test ts) (filter test ts) (h.0, rest) rest
+    either AreLightSubscriptions (test t) (t ∷ filter test ts) (filter test ts) (h.0, rest) rest
 
 pub length-filtered : (test : Subscription → Bool) (ts : List Subscription) → length (filter test ts) ≤ length ts
 length-filtered test [] = omega arith
@@ -120,23 +122,23 @@ filtered test new old e topics =
     }
 
 -- a filter adds no weight
-pub total-filtered : (test : Subscription → Bool) (ts : List Subscription) → total subscription_weight (filter test ts) ≤ total subscription_weight ts
+pub total-filtered : (test : Subscription → Bool) (ts : List Subscription) → total_weight subscription_weight (filter test ts) ≤ total_weight subscription_weight ts
 total-filtered test [] = omega arith
 total-filtered test (t ∷ ts) =
     let rest = total-filtered test ts in
-    either (λ xs. total subscription_weight xs ≤ total subscription_weight (t ∷ ts)) (test t) (t ∷ filter test ts) (filter test ts) (omega (arith, rest)) (omega (arith, rest))
+    either (λ xs. total_weight subscription_weight xs ≤ total_weight subscription_weight (t ∷ ts)) (test t) (t ∷ filter test ts) (filter test ts) (omega (arith, rest)) (omega (arith, rest))
 
 -- three texts that fit weigh no more than a world may
-pub IsLight-fits : (s : Subscription) → TextFits s.scope → TextFits s.event → TextFits s.method → IsLight s
+pub IsLight-fits : (s : Subscription) → TextFits s.scope → TextFits s.event → TextFits s.method → IsLightSubscription s
 IsLight-fits s scope event method = omega (arith, scope, event, method)
 
 -- ---- weights
 
-pub total_bound : (ss : List Subscription) → AllLight ss → total subscription_weight ss ≤ length ss * 131072
+pub total_bound : (ss : List Subscription) → AreLightSubscriptions ss → total_weight subscription_weight ss ≤ length ss * 131072
 total_bound [] h = omega arith
 total_bound (s ∷ ss) h = omega (arith, h.0, total_bound ss h.1)
 
-pub weight_at : (ss : List Subscription) (i : ℕ) (d : Subscription) → i < length ss → subscription_weight (get_or ss i d) ≤ total subscription_weight (drop i ss)
+pub weight_at : (ss : List Subscription) (i : ℕ) (d : Subscription) → i < length ss → subscription_weight (get_or ss i d) ≤ total_weight subscription_weight (drop i ss)
 weight_at [] i d inside = absurd (omega arith)
 weight_at (s ∷ ss) zero d inside = omega arith
 weight_at (s ∷ ss) (suc i) d inside = weight_at ss i d (omega arith)

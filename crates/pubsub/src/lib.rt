@@ -2,10 +2,8 @@
 #![tactic(auto)]
 
 mod handler;
-mod refusal;
 mod subscription;
 mod topics;
 
 pub use handler::{Handler, Handlers};
-pub use refusal::TopicRefusal;
-pub use topics::{MOST_SUBSCRIPTIONS, Topics};
+pub use topics::Topics;

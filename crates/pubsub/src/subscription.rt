@@ -1,13 +1,15 @@
 //! Subscriptions compared, searched and weighed.
 ghost use Rattle.std.specs.Prelude.{◌≡◌, ◌≤◌, length, IfOk};
-ghost use Rattle.model_value.specs.Valid.{most_pending};
-ghost use Rattle.model_value.specs.World.{text_weight as weight_of_text, subscription_weight as weight_of_subscription, total, most_world_weight};
-ghost use Rattle.pubsub.specs.Topics.{IsLight, AllLight, is_to as goes_to, same, is_held as holds, without, without_object, handlers_of};
+ghost use Rattle.world_plain.specs.Valid.{most_pending};
+ghost use Rattle.model_value.specs.Plain.{text_weight as weight_of_text};
+ghost use Rattle.world_plain.specs.World.{subscription_weight as weight_of_subscription, total_weight, most_world_weight};
+ghost use Rattle.pubsub.specs.Topics.{IsLightSubscription, AreLightSubscriptions, is_to as goes_to, is_subscribed as holds, without_subscription, without_subscriber, handlers_of};
+ghost use Rattle.world_plain.specs.ValidTest.{same_subscription};
 
 use crate::handler::{Handler, Handlers};
-use model_value::Subscription;
 use std::alloc::Global;
 use tea_base::{List, Text, WantOfMemory};
+use world_plain::Subscription;
 
 /// Whether a subscription is to this event in this scope.
 #[tactic(auto, using(crate::proofs::Subscriptions::by_texts))]
@@ -20,7 +22,7 @@ fn is_to(subscription: &Subscription, scope: &Text, event: &Text) -> bool
 /// Whether two subscriptions are equal.
 #[tactic(auto, using(crate::proofs::Subscriptions::by_texts))]
 fn is_same(a: &Subscription, b: &Subscription) -> bool
-    ensures { result ≡ same a.now b.now }
+    ensures { result ≡ same_subscription a.now b.now }
 {
     is_to(a, &b.scope, &b.event) && a.object == b.object && a.method.is_text(&b.method)
 }
@@ -39,14 +41,14 @@ pub fn is_held(subscriptions: &[Subscription], wanted: &Subscription) -> bool
 
 /// Takes away the subscriptions equal to this one.
 pub fn remove(subscriptions: &mut Vec<Subscription>, unwanted: &Subscription)
-    ensures { subscriptions.new.items ≡ without unwanted.now subscriptions.old.items }
+    ensures { subscriptions.new.items ≡ without_subscription unwanted.now subscriptions.old.items }
 {
     subscriptions.retain(|subscription| !is_same(subscription, unwanted));
 }
 
 /// Takes away the subscriptions of an object.
 pub fn remove_object(subscriptions: &mut Vec<Subscription>, object: u32)
-    ensures { subscriptions.new.items ≡ without_object object subscriptions.old.items }
+    ensures { subscriptions.new.items ≡ without_subscriber object subscriptions.old.items }
 {
     subscriptions.retain(|subscription| subscription.object != object);
 }
@@ -75,9 +77,9 @@ pub fn handlers(
 
 /// How much subscriptions weigh together.
 pub fn weight_of(subscriptions: &[Subscription]) -> u64
-    requires light { AllLight subscriptions.now }
+    requires light { AreLightSubscriptions subscriptions.now }
     requires few { length subscriptions.now ≤ most_pending }
-    ensures { result ≡ total weight_of_subscription subscriptions.now }
+    ensures { result ≡ total_weight weight_of_subscription subscriptions.now }
 {
     let mut sum = 0;
     for subscription in subscriptions {
@@ -87,7 +89,7 @@ pub fn weight_of(subscriptions: &[Subscription]) -> u64
 }
 
 fn subscription_weight(subscription: &Subscription) -> u64
-    requires { IsLight subscription.now }
+    requires { IsLightSubscription subscription.now }
     ensures { result ≡ weight_of_subscription subscription.now }
 {
     2 + text_weight(&subscription.scope)

@@ -1,18 +1,14 @@
 //! The topics of a world.
 ghost use Rattle.std.specs.Prelude.{◌≡◌, ◌↔◌, ◌+◌, [], length, IfOk, IsTrue};
-ghost use Rattle.model_value.specs.World.{subscription_weight, total};
-ghost use Rattle.pubsub.specs.Topics.{AreTopics, IsLight, Subscribes, handlers_of, is_held as holds, without, without_object};
+ghost use Rattle.world_plain.specs.World.{subscription_weight, total_weight};
+ghost use Rattle.pubsub.specs.Topics.{AreTopics, IsLightSubscription, Subscribes, handlers_of, is_subscribed as holds, without_subscription, without_subscriber};
 
 use crate::handler::Handlers;
-use crate::refusal::TopicRefusal;
 use crate::subscription::{handlers, is_held, remove, remove_object, weight_of};
-use model_value::Subscription;
 use std::alloc::Global;
 use std::marker::Model;
 use tea_base::{Text, WantOfMemory};
-
-/// The most subscriptions of a world.
-pub const MOST_SUBSCRIPTIONS: usize = 16_384;
+use world_plain::{MOST_SUBSCRIPTIONS, StoreRefusal, Subscription};
 
 /// The subscriptions of a world. Contracts see them as a list in the order in which they were made.
 #[derive(Drop)]
@@ -24,8 +20,8 @@ pub struct Topics {
 impl Model for Topics {
     ghost use Rattle.std.specs.Prelude.{List};
     ghost use Rattle.std.specs.Coded.{coded_list};
-    ghost use Rattle.model_value.specs.WorldCode.{coded_subscription};
-    ghost use Rattle.model_value.specs.declared.message.Subscription.{Subscription};
+    ghost use Rattle.world_plain.specs.WorldCode.{coded_subscription};
+    ghost use Rattle.world_plain.specs.declared.message.Subscription.{Subscription};
     ghost use Rattle.pubsub.specs.Topics.{AreTopics};
 
     ghost Value = { List Subscription };
@@ -53,20 +49,20 @@ impl Topics {
     ///
     /// Where an equal one is held, nothing changes. Otherwise `Full` comes where 16,384 are held. A refusal changes
     /// nothing but that the subscription is dropped.
-    pub fn subscribe(&mut self, s: Subscription) -> Result<bool, TopicRefusal>
-        requires { IsLight s }
+    pub fn subscribe(&mut self, s: Subscription) -> Result<bool, StoreRefusal>
+        requires { IsLightSubscription s }
         ensures { Subscribes result s self.old self.new }
     {
         if is_held(&self.held, &s) {
             return Ok(false);
         }
         if self.held.len() == MOST_SUBSCRIPTIONS {
-            return Err(TopicRefusal::Full {
+            return Err(StoreRefusal::Full {
                 count: MOST_SUBSCRIPTIONS as u32,
             });
         }
         if self.held.push(s).is_err() {
-            return Err(TopicRefusal::WantOfMemory);
+            return Err(StoreRefusal::WantOfMemory);
         }
         Ok(true)
     }
@@ -102,7 +98,7 @@ impl Topics {
     /// Takes away the subscription equal to this one, and tells whether it was held. Takes no memory.
     pub fn unsubscribe(&mut self, s: &Subscription) -> bool
         ensures held { result ≡ holds s.now self.old }
-        ensures topics { self.new ≡ without s.now self.old }
+        ensures topics { self.new ≡ without_subscription s.now self.old }
     {
         let held = self.holds(s);
         remove(&mut self.held, s);
@@ -112,7 +108,7 @@ impl Topics {
     /// Takes away the subscriptions of an object, and gives their number. Takes no memory.
     pub fn drop_object(&mut self, object: u32) -> u32
         ensures count { result + length self.new ≡ length self.old }
-        ensures topics { self.new ≡ without_object object self.old }
+        ensures topics { self.new ≡ without_subscriber object self.old }
     {
         let before = self.held.len();
         remove_object(&mut self.held, object);
@@ -130,7 +126,7 @@ impl Topics {
     ///
     /// In all topics subscriptions differ, each is as `subscribe` wants it, and at most 16,384 are held.
     pub fn weight(&self) -> u64
-        ensures weight { result ≡ total subscription_weight self.now }
+        ensures weight { result ≡ total_weight subscription_weight self.now }
         ensures topics { AreTopics self.now }
     {
         weight_of(&self.held)

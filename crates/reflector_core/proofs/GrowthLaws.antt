@@ -5,19 +5,19 @@ use Rattle.tea_base.specs.declared.entry.Entry.{Entry}
 use Rattle.tea_base.specs.declared.entry.What.{What}
 use Rattle.tea_base.specs.declared.entry.What.TheVariants as what
 use Rattle.tea_base.specs.Readings.{is_here, here_count}
-use Rattle.tea_base.specs.Legal.{most_here}
+use Rattle.tea_base.specs.Limits.{most_here, end_of_time}
 use Rattle.session_log.specs.LogState.{next_entry}
 use Rattle.wire_frames.specs.declared.start.Want.{Want}
 use Rattle.reflector_core.specs.declared.request.Request.{Request}
 use Rattle.reflector_core.specs.declared.request.Request.TheVariants.{Join, Send, Tick, Leave, Offer, Pull}
 use Rattle.reflector_core.specs.PlainSession.{PlainSession}
-use Rattle.reflector_core.specs.Answer.{Outcome, answer, join, leave, offer, pull, stamp, appended, end_of_time, is_stale, is_closed, is_ahead}
+use Rattle.reflector_core.specs.Answer.{SessionOutcome, answer, join, leave, offer, pull, stamp, appended, is_stale, is_closed, is_ahead}
 use Rattle.reflector_core.specs.Play.{after_all}
 use Rattle.reflector_core.specs.Growth.{AreLater, GrowsTo, is_offer}
 use Rattle.reflector_core.proofs.SoundLaws.{send_along, offer_along}
 
 -- either of two outcomes
-either : (P : Outcome → Type 0) (test : Bool) {a b : Outcome} → P a → P b → P (if test then a else b)
+either : (P : SessionOutcome → Type 0) (test : Bool) {a b : SessionOutcome} → P a → P b → P (if test then a else b)
 either P true first second = first
 either P false first second = second
 

@@ -4,12 +4,12 @@ use Rattle.std.proofs.lemmas.List.{append-nil}
 use Rattle.tea_base.specs.declared.entry.Entry.{Entry}
 use Rattle.tea_base.specs.declared.entry.What.{What}
 use Rattle.tea_base.specs.declared.entry.What.TheVariants as what
-use Rattle.tea_base.specs.Readings.{events, event, is_event, last_number}
+use Rattle.tea_base.specs.Readings.{events, view_event, is_event, last_number}
 use Rattle.tea_base.proofs.LogLaws.{events-push, TimesRise-legal, sent-events, EachCountsItsEvents-legal}
 use Rattle.session_log.specs.LogState.{next_entry}
-use Rattle.reflector_core.specs.PlainSession.{PlainSession, IsSound}
-use Rattle.reflector_core.specs.Answer.{answer, send, join, leave, offer, pull, appended, repeats, stamp}
-use Rattle.reflector_core.specs.Play.{first, after_all, replies_from, stamped, stamped_by, stamped_as, TellsItsEvents}
+use Rattle.reflector_core.specs.PlainSession.{PlainSession, IsSoundSession}
+use Rattle.reflector_core.specs.Answer.{answer, send_event, join, leave, offer, pull, appended, repeats, stamp}
+use Rattle.reflector_core.specs.Play.{first_session, after_all, replies_from, stamped, stamped_by, stamped_as, TellsItsEvents}
 use Rattle.wire_frames.specs.declared.start.Want.{Want}
 use Rattle.reflector_core.specs.declared.request.Request.{Request}
 use Rattle.reflector_core.specs.declared.request.Request.TheVariants.{Join, Send, Tick, Leave, Offer, Pull}
@@ -27,11 +27,11 @@ stamped_as-repeats : (s : PlainSession) (view number : ℕ) (payload : List ℕ)
 stamped_as-repeats s view number payload None refusal = refl
 stamped_as-repeats s view number payload (Some entry) refusal = grind arith
 
-events-send : (s : PlainSession) (view joined number : ℕ) (payload : List ℕ) (now : ℕ) → events (send s view joined number payload now).session.log ≡ events s.log ++ stamped_as view number payload (send s view joined number payload now).reply
+events-send : (s : PlainSession) (view joined number : ℕ) (payload : List ℕ) (now : ℕ) → events (send_event s view joined number payload now).session.log ≡ events s.log ++ stamped_as view number payload (send_event s view joined number payload now).reply
 events-send s view joined number payload now =
     let same = append-nil (events s.log) in
     let next = last_number s.log view + 1 in
-    let repeated = stamped_as-repeats s view number payload (event s.log view number) (Gap next) in
+    let repeated = stamped_as-repeats s view number payload (view_event s.log view number) (Gap next) in
     let appends = events-push s.log (next_entry s.log (stamp s.horizon now) view (what.Event number payload)) in
     grind arith
 
@@ -72,9 +72,9 @@ events-after_all s [] = sym (append-nil (events s.log))
 events-after_all s (request ∷ rest) =
     rw (events-after_all (answer s request).session rest, events-answer s request) (append_assoc (events s.log) (stamped_by request (answer s request).reply) (stamped rest (replies_from (answer s request).session rest)))
 
-pub TellsItsEvents-all : (s : PlainSession) (requests : List Request) (replies : List Reply) → IsSound s → replies ≡ replies_from first requests → s ≡ after_all first requests → TellsItsEvents requests replies s.log
+pub TellsItsEvents-all : (s : PlainSession) (requests : List Request) (replies : List Reply) → IsSoundSession s → replies ≡ replies_from first_session requests → s ≡ after_all first_session requests → TellsItsEvents requests replies s.log
 TellsItsEvents-all s requests replies sound replied played =
-    let told : events s.log ≡ stamped requests replies = rw (replied, played) (events-after_all first requests) in
+    let told : events s.log ≡ stamped requests replies = rw (replied, played) (events-after_all first_session requests) in
     record {
       legal = sound.legal;
       times = TimesRise-legal s.log sound.legal;

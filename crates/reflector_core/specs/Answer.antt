@@ -4,10 +4,10 @@ use Rattle.std.specs.Str.{bytes_eq}
 use Rattle.tea_base.specs.declared.entry.Entry.{Entry}
 use Rattle.tea_base.specs.declared.entry.What.{What}
 use Rattle.tea_base.specs.declared.entry.What.TheVariants as what
-use Rattle.tea_base.specs.Readings.{current, is_here, last_number, event, payload_bytes, count, here_count, payload_of}
-use Rattle.tea_base.specs.Legal.{most_open_entries, most_payload, most_bytes, most_here}
+use Rattle.tea_base.specs.Readings.{current, is_here, last_number, view_event, payload_bytes, count_until, here_count, event_payload}
+use Rattle.tea_base.specs.Limits.{end_of_time, most_open_entries, most_payload, most_bytes, most_here, most_snapshot}
 use Rattle.session_log.specs.LogState.{with_next}
-use Rattle.reflector_core.specs.PlainSession.{PlainSession, most_snapshot}
+use Rattle.reflector_core.specs.PlainSession.{PlainSession}
 use Rattle.wire_frames.specs.declared.start.Want.{Want}
 use Rattle.wire_frames.specs.declared.start.Want.TheVariants.{Fresh, Whole, After}
 use Rattle.wire_frames.specs.declared.start.Base.{Base}
@@ -19,24 +19,20 @@ use Rattle.reflector_core.specs.declared.request.Refusal.{Refusal}
 use Rattle.reflector_core.specs.declared.request.Refusal.TheVariants.{Stale, TooLong, Differs, Gap, LogFull, TimeEnd, ViewsFull, BadView, Ahead, Older, NoSuchSeq}
 
 -- the session after a request, and the reply
-pub record Outcome : Type 0 where
+pub record SessionOutcome : Type 0 where
   pub session : PlainSession
   pub reply : Reply
-
--- at a horizon of this time or later nothing is stamped but Exits
-abbrev pub end_of_time : ℕ
-end_of_time = 2 ^ 53 - 4096
 
 -- a length as a reply gives it
 abbrev pub capped : ℕ → ℕ
 capped len = min len (2 ^ 32 - 1)
 
 -- the session is this one, with this reply
-abbrev pub with_reply : PlainSession → Reply → Outcome
+abbrev pub with_reply : PlainSession → Reply → SessionOutcome
 with_reply s reply = record { session = s; reply = reply }
 
 -- a refusal changes nothing
-abbrev pub refuses : PlainSession → Refusal → Outcome
+abbrev pub refuses : PlainSession → Refusal → SessionOutcome
 refuses s refusal = with_reply s (Refused refusal)
 
 -- the next time of the log
@@ -63,23 +59,23 @@ log_full log = LogFull (length log) (payload_bytes log)
 abbrev pub repeats : PlainSession → List ℕ → Option Entry → Reply → Reply
 repeats s payload None otherwise = otherwise
 repeats s payload (Some entry) otherwise =
-    if bytes_eq (payload_of entry.what) payload then Again entry.seq entry.time
+    if bytes_eq (event_payload entry.what) payload then Again entry.seq entry.time
     else Refused (Differs entry.seq)
 
 -- the Event is appended
-abbrev pub stamps : PlainSession → ℕ → ℕ → List ℕ → ℕ → Outcome
+abbrev pub stamps : PlainSession → ℕ → ℕ → List ℕ → ℕ → SessionOutcome
 stamps s view number payload now =
     let time = stamp s.horizon now in
     record { session = appended s time view (what.Event number payload); reply = Stamped (length s.log + 1) time }
 
-abbrev pub send : PlainSession → ℕ → ℕ → ℕ → List ℕ → ℕ → Outcome
-send s view joined number payload now =
+abbrev pub send_event : PlainSession → ℕ → ℕ → ℕ → List ℕ → ℕ → SessionOutcome
+send_event s view joined number payload now =
     let next = last_number s.log view + 1 in
     if is_stale s.log view joined then refuses s (Stale (current s.log view))
     else if nat_lt most_payload (length payload) then refuses s (TooLong (capped (length payload)))
     else if number == 0 then refuses s (Gap next)
     else if nat_lt number next
-    then with_reply s (repeats s payload (event s.log view number) (Refused (Gap next)))
+    then with_reply s (repeats s payload (view_event s.log view number) (Refused (Gap next)))
     else if nat_lt next number then refuses s (Gap next)
     else if is_closed s.log || nat_lt most_bytes (payload_bytes s.log + length payload)
     then refuses s (log_full s.log)
@@ -100,12 +96,12 @@ base_for (After time) kept = None
 
 abbrev pub from_for : List Entry → Want → Option Base → ℕ
 from_for log Fresh None = 0
-from_for log Fresh (Some base) = count log base.time
+from_for log Fresh (Some base) = count_until log base.time
 from_for log Whole kept = 0
-from_for log (After time) kept = count log time
+from_for log (After time) kept = count_until log time
 
 -- the Join is appended
-abbrev pub joins : PlainSession → ℕ → ℕ → Want → Outcome
+abbrev pub joins : PlainSession → ℕ → ℕ → Want → SessionOutcome
 joins s view now want =
     let time = stamp s.horizon now in
     record {
@@ -115,7 +111,7 @@ joins s view now want =
           (from_for s.log want s.kept) (base_for want s.kept);
     }
 
-abbrev pub join : PlainSession → ℕ → ℕ → Want → Outcome
+abbrev pub join : PlainSession → ℕ → ℕ → Want → SessionOutcome
 join s view now want =
     if view == 0 then refuses s BadView
     else if is_ahead s.horizon want then refuses s (Ahead s.horizon)
@@ -125,12 +121,12 @@ join s view now want =
     else if nat_le end_of_time s.horizon then refuses s (TimeEnd s.horizon)
     else joins s view now want
 
-abbrev pub tick : PlainSession → ℕ → Outcome
+abbrev pub tick : PlainSession → ℕ → SessionOutcome
 tick s now =
     let time = max s.horizon (min now end_of_time) in
     record { session = record { log = s.log; horizon = time; kept = s.kept }; reply = Ticked time }
 
-abbrev pub leave : PlainSession → ℕ → ℕ → ℕ → Outcome
+abbrev pub leave : PlainSession → ℕ → ℕ → ℕ → SessionOutcome
 leave s view joined now =
     let time = stamp s.horizon now in
     if is_stale s.log view joined then refuses s (Stale (current s.log view))
@@ -141,30 +137,30 @@ abbrev pub is_older : ℕ → Option Base → Bool
 is_older time None = false
 is_older time (Some base) = nat_le time base.time
 
-abbrev pub time_or_zero : Option Base → ℕ
-time_or_zero None = 0
-time_or_zero (Some base) = base.time
+abbrev pub base_time_or_zero : Option Base → ℕ
+base_time_or_zero None = 0
+base_time_or_zero (Some base) = base.time
 
-abbrev pub offer : PlainSession → ℕ → ℕ → ℕ → List ℕ → Outcome
+abbrev pub offer : PlainSession → ℕ → ℕ → ℕ → List ℕ → SessionOutcome
 offer s view joined time snapshot =
     if is_stale s.log view joined then refuses s (Stale (current s.log view))
     else if nat_lt most_snapshot (length snapshot) then refuses s (TooLong (capped (length snapshot)))
     else if nat_lt s.horizon time then refuses s (Ahead s.horizon)
-    else if is_older time s.kept then refuses s (Older (time_or_zero s.kept))
+    else if is_older time s.kept then refuses s (Older (base_time_or_zero s.kept))
     else
     let base : Base = record { time = time; bytes = snapshot } in
     record { session = record { log = s.log; horizon = s.horizon; kept = Some base }; reply = Kept }
 
-abbrev pub pull : PlainSession → ℕ → ℕ → Outcome
+abbrev pub pull : PlainSession → ℕ → ℕ → SessionOutcome
 pull s after limit =
     let tick = if nat_le (length s.log) (after + limit) then Some s.horizon else None in
     if nat_lt (length s.log) after then refuses s (NoSuchSeq (length s.log))
     else with_reply s (Batch (take limit (drop after s.log)) tick)
 
 -- the answer to each request
-abbrev pub answer : PlainSession → Request → Outcome
+abbrev pub answer : PlainSession → Request → SessionOutcome
 answer s (Join view now want) = join s view now want
-answer s (Send view joined number payload now) = send s view joined number payload now
+answer s (Send view joined number payload now) = send_event s view joined number payload now
 answer s (Tick now) = tick s now
 answer s (Leave view joined now) = leave s view joined now
 answer s (Offer view joined time snapshot) = offer s view joined time snapshot

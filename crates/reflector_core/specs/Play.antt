@@ -2,7 +2,7 @@
 use Rattle.std.specs.Prelude.{ℕ, ◌≡◌, ◌==◌, List, [], ◌∷◌, ◌++◌, filter, None}
 use Rattle.tea_base.specs.declared.entry.Entry.{Entry}
 use Rattle.tea_base.specs.declared.entry.What.TheVariants as what
-use Rattle.tea_base.specs.Readings.{events, sent}
+use Rattle.tea_base.specs.Readings.{events, view_events}
 use Rattle.tea_base.specs.Legal.{IsLegal, TimesRise, EachCountsItsEvents}
 use Rattle.reflector_core.specs.PlainSession.{PlainSession}
 use Rattle.reflector_core.specs.Answer.{answer}
@@ -12,8 +12,8 @@ use Rattle.reflector_core.specs.declared.request.Reply.{Reply}
 use Rattle.reflector_core.specs.declared.request.Reply.TheVariants.{Joined, Stamped, Again, Ticked, Left, Kept, Batch, Refused}
 
 -- the session before any request
-abbrev pub first : PlainSession
-first = record { log = []; horizon = 0; kept = None }
+abbrev pub first_session : PlainSession
+first_session = record { log = []; horizon = 0; kept = None }
 
 -- the session after requests
 abbrev pub after_all : PlainSession → List Request → PlainSession
@@ -59,5 +59,5 @@ pub record TellsItsEvents (requests : List Request) (replies : List Reply) (log 
   pub legal : IsLegal log
   pub times : TimesRise log
   pub events : events log ≡ stamped requests replies
-  pub senders : (view : ℕ) → sent log view ≡ filter (λ entry. entry.view == view) (stamped requests replies)
+  pub senders : (view : ℕ) → view_events log view ≡ filter (λ entry. entry.view == view) (stamped requests replies)
   pub numbers : EachCountsItsEvents log

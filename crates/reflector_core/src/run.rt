@@ -1,6 +1,6 @@
 //! A session's replies to a list of requests.
 ghost use Rattle.std.specs.Prelude.{◌≡◌, IfOk};
-ghost use Rattle.reflector_core.specs.Play.{first, after_all, replies_from, TellsItsEvents};
+ghost use Rattle.reflector_core.specs.Play.{first_session, after_all, replies_from, TellsItsEvents};
 
 use crate::request::{Replies, Request};
 use crate::session::Session;
@@ -11,8 +11,8 @@ use tea_base::WantOfMemory;
 /// them. The log is legal and its times rise. Each event that was answered Stamped stands in it
 /// once, in its sender's order, with the payload that was sent, and no other event does.
 pub fn play(alloc: Global, requests: &[Request]) -> Result<(Session, Replies), WantOfMemory>
-    ensures replies { IfOk result (λ played. played.1 ≡ replies_from first requests.now) }
-    ensures session { IfOk result (λ played. played.0.plain ≡ after_all first requests.now) }
+    ensures replies { IfOk result (λ played. played.1 ≡ replies_from first_session requests.now) }
+    ensures session { IfOk result (λ played. played.0.plain ≡ after_all first_session requests.now) }
     ensures law { IfOk result (λ played. TellsItsEvents requests.now played.1 played.0.plain.log) }
 {
     let mut session = Session::new(alloc);

@@ -1,10 +1,11 @@
 //! A session.
 ghost use Rattle.std.specs.Prelude.{◌≡◌, ◌≤◌, option_map, IfOk, IsOk, OnOk, OnErr};
-ghost use Rattle.tea_base.specs.Legal.{IsLegal, most_open_entries, most_bytes};
-ghost use Rattle.reflector_core.specs.PlainSession.{IsSound};
+ghost use Rattle.tea_base.specs.Legal.{IsLegal};
+ghost use Rattle.tea_base.specs.Limits.{most_open_entries, most_bytes};
+ghost use Rattle.reflector_core.specs.PlainSession.{IsSoundSession};
 ghost use Rattle.reflector_core.specs.SessionState.{IsPreparedFor, UsesAtMost, entries_used, bytes_used};
 ghost use Rattle.reflector_core.specs.Answer.{with_reply, MayWantMemory, answer};
-ghost use Rattle.reflector_core.specs.Play.{first};
+ghost use Rattle.reflector_core.specs.Play.{first_session};
 
 mod entries;
 mod events;
@@ -35,9 +36,9 @@ impl Model for Session {
 
     ghost Value = { SessionState };
 
-    ghost use Rattle.reflector_core.specs.Kept.{state_of, IsSoundInside};
+    ghost use Rattle.reflector_core.specs.Kept.{session_state, IsSoundInside};
 
-    ghost view = { state_of };
+    ghost view = { session_state };
 
     ghost invariant = { IsSoundInside };
 }
@@ -45,7 +46,7 @@ impl Model for Session {
 impl Session {
     /// The first session: an empty log, horizon 0, and nothing kept. Takes no memory.
     pub fn new(alloc: Global) -> Session
-        ensures { result.plain ≡ first }
+        ensures { result.plain ≡ first_session }
     {
         Session {
             alloc,
@@ -66,7 +67,7 @@ impl Session {
     /// The TeaTime up to which nothing more is stamped, in microseconds. No entry is later than it.
     pub fn horizon(&self) -> u64
         ensures value { result ≡ self.now.plain.horizon }
-        ensures sound { IsSound self.now.plain }
+        ensures sound { IsSoundSession self.now.plain }
     {
         self.horizon
     }
@@ -100,7 +101,7 @@ impl Session {
         ensures ok { IfOk result (λ reply. with_reply self.new.plain reply ≡
             answer self.old.plain request.now) }
         ensures err { OnErr result (self.new.plain ≡ self.old.plain) }
-        ensures sound { IsSound self.new.plain }
+        ensures sound { IsSoundSession self.new.plain }
         ensures prepared { IsPreparedFor self.old request.now → IsOk result }
         ensures used { UsesAtMost self.old self.new
             (entries_used request.now) (bytes_used request.now) }

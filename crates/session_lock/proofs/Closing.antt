@@ -6,16 +6,16 @@ use mathlib.Core.Option.{some, some-injective}
 use native.Mathlib.Decide.{ℕ_discrete}
 use lib.ListN.{get_elem?}
 use Rattle.atomic_table.specs.Table.{State, Seen, Final, opening}
-use Rattle.reflector_core.specs.PlainSession.{PlainSession, IsSound}
-use Rattle.reflector_core.proofs.SoundLaws.{IsSound-first}
+use Rattle.reflector_core.specs.PlainSession.{PlainSession, IsSoundSession}
+use Rattle.reflector_core.proofs.SoundLaws.{IsSoundSession-first}
 use Rattle.reflector_core.proofs.PlayLaws.{TellsItsEvents-all}
-use Rattle.reflector_core.specs.Play.{first as first_session, replies_from, TellsItsEvents}
+use Rattle.reflector_core.specs.Play.{first_session, replies_from, TellsItsEvents}
 use Rattle.reflector_core.specs.declared.request.Request.{Request}
 use Rattle.session_lock.specs.declared.knowledge.Item.{Item}
 use Rattle.session_lock.specs.declared.knowledge.Knowledge.{Knowledge}
-use Rattle.session_lock.specs.History.{has, caller_of, calls_of, Saw, play, requests_of, IsSoundThrough}
-use Rattle.session_lock.specs.Numbers.{times, between}
-use Rattle.session_lock.specs.Rules.{all_numbers, total, has_ticket, weight, is_holding, calls_as, holds_number, size_of, Every, PartsFit, HoldsInTurn, SpentHoldsNothing, PlaysWell, IsInOrder, Locks, first_knowledge, no_part}
+use Rattle.session_lock.specs.History.{has, caller_of, calls_of, Saw, play, history_requests, IsSoundThrough}
+use Rattle.session_lock.specs.Numbers.{times, one_between}
+use Rattle.session_lock.specs.Rules.{all_numbers, views_total, has_ticket, one_if, is_holding, calls_as, holds_number, size_of, Every, PartsFit, HoldsInTurn, SpentHoldsNothing, PlaysWell, IsInOrder, Locks, first_knowledge, no_part}
 use Rattle.session_lock.proofs.Totals.{total_two, total_none, total_only}
 use Rattle.session_lock.proofs.Ranges.{none_in}
 use Rattle.session_lock.proofs.Histories.{has_own, none_behind, sound_end, play_requests}
@@ -64,7 +64,7 @@ module _ (Trusted : PlainSession → Type 0) (history : List Item) (s : State Pl
 
   pub at_home : s.homes ≡ some (play history) ∷ []
   at_home = k.home (total_none is_holding s.views (λ j u e. dite (ℕ_discrete j id)
-      (λ is. ap (λ (z : Knowledge). weight z.holding) (same_view j u e is) ∙ ap weight free)
+      (λ is. ap (λ (z : Knowledge). one_if z.holding) (same_view j u e is) ∙ ap one_if free)
       (λ ne. not_holding Trusted u.holding (λ holds. let none_held = others_none j u e ne in let some_held = (k.turn j u e holds).1 in absurd (omega (arith, none_held, some_held))))))
 
   pub all_own : calls_of v.callers history ≡ history
@@ -73,11 +73,11 @@ module _ (Trusted : PlainSession → Type 0) (history : List Item) (s : State Pl
       (λ ne. let none_held = others_none j u e ne in no_calls u.callers (omega (arith, none_held)) n))))
 
   -- it holds each number
-  pub holds_each : (n : ℕ) → holds_number n v ≡ between 0 all_numbers n
+  pub holds_each : (n : ℕ) → holds_number n v ≡ one_between 0 all_numbers n
   holds_each n = sym (total_only (holds_number n) s.views id v at (λ j u atj ne. no_numbers n u (others_none j u atj ne))) ∙ k.numbers n
 
 pub closed : (Trusted : PlainSession → Type 0) (id : ℕ) (v : Knowledge) (words : List ℕ) (slots : List PlainSession) (x : PlainSession) → Final (Seen (Locks Trusted) id v) words slots → size_of v ≡ all_numbers → v.holding ≡ false → get_elem? slots 0 ≡ some x
-    → (x ≡ play v.seen) × (calls_of v.callers v.seen ≡ v.seen) × PlaysWell Trusted v.seen × ((n : ℕ) → holds_number n v ≡ between 0 all_numbers n)
+    → (x ≡ play v.seen) × (calls_of v.callers v.seen ≡ v.seen) × PlaysWell Trusted v.seen × ((n : ℕ) → holds_number n v ≡ one_between 0 all_numbers n)
 closed Trusted id v words slots x f whole free is =
     let s = f.0 in
     let history : List Item = f.1.0.0 in
@@ -92,19 +92,19 @@ closed Trusted id v words slots x f whole free is =
     )
 
 -- what the log of a session that is a play has of its events
-pub plays_events : (s : PlainSession) (history : List Item) → s ≡ play history → IsSoundThrough first_session history → TellsItsEvents (requests_of history) (replies_from first_session (requests_of history)) s.log
+pub plays_events : (s : PlainSession) (history : List Item) → s ≡ play history → IsSoundThrough first_session history → TellsItsEvents (history_requests history) (replies_from first_session (history_requests history)) s.log
 plays_events s history is sound =
-    let requests : List Request = requests_of history in
-    TellsItsEvents-all s requests (replies_from first_session requests) (subst IsSound (sym is) (sound_end first_session history sound)) refl (is ∙ play_requests first_session history)
+    let requests : List Request = history_requests history in
+    TellsItsEvents-all s requests (replies_from first_session requests) (subst IsSoundSession (sym is) (sound_end first_session history sound)) refl (is ∙ play_requests first_session history)
 
 every_one : (P : Knowledge → Type 0) (v : Knowledge) → P v → Every P (v ∷ [])
 every_one P v p zero u e = subst P (some-injective v u e) p
 every_one P v p (suc j) u e = absurd (mathlib.Core.Option.some-ne-none u (sym e))
 
-first_numbers : (n : ℕ) → total (holds_number n) (first_knowledge ∷ []) ≡ between 0 all_numbers n
+first_numbers : (n : ℕ) → views_total (holds_number n) (first_knowledge ∷ []) ≡ one_between 0 all_numbers n
 first_numbers n = grind (arith, nat_tests)
 
-no_tickets : (t : ℕ) → total (has_ticket t) (first_knowledge ∷ []) ≡ between 0 0 t
+no_tickets : (t : ℕ) → views_total (has_ticket t) (first_knowledge ∷ []) ≡ one_between 0 0 t
 no_tickets t = grind (arith, nat_tests)
 
 pub opens : (Trusted : PlainSession → Type 0) (slots : List PlainSession) → slots ≡ first_session ∷ [] → Trusted first_session → Locks Trusted (opening (0 ∷ 0 ∷ []) slots first_knowledge)
@@ -125,7 +125,7 @@ opens Trusted slots e at_first = subst (λ (l : List PlainSession). Locks Truste
     turn = every_one (HoldsInTurn 0) first_knowledge (λ h. absurd (cc (h)));
     spent = every_one SpentHoldsNothing first_knowledge (has_callers first_knowledge (omega arith));
     trusted = at_first;
-    sound = IsSound-first;
+    sound = IsSoundSession-first;
     home = λ nobody. refl;
     away = λ one. absurd (omega (arith, one));
   },

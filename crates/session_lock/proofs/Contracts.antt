@@ -7,37 +7,37 @@ use Rattle.tea_base.specs.declared.entry.SessionId.{SessionId}
 use Rattle.reflector_core.specs.declared.request.Request.{Request}
 use Rattle.reflector_core.specs.declared.request.Reply.{Reply}
 use Rattle.tea_base.specs.declared.want.WantOfMemory.{WantOfMemory}
-use Rattle.reflector_core.specs.Answer.{Outcome, answer, with_reply}
-use Rattle.reflector_core.specs.PlainSession.{PlainSession, IsSound}
-use Rattle.reflector_core.specs.Play.{first as first_session}
+use Rattle.reflector_core.specs.Answer.{SessionOutcome, answer, with_reply}
+use Rattle.reflector_core.specs.PlainSession.{PlainSession, IsSoundSession}
+use Rattle.reflector_core.specs.Play.{first_session}
 use Rattle.session_lock.specs.declared.knowledge.Item.{Item}
 use Rattle.session_lock.specs.declared.knowledge.Item.TheVariants.{Did, Void}
 use Rattle.session_lock.specs.declared.knowledge.Knowledge.{Knowledge}
-use Rattle.session_lock.specs.History.{caller_of, after, play, has, calls_of, Saw}
+use Rattle.session_lock.specs.History.{caller_of, after_item, play, has, calls_of, Saw}
 use Rattle.session_lock.specs.Rules.{Locks, HoldsOnce, holds_number, knows, no_part, longer}
-use Rattle.session_lock.specs.Steps.{M, HasCounted, Finishes, Answers, Fails, with_ticket, in_turn, merged, split_left, split_right}
-use Rattle.session_lock.specs.Passes.{SharedState, state_of, Standing, stand, Grew, Replied, Voided, Caught, Given, Merged, HeldOnce, UsedNoSpare, times_held, caller, numbers_held}
+use Rattle.session_lock.specs.Steps.{M, HasCounted, Finishes, AnswersRequest, Fails, with_ticket, with_turn, merged, split_left, split_right}
+use Rattle.session_lock.specs.Passes.{SharedState, shared_state, PassState, pass_state, Grew, Replied, Voided, Caught, Given, Merged, HeldOnce, UsedNoSpare, times_held, caller, numbers_held}
 use Rattle.session_lock.proofs.Histories.{saw_own, saw_each, saw_call, has_own}
-use Rattle.session_lock.specs.Numbers.{in_ranges, count_of, take_numbers, first_number}
+use Rattle.session_lock.specs.Numbers.{in_ranges, count_of, take_numbers, first_of_ranges}
 use Rattle.session_lock.proofs.Ranges.{cut_count, taken_count, count_append, times_append, in_ranges_append}
 use Rattle.session_lock.proofs.Shares.{same_numbers, first_is_spare, left_size, right_size}
 use Rattle.session_lock.proofs.StepLaws.{finishes_me}
 
 -- a pass of a shared session has a seat of its table
-pub fits : {T : Type 0} (z y : TableId) (v : Knowledge) (key : SessionId × T) (p : Standing) (shared : SharedState T) → stand z v ≡ p → p.session ≡ shared.session → state_of y key ≡ shared → z ≡ y
-fits {T} z y v key p shared is same looks = ap (λ (q : Standing). q.session) is ∙ (same ∙ sym (ap (λ (s : SharedState T). s.session) looks))
+pub fits : {T : Type 0} (z y : TableId) (v : Knowledge) (key : SessionId × T) (p : PassState) (shared : SharedState T) → pass_state z v ≡ p → p.session ≡ shared.session → shared_state y key ≡ shared → z ≡ y
+fits {T} z y v key p shared is same looks = ap (λ (q : PassState). q.session) is ∙ (same ∙ sym (ap (λ (s : SharedState T). s.session) looks))
 
-pub caught : (Trusted : PlainSession → Type 0) (z z' : TableId) (m m' : M) (p : Standing) (found : ℕ) → stand z m.0 ≡ p → z' ≡ z → HasCounted Trusted m found m' → Caught Trusted p (stand z' m'.0)
+pub caught : (Trusted : PlainSession → Type 0) (z z' : TableId) (m m' : M) (p : PassState) (found : ℕ) → pass_state z m.0 ≡ p → z' ≡ z → HasCounted Trusted m found m' → Caught Trusted p (pass_state z' m'.0)
 caught Trusted z z' m m' p found view table (history, len, saw, is, well) =
-    subst (λ (t : Standing × (TableId × M)). Caught Trusted t.0 (stand t.1.0 t.1.1.0)) (λ i. (view i, (sym table i, sym is i))) (record { saw = saw; same = refl; own = saw_own m.0.callers m.0.seen history saw; trusted_after = well.0 })
+    subst (λ (t : PassState × (TableId × M)). Caught Trusted t.0 (pass_state t.1.0 t.1.1.0)) (λ i. (view i, (sym table i, sym is i))) (record { saw = saw; same = refl; own = saw_own m.0.callers m.0.seen history saw; trusted_after = well.0 })
 
 -- the call of a view's own caller
 grew : (z : TableId) (v : Knowledge) (history : List Item) (item : ℕ → Item) (c : ℕ) (others : List ℕ) → v.callers ≡ c ∷ others → Saw v.callers v.seen history → ((n : ℕ) → caller_of (item n) ≡ n)
-    → Grew (stand z v) (stand z (knows v.callers v.spare (history ++ item c ∷ []))) history (item (slice_index v.callers 0))
+    → Grew (pass_state z v) (pass_state z (knows v.callers v.spare (history ++ item c ∷ []))) history (item (slice_index v.callers 0))
 grew z v history item c others mine saw by =
     let first : c ≡ slice_index v.callers 0 = sym (ap (λ (l : List ℕ). slice_index l 0) mine) in
     let own : has c v.callers ≡ true = ap (has c) mine ∙ has_own c others in
-    let told : Grew (stand z v) (stand z (knows v.callers v.spare (history ++ item c ∷ []))) history (item c) =
+    let told : Grew (pass_state z v) (pass_state z (knows v.callers v.spare (history ++ item c ∷ []))) history (item c) =
     record {
       saw = saw;
       same = refl;
@@ -45,49 +45,49 @@ grew z v history item c others mine saw by =
       mine = ap (λ (n : ℕ). has n v.callers) (sym first) ∙ own;
     }
     in
-    subst (λ (n : ℕ). Grew (stand z v) (stand z (knows v.callers v.spare (history ++ item c ∷ []))) history (item n)) first told
+    subst (λ (n : ℕ). Grew (pass_state z v) (pass_state z (knows v.callers v.spare (history ++ item c ∷ []))) history (item n)) first told
 
-pub replied : (Trusted : PlainSession → Type 0) (z : TableId) (v : Knowledge) (m : M) (request : Request) (reply : Reply) → Answers Trusted v m request reply → Trusted (play m.0.seen) → Replied Trusted (stand z v) (stand z m.0) request reply
+pub replied : (Trusted : PlainSession → Type 0) (z : TableId) (v : Knowledge) (m : M) (request : Request) (reply : Reply) → AnswersRequest Trusted v m request reply → Trusted (play m.0.seen) → Replied Trusted (pass_state z v) (pass_state z m.0) request reply
 replied Trusted z v m request reply (history, c, others, mine, saw, is, gives, trusted) after_it =
-    let told : Replied Trusted (stand z v) (stand z (knows v.callers v.spare (history ++ Did c request ∷ []))) request reply =
+    let told : Replied Trusted (pass_state z v) (pass_state z (knows v.callers v.spare (history ++ Did c request ∷ []))) request reply =
     record { history = history; grew = grew z v history (λ (n : ℕ). Did n request) c others mine saw (λ n. refl); replies = gives; trusted = trusted; trusted_after = subst (λ (k : M). Trusted (play k.0.seen)) is after_it }
     in
-    subst (λ (k : M). Replied Trusted (stand z v) (stand z k.0) request reply) (sym is) told
+    subst (λ (k : M). Replied Trusted (pass_state z v) (pass_state z k.0) request reply) (sym is) told
 
-pub voided : (Trusted : PlainSession → Type 0) (z : TableId) (v : Knowledge) (m : M) (request : Request) → Fails v m request → Trusted (play m.0.seen) → Voided Trusted (stand z v) (stand z m.0) request
+pub voided : (Trusted : PlainSession → Type 0) (z : TableId) (v : Knowledge) (m : M) (request : Request) → Fails v m request → Trusted (play m.0.seen) → Voided Trusted (pass_state z v) (pass_state z m.0) request
 voided Trusted z v m request (history, c, others, mine, saw, is, due) after_it =
-    let told : Voided Trusted (stand z v) (stand z (knows v.callers v.spare (history ++ Void c ∷ []))) request =
+    let told : Voided Trusted (pass_state z v) (pass_state z (knows v.callers v.spare (history ++ Void c ∷ []))) request =
     record { history = history; grew = grew z v history (λ (n : ℕ). Void n) c others mine saw (λ n. refl); due = due; trusted_after = subst (λ (k : M). Trusted (play k.0.seen)) is after_it }
     in
-    subst (λ (k : M). Voided Trusted (stand z v) (stand z k.0) request) (sym is) told
+    subst (λ (k : M). Voided Trusted (pass_state z v) (pass_state z k.0) request) (sym is) told
 
-pub told_call : (Trusted : PlainSession → Type 0) (r : Result Reply WantOfMemory) (z z' : TableId) (v : Knowledge) (m : M) (p : Standing) (request : Request) → stand z v ≡ p → z' ≡ z
-    → MatchResult r (λ reply. Answers Trusted v m request reply) (λ _. Fails v m request) → Trusted (play m.0.seen) → MatchResult r (λ reply. Replied Trusted p (stand z' m.0) request reply) (λ _. Voided Trusted p (stand z' m.0) request)
-told_call Trusted (Ok reply) z z' v m p request view table h after_it = subst (λ (t : Standing × TableId). Replied Trusted t.0 (stand t.1 m.0) request reply) (λ i. (view i, sym table i)) (replied Trusted z v m request reply h after_it)
-told_call Trusted (Err want) z z' v m p request view table h after_it = subst (λ (t : Standing × TableId). Voided Trusted t.0 (stand t.1 m.0) request) (λ i. (view i, sym table i)) (voided Trusted z v m request h after_it)
+pub told_call : (Trusted : PlainSession → Type 0) (r : Result Reply WantOfMemory) (z z' : TableId) (v : Knowledge) (m : M) (p : PassState) (request : Request) → pass_state z v ≡ p → z' ≡ z
+    → MatchResult r (λ reply. AnswersRequest Trusted v m request reply) (λ _. Fails v m request) → Trusted (play m.0.seen) → MatchResult r (λ reply. Replied Trusted p (pass_state z' m.0) request reply) (λ _. Voided Trusted p (pass_state z' m.0) request)
+told_call Trusted (Ok reply) z z' v m p request view table h after_it = subst (λ (t : PassState × TableId). Replied Trusted t.0 (pass_state t.1 m.0) request reply) (λ i. (view i, sym table i)) (replied Trusted z v m request reply h after_it)
+told_call Trusted (Err want) z z' v m p request view table h after_it = subst (λ (t : PassState × TableId). Voided Trusted t.0 (pass_state t.1 m.0) request) (λ i. (view i, sym table i)) (voided Trusted z v m request h after_it)
 
-pub call_kept : (Trusted : PlainSession → Type 0) (r : Result Reply WantOfMemory) (p q : Standing) (request : Request) → MatchResult r (λ reply. Replied Trusted p q request reply) (λ _. Voided Trusted p q request) → q ≡ record p { seen = q.seen }
-call_kept Trusted (Ok reply) p q request h = let e = h.grew.same in e ∙ ap (λ (l : List Item). record p { seen = l }) (sym (ap (λ (s : Standing). s.seen) e))
-call_kept Trusted (Err want) p q request h = let e = h.grew.same in e ∙ ap (λ (l : List Item). record p { seen = l }) (sym (ap (λ (s : Standing). s.seen) e))
+pub call_kept : (Trusted : PlainSession → Type 0) (r : Result Reply WantOfMemory) (p q : PassState) (request : Request) → MatchResult r (λ reply. Replied Trusted p q request reply) (λ _. Voided Trusted p q request) → q ≡ record p { seen = q.seen }
+call_kept Trusted (Ok reply) p q request h = let e = h.grew.same in e ∙ ap (λ (l : List Item). record p { seen = l }) (sym (ap (λ (s : PassState). s.seen) e))
+call_kept Trusted (Err want) p q request h = let e = h.grew.same in e ∙ ap (λ (l : List Item). record p { seen = l }) (sym (ap (λ (s : PassState). s.seen) e))
 
 -- the seat after the work: it holds the ticket, has seen the whole history, and has the session in hand
-worked : (m₀ m₁ m₂ m₃ : M) (ticket : ℕ) (history : List Item) (y : PlainSession) → m₁ ≡ (with_ticket m₀.0 ticket, m₀.1) → m₂ ≡ (in_turn m₁.0 history, (0, play history) ∷ []) → m₃ ≡ (m₂.0, (0, y) ∷ [])
-    → m₃ ≡ (in_turn (with_ticket m₀.0 ticket) history, (0, y) ∷ [])
-worked m₀ m₁ m₂ m₃ ticket history y e₁ e₂ e₃ = e₃ ∙ ap (λ (v : Knowledge). (v, (0, y) ∷ [])) (ap (λ (m : M). m.0) e₂ ∙ ap (λ (m : M). in_turn m.0 history) e₁)
+worked : (m₀ m₁ m₂ m₃ : M) (ticket : ℕ) (history : List Item) (y : PlainSession) → m₁ ≡ (with_ticket m₀.0 ticket, m₀.1) → m₂ ≡ (with_turn m₁.0 history, (0, play history) ∷ []) → m₃ ≡ (m₂.0, (0, y) ∷ [])
+    → m₃ ≡ (with_turn (with_ticket m₀.0 ticket) history, (0, y) ∷ [])
+worked m₀ m₁ m₂ m₃ ticket history y e₁ e₂ e₃ = e₃ ∙ ap (λ (v : Knowledge). (v, (0, y) ∷ [])) (ap (λ (m : M). m.0) e₂ ∙ ap (λ (m : M). with_turn m.0 history) e₁)
 
 module _ (Trusted Told : PlainSession → Type 0) (tells : (s : PlainSession) → Trusted s → Told s) (slots id : ℕ) (m₀ m₁ m₂ m₃ : M) (ticket : ℕ) (history : List Item) (session y : PlainSession) (request : Request) (c : ℕ) (others : List ℕ) (one : slots ≡ 1) (no_kept : m₀.0.kept ≡ no_part) (no_other : m₀.0.other ≡ no_part) (mine : m₀.0.callers ≡ c ∷ others)
-    (e₁ : m₁ ≡ (with_ticket m₀.0 ticket, m₀.1)) (len : length history ≡ ticket) (e₂ : m₂ ≡ (in_turn m₁.0 history, (0, play history) ∷ [])) (in_hand : m₂.1 ≡ (0, session) ∷ []) (e₃ : m₃ ≡ (m₂.0, (0, y) ∷ [])) (y_sound : IsSound y) where
+    (e₁ : m₁ ≡ (with_ticket m₀.0 ticket, m₀.1)) (len : length history ≡ ticket) (e₂ : m₂ ≡ (with_turn m₁.0 history, (0, play history) ∷ [])) (in_hand : m₂.1 ≡ (0, session) ∷ []) (e₃ : m₃ ≡ (m₂.0, (0, y) ∷ [])) (y_sound : IsSoundSession y) where
   abbrev pub the_session : session ≡ play history
   the_session = let e : (0, session) ∷ [] ≡ (0, play history) ∷ [] = sym in_hand ∙ ap (λ (m : M). m.1) e₂ in ap (λ (l : List (ℕ × PlainSession)). (Rattle.std.proofs.Common.get_or l 0 (0, first_session)).1) e
 
-  ends : (item : ℕ → Item) → caller_of (item c) ≡ c → y ≡ after (play history) (item c) → (IsSound (play history) → IsSound (after (play history) (item c)) → Trusted (play history) → Trusted (after (play history) (item c)))
+  ends : (item : ℕ → Item) → caller_of (item c) ≡ c → y ≡ after_item (play history) (item c) → (IsSoundSession (play history) → IsSoundSession (after_item (play history) (item c)) → Trusted (play history) → Trusted (after_item (play history) (item c)))
       → Allows (Locks Trusted) slots id m₃ 1 (λ n. (n + 1) % 2 ^ 64) (Finishes Told item (step slots 1 1 0 none) m₃)
   ends item by is stays = let told = worked m₀ m₁ m₂ m₃ ticket history y e₁ e₂ e₃ in
       subst (λ (m : M). Allows (Locks Trusted) slots id m 1 (λ n. (n + 1) % 2 ^ 64) (Finishes Told item (step slots 1 1 0 none) m)) (sym told)
-      (finishes_me Trusted Told tells slots id (in_turn (with_ticket m₀.0 ticket) history, (0, y) ∷ []) y item c others one refl mine by refl (ap (λ (n : ℕ). Some n) (sym len)) no_kept no_other is y_sound stays)
+      (finishes_me Trusted Told tells slots id (with_turn (with_ticket m₀.0 ticket) history, (0, y) ∷ []) y item c others one refl mine by refl (ap (λ (n : ℕ). Some n) (sym len)) no_kept no_other is y_sound stays)
 
-  pub ends_did : (reply : Reply) → with_reply y reply ≡ answer session request → (IsSound (play history) → IsSound (answer (play history) request).session → Trusted (play history) → Trusted (answer (play history) request).session) → Allows (Locks Trusted) slots id m₃ 1 (λ n. (n + 1) % 2 ^ 64) (Finishes Told (λ caller. Did caller request) (step slots 1 1 0 none) m₃)
-  ends_did reply is stays = ends (λ caller. Did caller request) refl (ap (λ (o : Outcome). o.session) is ∙ ap (λ (s : PlainSession). (answer s request).session) the_session) stays
+  pub ends_did : (reply : Reply) → with_reply y reply ≡ answer session request → (IsSoundSession (play history) → IsSoundSession (answer (play history) request).session → Trusted (play history) → Trusted (answer (play history) request).session) → Allows (Locks Trusted) slots id m₃ 1 (λ n. (n + 1) % 2 ^ 64) (Finishes Told (λ caller. Did caller request) (step slots 1 1 0 none) m₃)
+  ends_did reply is stays = ends (λ caller. Did caller request) refl (ap (λ (o : SessionOutcome). o.session) is ∙ ap (λ (s : PlainSession). (answer s request).session) the_session) stays
 
   pub ends_void : y ≡ session → Allows (Locks Trusted) slots id m₃ 1 (λ n. (n + 1) % 2 ^ 64) (Finishes Told (λ caller. Void caller) (step slots 1 1 0 none) m₃)
   ends_void is = ends (λ caller. Void caller) refl (is ∙ the_session) (λ _ _ h. h)
@@ -100,10 +100,10 @@ pub put_together : (m₀ m₁ m₂ : M) (w : Knowledge) → m₁ ≡ (merged m�
     → (m₂ ≡ (record (merged m₀.0 w) { kept = no_part; other = no_part }, m₀.1)) × Saw m₀.0.callers m₀.0.seen (longer m₀.0.seen w.seen) × Saw w.callers w.seen (longer m₀.0.seen w.seen) × HoldsOnce (merged m₀.0 w)
 put_together m₀ m₁ m₂ w e settled = subst (λ (m : M). Settled m m₂) e settled
 
-pub merged_told : (z z₁ z₂ : TableId) (m₀ m₁ m₂ : M) (w : Knowledge) (p q : Standing) → stand z m₀.0 ≡ p → stand z₁ w ≡ q → z₂ ≡ z → m₁ ≡ (merged m₀.0 w, m₀.1) → Settled m₁ m₂ → Merged p q (stand z₂ m₂.0)
+pub merged_told : (z z₁ z₂ : TableId) (m₀ m₁ m₂ : M) (w : Knowledge) (p q : PassState) → pass_state z m₀.0 ≡ p → pass_state z₁ w ≡ q → z₂ ≡ z → m₁ ≡ (merged m₀.0 w, m₀.1) → Settled m₁ m₂ → Merged p q (pass_state z₂ m₂.0)
 merged_told z z₁ z₂ m₀ m₁ m₂ w p q view view' table e settled =
     let t = put_together m₀ m₁ m₂ w e settled in
-    let told : Merged (stand z m₀.0) (stand z₁ w) (stand z (merged m₀.0 w)) =
+    let told : Merged (pass_state z m₀.0) (pass_state z₁ w) (pass_state z (merged m₀.0 w)) =
     record {
       same = refl;
       saw = t.1;
@@ -114,13 +114,13 @@ merged_told z z₁ z₂ m₀ m₁ m₂ w p q view view' table e settled =
       each_other = saw_each w.callers w.seen (longer m₀.0.seen w.seen) t.2;
     }
     in
-    subst (λ (x : (Standing × Standing) × (TableId × M)). Merged x.0.0 x.0.1 (stand x.1.0 x.1.1.0)) (λ i. ((view i, view' i), (sym table i, sym t.0 i))) told
+    subst (λ (x : (PassState × PassState) × (TableId × M)). Merged x.0.0 x.0.1 (pass_state x.1.0 x.1.1.0)) (λ i. ((view i, view' i), (sym table i, sym t.0 i))) told
 
-pub merged_count : (z z₁ z₂ : TableId) (m₀ m₁ m₂ : M) (w : Knowledge) (p q : Standing) → stand z m₀.0 ≡ p → stand z₁ w ≡ q → m₁ ≡ (merged m₀.0 w, m₀.1) → Settled m₁ m₂
-    → numbers_held (stand z₂ m₂.0) ≡ numbers_held p + numbers_held q
+pub merged_count : (z z₁ z₂ : TableId) (m₀ m₁ m₂ : M) (w : Knowledge) (p q : PassState) → pass_state z m₀.0 ≡ p → pass_state z₁ w ≡ q → m₁ ≡ (merged m₀.0 w, m₀.1) → Settled m₁ m₂
+    → numbers_held (pass_state z₂ m₂.0) ≡ numbers_held p + numbers_held q
 merged_count z z₁ z₂ m₀ m₁ m₂ w p q view view' e settled =
     let t = put_together m₀ m₁ m₂ w e settled in
-    let a = ap (λ (m : M). numbers_held (stand z₂ m.0)) t.0 in
+    let a = ap (λ (m : M). numbers_held (pass_state z₂ m.0)) t.0 in
     let b = ap numbers_held view in
     let c = ap numbers_held view' in
     let d = length-append m₀.0.callers w.callers in
@@ -128,7 +128,7 @@ merged_count z z₁ z₂ m₀ m₁ m₂ w p q view view' e settled =
     omega (arith, a, b, c, d, f)
 
 -- the numbers of the two are distinct, and the pass stays its own caller's
-pub merged_apart : (z z₁ : TableId) (m₀ m₁ m₂ : M) (w : Knowledge) (p q : Standing) → stand z m₀.0 ≡ p → stand z₁ w ≡ q → m₁ ≡ (merged m₀.0 w, m₀.1) → Settled m₁ m₂ → HeldOnce p q
+pub merged_apart : (z z₁ : TableId) (m₀ m₁ m₂ : M) (w : Knowledge) (p q : PassState) → pass_state z m₀.0 ≡ p → pass_state z₁ w ≡ q → m₁ ≡ (merged m₀.0 w, m₀.1) → Settled m₁ m₂ → HeldOnce p q
 merged_apart z z₁ m₀ m₁ m₂ w p q view view' e settled n =
     let once = (put_together m₀ m₁ m₂ w e settled).3 n in
     let a = ap (times_held n) view in
@@ -137,19 +137,19 @@ merged_apart z z₁ m₀ m₁ m₂ w p q view view' e settled n =
     let d = in_ranges_append n m₀.0.spare w.spare in
     omega (arith, once, a, b, c, d)
 
-pub merged_caller : (z : TableId) (v : Knowledge) (p q r : Standing) (c : ℕ) (others : List ℕ) → stand z v ≡ p → v.callers ≡ c ∷ others → Merged p q r → (0 < length p.callers) × (caller r ≡ caller p)
+pub merged_caller : (z : TableId) (v : Knowledge) (p q r : PassState) (c : ℕ) (others : List ℕ) → pass_state z v ≡ p → v.callers ≡ c ∷ others → Merged p q r → (0 < length p.callers) × (caller r ≡ caller p)
 merged_caller z v p q r c others view mine merged =
-    let is : p.callers ≡ c ∷ others = sym (ap (λ (s : Standing). s.callers) view) ∙ mine in
-    let both : r.callers ≡ c ∷ (others ++ q.callers) = ap (λ (s : Standing). s.callers) merged.same ∙ ap (λ (l : List ℕ). l ++ q.callers) is in
+    let is : p.callers ≡ c ∷ others = sym (ap (λ (s : PassState). s.callers) view) ∙ mine in
+    let both : r.callers ≡ c ∷ (others ++ q.callers) = ap (λ (s : PassState). s.callers) merged.same ∙ ap (λ (l : List ℕ). l ++ q.callers) is in
     (subst (λ (l : List ℕ). 0 < length l) (sym is) (omega arith), ap (λ (l : List ℕ). slice_index l 0) both ∙ sym (ap (λ (l : List ℕ). slice_index l 0) is))
 
-pub given_new : (z z' : TableId) (v : Knowledge) (m : M) (p : Standing) (n : ℕ) → stand z v ≡ p → z' ≡ z → m ≡ (split_right n v, []) → 0 < n → n ≤ count_of v.spare → ((x : ℕ) → 0 < in_ranges x v.spare → calls_of (x ∷ []) v.seen ≡ [])
-    → Given p n (stand z' m.0)
+pub given_new : (z z' : TableId) (v : Knowledge) (m : M) (p : PassState) (n : ℕ) → pass_state z v ≡ p → z' ≡ z → m ≡ (split_right n v, []) → 0 < n → n ≤ count_of v.spare → ((x : ℕ) → 0 < in_ranges x v.spare → calls_of (x ∷ []) v.seen ≡ [])
+    → Given p n (pass_state z' m.0)
 given_new z z' v m p n view table is some_number enough unused =
-    subst (λ (t : Standing × (TableId × M)). Given t.0 n (stand t.1.0 t.1.1.0)) (λ i. (view i, (sym table i, sym is i))) (record { same = refl; own = unused (first_number (take_numbers n v.spare)) (first_is_spare n v some_number enough) })
+    subst (λ (t : PassState × (TableId × M)). Given t.0 n (pass_state t.1.0 t.1.1.0)) (λ i. (view i, (sym table i, sym is i))) (record { same = refl; own = unused (first_of_ranges (take_numbers n v.spare)) (first_is_spare n v some_number enough) })
 
 -- no number is with both
-pub given_apart : (z z' : TableId) (v left right : Knowledge) (n : ℕ) → left ≡ split_left n v → right ≡ split_right n v → 0 < n → n ≤ count_of v.spare → HoldsOnce v → HeldOnce (stand z left) (stand z' right)
+pub given_apart : (z z' : TableId) (v left right : Knowledge) (n : ℕ) → left ≡ split_left n v → right ≡ split_right n v → 0 < n → n ≤ count_of v.spare → HoldsOnce v → HeldOnce (pass_state z left) (pass_state z' right)
 given_apart z z' v left right n left_is right_is some_number enough once x =
     let a = ap (holds_number x) left_is in
     let b = ap (holds_number x) right_is in
@@ -157,24 +157,24 @@ given_apart z z' v left right n left_is right_is some_number enough once x =
     let d = once x in
     omega (arith, a, b, c, d)
 
-pub spare_unused : (z : TableId) (v : Knowledge) (p : Standing) → stand z v ≡ p → ((n : ℕ) → 0 < in_ranges n v.spare → calls_of (n ∷ []) v.seen ≡ []) → UsedNoSpare p
+pub spare_unused : (z : TableId) (v : Knowledge) (p : PassState) → pass_state z v ≡ p → ((n : ℕ) → 0 < in_ranges n v.spare → calls_of (n ∷ []) v.seen ≡ []) → UsedNoSpare p
 spare_unused z v p view unused = subst UsedNoSpare view unused
 
 -- the numbers of the new pass, and those that are left
-pub given_count : (z : TableId) (v : Knowledge) (m : M) (n : ℕ) → m ≡ (split_right (n + 1) v, []) → n < count_of v.spare → (numbers_held (stand z m.0) ≡ n + 1) × (count_of m.0.spare ≡ n)
+pub given_count : (z : TableId) (v : Knowledge) (m : M) (n : ℕ) → m ≡ (split_right (n + 1) v, []) → n < count_of v.spare → (numbers_held (pass_state z m.0) ≡ n + 1) × (count_of m.0.spare ≡ n)
 given_count z v m n is enough =
-    let a = ap (λ (k : M). numbers_held (stand z k.0)) is in
+    let a = ap (λ (k : M). numbers_held (pass_state z k.0)) is in
     let b = right_size (n + 1) v (omega arith) (omega (arith, enough)) in
     let c = ap (λ (k : M). count_of k.0.spare) is in
     (omega (arith, a, b), omega (arith, b, c))
 
-pub left_count : (z z' : TableId) (v w : Knowledge) (p : Standing) (n : ℕ) → stand z v ≡ p → w ≡ split_left (n + 1) v → n < count_of v.spare → (numbers_held (stand z' w) + (n + 1) ≡ numbers_held p) × (count_of w.spare + (n + 1) ≡ count_of p.spare)
+pub left_count : (z z' : TableId) (v w : Knowledge) (p : PassState) (n : ℕ) → pass_state z v ≡ p → w ≡ split_left (n + 1) v → n < count_of v.spare → (numbers_held (pass_state z' w) + (n + 1) ≡ numbers_held p) × (count_of w.spare + (n + 1) ≡ count_of p.spare)
 left_count z z' v w p n view is enough =
-    let a = ap (λ (k : Knowledge). numbers_held (stand z' k)) is in
+    let a = ap (λ (k : Knowledge). numbers_held (pass_state z' k)) is in
     let b = left_size (n + 1) v (omega arith) (omega (arith, enough)) in
     let c = ap numbers_held view in
     let d = ap (λ (k : Knowledge). count_of k.spare) is in
     let e = cut_count (n + 1) v.spare in
     let f = taken_count (n + 1) v.spare (omega (arith, enough)) in
-    let h = ap (λ (k : Standing). count_of k.spare) view in
+    let h = ap (λ (k : PassState). count_of k.spare) view in
     (omega (arith, a, b, c), omega (arith, d, e, f, h))

@@ -4,24 +4,24 @@ use mathlib.Core.Logic.{dite}
 use native.Mathlib.Decide.{ℕ_discrete}
 use Rattle.std.proofs.lemmas.List.{append-nil}
 use Rattle.session_lock.specs.declared.knowledge.Item.{Item}
-use Rattle.reflector_core.specs.PlainSession.{PlainSession, IsSound}
+use Rattle.reflector_core.specs.PlainSession.{PlainSession, IsSoundSession}
 use Rattle.session_lock.specs.declared.knowledge.Item.TheVariants.{Did, Void}
 use Rattle.reflector_core.specs.Answer.{answer}
-use Rattle.reflector_core.specs.Play.{first as first_session, after_all}
+use Rattle.reflector_core.specs.Play.{first_session, after_all}
 use Rattle.reflector_core.specs.Growth.{GrowsTo}
 use Rattle.reflector_core.proofs.GrowthLaws.{GrowsTo-after_all}
 use Rattle.session_lock.specs.Numbers.{times}
-use Rattle.session_lock.specs.History.{caller_of, after, play, play_from, has, calls_of, SameCallsOfEach, Saw, requests_of, IsSoundThrough}
+use Rattle.session_lock.specs.History.{caller_of, after_item, play, play_from, has, calls_of, SameCallsOfEach, Saw, history_requests, IsSoundThrough}
 
 pub play_from_append : (s : PlainSession) (xs ys : List Item) → play_from s (xs ++ ys) ≡ play_from (play_from s xs) ys
 play_from_append s [] ys = refl
-play_from_append s (x ∷ xs) ys = play_from_append (after s x) xs ys
+play_from_append s (x ∷ xs) ys = play_from_append (after_item s x) xs ys
 
-pub play_snoc : (history : List Item) (x : Item) → play (history ++ x ∷ []) ≡ after (play history) x
+pub play_snoc : (history : List Item) (x : Item) → play (history ++ x ∷ []) ≡ after_item (play history) x
 play_snoc history x = play_from_append first_session history (x ∷ [])
 
 -- a Void changes nothing
-pub play_requests : (s : PlainSession) (xs : List Item) → play_from s xs ≡ after_all s (requests_of xs)
+pub play_requests : (s : PlainSession) (xs : List Item) → play_from s xs ≡ after_all s (history_requests xs)
 play_requests s [] = refl
 play_requests s (Did caller request ∷ xs) = play_requests (answer s request).session xs
 play_requests s (Void caller ∷ xs) = play_requests s xs
@@ -29,28 +29,28 @@ play_requests s (Void caller ∷ xs) = play_requests s xs
 -- the log of a beginning grows
 pub history_grows : (beginning rest : List Item) → GrowsTo (play beginning) (play (beginning ++ rest))
 history_grows beginning rest =
-    subst (GrowsTo (play beginning)) (sym (play_from_append first_session beginning rest ∙ play_requests (play beginning) rest)) (GrowsTo-after_all (play beginning) (requests_of rest))
+    subst (GrowsTo (play beginning)) (sym (play_from_append first_session beginning rest ∙ play_requests (play beginning) rest)) (GrowsTo-after_all (play beginning) (history_requests rest))
 
 -- soundness all the way: one item more, its start and end, a beginning, and what is left behind that
-pub sound_more : (s : PlainSession) (xs : List Item) (x : Item) → IsSoundThrough s xs → IsSound (after (play_from s xs) x) → IsSoundThrough s (xs ++ x ∷ [])
+pub sound_more : (s : PlainSession) (xs : List Item) (x : Item) → IsSoundThrough s xs → IsSoundSession (after_item (play_from s xs) x) → IsSoundThrough s (xs ++ x ∷ [])
 sound_more s [] x sound last = (sound, last)
-sound_more s (y ∷ ys) x sound last = (sound.0, sound_more (after s y) ys x sound.1 last)
+sound_more s (y ∷ ys) x sound last = (sound.0, sound_more (after_item s y) ys x sound.1 last)
 
-pub sound_start : (s : PlainSession) (xs : List Item) → IsSoundThrough s xs → IsSound s
+pub sound_start : (s : PlainSession) (xs : List Item) → IsSoundThrough s xs → IsSoundSession s
 sound_start s [] sound = sound
 sound_start s (x ∷ xs) sound = sound.0
 
-pub sound_end : (s : PlainSession) (xs : List Item) → IsSoundThrough s xs → IsSound (play_from s xs)
+pub sound_end : (s : PlainSession) (xs : List Item) → IsSoundThrough s xs → IsSoundSession (play_from s xs)
 sound_end s [] sound = sound
-sound_end s (x ∷ xs) sound = sound_end (after s x) xs sound.1
+sound_end s (x ∷ xs) sound = sound_end (after_item s x) xs sound.1
 
 pub sound_first : (s : PlainSession) (xs ys : List Item) → IsSoundThrough s (xs ++ ys) → IsSoundThrough s xs
 sound_first s [] ys sound = sound_start s ys sound
-sound_first s (x ∷ xs) ys sound = (sound.0, sound_first (after s x) xs ys sound.1)
+sound_first s (x ∷ xs) ys sound = (sound.0, sound_first (after_item s x) xs ys sound.1)
 
 pub sound_rest : (s : PlainSession) (xs ys : List Item) → IsSoundThrough s (xs ++ ys) → IsSoundThrough (play_from s xs) ys
 sound_rest s [] ys sound = sound
-sound_rest s (x ∷ xs) ys sound = sound_rest (after s x) xs ys sound.1
+sound_rest s (x ∷ xs) ys sound = sound_rest (after_item s x) xs ys sound.1
 
 calls_cons : (b : Bool) (x : Item) (xs ys : List Item) → (if b then x ∷ (xs ++ ys) else (xs ++ ys)) ≡ (if b then x ∷ xs else xs) ++ ys
 calls_cons true x xs ys = refl

@@ -12,8 +12,8 @@ use Rattle.session_lock.specs.declared.knowledge.Item.{Item}
 use Rattle.session_lock.specs.declared.knowledge.Range.{Range}
 use Rattle.session_lock.specs.declared.knowledge.Knowledge.{Knowledge}
 use Rattle.session_lock.specs.History.{calls_of, Saw}
-use Rattle.session_lock.specs.Numbers.{in_ranges, count_of, take_numbers, drop_numbers, first_number}
-use Rattle.session_lock.specs.Rules.{total, is_ticket, has_ticket, weight, is_holding, calls_as, holds_number, size_of, Every, HoldsInTurn, SpentHoldsNothing, PartsFit, no_part, IsTold, Locks}
+use Rattle.session_lock.specs.Numbers.{in_ranges, count_of, take_numbers, drop_numbers, first_of_ranges}
+use Rattle.session_lock.specs.Rules.{views_total, is_ticket, has_ticket, one_if, is_holding, calls_as, holds_number, size_of, Every, HoldsInTurn, SpentHoldsNothing, PartsFit, no_part, IsSeenWhole, Locks}
 use Rattle.session_lock.specs.Steps.{split_left, split_right, merged, spent}
 use Rattle.session_lock.proofs.Totals.{total_set, total_snoc, every_set, every_snoc}
 use Rattle.session_lock.proofs.Ranges.{cut, cut_count, taken_count, first_out, in_ranges_append, count_append, times_append}
@@ -34,9 +34,9 @@ module _ (n : ℕ) (v : Knowledge) (n_some : 0 < n) (enough : n ≤ count_of v.s
   pub same_numbers : (x : ℕ) → holds_number x (split_left n v) + holds_number x (split_right n v) ≡ holds_number x v
   same_numbers x = let two = cut x n v.spare in let out = first_out x the_taken taken_some in omega (arith, two, out)
 
-  pub first_is_spare : 0 < in_ranges (first_number the_taken) v.spare
+  pub first_is_spare : 0 < in_ranges (first_of_ranges the_taken) v.spare
   first_is_spare =
-      let x : ℕ = first_number the_taken in
+      let x : ℕ = first_of_ranges the_taken in
       let two = cut x n v.spare in
       let out : 1 + in_ranges x (drop_numbers 1 the_taken) ≡ in_ranges x the_taken = subst (λ b. (if b then 1 else 0) + in_ranges x (drop_numbers 1 the_taken) ≡ in_ranges x the_taken) (eq-eqb x x refl) (first_out x the_taken taken_some) in
       omega (arith, two, out)
@@ -51,9 +51,9 @@ module _ (n : ℕ) (v : Knowledge) (n_some : 0 < n) (enough : n ≤ count_of v.s
   splits Trusted id s (history, k) at =
       let l : Knowledge = split_left n v in
       let r : Knowledge = split_right n v in
-      let first : ℕ = first_number the_taken in
-      let both : (f : Knowledge → ℕ) → total f (set s.views id l ++ r ∷ []) + f v ≡ total f s.views + (f l + f r) = λ f. (let a = total_set f s.views id v l at in let b = total_snoc f (set s.views id l) r in omega (arith, a, b)) in
-      let unused : total (calls_as first) s.views ≡ 0 = no_caller Trusted history s k id v first at first_is_spare in (
+      let first : ℕ = first_of_ranges the_taken in
+      let both : (f : Knowledge → ℕ) → views_total f (set s.views id l ++ r ∷ []) + f v ≡ views_total f s.views + (f l + f r) = λ f. (let a = total_set f s.views id v l at in let b = total_snoc f (set s.views id l) r in omega (arith, a, b)) in
+      let unused : views_total (calls_as first) s.views ≡ 0 = no_caller Trusted history s k id v first at first_is_spare in (
         history,
         record {
           next = k.next;
@@ -100,7 +100,7 @@ longer_is_right false xs ys history cs is e p =
     let lt = leb-false (length xs) (length ys) is in let len : length ys ≡ length history = ap length e in let most = saw_length cs xs history p in absurd (omega (arith, lt, len, most))
 
 told_merge : (history : List Item) (views : List Knowledge) (id other : ℕ) (v w : Knowledge) → get_elem? views id ≡ some v → get_elem? views other ≡ some w → ¬ (other ≡ id) → Saw v.callers v.seen history → Saw w.callers w.seen history
-    → 0 < length v.callers → IsTold history views → IsTold history (set (set views id (merged v w)) other spent)
+    → 0 < length v.callers → IsSeenWhole history views → IsSeenWhole history (set (set views id (merged v w)) other spent)
 told_merge history views id other v w at atw ne saw saw' caller_is told =
     let m : Knowledge = merged v w in
     let j : ℕ = told.0 in
@@ -116,7 +116,7 @@ told_merge history views id other v w at atw ne saw saw' caller_is told =
 
 -- sums where one view takes in another
 total_join : (f : Knowledge → ℕ) (views : List Knowledge) (id other : ℕ) (v w both gone : Knowledge) → get_elem? views id ≡ some v → get_elem? (set views id both) other ≡ some w → f both + f gone ≡ f v + f w
-    → total f (set (set views id both) other gone) ≡ total f views
+    → views_total f (set (set views id both) other gone) ≡ views_total f views
 total_join f views id other v w both gone at also same = let a = total_set f views id v both at in let b = total_set f (set views id both) other w gone also in omega (arith, a, b, same)
 
 pub merges : (Trusted : PlainSession → Type 0) (id other : ℕ) (v w : Knowledge) → v.ticket ≡ None → v.holding ≡ false → w.ticket ≡ None → w.holding ≡ false → 0 < length v.callers → Joins (Locks Trusted) id v other w (merged v w) spent
@@ -129,8 +129,8 @@ merges Trusted id other v w idle free idle' free' caller_is s (history, k) at ne
     let fits : Saw m.callers m.seen history = longer_fits (leb (length v.seen) (length w.seen)) v.seen w.seen history v.callers w.callers refl saw saw' in
     let left = longer_left (leb (length v.seen) (length w.seen)) v.seen w.seen refl in
     let right = longer_right (leb (length v.seen) (length w.seen)) v.seen w.seen refl in
-    let join : (f : Knowledge → ℕ) → f m + f spent ≡ f v + f w → total f views ≡ total f s.views = λ f same. total_join f s.views id other v w m spent at also same in
-    let same_holding : total is_holding views ≡ total is_holding s.views = join is_holding (let a : is_holding w ≡ 0 = ap weight free' in omega (arith, a)) in
+    let join : (f : Knowledge → ℕ) → f m + f spent ≡ f v + f w → views_total f views ≡ views_total f s.views = λ f same. total_join f s.views id other v w m spent at also same in
+    let same_holding : views_total is_holding views ≡ views_total is_holding s.views = join is_holding (let a : is_holding w ≡ 0 = ap one_if free' in omega (arith, a)) in
     let some_caller : 0 < length m.callers = (let a = length-append v.callers w.callers in omega (arith, a, caller_is)) in
     let every : (P : Knowledge → Type 0) → Every P s.views → P m → P spent → Every P views = λ P h p q. every_set P (set s.views id m) other spent (every_set P s.views id m h p) q in (
       history,

@@ -8,35 +8,32 @@ use lib.ListN.{get_elem?}
 use prog.Atomic.{either}
 use Rattle.atomic_table.specs.Table.{State, step, keeps, takes, gives, stepped, Allows}
 use Rattle.atomic_table.proofs.Lists.{set_again}
-use Rattle.reflector_core.specs.PlainSession.{PlainSession, IsSound}
-use Rattle.reflector_core.specs.Play.{first as first_session}
+use Rattle.reflector_core.specs.PlainSession.{PlainSession, IsSoundSession}
+use Rattle.reflector_core.specs.Play.{first_session}
 use Rattle.session_lock.specs.declared.knowledge.Item.{Item}
 use Rattle.session_lock.specs.declared.knowledge.Part.{Part}
 use Rattle.session_lock.specs.declared.knowledge.Knowledge.{Knowledge}
-use Rattle.session_lock.specs.History.{caller_of, after, play, has, calls_of, Saw}
-use Rattle.session_lock.specs.Numbers.{times, in_ranges, count_of, between}
-use Rattle.session_lock.specs.Rules.{all_numbers, total, is_ticket, has_ticket, weight, is_holding, calls_as, holds_number, size_of, HoldsOnce, HoldsInTurn, SpentHoldsNothing, PartFits, PartsFit, IsTold, IsInOrder, Locks, no_part}
-use Rattle.session_lock.specs.Steps.{Unused, Settles, M, with_ticket, in_turn, done, Draws, Looks, Finishes, Counts}
+use Rattle.session_lock.specs.History.{caller_of, after_item, play, has, calls_of, Saw}
+use Rattle.session_lock.specs.Numbers.{times, in_ranges, count_of, one_between}
+use Rattle.session_lock.specs.Rules.{all_numbers, views_total, is_ticket, has_ticket, one_if, is_holding, calls_as, holds_number, size_of, HoldsOnce, HoldsInTurn, SpentHoldsNothing, PartFits, PartsFit, IsSeenWhole, IsInOrder, Locks, no_part}
+use Rattle.session_lock.specs.Steps.{Unused, Settles, M, with_ticket, with_turn, done, Draws, Looks, Finishes, Counts}
 use Rattle.session_lock.proofs.Totals.{total_set, total_same, total_has, total_two, total_none, total_only, every_set, every_set_else}
 use Rattle.session_lock.proofs.Histories.{play_snoc, sound_more, sound_end, calls_append, saw_all, saw_more, saw_whole, saw_length, saw_nothing, saw_between, nothing_first, has_times}
 
 abbrev St : Type 0
 St = State PlainSession Knowledge
 
-abbrev one_if : Bool → ℕ
-one_if b = if b then 1 else 0
-
 -- tests and counts
-between_more : (low next t : ℕ) → low ≤ next → between low next t + (if eqb t next then 1 else 0) ≡ between low (next + 1) t
+between_more : (low next t : ℕ) → low ≤ next → one_between low next t + (if eqb t next then 1 else 0) ≡ one_between low (next + 1) t
 between_more low next t le = grind (arith, nat_tests)
 
-between_less : (low next t : ℕ) → low < next → between (low + 1) next t + (if eqb t low then 1 else 0) ≡ between low next t
+between_less : (low next t : ℕ) → low < next → one_between (low + 1) next t + (if eqb t low then 1 else 0) ≡ one_between low next t
 between_less low next t lt = grind (arith, nat_tests)
 
-between_in : (low next t : ℕ) → 0 < between low next t → (low ≤ t) × (t < next)
+between_in : (low next t : ℕ) → 0 < one_between low next t → (low ≤ t) × (t < next)
 between_in low next t h = grind (arith, nat_tests)
 
-pub between_most : (low next t : ℕ) → between low next t ≤ 1
+pub between_most : (low next t : ℕ) → one_between low next t ≤ 1
 between_most low next t = grind (arith, nat_tests)
 
 its_ticket : (t : ℕ) → is_ticket t (Some t) ≡ 1
@@ -56,7 +53,7 @@ set_other (x ∷ xs) (suc i) zero v w n e = e
 set_other (x ∷ xs) (suc i) (suc j) v w n e = set_other xs i j v w (λ p. n (ap suc p)) e
 
 pub told_set : (history : List Item) (views : List Knowledge) (i : ℕ) (v w : Knowledge) → get_elem? views i ≡ some v → w.callers ≡ v.callers → (v.seen ≡ history → w.seen ≡ history)
-    → IsTold history views → IsTold history (set views i w)
+    → IsSeenWhole history views → IsSeenWhole history (set views i w)
 told_set history views i v w at callers seen told = let j : ℕ = told.0 in dite (ℕ_discrete j i)
     (λ here. let same : told.1 ≡ v = some-injective told.1 v (sym told.2 ∙ (ap (λ (k : ℕ). get_elem? views k) here ∙ at)) in (i, w, set_at views i v w at, seen (ap (λ (u : Knowledge). u.seen) (sym same) ∙ told.3), subst (λ (l : List ℕ). 0 < length l) (ap (λ (u : Knowledge). u.callers) same ∙ sym callers) told.4))
     (λ other. (j, told.1, set_other views i j told.1 w other told.2, told.3, told.4))
@@ -110,7 +107,7 @@ module _ (Trusted : PlainSession → Type 0) where
                 let here : has_ticket t w ≡ (if eqb t k.next then 1 else 0) = ap (λ (n : ℕ). if eqb t n then 1 else 0) is in
                 let were = k.tickets t in
                 let more = between_more (length history) k.next t k.order in
-                let last : between (length history) (k.next + 1) t ≡ between (length history) (old + 1) t = ap (λ (n : ℕ). between (length history) (n + 1) t) (sym is ∙ hit) in
+                let last : one_between (length history) (k.next + 1) t ≡ one_between (length history) (old + 1) t = ap (λ (n : ℕ). one_between (length history) (n + 1) t) (sym is ∙ hit) in
                 omega (arith, sum, none_yet, here, were, more, last);
             numbers = λ n. total_same (holds_number n) s.views id v w at refl ∙ k.numbers n;
             whole = total_same size_of s.views id v w at refl ∙ k.whole;
@@ -148,27 +145,27 @@ module _ (Trusted : PlainSession → Type 0) where
       let are = k.tickets t in
       omega (arith, both, one, two, most, are)
 
-  pub not_holding : (b : Bool) → (b ≡ true → ⊥) → weight b ≡ 0
+  pub not_holding : (b : Bool) → (b ≡ true → ⊥) → one_if b ≡ 0
   not_holding true h = absurd (h refl)
   not_holding false h = refl
 
   -- before the turn begins nobody holds the session
-  nobody_holds : (history : List Item) (s : St) (k : IsInOrder Trusted history s) (id : ℕ) (v : Knowledge) → get_elem? s.views id ≡ some v → v.ticket ≡ Some (length history) → v.holding ≡ false → total is_holding s.views ≡ 0
+  nobody_holds : (history : List Item) (s : St) (k : IsInOrder Trusted history s) (id : ℕ) (v : Knowledge) → get_elem? s.views id ≡ some v → v.ticket ≡ Some (length history) → v.holding ≡ false → views_total is_holding s.views ≡ 0
   nobody_holds history s k id v at has_it free = total_none is_holding s.views (λ j u e. dite (ℕ_discrete j id)
-      (λ here. let same : u ≡ v = some-injective u v (sym e ∙ (ap (λ (n : ℕ). get_elem? s.views n) here ∙ at)) in ap weight (ap (λ (z : Knowledge). z.holding) same ∙ free))
+      (λ here. let same : u ≡ v = some-injective u v (sym e ∙ (ap (λ (n : ℕ). get_elem? s.views n) here ∙ at)) in ap one_if (ap (λ (z : Knowledge). z.holding) same ∙ free))
       (λ other. not_holding u.holding (λ holds. alone history s k id v (length history) at has_it j u e other (k.turn j u e holds).0)))
 
   -- in its turn who holds the session is the only one
-  one_holds : (history : List Item) (s : St) (k : IsInOrder Trusted history s) (id : ℕ) (v : Knowledge) → get_elem? s.views id ≡ some v → v.ticket ≡ Some (length history) → v.holding ≡ true → (total is_holding s.views ≡ 1) × (is_holding v ≡ 1)
+  one_holds : (history : List Item) (s : St) (k : IsInOrder Trusted history s) (id : ℕ) (v : Knowledge) → get_elem? s.views id ≡ some v → v.ticket ≡ Some (length history) → v.holding ≡ true → (views_total is_holding s.views ≡ 1) × (is_holding v ≡ 1)
   one_holds history s k id v at has_it holds =
-      let one : is_holding v ≡ 1 = ap weight holds in
+      let one : is_holding v ≡ 1 = ap one_if holds in
       (total_only is_holding s.views id v at (λ j u atj other. not_holding u.holding (λ also. alone history s k id v (length history) at has_it j u atj other (k.turn j u atj also).0)) ∙ one, one)
 
   pub looks : (Told : PlainSession → Type 0) → ((s : PlainSession) → Trusted s → Told s) → (slots id : ℕ) (v : Knowledge) (t : ℕ) → v.ticket ≡ Some t → v.holding ≡ false → 0 < length v.callers → Allows (Locks Trusted) slots id (v, []) 1 (λ n. n) (Looks Told (step slots 1 0 0 none) (v, []))
   looks Told tells slots id v t has_it free caller_is s (history, k) wide at small = let x : ℕ = get_or s.words 1 0 in let is : x ≡ length history = ap (λ (l : List ℕ). get_or l 1 0) k.words in
       let same_words : set s.words 1 x ≡ s.words = read_word history s k 1 (omega arith) in
       dite (ℕ_discrete x t)
-      (λ hit. let w : Knowledge = in_turn v history in let served : v.ticket ≡ Some (length history) = has_it ∙ ap (λ (n : ℕ). Some n) (sym hit ∙ is) in
+      (λ hit. let w : Knowledge = with_turn v history in let served : v.ticket ≡ Some (length history) = has_it ∙ ap (λ (n : ℕ). Some n) (sym hit ∙ is) in
       let home : s.homes ≡ some (play history) ∷ [] = k.home (nobody_holds history s k id v at served free) in (
         w,
         takes 0 (play history),
@@ -214,7 +211,7 @@ module _ (Trusted : PlainSession → Type 0) where
   only_home (h ∷ (g ∷ gs)) y e = absurd (omega arith)
 
   pub finishes : (Told : PlainSession → Type 0) → ((s : PlainSession) → Trusted s → Told s) → (id : ℕ) (v : Knowledge) (y : PlainSession) (item : ℕ → Item) (c : ℕ) (others : List ℕ) → v.callers ≡ c ∷ others → caller_of (item c) ≡ c → v.holding ≡ true → v.ticket ≡ Some (length v.seen) → v.kept ≡ no_part → v.other ≡ no_part
-      → y ≡ after (play v.seen) (item c) → IsSound y → (IsSound (play v.seen) → IsSound (after (play v.seen) (item c)) → Trusted (play v.seen) → Trusted (after (play v.seen) (item c)))
+      → y ≡ after_item (play v.seen) (item c) → IsSoundSession y → (IsSoundSession (play v.seen) → IsSoundSession (after_item (play v.seen) (item c)) → Trusted (play v.seen) → Trusted (after_item (play v.seen) (item c)))
       → Allows (Locks Trusted) 1 id (v, (0, y) ∷ []) 1 (λ n. (n + 1) % 2 ^ 64) (Finishes Told item (step 1 1 1 0 none) (v, (0, y) ∷ []))
   finishes Told tells id v y item c others mine by holding has_it no_kept no_other is_play y_sound stays s (history, k₀) wide at small =
       let same : v.seen ≡ history = saw_whole v.callers v.seen history (k₀.seen id v at) (let t : Some (length history) ≡ Some (length v.seen) = sym (k₀.turn id v at holding).0 ∙ has_it in let e : length history ≡ length v.seen = cc in omega arith) in
@@ -222,7 +219,7 @@ module _ (Trusted : PlainSession → Type 0) where
       let k : IsInOrder Trusted h s = subst (λ (l : List Item). IsInOrder Trusted l s) (sym same) k₀ in
       let x : Item = item c in
       let w : Knowledge = done v x in
-      let sound_now : IsSound (after (play h) x) = subst IsSound is_play y_sound in
+      let sound_now : IsSoundSession (after_item (play h) x) = subst IsSoundSession is_play y_sound in
       let trusted_now : Trusted (play (h ++ x ∷ [])) = subst Trusted (sym (play_snoc h x)) (stays (sound_end first_session h k.sound) sound_now k.trusted) in
       let some_caller : 0 < length v.callers = subst (λ (l : List ℕ). 0 < length l) (sym mine) (omega arith) in
       let mine_once : 0 < times c v.callers = subst (λ (l : List ℕ). 0 < times c l) (sym mine) (holds_own c others) in
@@ -249,7 +246,7 @@ module _ (Trusted : PlainSession → Type 0) where
                 let mine_was : has_ticket t v ≡ (if eqb t (length h) then 1 else 0) = ap (is_ticket t) has_it in
                 let were = k.tickets t in
                 let less = between_less (length h) k.next t below in
-                let last : between (length h + 1) k.next t ≡ between (length (h ++ x ∷ [])) k.next t = ap (λ (n : ℕ). between n k.next t) (sym long) in
+                let last : one_between (length h + 1) k.next t ≡ one_between (length (h ++ x ∷ [])) k.next t = ap (λ (n : ℕ). one_between n k.next t) (sym long) in
                 omega (arith, sum, mine_was, were, less, last);
             numbers = λ n. total_same (holds_number n) s.views id v w at refl ∙ k.numbers n;
             whole = total_same size_of s.views id v w at refl ∙ k.whole;
@@ -264,7 +261,7 @@ module _ (Trusted : PlainSession → Type 0) where
                 k.parts (part_none (h ++ x ∷ []) w v.kept no_kept, part_none (h ++ x ∷ []) w v.other no_other);
             told = (id, w, set_at s.views id v w at, refl, some_caller);
             called = λ n none_of.
-                let all_none : total (calls_as n) s.views ≡ 0 = sym (total_same (calls_as n) s.views id v w at refl) ∙ none_of in
+                let all_none : views_total (calls_as n) s.views ≡ 0 = sym (total_same (calls_as n) s.views id v w at refl) ∙ none_of in
                 let mine_none = total_has (calls_as n) s.views id v at in
                 let ne : c ≢ n = λ e. (let one : 0 < times n v.callers = subst (λ (m : ℕ). 0 < times m v.callers) e mine_once in omega (arith, mine_none, one, all_none)) in
                 let other : has (caller_of x) (n ∷ []) ≡ false = ap (λ (m : ℕ). has m (n ∷ [])) by ∙ rw (ne_eqb c n ne) refl in
@@ -301,8 +298,8 @@ module _ (Trusted : PlainSession → Type 0) where
     spent = every_set SpentHoldsNothing s.views id w k.spent (λ e. let t = k.spent id v at (sym callers ∙ e) in (spare ∙ t.0, ticket ∙ t.1, holding ∙ t.2));
     trusted = k.trusted;
     sound = k.sound;
-    home = λ nobody. k.home (sym (total_same is_holding s.views id v w at (ap weight holding)) ∙ nobody);
-    away = λ one. k.away (sym (total_same is_holding s.views id v w at (ap weight holding)) ∙ one);
+    home = λ nobody. k.home (sym (total_same is_holding s.views id v w at (ap one_if holding)) ∙ nobody);
+    away = λ one. k.away (sym (total_same is_holding s.views id v w at (ap one_if holding)) ∙ one);
   }
 
   pub counts : (Told : PlainSession → Type 0) → ((s : PlainSession) → Trusted s → Told s) → (slots id : ℕ) (v : Knowledge) (carried : List (ℕ × PlainSession)) → Allows (Locks Trusted) slots id (v, carried) 1 (λ n. n) (Counts Told (step slots 1 0 0 none) (v, carried))
@@ -322,13 +319,13 @@ module _ (Trusted : PlainSession → Type 0) where
   counts_me Told tells slots id me = counts Told tells slots id me.0 me.1
 
   pub finishes_me : (Told : PlainSession → Type 0) → ((s : PlainSession) → Trusted s → Told s) → (slots id : ℕ) (me : M) (y : PlainSession) (item : ℕ → Item) (c : ℕ) (others : List ℕ) → slots ≡ 1 → me.1 ≡ (0, y) ∷ [] → me.0.callers ≡ c ∷ others → caller_of (item c) ≡ c → me.0.holding ≡ true → me.0.ticket ≡ Some (length me.0.seen) → me.0.kept ≡ no_part → me.0.other ≡ no_part
-      → y ≡ after (play me.0.seen) (item c) → IsSound y → (IsSound (play me.0.seen) → IsSound (after (play me.0.seen) (item c)) → Trusted (play me.0.seen) → Trusted (after (play me.0.seen) (item c)))
+      → y ≡ after_item (play me.0.seen) (item c) → IsSoundSession y → (IsSoundSession (play me.0.seen) → IsSoundSession (after_item (play me.0.seen) (item c)) → Trusted (play me.0.seen) → Trusted (after_item (play me.0.seen) (item c)))
       → Allows (Locks Trusted) slots id me 1 (λ n. (n + 1) % 2 ^ 64) (Finishes Told item (step slots 1 1 0 none) me)
   finishes_me Told tells slots id me y item c others one carried mine by holding has_it no_kept no_other is_play y_sound stays =
       subst (λ (z : ℕ × List (ℕ × PlainSession)). Allows (Locks Trusted) z.0 id (me.0, z.1) 1 (λ n. (n + 1) % 2 ^ 64) (Finishes Told item (step z.0 1 1 0 none) (me.0, z.1))) (λ i. (sym one i, sym carried i))
       (finishes Told tells id me.0 y item c others mine by holding has_it no_kept no_other is_play y_sound stays)
 
-  total_add : (f g h : Knowledge → ℕ) (views : List Knowledge) → ((v : Knowledge) → h v ≡ f v + g v) → total h views ≡ total f views + total g views
+  total_add : (f g h : Knowledge → ℕ) (views : List Knowledge) → ((v : Knowledge) → h v ≡ f v + g v) → views_total h views ≡ views_total f views + views_total g views
   total_add f g h [] e = refl
   total_add f g h (v ∷ vs) e = let r = total_add f g h vs e in let is = e v in omega (arith, r, is)
 
@@ -340,7 +337,7 @@ module _ (Trusted : PlainSession → Type 0) where
   spare_as n v = in_ranges n v.spare
 
   -- a spare number is no caller's
-  pub no_caller : (history : List Item) (s : St) (k : IsInOrder Trusted history s) (id : ℕ) (v : Knowledge) (n : ℕ) → get_elem? s.views id ≡ some v → 0 < in_ranges n v.spare → total (calls_as n) s.views ≡ 0
+  pub no_caller : (history : List Item) (s : St) (k : IsInOrder Trusted history s) (id : ℕ) (v : Knowledge) (n : ℕ) → get_elem? s.views id ≡ some v → 0 < in_ranges n v.spare → views_total (calls_as n) s.views ≡ 0
   no_caller history s k id v n at is_spare =
       let a = total_add (calls_as n) (spare_as n) (holds_number n) s.views (λ u. refl) in let b = total_has (spare_as n) s.views id v at in let c = k.numbers n in let d = between_most 0 all_numbers n in omega (arith, a, b, c, d, is_spare)
 

@@ -4,33 +4,33 @@ use Rattle.tea_base.specs.declared.entry.SessionId.{SessionId}
 use Rattle.wire_frames.specs.declared.start.Base.{Base}
 use Rattle.reflector_core.specs.declared.request.Request.{Request}
 use Rattle.reflector_core.specs.declared.request.Request.TheVariants.{Join, Send, Tick, Leave, Offer, Pull}
-use Rattle.reflector_core.specs.PlainSession.{PlainSession, IsSound}
+use Rattle.reflector_core.specs.PlainSession.{PlainSession, IsSoundSession}
 use Rattle.reflector_core.specs.Answer.{answer}
-use Rattle.reflector_core.specs.Play.{first as first_session}
+use Rattle.reflector_core.specs.Play.{first_session}
 use Rattle.session_lock.specs.declared.knowledge.Item.{Item}
 use Rattle.session_lock.specs.declared.knowledge.Item.TheVariants.{Did, Void}
 use Rattle.atomic_table.specs.Seated.{TableId}
-use Rattle.session_lock.specs.Passes.{SharedState, state_of}
-use Rattle.session_lock.specs.Trusts.{Allowing, Allows, IsTrusted, Stays, MayBeAsked}
+use Rattle.session_lock.specs.Passes.{SharedState, shared_state}
+use Rattle.session_lock.specs.Trusts.{Allowing, TrustAllows, IsTrusted, Stays, MayBeAsked}
 use Rattle.session_lock.specs.History.{play, play_from, Saw, IsSoundThrough}
 use Rattle.reflector_core.proofs.SoundLaws.{offer_along}
 use Rattle.reflector_core.proofs.GrowthLaws.{kept-others}
 use Rattle.session_lock.proofs.Histories.{play_from_append, sound_start, sound_rest}
 
 module _ {T : Type 0} (allows : Allowing T) (stays : Stays allows) (trust : T) (id : SessionId) where
-  weaker : (s s' : PlainSession) (kept : Option Base) → ((time : ℕ) (bytes : List ℕ) → Allows allows trust id s time bytes → Allows allows trust id s' time bytes)
-      → IfSome kept (λ base. Allows allows trust id s base.time base.bytes) → IfSome kept (λ base. Allows allows trust id s' base.time base.bytes)
+  weaker : (s s' : PlainSession) (kept : Option Base) → ((time : ℕ) (bytes : List ℕ) → TrustAllows allows trust id s time bytes → TrustAllows allows trust id s' time bytes)
+      → IfSome kept (λ base. TrustAllows allows trust id s base.time base.bytes) → IfSome kept (λ base. TrustAllows allows trust id s' base.time base.bytes)
   weaker s s' None more u = u
   weaker s s' (Some base) more a = more base.time base.bytes a
 
-  same_kept : (s : PlainSession) (request : Request) → IsSound s → IsSound (answer s request).session → (answer s request).session.kept ≡ s.kept → IsTrusted allows trust id s → IsTrusted allows trust id (answer s request).session
+  same_kept : (s : PlainSession) (request : Request) → IsSoundSession s → IsSoundSession (answer s request).session → (answer s request).session.kept ≡ s.kept → IsTrusted allows trust id s → IsTrusted allows trust id (answer s request).session
   same_kept s request sound sound' same h =
       let s' : PlainSession = (answer s request).session in
-      subst (λ (kept : Option Base). IfSome kept (λ base. Allows allows trust id s' base.time base.bytes)) (sym same)
+      subst (λ (kept : Option Base). IfSome kept (λ base. TrustAllows allows trust id s' base.time base.bytes)) (sym same)
       (weaker s s' s.kept (λ time bytes a. stays trust id s request time bytes sound sound' a) h)
 
   -- after an answer to a request that may be asked
-  pub trusted_after : (s : PlainSession) (request : Request) → IsSound s → IsSound (answer s request).session → MayBeAsked allows trust id s request → IsTrusted allows trust id s → IsTrusted allows trust id (answer s request).session
+  pub trusted_after : (s : PlainSession) (request : Request) → IsSoundSession s → IsSoundSession (answer s request).session → MayBeAsked allows trust id s request → IsTrusted allows trust id s → IsTrusted allows trust id (answer s request).session
   trusted_after s (Offer view joined time snapshot) sound sound' ok h = offer_along (IsTrusted allows trust id) s view joined time snapshot h (λ short come. ok)
   trusted_after s (Join view now want) sound sound' ok h = same_kept s (Join view now want) sound sound' (kept-others s (Join view now want) refl) h
   trusted_after s (Send view joined number payload now) sound sound' ok h = same_kept s (Send view joined number payload now) sound sound' (kept-others s (Send view joined number payload now) refl) h
@@ -38,7 +38,7 @@ module _ {T : Type 0} (allows : Allowing T) (stays : Stays allows) (trust : T) (
   trusted_after s (Leave view joined now) sound sound' ok h = same_kept s (Leave view joined now) sound sound' (kept-others s (Leave view joined now) refl) h
   trusted_after s (Pull after limit) sound sound' ok h = same_kept s (Pull after limit) sound sound' (kept-others s (Pull after limit) refl) h
 
-  later : (s : PlainSession) (xs : List Item) (time : ℕ) (bytes : List ℕ) → IsSoundThrough s xs → Allows allows trust id s time bytes → Allows allows trust id (play_from s xs) time bytes
+  later : (s : PlainSession) (xs : List Item) (time : ℕ) (bytes : List ℕ) → IsSoundThrough s xs → TrustAllows allows trust id s time bytes → TrustAllows allows trust id (play_from s xs) time bytes
   later s [] time bytes sound a = a
   later s (Did c request ∷ xs) time bytes sound a =
       let s' : PlainSession = (answer s request).session in
@@ -52,13 +52,13 @@ module _ {T : Type 0} (allows : Allowing T) (stays : Stays allows) (trust : T) (
   asked_later cs seen history (Tick now) sound saw ok = ok
   asked_later cs seen history (Leave view joined now) sound saw ok = ok
   asked_later cs seen history (Offer view joined time snapshot) sound saw ok =
-      subst (λ (s : PlainSession). Allows allows trust id s time snapshot) (sym (play_from_append first_session seen saw.0) ∙ ap play saw.1)
+      subst (λ (s : PlainSession). TrustAllows allows trust id s time snapshot) (sym (play_from_append first_session seen saw.0) ∙ ap play saw.1)
       (later (play seen) saw.0 time snapshot (sound_rest first_session seen saw.0 (subst (IsSoundThrough first_session) (sym saw.1) sound)) ok)
   asked_later cs seen history (Pull after limit) sound saw ok = ok
 
 -- what is trusted by what the table was told is trusted by what a contract sees of it, and what may be asked goes back
-pub trusted_outside : {T : Type 0} (allows : Allowing T) (session : TableId) (key : SessionId × T) (seen : SharedState T) → state_of session key ≡ seen → (s : PlainSession) → IsTrusted allows key.1 key.0 s → IsTrusted allows seen.trust seen.id s
+pub trusted_outside : {T : Type 0} (allows : Allowing T) (session : TableId) (key : SessionId × T) (seen : SharedState T) → shared_state session key ≡ seen → (s : PlainSession) → IsTrusted allows key.1 key.0 s → IsTrusted allows seen.trust seen.id s
 trusted_outside {T} allows session key seen is s h = subst (λ (v : SharedState T). IsTrusted allows v.trust v.id s) is h
 
-pub asked_inside : {T : Type 0} (allows : Allowing T) (session : TableId) (key : SessionId × T) (seen : SharedState T) → state_of session key ≡ seen → (s : PlainSession) (request : Request) → MayBeAsked allows seen.trust seen.id s request → MayBeAsked allows key.1 key.0 s request
+pub asked_inside : {T : Type 0} (allows : Allowing T) (session : TableId) (key : SessionId × T) (seen : SharedState T) → shared_state session key ≡ seen → (s : PlainSession) (request : Request) → MayBeAsked allows seen.trust seen.id s request → MayBeAsked allows key.1 key.0 s request
 asked_inside {T} allows session key seen is s request h = subst (λ (v : SharedState T). MayBeAsked allows v.trust v.id s request) (sym is) h

@@ -1,8 +1,8 @@
 -- Histories: what callers did to a session, in one order.
 use Rattle.std.specs.Prelude.{◌≡◌, ℕ, Bool, true, false, ◌||◌, eqb, List, [], ◌∷◌, ◌++◌, if◌then◌else◌}
-use Rattle.reflector_core.specs.PlainSession.{PlainSession, IsSound}
+use Rattle.reflector_core.specs.PlainSession.{PlainSession, IsSoundSession}
 use Rattle.reflector_core.specs.Answer.{answer}
-use Rattle.reflector_core.specs.Play.{first as first_session}
+use Rattle.reflector_core.specs.Play.{first_session}
 use Rattle.reflector_core.specs.declared.request.Request.{Request}
 use Rattle.reflector_core.specs.declared.request.Reply.{Reply}
 use Rattle.session_lock.specs.declared.knowledge.Item.{Item}
@@ -13,28 +13,28 @@ caller_of (Did caller request) = caller
 caller_of (Void caller) = caller
 
 -- the session after one item
-abbrev pub after : PlainSession → Item → PlainSession
-after session (Did caller request) = (answer session request).session
-after session (Void caller) = session
+abbrev pub after_item : PlainSession → Item → PlainSession
+after_item session (Did caller request) = (answer session request).session
+after_item session (Void caller) = session
 
 abbrev pub play_from : PlainSession → List Item → PlainSession
 play_from session [] = session
-play_from session (x ∷ xs) = play_from (after session x) xs
+play_from session (x ∷ xs) = play_from (after_item session x) xs
 
 -- the session after all items, from the first session on
 abbrev pub play : List Item → PlainSession
 play history = play_from first_session history
 
 -- the requests of the history, in order
-abbrev pub requests_of : List Item → List Request
-requests_of [] = []
-requests_of (Did caller request ∷ xs) = request ∷ requests_of xs
-requests_of (Void caller ∷ xs) = requests_of xs
+abbrev pub history_requests : List Item → List Request
+history_requests [] = []
+history_requests (Did caller request ∷ xs) = request ∷ history_requests xs
+history_requests (Void caller ∷ xs) = history_requests xs
 
 -- the session is sound, and so it is after each of the items
 abbrev pub IsSoundThrough : PlainSession → List Item → Type 0
-IsSoundThrough session [] = IsSound session
-IsSoundThrough session (x ∷ xs) = IsSound session × IsSoundThrough (after session x) xs
+IsSoundThrough session [] = IsSoundSession session
+IsSoundThrough session (x ∷ xs) = IsSoundSession session × IsSoundThrough (after_item session x) xs
 
 -- what is answered to the request after the history
 abbrev pub reply_after : List Item → Request → Reply

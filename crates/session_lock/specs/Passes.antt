@@ -11,7 +11,7 @@ use Rattle.session_lock.specs.declared.knowledge.Item.TheVariants.{Did, Void}
 use Rattle.session_lock.specs.declared.knowledge.Range.{Range}
 use Rattle.session_lock.specs.declared.knowledge.Knowledge.{Knowledge}
 use Rattle.session_lock.specs.History.{play, reply_after, has, calls_of, SameCallsOfEach, Saw}
-use Rattle.session_lock.specs.Numbers.{times, in_ranges, between, count_of, take_numbers, drop_numbers, first_number}
+use Rattle.session_lock.specs.Numbers.{times, in_ranges, one_between, count_of, take_numbers, drop_numbers, first_of_ranges}
 use Rattle.session_lock.specs.Rules.{all_numbers, longer}
 
 -- what no other shared session has, its session's id, and the trust that it was made with
@@ -20,59 +20,59 @@ pub record SharedState (T : Type 0) : Type 0 where
   pub id : SessionId
   pub trust : T
 
-abbrev pub state_of : {T : Type 0} → TableId → SessionId × T → SharedState T
-state_of session key = record { session = session; id = key.0; trust = key.1 }
+abbrev pub shared_state : {T : Type 0} → TableId → SessionId × T → SharedState T
+shared_state session key = record { session = session; id = key.0; trust = key.1 }
 
 -- of which shared session it is a pass, its callers' numbers, its own caller's first, its spare numbers, and the
 -- history that it has seen
-pub record Standing : Type 0 where
+pub record PassState : Type 0 where
   pub session : TableId
   pub callers : List ℕ
   pub spare : List Range
   pub seen : List Item
 
 -- its own caller's number
-abbrev pub caller : Standing → ℕ
+abbrev pub caller : PassState → ℕ
 caller p = slice_index p.callers 0
 
 -- its callers' own calls in the history that it has seen
-abbrev pub own_calls : Standing → List Item
+abbrev pub own_calls : PassState → List Item
 own_calls p = calls_of p.callers p.seen
 
 -- how many numbers it holds
-abbrev pub numbers_held : Standing → ℕ
+abbrev pub numbers_held : PassState → ℕ
 numbers_held p = length p.callers + count_of p.spare
 
 -- how often it holds the number, as one of its callers' or as a spare one
-abbrev pub times_held : ℕ → Standing → ℕ
+abbrev pub times_held : ℕ → PassState → ℕ
 times_held n p = times n p.callers + in_ranges n p.spare
 
 -- the two passes together hold no number twice, and none from 2^32 on
-abbrev pub HeldOnce : Standing → Standing → Type 0
-HeldOnce p q = (n : ℕ) → times_held n p + times_held n q ≤ between 0 all_numbers n
+abbrev pub HeldOnce : PassState → PassState → Type 0
+HeldOnce p q = (n : ℕ) → times_held n p + times_held n q ≤ one_between 0 all_numbers n
 
 -- it holds each number below 2^32 once, and no other
-abbrev pub HoldsEach : Standing → Type 0
-HoldsEach p = (n : ℕ) → times_held n p ≡ between 0 all_numbers n
+abbrev pub HoldsEach : PassState → Type 0
+HoldsEach p = (n : ℕ) → times_held n p ≡ one_between 0 all_numbers n
 
 -- no item of what it has seen has one of its spare numbers
-abbrev pub UsedNoSpare : Standing → Type 0
+abbrev pub UsedNoSpare : PassState → Type 0
 UsedNoSpare p = (n : ℕ) → 0 < in_ranges n p.spare → calls_of (n ∷ []) p.seen ≡ []
 
 -- what a contract sees of a seat with this knowledge
-abbrev pub stand : TableId → Knowledge → Standing
-stand session v = record { session = session; callers = v.callers; spare = v.spare; seen = v.seen }
+abbrev pub pass_state : TableId → Knowledge → PassState
+pass_state session v = record { session = session; callers = v.callers; spare = v.spare; seen = v.seen }
 
 -- The pass after a call. There is a history that begins with all that it had seen, without another item of its
 -- callers; the pass has then seen this history and the item behind it, and its own calls have grown by just this item.
-pub record Grew (before after : Standing) (history : List Item) (item : Item) : Type 0 where
+pub record Grew (before after : PassState) (history : List Item) (item : Item) : Type 0 where
   pub saw : Saw before.callers before.seen history
   pub same : after ≡ record before { seen = history ++ item ∷ [] }
   pub own : own_calls after ≡ own_calls before ++ item ∷ []
   pub mine : has (caller before) before.callers ≡ true
 
 -- the reply is the one due at that place of the history, and what is kept was trusted there and is so after the call
-pub record Replied (IsTrusted : PlainSession → Type 0) (before after : Standing) (request : Request) (reply : Reply) : Type 0 where
+pub record Replied (IsTrusted : PlainSession → Type 0) (before after : PassState) (request : Request) (reply : Reply) : Type 0 where
   pub history : List Item
   pub grew : Grew before after history (Did (caller before) request)
   pub replies : reply ≡ reply_after history request
@@ -80,14 +80,14 @@ pub record Replied (IsTrusted : PlainSession → Type 0) (before after : Standin
   pub trusted_after : IsTrusted (play after.seen)
 
 -- the call found no memory, the reply due at that place may want some, and what is kept is trusted
-pub record Voided (IsTrusted : PlainSession → Type 0) (before after : Standing) (request : Request) : Type 0 where
+pub record Voided (IsTrusted : PlainSession → Type 0) (before after : PassState) (request : Request) : Type 0 where
   pub history : List Item
   pub grew : Grew before after history (Void (caller before))
   pub due : MayWantMemory (reply_after history request)
   pub trusted_after : IsTrusted (play after.seen)
 
 -- the pass has seen a history that begins with all that it had seen, and has made no call; what is kept is trusted
-pub record Caught (IsTrusted : PlainSession → Type 0) (before after : Standing) : Type 0 where
+pub record Caught (IsTrusted : PlainSession → Type 0) (before after : PassState) : Type 0 where
   pub saw : Saw before.callers before.seen after.seen
   pub same : after ≡ record before { seen = after.seen }
   pub own : own_calls after ≡ own_calls before
@@ -95,11 +95,11 @@ pub record Caught (IsTrusted : PlainSession → Type 0) (before after : Standing
 
 -- The new pass gets the first of the spare numbers: one as its caller's, the others as its own spare ones. It has seen
 -- the same, and has no calls.
-pub record Given (before : Standing) (numbers : ℕ) (new : Standing) : Type 0 where
+pub record Given (before : PassState) (numbers : ℕ) (new : PassState) : Type 0 where
   pub same :
       new
       ≡ record before {
-        callers = first_number (take_numbers numbers before.spare) ∷ [];
+        callers = first_of_ranges (take_numbers numbers before.spare) ∷ [];
         spare = drop_numbers 1 (take_numbers numbers before.spare);
       }
   pub own : own_calls new ≡ []
@@ -107,7 +107,7 @@ pub record Given (before : Standing) (numbers : ℕ) (new : Standing) : Type 0 w
 -- The pass after another was merged into it. It has seen the longer of the two histories, of which the shorter is a
 -- beginning, and holds the numbers of both. The calls of both stand in what it has seen, and so do those of each of their
 -- callers by itself.
-pub record Merged (before other after : Standing) : Type 0 where
+pub record Merged (before other after : PassState) : Type 0 where
   pub same :
       after
       ≡ record before {
@@ -123,7 +123,7 @@ pub record Merged (before other after : Standing) : Type 0 where
   pub each_other : SameCallsOfEach other.callers other.seen after.seen
 
 -- the first pass is caller 0, holds all other numbers as spare ones, and has seen nothing
-abbrev pub first_pass : TableId → Standing
+abbrev pub first_pass : TableId → PassState
 first_pass session = record {
   session = session;
   callers = 0 ∷ [];

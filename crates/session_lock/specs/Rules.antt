@@ -4,22 +4,22 @@ use mathlib.Core.Option.{some, none}
 use lib.ListN.{get_elem?}
 use Rattle.atomic_table.specs.Table.{State}
 use Rattle.reflector_core.specs.PlainSession.{PlainSession}
-use Rattle.reflector_core.specs.Play.{first as first_session}
+use Rattle.reflector_core.specs.Play.{first_session}
 use Rattle.session_lock.specs.declared.knowledge.Item.{Item}
 use Rattle.session_lock.specs.declared.knowledge.Range.{Range}
 use Rattle.session_lock.specs.declared.knowledge.Part.{Part}
 use Rattle.session_lock.specs.declared.knowledge.Knowledge.{Knowledge}
 use Rattle.session_lock.specs.History.{play, calls_of, Saw, IsSoundThrough}
-use Rattle.session_lock.specs.Numbers.{times, in_ranges, count_of, between}
+use Rattle.session_lock.specs.Numbers.{times, in_ranges, count_of, one_between}
 
 -- how many numbers there are
 abbrev pub all_numbers : ℕ
 all_numbers = 4294967296
 
 -- f of each view, added up
-abbrev pub total : (Knowledge → ℕ) → List Knowledge → ℕ
-total f [] = 0
-total f (v ∷ vs) = f v + total f vs
+abbrev pub views_total : (Knowledge → ℕ) → List Knowledge → ℕ
+views_total f [] = 0
+views_total f (v ∷ vs) = f v + views_total f vs
 
 -- 1 where this is the ticket, and else 0
 abbrev pub is_ticket : ℕ → Option ℕ → ℕ
@@ -29,12 +29,12 @@ is_ticket t (Some k) = if eqb t k then 1 else 0
 abbrev pub has_ticket : ℕ → Knowledge → ℕ
 has_ticket t v = is_ticket t v.ticket
 
-abbrev pub weight : Bool → ℕ
-weight true = 1
-weight false = 0
+abbrev pub one_if : Bool → ℕ
+one_if true = 1
+one_if false = 0
 
 abbrev pub is_holding : Knowledge → ℕ
-is_holding v = weight v.holding
+is_holding v = one_if v.holding
 
 -- how often the number is that of one of the view's callers
 abbrev pub calls_as : ℕ → Knowledge → ℕ
@@ -46,7 +46,7 @@ holds_number n v = times n v.callers + in_ranges n v.spare
 
 -- the view holds no number twice, and none from 2^32 on
 abbrev pub HoldsOnce : Knowledge → Type 0
-HoldsOnce v = (n : ℕ) → holds_number n v ≤ between 0 all_numbers n
+HoldsOnce v = (n : ℕ) → holds_number n v ≤ one_between 0 all_numbers n
 
 -- how many numbers the view holds
 abbrev pub size_of : Knowledge → ℕ
@@ -74,8 +74,8 @@ abbrev pub PartsFit : List Item → Knowledge → Type 0
 PartsFit history v = PartFits history v v.kept × PartFits history v v.other
 
 -- some view that has a caller has seen the whole history
-abbrev pub IsTold : List Item → List Knowledge → Type 0
-IsTold history views = (i : ℕ) × (v : Knowledge) × (get_elem? views i ≡ some v) × (v.seen ≡ history) × (0 < length v.callers)
+abbrev pub IsSeenWhole : List Item → List Knowledge → Type 0
+IsSeenWhole history views = (i : ℕ) × (v : Knowledge) × (get_elem? views i ≡ some v) × (v.seen ≡ history) × (0 < length v.callers)
 
 -- What holds of a history, of the table and of the trust. A view with no caller is that of a pass which was merged.
 pub record IsInOrder (Trusted : PlainSession → Type 0) (history : List Item) (s : State PlainSession Knowledge) : Type 0 where
@@ -85,25 +85,25 @@ pub record IsInOrder (Trusted : PlainSession → Type 0) (history : List Item) (
   pub room : next < 2 ^ 64
   pub order : length history ≤ next
   -- each ticket from the one that is served on is out with one view, and no other ticket is
-  pub tickets : (t : ℕ) → total (has_ticket t) s.views ≡ between (length history) next t
+  pub tickets : (t : ℕ) → views_total (has_ticket t) s.views ≡ one_between (length history) next t
   -- each number is held once
-  pub numbers : (n : ℕ) → total (holds_number n) s.views ≡ between 0 all_numbers n
-  pub whole : total size_of s.views ≡ all_numbers
+  pub numbers : (n : ℕ) → views_total (holds_number n) s.views ≡ one_between 0 all_numbers n
+  pub whole : views_total size_of s.views ≡ all_numbers
   -- each view has seen a beginning of the history, after which its callers made no call
   pub seen : Every (λ v. Saw v.callers v.seen history) s.views
   pub parts : Every (PartsFit history) s.views
-  pub told : IsTold history s.views
+  pub told : IsSeenWhole history s.views
   -- only callers made calls
-  pub called : (n : ℕ) → total (calls_as n) s.views ≡ 0 → calls_of (n ∷ []) history ≡ []
+  pub called : (n : ℕ) → views_total (calls_as n) s.views ≡ 0 → calls_of (n ∷ []) history ≡ []
   pub turn : Every (HoldsInTurn (length history)) s.views
   pub spent : Every SpentHoldsNothing s.views
   pub trusted : Trusted (play history)
   -- the session is sound from the first on
   pub sound : IsSoundThrough first_session history
   -- where no view holds it, the session lies in the slot, and is the play of the history
-  pub home : total is_holding s.views ≡ 0 → s.homes ≡ some (play history) ∷ []
+  pub home : views_total is_holding s.views ≡ 0 → s.homes ≡ some (play history) ∷ []
   -- where a view holds it, the slot is empty
-  pub away : total is_holding s.views ≡ 1 → s.homes ≡ none ∷ []
+  pub away : views_total is_holding s.views ≡ 1 → s.homes ≡ none ∷ []
 
 -- the play of the history is trusted, and was sound at each place of it
 abbrev pub PlaysWell : (PlainSession → Type 0) → List Item → Type 0
@@ -113,11 +113,11 @@ PlaysWell Trusted history = Trusted (play history) × IsSoundThrough first_sessi
 abbrev pub Locks : (PlainSession → Type 0) → State PlainSession Knowledge → Type 0
 Locks Trusted s = (history : List Item) × IsInOrder Trusted history s
 
-abbrev pub part : List ℕ → List Item → Part
-part callers seen = record { callers = callers; seen = seen }
+abbrev pub merge_part : List ℕ → List Item → Part
+merge_part callers seen = record { callers = callers; seen = seen }
 
 abbrev pub no_part : Part
-no_part = part [] []
+no_part = merge_part [] []
 
 -- what a pass knows that rests
 abbrev pub knows : List ℕ → List Range → List Item → Knowledge

@@ -2,8 +2,8 @@
 use Rattle.std.specs.Prelude.{◌≡◌, ◌≢◌, ℕ, ◌<◌, true, false, List, [], ◌∷◌, ◌++◌, length, Some, None, Result, MatchResult}
 use Rattle.atomic_table.specs.Table.{Me, Step}
 use Rattle.tea_base.specs.declared.want.WantOfMemory.{WantOfMemory}
-use Rattle.reflector_core.specs.PlainSession.{PlainSession, IsSound}
-use Rattle.reflector_core.specs.Play.{first as first_session}
+use Rattle.reflector_core.specs.PlainSession.{PlainSession, IsSoundSession}
+use Rattle.reflector_core.specs.Play.{first_session}
 use Rattle.reflector_core.specs.Answer.{answer, with_reply, MayWantMemory}
 use Rattle.reflector_core.specs.declared.request.Request.{Request}
 use Rattle.reflector_core.specs.declared.request.Reply.{Reply}
@@ -11,8 +11,8 @@ use Rattle.session_lock.specs.declared.knowledge.Item.{Item}
 use Rattle.session_lock.specs.declared.knowledge.Item.TheVariants.{Did, Void}
 use Rattle.session_lock.specs.declared.knowledge.Knowledge.{Knowledge}
 use Rattle.session_lock.specs.History.{play, reply_after, calls_of, Saw, IsSoundThrough}
-use Rattle.session_lock.specs.Numbers.{in_ranges, take_numbers, drop_numbers, first_number}
-use Rattle.session_lock.specs.Rules.{HoldsOnce, PlaysWell, knows, part, no_part, longer}
+use Rattle.session_lock.specs.Numbers.{in_ranges, take_numbers, drop_numbers, first_of_ranges}
+use Rattle.session_lock.specs.Rules.{HoldsOnce, PlaysWell, knows, merge_part, no_part, longer}
 
 -- a pass's view, and the session where the pass has it in hand
 abbrev pub M : Type 0
@@ -21,8 +21,8 @@ M = Me PlainSession Knowledge
 abbrev pub with_ticket : Knowledge → ℕ → Knowledge
 with_ticket v t = record v { ticket = Some t }
 
-abbrev pub in_turn : Knowledge → List Item → Knowledge
-in_turn v history = record v { seen = history; holding = true }
+abbrev pub with_turn : Knowledge → List Item → Knowledge
+with_turn v history = record v { seen = history; holding = true }
 
 abbrev pub done : Knowledge → Item → Knowledge
 done v item = record v { seen = v.seen ++ item ∷ []; ticket = None; holding = false }
@@ -40,7 +40,7 @@ Waits m ticket = (m.1 ≡ []) × (m.0.ticket ≡ Some ticket) × (m.0.holding �
 abbrev pub HasTurn : (PlainSession → Type 0) → M → ℕ → M → Type 0
 HasTurn Trusted m ticket m' =
     (history : List Item) × (length history ≡ ticket) × Saw m.0.callers m.0.seen history
-    × (m' ≡ (in_turn m.0 history, (0, play history) ∷ [])) × Trusted (play history)
+    × (m' ≡ (with_turn m.0 history, (0, play history) ∷ [])) × Trusted (play history)
     × IsSoundThrough first_session history
 
 -- look: it is the pass's turn, or nothing changed
@@ -55,7 +55,7 @@ Works m request result m' =
     × MatchResult result
     (λ reply. with_reply after reply ≡ answer session request)
     (λ _. (after ≡ session) × MayWantMemory (answer session request).reply)
-    × IsSound after
+    × IsSoundSession after
 
 -- finish: the item stands behind all that was seen, and the session is given back; the play of this is trusted, and was
 -- sound all the way
@@ -81,7 +81,7 @@ Unused st m found m' =
 
 -- split: the first of the n numbers that are taken becomes the new caller's
 abbrev pub split_right : ℕ → Knowledge → Knowledge
-split_right n v = let taken = take_numbers n v.spare in knows (first_number taken ∷ []) (drop_numbers 1 taken) v.seen
+split_right n v = let taken = take_numbers n v.spare in knows (first_of_ranges taken ∷ []) (drop_numbers 1 taken) v.seen
 
 abbrev pub split_left : ℕ → Knowledge → Knowledge
 split_left n v = record v { spare = drop_numbers n v.spare }
@@ -92,8 +92,8 @@ merged v w = record v {
   callers = v.callers ++ w.callers;
   spare = v.spare ++ w.spare;
   seen = longer v.seen w.seen;
-  kept = part v.callers v.seen;
-  other = part w.callers w.seen;
+  kept = merge_part v.callers v.seen;
+  other = merge_part w.callers w.seen;
 }
 
 abbrev pub spent : Knowledge
@@ -114,8 +114,8 @@ IsIdle m =
     × ((first : ℕ) × (others : List ℕ) × (m.0.callers ≡ first ∷ others))
 
 -- all that was seen begins a history to which the call was added, and the reply is the one due there
-abbrev pub Answers : (PlainSession → Type 0) → Knowledge → M → Request → Reply → Type 0
-Answers Trusted v m request reply =
+abbrev pub AnswersRequest : (PlainSession → Type 0) → Knowledge → M → Request → Reply → Type 0
+AnswersRequest Trusted v m request reply =
     (history : List Item) × (caller : ℕ) × (others : List ℕ) × (v.callers ≡ caller ∷ others) × Saw v.callers v.seen history
     × (m ≡ (knows v.callers v.spare (history ++ Did caller request ∷ []), [])) × (reply ≡ reply_after history request)
     × Trusted (play history)

@@ -1,6 +1,6 @@
 //! The session as the lock's slot holds it.
 ghost use Rattle.std.specs.Prelude.{◌≡◌, IfOk, OnErr};
-ghost use Rattle.reflector_core.specs.PlainSession.{IsSound};
+ghost use Rattle.reflector_core.specs.PlainSession.{IsSoundSession};
 ghost use Rattle.reflector_core.specs.Answer.{answer, with_reply, MayWantMemory};
 
 use reflector_core::{Reply, Request, Session};
@@ -38,7 +38,7 @@ impl Held {
     pub(crate) fn call(&mut self, request: &Request) -> Result<Reply, WantOfMemory>
         ensures ok { IfOk result (λ reply. with_reply self.new reply ≡ answer self.old request.now) }
         ensures err { OnErr result (self.new ≡ self.old) }
-        ensures sound { IsSound self.new }
+        ensures sound { IsSoundSession self.new }
         ensures memory { OnErr result (MayWantMemory (answer self.old request.now).reply) }
     {
         self.session.call(request)

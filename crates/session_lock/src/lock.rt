@@ -2,12 +2,12 @@
 ghost use Rattle.std.specs.Prelude.{◌≡◌, ℕ, ◌<◌, ◌+◌, [], ◌∷◌, length, true, false, None, IfOk, IfErr, IsOk, MatchResult};
 ghost use Rattle.tea_base.specs.declared.entry.SessionId.{SessionId};
 ghost use Rattle.reflector_core.specs.PlainSession.{PlainSession};
-ghost use Rattle.reflector_core.specs.Play.{first as first_session, replies_from, TellsItsEvents};
+ghost use Rattle.reflector_core.specs.Play.{first_session, replies_from, TellsItsEvents};
 ghost use Rattle.reflector_core.specs.Growth.{is_offer};
 ghost use Rattle.session_lock.specs.Trusts.{IsTrusted, MayBeAsked};
-ghost use Rattle.session_lock.specs.History.{play, calls_of, requests_of, IsSoundThrough};
+ghost use Rattle.session_lock.specs.History.{play, calls_of, history_requests, IsSoundThrough};
 ghost use Rattle.session_lock.specs.Rules.{all_numbers, HoldsOnce, PlaysWell};
-ghost use Rattle.session_lock.specs.Steps.{with_ticket, Waits, HasTurn, HasCounted, Works, IsIdle, Answers, Fails, split_left, split_right};
+ghost use Rattle.session_lock.specs.Steps.{with_ticket, Waits, HasTurn, HasCounted, Works, IsIdle, AnswersRequest, Fails, split_left, split_right};
 ghost use Rattle.session_lock.specs.Numbers.{count_of, in_ranges, drop_numbers};
 ghost use Rattle.session_lock.specs.Passes.{Replied, Voided, Caught, Given, Merged, HeldOnce, HoldsEach, UsedNoSpare, first_pass, caller, numbers_held, own_calls};
 
@@ -44,12 +44,12 @@ pub struct Pass {
 
 impl Model for Pass {
     ghost use Rattle.std.specs.Prelude.{◌≡◌, ◌<◌, length};
-    ghost use Rattle.session_lock.specs.Passes.{Standing, stand};
+    ghost use Rattle.session_lock.specs.Passes.{PassState, pass_state};
     ghost use Rattle.session_lock.specs.Steps.{IsIdle};
 
-    ghost Value = { Standing };
+    ghost Value = { PassState };
 
-    ghost view = { λ pass. stand pass.seat.table_id pass.seat.me.0 };
+    ghost view = { λ pass. pass_state pass.seat.table_id pass.seat.me.0 };
 
     ghost invariant = { λ pass. IsIdle pass.seat.me };
 }
@@ -62,11 +62,11 @@ pub struct SharedSession<T: Trust> {
 
 impl<T: Trust> Model for SharedSession<T> {
     ghost use Rattle.std.specs.Prelude.{◌≡◌};
-    ghost use Rattle.session_lock.specs.Passes.{SharedState, state_of};
+    ghost use Rattle.session_lock.specs.Passes.{SharedState, shared_state};
 
     ghost Value = { SharedState T };
 
-    ghost view = { λ shared. state_of shared.table.shared.table_id shared.table.shared.key };
+    ghost view = { λ shared. shared_state shared.table.shared.table_id shared.table.shared.key };
 
     ghost invariant = { λ shared. (shared.table.shared.table_id.words ≡ 2) × (shared.table.shared.table_id.slots ≡ 1) };
 }
@@ -209,8 +209,8 @@ impl<T: Trust> SharedSession<T> {
         ensures numbers { HoldsEach pass }
         ensures trusted { IsTrusted T.allows self.trust self.id result.plain }
         ensures sound { IsSoundThrough first_session pass.seen }
-        ensures events { TellsItsEvents (requests_of pass.seen)
-            (replies_from first_session (requests_of pass.seen)) result.plain.log }
+        ensures events { TellsItsEvents (history_requests pass.seen)
+            (replies_from first_session (history_requests pass.seen)) result.plain.log }
     {
         let SharedSession { table } = self;
         let Pass { seat } = pass;
@@ -262,7 +262,7 @@ impl<T: Trust> SharedSession<T> {
         requires idle { IsIdle seat.old.me }
         ensures table { seat.new.table_id ≡ self.now.session }
         ensures made { MatchResult result
-            (λ reply. Answers J.trusted seat.old.me.0 seat.new.me request.now reply)
+            (λ reply. AnswersRequest J.trusted seat.old.me.0 seat.new.me request.now reply)
             (λ _. Fails seat.old.me.0 seat.new.me request.now) }
         ensures plays { PlaysWell J.trusted seat.new.me.0.seen }
     {

@@ -5,8 +5,9 @@ use Rattle.std.proofs.lemmas.List.Folds.{list_any-append, list_any_at}
 use Rattle.std.proofs.lemmas.List.{take_more, drop_more, map-append, take-append-le, drop-append-le, take-map, get_or-map, length-map}
 use Rattle.std.proofs.lemmas.Option.{slice_get_past, slice_get-get_or}
 use Rattle.tea_base.specs.declared.entry.Entry.{Entry}
-use Rattle.tea_base.specs.Readings.{last_entry, presence, is_presence_of, is_event_of, sent, last_number, event, is_join, here_count, payload_of, payload_len}
-use Rattle.tea_base.specs.Legal.{MayFollow, most_entries}
+use Rattle.tea_base.specs.Readings.{last_entry, presence, is_presence_of, is_event_of, view_events, last_number, view_event, is_join, here_count, event_payload, payload_len}
+use Rattle.tea_base.specs.Legal.{MayFollow}
+use Rattle.tea_base.specs.Limits.{most_entries}
 use Rattle.tea_base.proofs.LogLaws.{event-counted, last_presence-push, sent-push, slice_get-filter, IsLegal-push, payload_bytes-push, MayFollow-short}
 use Rattle.tea_base.specs.declared.entry.What.{What}
 use Rattle.tea_base.specs.declared.entry.What.TheVariants as what
@@ -34,12 +35,12 @@ length-push_if false log entry = omega (arith, length-append log [])
 
 -- one Event more of its view
 pub last_number-push : (log : List Entry) (entry : Entry) (view : ℕ) → last_number (log ++ entry ∷ []) view ≡ last_number log view + cond (is_event_of view entry) 1 0
-last_number-push log entry view = ap length (sent-push log entry view) ∙ length-push_if (is_event_of view entry) (sent log view) entry
+last_number-push log entry view = ap length (sent-push log entry view) ∙ length-push_if (is_event_of view entry) (view_events log view) entry
 
 pub last_number_more : (payloads : List ℕ) (heads : List Head) (i : ℕ) (view : ℕ) → i < length heads → last_number (map (entry_of payloads) (take (i + 1) heads)) view ≡ last_number (map (entry_of payloads) (take i heads)) view + cond (is_event_of view (entry_of payloads (get_or heads i no_head))) 1 0
 last_number_more payloads heads i view below = rw (entries_more payloads heads i no_head below) (last_number-push _ _ view)
 
-pub event_found : (payloads : List ℕ) (heads : List Head) (i : ℕ) (view number : ℕ) → i < length heads → is_event_of view (entry_of payloads (get_or heads i no_head)) ≡ true → last_number (map (entry_of payloads) (take i heads)) view + 1 ≡ number → event (map (entry_of payloads) heads) view number ≡ Some (entry_of payloads (get_or heads i no_head))
+pub event_found : (payloads : List ℕ) (heads : List Head) (i : ℕ) (view number : ℕ) → i < length heads → is_event_of view (entry_of payloads (get_or heads i no_head)) ≡ true → last_number (map (entry_of payloads) (take i heads)) view + 1 ≡ number → view_event (map (entry_of payloads) heads) view number ≡ Some (entry_of payloads (get_or heads i no_head))
 event_found payloads heads i view number below is count =
     let entries = map (entry_of payloads) heads in
     let at : get_or entries i (entry_of payloads no_head) ≡ entry_of payloads (get_or heads i no_head) = get_or-map (entry_of payloads) heads i no_head (entry_of payloads no_head) below in
@@ -48,8 +49,8 @@ event_found payloads heads i view number below is count =
     let place : number - 1 ≡ length (filter (is_event_of view) (take i entries)) = rw (take-map (entry_of payloads) i heads) (omega arith) in
     event-counted entries view number (omega arith) ∙ rw place (found ∙ ap Some at)
 
-pub event_none : (log : List Entry) (view number : ℕ) → last_number log view < number → event log view number ≡ None
-event_none log view number past = event-counted log view number (omega arith) ∙ slice_get_past (sent log view) (number - 1) (omega arith)
+pub event_none : (log : List Entry) (view number : ℕ) → last_number log view < number → view_event log view number ≡ None
+event_none log view number past = event-counted log view number (omega arith) ∙ slice_get_past (view_events log view) (number - 1) (omega arith)
 
 slice_range-append : (xs ys : List ℕ) (start len : ℕ) → start + len ≤ length xs → slice_range (xs ++ ys) start (start + len) ≡ slice_range xs start (start + len)
 slice_range-append xs ys start len within =
@@ -90,14 +91,14 @@ pub AreWithin-push : (a b : ℕ) (heads pushed : List Head) (head : Head) → a 
 AreWithin-push a b heads pushed head le within push last = rw push (AreWithin-append a b heads head le within last)
 
 -- the vectors after one more head, and its payload
-pub AreSound-push : (payloads grown : List ℕ) (heads pushed : List Head) (head : Head) (what : What) → AreSound payloads heads → grown ≡ payloads ++ payload_of what → pushed ≡ heads ++ head ∷ [] → what_of grown head.kind ≡ what → IsKindWithin (length grown) head.kind → head.seq ≡ length heads + 1 → MayFollow (map (entry_of payloads) heads) (next_entry (map (entry_of payloads) heads) head.time head.view what) → AreSound grown pushed
+pub AreSound-push : (payloads grown : List ℕ) (heads pushed : List Head) (head : Head) (what : What) → AreSound payloads heads → grown ≡ payloads ++ event_payload what → pushed ≡ heads ++ head ∷ [] → what_of grown head.kind ≡ what → IsKindWithin (length grown) head.kind → head.seq ≡ length heads + 1 → MayFollow (map (entry_of payloads) heads) (next_entry (map (entry_of payloads) heads) head.time head.view what) → AreSound grown pushed
 AreSound-push payloads grown heads pushed head what sound grows push kept last seq may =
     let entries = map (entry_of payloads) heads in
     let entry = next_entry entries head.time head.view what in
     let long : length entries + 1 ≡ head.seq = omega (arith, length-map heads (entry_of payloads)) in
-    let pushes = entries-push payloads (payload_of what) grown heads pushed head what sound.within grows push kept in
+    let pushes = entries-push payloads (event_payload what) grown heads pushed head what sound.within grows push kept in
     let counts = rw long at (payload_bytes-push entries entry) in
-    let more : length grown ≡ length payloads + payload_len what = omega (arith, ap length grows, length-append payloads (payload_of what)) in
+    let more : length grown ≡ length payloads + payload_len what = omega (arith, ap length grows, length-append payloads (event_payload what)) in
     record {
       legal = rw (pushes, ← long) (IsLegal-push entries entry sound.legal may);
       counted = rw (pushes, more) (omega (arith, counts, sound.counted));
@@ -114,7 +115,7 @@ what_of-presence payloads Join is = refl
 what_of-presence payloads Exit is = refl
 what_of-presence payloads (Event number start len) is = absurd is
 
-pub payload_of-presence : (kind : Kind) → IsPresence kind → payload_of (what_of [] kind) ≡ []
+pub payload_of-presence : (kind : Kind) → IsPresence kind → event_payload (what_of [] kind) ≡ []
 payload_of-presence Join is = refl
 payload_of-presence Exit is = refl
 payload_of-presence (Event number start len) is = absurd is

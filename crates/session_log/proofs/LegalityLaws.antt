@@ -7,13 +7,14 @@ use Rattle.tea_base.specs.declared.entry.Entry.{Entry}
 use Rattle.tea_base.specs.declared.entry.What.{What}
 use Rattle.tea_base.specs.declared.entry.What.TheVariants.{Join, Exit, Event}
 use Rattle.tea_base.specs.Readings.{is_here, last_number, last_time, is_presence_of, is_event_of, is_join, is_exit, is_event, is_some_join, last_entry, presence}
-use Rattle.tea_base.specs.Legal.{most_entries, Allows, MayFollow, IsLegalAfter, IsLegal}
+use Rattle.tea_base.specs.Limits.{time_limit, most_entries}
+use Rattle.tea_base.specs.Legal.{LogAllows, MayFollow, IsLegalAfter, IsLegal}
 use Rattle.tea_base.proofs.LogLaws.{last_presence-push, MayFollow-short}
 use Rattle.session_log.specs.declared.legality.Stand.{Stand}
-use Rattle.session_log.specs.Legality.{standing, stand, allows, may_follow, stood}
+use Rattle.session_log.specs.Legality.{standing, view_stand, log_allows, may_follow, stand_after}
 use Rattle.session_log.proofs.HeadLaws.{last_number-push}
 
-allows-Decides : (log : List Entry) (view : ℕ) (what : What) → Decides (allows (standing log) (stand log view) what) (Allows log view what)
+allows-Decides : (log : List Entry) (view : ℕ) (what : What) → Decides (log_allows (standing log) (view_stand log view) what) (LogAllows log view what)
 allows-Decides log view Join = (λ h. grind (arith, nat_tests), λ h. let a = h.0 in let b = h.1 in grind (arith, nat_tests))
 allows-Decides log view Exit = (λ h. grind (arith, nat_tests), λ h. let a = h.0 in let b = h.1 in grind (arith, nat_tests))
 allows-Decides log view (Event number payload) =
@@ -21,14 +22,14 @@ allows-Decides log view (Event number payload) =
 
 -- what is left to test of an entry with the next seq and a view of 32 bits
 abbrev Facts : List Entry → Entry → Type 0
-Facts log entry = (last_time log < entry.time) × ((entry.time < 2 ^ 53) × ((entry.view ≡ 0 → ⊥) × Allows log entry.view entry.what))
+Facts log entry = (last_time log < entry.time) × ((entry.time < time_limit) × ((entry.view ≡ 0 → ⊥) × LogAllows log entry.view entry.what))
 
 pub may_follow-Decides : (log : List Entry) (entry : Entry) → entry.seq ≡ length log + 1 → entry.view < 2 ^ 32 → Decides (may_follow log entry) (MayFollow log entry)
 may_follow-Decides log entry seq bound =
     let from : Facts log entry → MayFollow log entry = λ f. record { seq = seq; later = f.0; time_bound = f.1.0; named = f.1.1.0; view_bound = bound; allowed = f.1.1.1 } in
     let to : MayFollow log entry → Facts log entry = λ may. (may.later, (may.time_bound, (may.named, may.allowed))) in
     let facts : Decides (may_follow log entry) (Facts log entry) =
-    Decides-and _ _ (Decides-ltb (last_time log) entry.time) (Decides-and _ _ (Decides-ltb entry.time (2 ^ 53))
+    Decides-and _ _ (Decides-ltb (last_time log) entry.time) (Decides-and _ _ (Decides-ltb entry.time (time_limit))
     (Decides-and _ _ (Decides-not _ (Decides-eqb entry.view 0)) (allows-Decides log entry.view entry.what))) in
     Decides-like (may_follow log entry) from to facts
 
@@ -44,14 +45,14 @@ is_here-push log entry view = ap is_some_join (last_presence-push log entry view
 abbrev made_stand : Bool → ℕ → Stand
 made_stand here number = record { here = here; number = number }
 
-stood_by : (same : Bool) (here : Bool) (number : ℕ) (what : What) → cond same (stood (made_stand here number) what) (made_stand here number)
+stood_by : (same : Bool) (here : Bool) (number : ℕ) (what : What) → cond same (stand_after (made_stand here number) what) (made_stand here number)
     ≡ made_stand (cond (same && (is_join what || is_exit what)) (is_join what) here) (number + cond (same && is_event what) 1 0)
 stood_by true here number Join = let e : number ≡ number + 0 = omega arith in ap (made_stand true) e
 stood_by true here number Exit = let e : number ≡ number + 0 = omega arith in ap (made_stand false) e
 stood_by true here number (Event n payload) = refl
 stood_by false here number what = let e : number ≡ number + 0 = omega arith in ap (made_stand here) e
 
-pub stand-push : (log : List Entry) (entry : Entry) (view : ℕ) → stand (log ++ entry ∷ []) view ≡ cond (eqb entry.view view) (stood (stand log view) entry.what) (stand log view)
+pub stand-push : (log : List Entry) (entry : Entry) (view : ℕ) → view_stand (log ++ entry ∷ []) view ≡ cond (eqb entry.view view) (stand_after (view_stand log view) entry.what) (view_stand log view)
 stand-push log entry view =
     rw (is_here-push log entry view, last_number-push log entry view) (sym (stood_by (eqb entry.view view) (is_here log view) (last_number log view) entry.what))
 

@@ -2,7 +2,8 @@
 use Rattle.std.specs.Prelude.{ℕ, ◌+◌, ◌≤◌, ◌≡◌, List, length, map, vec_len, vec_capacity}
 use Rattle.tea_base.specs.declared.entry.Entry.{Entry}
 use Rattle.tea_base.specs.Readings.{payload_bytes}
-use Rattle.tea_base.specs.Legal.{IsLegal, most_entries}
+use Rattle.tea_base.specs.Legal.{IsLegal}
+use Rattle.tea_base.specs.Limits.{most_entries}
 use Rattle.session_log.specs.LogState.{LogState}
 use Rattle.session_log.specs.Heads.{entry_of, AreWithin}
 use Rattle.session_log.specs.declared.heads.Head.{Head}
@@ -11,8 +12,8 @@ use Rattle.session_log.specs.declared.log.Log.TheInside.{Inside}
 abbrev pub entries_of : Inside → List Entry
 entries_of log = map (entry_of log.payloads.items) log.heads.items
 
-abbrev pub state_of : Inside → LogState
-state_of log =
+abbrev pub log_state : Inside → LogState
+log_state log =
     record { entries = entries_of log; spare_entries = log.spare_entries; spare_bytes = log.spare_bytes }
 
 -- the bytes of all payloads and the heads are those of a legal log
@@ -22,7 +23,7 @@ pub record AreSound (payloads : List ℕ) (heads : List Head) : Type 0 where
   pub within : AreWithin (length payloads) heads
 
 -- the vectors have memory for the room that is told
-pub record IsSound (log : Inside) : Type 0 where
+pub record IsSoundLog (log : Inside) : Type 0 where
   pub kept : AreSound log.payloads.items log.heads.items
   pub short : vec_len log.heads ≤ most_entries
   pub room_for_entries : vec_len log.heads + log.spare_entries ≤ vec_capacity log.heads

@@ -6,7 +6,7 @@ use Rattle.tea_base.specs.declared.entry.Entry.{Entry}
 use Rattle.tea_base.specs.declared.entry.What.{What}
 use Rattle.tea_base.specs.declared.entry.What.TheVariants.{Join, Exit, Event}
 use Rattle.tea_base.specs.Readings.{here_count, last_time}
-use Rattle.session_log.specs.Legality.{stand}
+use Rattle.session_log.specs.Legality.{view_stand}
 use Rattle.session_log.specs.declared.legality.Stand.{Stand}
 use Rattle.session_log.specs.declared.tally.Tally.{Tally}
 
@@ -23,7 +23,7 @@ here_after count view Join = if view.here then count else count + 1
 here_after count view Exit = count - 1
 here_after count view (Event number payload) = count
 
-pub record Tells (tally : Tally) (log : List Entry) : Type 0 where
+pub record TellsLog (tally : Tally) (log : List Entry) : Type 0 where
   pub time : tally.time ≡ last_time log
   pub views_here : tally.views_here ≡ here_count log
-  pub stands : (view : ℕ) → stand_in tally.stands view ≡ stand log view
+  pub stands : (view : ℕ) → stand_in tally.stands view ≡ view_stand log view

@@ -1,8 +1,8 @@
 //! What a log keeps of an entry, beside the payloads of all, and what is read from it.
 ghost use Rattle.std.specs.Prelude.{◌≡◌, ◌≤◌, ◌<◌, ◌+◌, ◌++◌, ◌∷◌, [], ◌&&◌, not, ℕ, List, map, length, option_map, vec_len, vec_capacity};
 ghost use Rattle.std.specs.List.{list_any};
-ghost use Rattle.tea_base.specs.Readings.{count, current, is_here, last_number, event, here_count, is_join, is_presence_of, is_event_of};
-ghost use Rattle.tea_base.specs.Legal.{most_entries};
+ghost use Rattle.tea_base.specs.Readings.{count_until, current, is_here, last_number, view_event, here_count, is_join, is_presence_of, is_event_of};
+ghost use Rattle.tea_base.specs.Limits.{most_entries};
 ghost use Rattle.session_log.specs.Heads.{entry_of};
 
 /// What an entry records. An Event's payload is `len` bytes from `start` on.
@@ -154,7 +154,7 @@ pub fn seq_of_event(heads: &[Head], view: u32, number: u32) -> Option<u32>
     requires counted { 0 < number }
     requires short { length heads.now ≤ most_entries }
     ensures { (payloads : List ℕ) → result ≡
-        option_map (λ entry. entry.seq) (event (map (entry_of payloads) heads.now) view number) }
+        option_map (λ entry. entry.seq) (view_event (map (entry_of payloads) heads.now) view number) }
 {
     let mut count = 0;
     for head in heads {
@@ -171,7 +171,7 @@ pub fn seq_of_event(heads: &[Head], view: u32, number: u32) -> Option<u32>
 /// How many entries have a time of at most `time`.
 pub fn count_until(heads: &[Head], time: u64) -> u32
     requires { length heads.now ≤ most_entries }
-    ensures { (payloads : List ℕ) → result ≡ count (map (entry_of payloads) heads.now) time }
+    ensures { (payloads : List ℕ) → result ≡ count_until (map (entry_of payloads) heads.now) time }
 {
     let mut count = 0;
     for head in heads {

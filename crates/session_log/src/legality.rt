@@ -1,29 +1,14 @@
 //! Whether a log may go on with an entry.
 ghost use Rattle.std.specs.Prelude.{◌≡◌, ◌≤◌, List};
 ghost use Rattle.tea_base.specs.declared.entry.Entry.{Entry};
-ghost use Rattle.tea_base.specs.Legal.{most_entries, most_bytes};
-ghost use Rattle.session_log.specs.Legality.{allows, goes_on, stood};
-ghost use Rattle.session_log.specs.Lent.{lent_what, lent_entry};
+ghost use Rattle.tea_base.specs.Limits.{most_entries, most_bytes};
+ghost use Rattle.session_log.specs.Legality.{log_allows, may_go_on, stand_after};
+ghost use Rattle.entry_fields.specs.Lent.{lent_what};
+ghost use Rattle.session_log.specs.Lent.{lent_entry};
 
-use crate::lent::{LentEntry, LentWhat};
-
-/// The most entries of a log.
-const MOST_ENTRIES: u32 = 1_049_600;
-
-/// How many entries may come before something other than an Exit is refused.
-const MOST_OPEN_ENTRIES: u32 = 1_048_576;
-
-/// The most payload bytes of an Event.
-const MOST_PAYLOAD: usize = 4_096;
-
-/// The most payload bytes of a log.
-const MOST_BYTES: u64 = 67_108_864;
-
-/// The most views that are here.
-const MOST_HERE: u32 = 1_024;
-
-/// Times are below this, in microseconds.
-const TIME_BOUND: u64 = 9_007_199_254_740_992;
+use crate::lent::LentLogEntry;
+use entry_fields::LentWhat;
+use tea_base::{MOST_BYTES, MOST_ENTRIES, MOST_HERE, MOST_OPEN_ENTRIES, MOST_PAYLOAD, TIME_LIMIT};
 
 /// What the test needs of a log.
 #[derive(Clone, Copy, Debug)]
@@ -45,7 +30,7 @@ pub struct Stand {
 fn allows(log: Standing, view: Stand, what: &LentWhat<'_>) -> bool
     requires bytes { log.payload_bytes ≤ most_bytes }
     requires number { view.number ≤ most_entries }
-    ensures { result ≡ allows log view (lent_what what.now) }
+    ensures { result ≡ log_allows log view (lent_what what.now) }
 {
     match what {
         LentWhat::Join => {
@@ -63,21 +48,21 @@ fn allows(log: Standing, view: Stand, what: &LentWhat<'_>) -> bool
 }
 
 /// Whether a log that stands so may go on with the entry.
-pub fn goes_on(log: Standing, view: Stand, entry: &LentEntry<'_>) -> bool
+pub fn goes_on(log: Standing, view: Stand, entry: &LentLogEntry<'_>) -> bool
     requires bytes { log.payload_bytes ≤ most_bytes }
     requires number { view.number ≤ most_entries }
-    ensures { (before : List Entry) → result ≡ goes_on log view (lent_entry before entry.now) }
+    ensures { (before : List Entry) → result ≡ may_go_on log view (lent_entry before entry.now) }
 {
     log.time < entry.time
-        && entry.time < TIME_BOUND
+        && entry.time < TIME_LIMIT
         && entry.view != 0
         && allows(log, view, &entry.what)
 }
 
 /// What an entry leaves of its view's stand.
-pub fn stood(view: Stand, what: &LentWhat<'_>) -> Stand
+pub fn stand_after(view: Stand, what: &LentWhat<'_>) -> Stand
     requires { view.number ≤ most_entries }
-    ensures { result ≡ stood view (lent_what what.now) }
+    ensures { result ≡ stand_after view (lent_what what.now) }
 {
     match what {
         LentWhat::Join => Stand {

@@ -1,7 +1,8 @@
 //! A log, kept as two vectors: the heads of its entries, and all payload bytes.
-ghost use Rattle.std.specs.Prelude.{◌≡◌, ◌↔◌, ◌+◌, ◌-◌, ◌^◌, ◌<◌, ◌≤◌, ◌⊎◌, ◌++◌, ◌∷◌, [], length, option_map, slice_get, IsTrue, IfOk, IsOk, OnOk, OnErr, Some, Err};
-ghost use Rattle.tea_base.specs.Readings.{payload_bytes, count, current, here_count, is_here, last_number, event, payload_len};
-ghost use Rattle.tea_base.specs.Legal.{IsLegal, MayFollow, most_entries, most_bytes};
+ghost use Rattle.std.specs.Prelude.{◌≡◌, ◌↔◌, ◌+◌, ◌-◌, ◌^◌, ◌<◌, ◌≤◌, ◌⊎◌, [], length, option_map, slice_get, IsTrue, IfOk, IsOk, OnOk, OnErr, Some, Err};
+ghost use Rattle.tea_base.specs.Readings.{payload_bytes, count_until, current, here_count, is_here, last_number, view_event, payload_len};
+ghost use Rattle.tea_base.specs.Legal.{IsLegal, MayFollow};
+ghost use Rattle.tea_base.specs.Limits.{most_entries, most_bytes};
 ghost use Rattle.session_log.specs.LogState.{next_entry, with_next, HasPayloadAt};
 ghost use Rattle.session_log.specs.Heads.{what_of, IsPresence};
 ghost use Rattle.session_log.specs.Spelling.{log_spelling};
@@ -10,11 +11,12 @@ use crate::heads::{
     Head, Kind, count_until, current_of, here_count_in, is_here_in, last_number_in, push_head,
     seq_of_event,
 };
-use crate::payloads::{is_stored, load, store_event};
+use crate::payloads::{is_stored, lent, store_event};
 use crate::spelling::write_entries;
+use byte_fields::Writer;
 use std::alloc::Global;
 use std::marker::Model;
-use tea_base::{Blob, Entry, WantOfMemory, What, Writer};
+use tea_base::{Blob, Entry, WantOfMemory, What};
 
 /// Why an entry was not given.
 #[derive(Clone, Copy, Debug, PartialEq, Eq)]
@@ -40,11 +42,11 @@ impl Model for Log {
 
     ghost Value = { LogState };
 
-    ghost use Rattle.session_log.specs.Kept.{state_of, IsSound};
+    ghost use Rattle.session_log.specs.Kept.{log_state, IsSoundLog};
 
-    ghost view = { state_of };
+    ghost view = { log_state };
 
-    ghost invariant = { IsSound };
+    ghost invariant = { IsSoundLog };
 }
 
 impl Log {
@@ -183,7 +185,7 @@ impl Log {
 
     /// How many entries have a time of at most `time`, in microseconds.
     pub fn after_time(&self, time: u64) -> u32
-        ensures { result ≡ count self.now.entries time }
+        ensures { result ≡ count_until self.now.entries time }
     {
         count_until(&self.heads, time)
     }
@@ -198,7 +200,7 @@ impl Log {
             return Err(GetRefusal::NoSuchSeq);
         }
         let head = self.heads[seq as usize - 1];
-        match load(*self.payloads.allocator(), &self.payloads, head.kind) {
+        match lent(&self.payloads, head.kind).own(*self.payloads.allocator()) {
             Ok(what) => Ok(Entry {
                 seq: head.seq,
                 time: head.time,
@@ -232,7 +234,7 @@ impl Log {
 
     /// The seq of the Event of a view with a number, counted from 1, if there is one.
     pub fn seq_of(&self, view: u32, number: u32) -> Option<u32>
-        ensures { result ≡ option_map (λ entry. entry.seq) (event self.now.entries view number) }
+        ensures { result ≡ option_map (λ entry. entry.seq) (view_event self.now.entries view number) }
     {
         if number == 0 {
             return None;
@@ -277,7 +279,7 @@ pub fn encode(log: &Log) -> Result<Blob, WantOfMemory>
 {
     let mut out = Writer::new(*log.heads.allocator());
     out.put_bytes(b"TEALOG01")?;
-    out.put_u32(log.heads.len() as u32)?;
+    out.put_count(log.heads.len())?;
     write_entries(&mut out, &log.payloads, &log.heads)?;
     Ok(out.done())
 }

@@ -1,11 +1,13 @@
 //! The payload bytes of all entries of a log, one after the other.
-ghost use Rattle.std.specs.Prelude.{◌≡◌, ◌↔◌, ◌+◌, ◌≤◌, ◌++◌, length, vec_len, vec_capacity, IfOk, IsTrue};
+ghost use Rattle.std.specs.Prelude.{◌≡◌, ◌↔◌, ◌+◌, ◌≤◌, ◌<◌, ◌^◌, ◌++◌, length, vec_len, vec_capacity, IsTrue};
 ghost use Rattle.tea_base.specs.Readings.{IsEventOf};
+ghost use Rattle.entry_fields.specs.Lent.{lent_what};
+ghost use Rattle.entry_fields.specs.Spelling.{FitsWhat};
 ghost use Rattle.session_log.specs.Heads.{what_of, IsKindWithin};
 
 use crate::heads::Kind;
-use std::alloc::Global;
-use tea_base::{Blob, WantOfMemory, What};
+use entry_fields::LentWhat;
+use tea_base::What;
 
 /// Appends a payload to those of all, where there is room, and gives what the head keeps.
 pub fn store_event(payloads: &mut Vec<u8>, number: u32, bytes: &[u8]) -> Kind
@@ -28,18 +30,19 @@ pub fn store_event(payloads: &mut Vec<u8>, number: u32, bytes: &[u8]) -> Kind
     }
 }
 
-/// What was stored, by the payloads of all.
-pub fn load(alloc: Global, payloads: &[u8], kind: Kind) -> Result<What, WantOfMemory>
+/// What was stored, its payload among those of all.
+pub fn lent<'a>(payloads: &'a [u8], kind: Kind) -> LentWhat<'a>
     requires { IsKindWithin (length payloads.now) kind }
-    ensures { IfOk result (λ what. what ≡ what_of payloads.now kind) }
+    ensures what { lent_what result ≡ what_of payloads.now kind }
+    ensures fits { length payloads.now < 2 ^ 32 → FitsWhat (what_of payloads.now kind) }
 {
     match kind {
-        Kind::Join => Ok(What::Join),
-        Kind::Exit => Ok(What::Exit),
-        Kind::Event { number, start, len } => Ok(What::Event {
+        Kind::Join => LentWhat::Join,
+        Kind::Exit => LentWhat::Exit,
+        Kind::Event { number, start, len } => LentWhat::Event {
             number,
-            payload: Blob::copy(alloc, &payloads[start..start + len])?,
-        }),
+            payload: &payloads[start..start + len],
+        },
     }
 }
 

@@ -1,19 +1,21 @@
 //! Reading a log from its bytes.
-ghost use Rattle.std.specs.Prelude.{◌≡◌, ◌≢◌, ◌++◌, ◌∷◌, [], List, IfOk, OnOk, Err};
+ghost use Rattle.std.specs.Prelude.{◌≡◌, ◌≢◌, [], List, IfOk, OnOk, Err};
 ghost use Rattle.std.specs.Option.{IfSome, option_map};
 ghost use Rattle.tea_base.specs.declared.entry.Entry.{Entry};
 ghost use Rattle.tea_base.specs.Legal.{IsLegal, MayFollow};
 ghost use Rattle.byte_fields.specs.Fields.{Gives, items_at, whole};
 ghost use Rattle.session_log.specs.LogState.{with_next};
-ghost use Rattle.session_log.specs.Lent.{lent_what, lent_entry};
+ghost use Rattle.entry_fields.specs.Lent.{lent_what};
+ghost use Rattle.session_log.specs.Lent.{lent_entry};
 ghost use Rattle.session_log.specs.Reading.{entry_after, log_at};
 ghost use Rattle.session_log.specs.Spelling.{log_spelling};
-ghost use Rattle.session_log.specs.Tally.{Tells};
+ghost use Rattle.session_log.specs.Tally.{TellsLog};
 
-use crate::lent::{LentEntry, LentWhat, entry_at};
+use crate::lent::{LentLogEntry, entry_at};
 use crate::log::Log;
 use crate::tally::{Tally, learn, may_follow, no_entries};
 use byte_fields::{after_mark, u32_at};
+use entry_fields::LentWhat;
 use std::alloc::Global;
 use tea_base::{WantOfMemory, What};
 
@@ -37,8 +39,8 @@ impl From<WantOfMemory> for LogFault {
 
 /// The next entry, where the log may go on with it.
 #[tactic(auto, unfolding(crate::specs::Reading::entry_after))]
-fn next_of<'a>(log: &Log, tally: &Tally, bytes: &'a [u8]) -> Option<(LentEntry<'a>, &'a [u8])>
-    requires { Tells tally.now log.now.entries }
+fn next_of<'a>(log: &Log, tally: &Tally, bytes: &'a [u8]) -> Option<(LentLogEntry<'a>, &'a [u8])>
+    requires { TellsLog tally.now log.now.entries }
     ensures read { option_map (λ x. (lent_entry log.now.entries x.0, x.1.now)) result ≡
         entry_after log.now.entries bytes.now }
     ensures follows { IfSome result (λ x.
@@ -52,7 +54,7 @@ fn next_of<'a>(log: &Log, tally: &Tally, bytes: &'a [u8]) -> Option<(LentEntry<'
 }
 
 /// Appends an entry, and makes room for no more than it.
-fn append(log: &mut Log, entry: &LentEntry<'_>) -> Result<(), WantOfMemory>
+fn append(log: &mut Log, entry: &LentLogEntry<'_>) -> Result<(), WantOfMemory>
     requires { MayFollow log.old.entries (lent_entry log.old.entries entry.now) }
     ensures { OnOk result (log.new.entries ≡
         with_next log.old.entries entry.now.time entry.now.view (lent_what entry.now.what)) }

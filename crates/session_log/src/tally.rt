@@ -1,15 +1,18 @@
 //! What legality needs of the entries so far, so that no entry goes through all before it.
 ghost use Rattle.std.specs.Prelude.{◌≡◌, ◌+◌, ◌-◌, ◌<◌, ◌≤◌, ◌==◌, [], ℕ, OnOk, if◌then◌else◌};
 ghost use Rattle.tea_base.specs.declared.entry.What.TheVariants.{Exit};
-ghost use Rattle.tea_base.specs.Legal.{MayFollow, most_entries};
+ghost use Rattle.tea_base.specs.Legal.{MayFollow};
+ghost use Rattle.tea_base.specs.Limits.{most_entries};
 ghost use Rattle.session_log.specs.LogState.{with_next};
-ghost use Rattle.session_log.specs.Legality.{stood, may_follow};
-ghost use Rattle.session_log.specs.Lent.{lent_what, lent_entry};
-ghost use Rattle.session_log.specs.Tally.{stand_in, here_after, Tells};
+ghost use Rattle.session_log.specs.Legality.{stand_after, may_follow};
+ghost use Rattle.entry_fields.specs.Lent.{lent_what};
+ghost use Rattle.session_log.specs.Lent.{lent_entry};
+ghost use Rattle.session_log.specs.Tally.{stand_in, here_after, TellsLog};
 
-use crate::legality::{Stand, Standing, goes_on, stood};
-use crate::lent::{LentEntry, LentWhat};
+use crate::legality::{Stand, Standing, goes_on, stand_after};
+use crate::lent::LentLogEntry;
 use crate::log::Log;
+use entry_fields::LentWhat;
 use std::alloc::Global;
 use std::collections::BTreeMap;
 use tea_base::WantOfMemory;
@@ -24,7 +27,7 @@ pub struct Tally {
 
 /// What is told of no entries. Takes no memory.
 pub fn no_entries(alloc: Global) -> Tally
-    ensures { Tells result [] }
+    ensures { TellsLog result [] }
 {
     Tally {
         time: 0,
@@ -61,7 +64,7 @@ fn here_after(count: u32, view: Stand, what: &LentWhat<'_>) -> u32
 }
 
 /// Takes note of an entry, whose view stood so.
-fn note(tally: &mut Tally, view: Stand, entry: &LentEntry<'_>) -> Result<(), WantOfMemory>
+fn note(tally: &mut Tally, view: Stand, entry: &LentLogEntry<'_>) -> Result<(), WantOfMemory>
     requires number { view.number ≤ most_entries }
     requires few { tally.old.views_here ≤ most_entries }
     requires some { lent_what entry.now.what ≡ Exit → 0 < tally.old.views_here }
@@ -69,18 +72,20 @@ fn note(tally: &mut Tally, view: Stand, entry: &LentEntry<'_>) -> Result<(), Wan
     ensures views_here { OnOk result (tally.new.views_here ≡
         here_after tally.old.views_here view (lent_what entry.now.what)) }
     ensures stands { OnOk result ((other : ℕ) → stand_in tally.new.stands other ≡
-        (if entry.now.view == other then stood view (lent_what entry.now.what)
+        (if entry.now.view == other then stand_after view (lent_what entry.now.what)
         else stand_in tally.old.stands other)) }
 {
-    tally.stands.insert(entry.view, stood(view, &entry.what))?;
+    tally
+        .stands
+        .insert(entry.view, stand_after(view, &entry.what))?;
     tally.time = entry.time;
     tally.views_here = here_after(tally.views_here, view, &entry.what);
     Ok(())
 }
 
 /// Whether a log may go on with an entry.
-pub fn may_follow(tally: &Tally, log: &Log, entry: &LentEntry<'_>) -> bool
-    requires { Tells tally.now log.now.entries }
+pub fn may_follow(tally: &Tally, log: &Log, entry: &LentLogEntry<'_>) -> bool
+    requires { TellsLog tally.now log.now.entries }
     ensures { result ≡ may_follow log.now.entries (lent_entry log.now.entries entry.now) }
 {
     let view = stand_of(tally, entry.view);
@@ -94,10 +99,10 @@ pub fn may_follow(tally: &Tally, log: &Log, entry: &LentEntry<'_>) -> bool
 }
 
 /// Takes note of an entry that a log goes on with.
-pub fn learn(tally: &mut Tally, log: &Log, entry: &LentEntry<'_>) -> Result<(), WantOfMemory>
-    requires told { Tells tally.old log.now.entries }
+pub fn learn(tally: &mut Tally, log: &Log, entry: &LentLogEntry<'_>) -> Result<(), WantOfMemory>
+    requires told { TellsLog tally.old log.now.entries }
     requires follows { MayFollow log.now.entries (lent_entry log.now.entries entry.now) }
-    ensures { OnOk result (Tells tally.new
+    ensures { OnOk result (TellsLog tally.new
         (with_next log.now.entries entry.now.time entry.now.view (lent_what entry.now.what))) }
 {
     let view = stand_of(tally, entry.view);

@@ -1,6 +1,7 @@
 //! Bytes, texts and entries: each call that can want memory, once.
+use byte_fields::Writer;
 use std::test::Fail;
-use tea_base::{Blob, Entries, Entry, Text, TextFault, What, Writer};
+use tea_base::{Blob, Entries, Entry, Text, TextFault, What};
 
 #[test]
 fn numbers_are_written_big_endian(rt: HostRuntime) -> Result<(), Fail> {

@@ -5,11 +5,17 @@
 #[cfg(test)]
 mod bytes;
 #[cfg(test)]
+mod clocks;
+#[cfg(test)]
 mod files;
 #[cfg(test)]
 mod lines;
 #[cfg(test)]
+mod links;
+#[cfg(test)]
 mod logs;
+#[cfg(test)]
+mod nets;
 #[cfg(test)]
 mod shared_sessions;
 #[cfg(test)]

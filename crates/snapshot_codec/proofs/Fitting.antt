@@ -2,16 +2,17 @@
 use Rattle.std.proofs.Common.{ℕ, ◌≤◌, List, [], ◌∷◌, length, arith}
 use Rattle.std.specs.List.{AllByRecursion}
 use Rattle.byte_fields.proofs.Codecs.{FitsText}
-use Rattle.model_value.specs.Messages.{PlainMessage}
+use Rattle.world_plain.specs.Messages.{PlainMessage}
 use Rattle.model_value.specs.Plain.{PlainValue, nil, bool, int, text, ref, list, PlainValues, no_items, item}
 use Rattle.model_value.specs.Spelling.{IsValue, AreValues}
-use Rattle.model_value.specs.Valid.{Valid, AllInBounds, TextFits, ObjectsFit, KnownFit, SubscriptionsFit, MessagesFit, most_parameters}
-use Rattle.model_value.specs.World.{ObjectRecord, WorldRecord}
-use Rattle.model_value.specs.declared.message.Subscription.{Subscription}
-use Rattle.model_value.specs.declared.world.Known.{Known}
+use Rattle.world_plain.specs.Valid.{Valid, ObjectsFit, KnownFit, SubscriptionsFit, MessagesFit, most_parameters}
+use Rattle.model_value.specs.Plain.{AllInBounds, TextFits}
+use Rattle.world_plain.specs.World.{ObjectRecord, WorldRecord}
+use Rattle.world_plain.specs.declared.message.Subscription.{Subscription}
+use Rattle.world_plain.specs.declared.world.Known.{Known}
 use Rattle.model_value.proofs.Spellings.{encode_utf8_all-le_weight}
 use Rattle.model_value.proofs.ValueCodec.{HasSpelling, HaveSpellings, FitsBounds, is_bounded}
-use Rattle.snapshot_codec.specs.Answer.{IsText, IsObject, IsKnown, IsSubscription, IsMessage, IsWorld}
+use Rattle.snapshot_codec.specs.Answer.{IsScalarText, IsObject, IsKnown, IsSubscription, IsMessage, IsWorld}
 use Rattle.snapshot_codec.proofs.Sizes.{length-known}
 use Rattle.snapshot_codec.proofs.WorldCodec.{FitsObject, FitsKnown, FitsSubscription, FitsMessage, FitsWorld}
 
@@ -59,7 +60,7 @@ is_world counts w fits =
 
 -- ---- a valid world is read
 
-text-fits : (s : List ℕ) → IsText s → TextFits s → FitsText s
+text-fits : (s : List ℕ) → IsScalarText s → TextFits s → FitsText s
 text-fits s is fits = (is, omega (arith, encode_utf8_all-le_weight s))
 
 values-fit : (vs : List PlainValue) → AllByRecursion IsValue vs → AllInBounds vs → AllByRecursion FitsBounds vs
@@ -73,18 +74,18 @@ objects-fit counts next (o ∷ os) is fit =
 
 known-fit : (os : List ObjectRecord) (ks : List Known) → AllByRecursion IsKnown ks → KnownFit os ks → AllByRecursion FitsKnown ks
 known-fit os [] is fit = tt
-known-fit os (k ∷ ks) is fit = ((text-fits k.name is.0.0 fit.0, is.0.1), known-fit os ks is.1 fit.2)
+known-fit os (k ∷ ks) is fit = ((text-fits k.name is.0.0 fit.0.0, is.0.1), known-fit os ks is.1 fit.1)
 
 subscriptions-fit : (os : List ObjectRecord) (ss : List Subscription) → AllByRecursion IsSubscription ss → SubscriptionsFit os ss → AllByRecursion FitsSubscription ss
 subscriptions-fit os [] is fit = tt
 subscriptions-fit os (s ∷ ss) is fit =
     ((text-fits s.scope is.0.0 fit.0.0, (text-fits s.event is.0.1 fit.0.1, (is.0.2, text-fits s.method is.0.3 fit.0.2))), subscriptions-fit os ss is.1 fit.1)
 
-messages-fit : (w : WorldRecord) (ms : List PlainMessage) → AllByRecursion IsMessage ms → MessagesFit w ms → AllByRecursion FitsMessage ms
-messages-fit w [] is fit = tt
-messages-fit w (m ∷ ms) is fit =
+messages-fit : (time next : ℕ) (os : List ObjectRecord) (ms : List PlainMessage) → AllByRecursion IsMessage ms → MessagesFit time next os ms → AllByRecursion FitsMessage ms
+messages-fit time next os [] is fit = tt
+messages-fit time next os (m ∷ ms) is fit =
     let few : length m.args ≤ most_parameters = fit.0.5 in
-    ((is.0.0, (is.0.1, (is.0.2, (text-fits m.method is.0.3 fit.0.4, (omega arith, values-fit m.args is.0.4 fit.0.6))))), messages-fit w ms is.1 fit.1)
+    ((is.0.0, (is.0.1, (is.0.2, (text-fits m.method is.0.3 fit.0.4, (omega arith, values-fit m.args is.0.4 fit.0.6))))), messages-fit time next os ms is.1 fit.1)
 
 pub world-fits : (counts : List ℕ) (w : WorldRecord) → IsWorld w → Valid counts w → FitsWorld counts w
 world-fits counts w is valid = (
@@ -94,14 +95,14 @@ world-fits counts w is valid = (
     (
       (is.kinds, is.faults),
       (
-        (omega (arith, valid.views_fit), is.views),
+        (omega (arith, valid.views.few), is.views),
         (
-          (omega (arith, valid.objects_fit), objects-fit counts w.next_object w.objects is.objects valid.objects),
+          (omega (arith, valid.objects.few), objects-fit counts w.next_object w.objects is.objects valid.objects.fit),
           (
-            (omega (arith, valid.weight, length-known w.known), known-fit w.objects w.known is.known valid.known),
+            (omega (arith, valid.weight, length-known w.known), known-fit w.objects w.known is.known valid.names.fit),
             (
-              (omega (arith, valid.subscriptions_fit), subscriptions-fit w.objects w.subscriptions is.subscriptions valid.subscriptions),
-              (omega (arith, valid.pending_fit), messages-fit w w.pending is.pending valid.pending),
+              (omega (arith, valid.subscriptions.few), subscriptions-fit w.objects w.subscriptions is.subscriptions valid.subscriptions.fit),
+              (omega (arith, valid.messages.few), messages-fit w.time w.next_number w.objects w.pending is.pending valid.messages.fit),
             ),
           ),
         ),

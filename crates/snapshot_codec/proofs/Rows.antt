@@ -2,10 +2,11 @@
 use Rattle.std.proofs.Common.{◌≡◌, ℕ, List, ◌∷◌, ◌++◌, length, refl, append_assoc}
 use Rattle.std.specs.Int.{to_be_bytes, w32, w64}
 use Rattle.std.specs.List.{flat_map}
-use Rattle.model_value.specs.Messages.{PlainMessage}
-use Rattle.model_value.specs.Spelling.{text_field, value_spelling}
-use Rattle.model_value.specs.World.{WorldRecord}
-use Rattle.snapshot_codec.specs.Spelling.{list_field, object_spelling, known_spelling, subscription_spelling, message_spelling, world_spelling}
+use Rattle.world_plain.specs.Messages.{PlainMessage}
+use Rattle.byte_fields.specs.Fields.{text_field, list_of}
+use Rattle.model_value.specs.Spelling.{value_spelling}
+use Rattle.world_plain.specs.World.{WorldRecord}
+use Rattle.snapshot_codec.specs.Spelling.{object_spelling, known_spelling, subscription_spelling, message_spelling, world_spelling}
 
 pub message_spelling-behind :
     (old : List ℕ) (m : PlainMessage)
@@ -30,11 +31,11 @@ pub world_spelling-behind :
     ++ to_be_bytes w64 w.random
     ++ to_be_bytes w32 w.turns
     ++ flat_map (to_be_bytes w64) w.faults
-    ++ list_field (to_be_bytes w32) w.views
-    ++ list_field object_spelling w.objects
-    ++ list_field known_spelling w.known
-    ++ list_field subscription_spelling w.subscriptions
-    ++ list_field message_spelling w.pending
+    ++ list_of (to_be_bytes w32) w.views
+    ++ list_of object_spelling w.objects
+    ++ list_of known_spelling w.known
+    ++ list_of subscription_spelling w.subscriptions
+    ++ list_of message_spelling w.pending
 unfolding world_spelling
 world_spelling-behind old w = simp append_assoc refl
 

@@ -4,47 +4,54 @@ use Rattle.std.proofs.lemmas.List.{length-map}
 use Rattle.std.specs.Prelude.{map}
 use Rattle.std.specs.Int.{to_be_bytes, w32, w64}
 use Rattle.std.specs.List.{flat_map, AllByRecursion}
-use Rattle.model_value.specs.Messages.{PlainMessage, plain_message}
-use Rattle.model_value.specs.Plain.{PlainValue}
-use Rattle.model_value.specs.Spelling.{text_field, value_spelling}
-use Rattle.model_value.specs.Valid.{MessagesFit}
-use Rattle.model_value.specs.World.{ObjectRecord, WorldRecord, object_record, text_weight, values_weight, object_weight, message_weight, subscription_weight, known_weight, total}
-use Rattle.model_value.specs.declared.message.Message.{Message}
-use Rattle.model_value.specs.declared.message.Subscription.{Subscription}
-use Rattle.model_value.specs.declared.world.Known.{Known}
-use Rattle.model_value.specs.declared.world.PlainObject.{PlainObject}
+use Rattle.world_plain.specs.Messages.{PlainMessage, plain_message}
+use Rattle.model_value.specs.Plain.{PlainValue, text_weight, values_weight}
+use Rattle.byte_fields.specs.Fields.{text_field, list_of}
+use Rattle.model_value.specs.Spelling.{value_spelling}
+use Rattle.world_plain.specs.Valid.{MessagesFit}
+use Rattle.world_plain.specs.World.{ObjectRecord, WorldRecord, object_record, object_weight, message_weight, subscription_weight, known_weight, total_weight}
+use Rattle.model_value.specs.Plain.{text_weight, values_weight}
+use Rattle.world_plain.specs.declared.message.Message.{Message}
+use Rattle.world_plain.specs.declared.message.Subscription.{Subscription}
+use Rattle.world_plain.specs.declared.world.Known.{Known}
+use Rattle.world_plain.specs.declared.world.PlainObject.{PlainObject}
 use Rattle.model_value.proofs.Spellings.{encode_utf8_all-le_weight, value_spelling-le_weight}
-use Rattle.snapshot_codec.specs.Conditions.{IsValid, IsSmall, HasFewArguments, most_snapshot}
-use Rattle.snapshot_codec.specs.Spelling.{list_field, object_spelling, known_spelling, subscription_spelling, message_spelling, world_spelling}
+use Rattle.snapshot_codec.specs.Conditions.{IsValid, IsSmall, MessageHasFewArguments}
+use Rattle.tea_base.specs.Limits.{most_snapshot}
+use Rattle.snapshot_codec.specs.Spelling.{object_spelling, known_spelling, subscription_spelling, message_spelling, world_spelling}
 
 -- ---- a weight bounds how many items there are
 
-count-le_total : {A : Type 0} (weighs : A → ℕ) (xs : List A) → ((x : A) → 1 ≤ weighs x) → length xs ≤ total weighs xs
+count-le_total : {A : Type 0} (weighs : A → ℕ) (xs : List A) → ((x : A) → 1 ≤ weighs x) → length xs ≤ total_weight weighs xs
 count-le_total weighs [] each = omega arith
 count-le_total weighs (x ∷ xs) each = omega (arith, each x, count-le_total weighs xs each)
 
-pub length-objects : (os : List PlainObject) → length os ≤ total object_weight (map object_record os)
+pub length-objects : (os : List PlainObject) → length os ≤ total_weight object_weight (map object_record os)
 length-objects os = omega (arith, length-map os object_record, count-le_total object_weight (map object_record os) (λ _. omega arith))
 
-pub length-known : (ks : List Known) → length ks ≤ total known_weight ks
+pub length-known : (ks : List Known) → length ks ≤ total_weight known_weight ks
 length-known ks = count-le_total known_weight ks (λ _. omega arith)
 
-pub length-subscriptions : (ss : List Subscription) → length ss ≤ total subscription_weight ss
+pub length-subscriptions : (ss : List Subscription) → length ss ≤ total_weight subscription_weight ss
 length-subscriptions ss = count-le_total subscription_weight ss (λ _. omega arith)
 
-pub length-messages : (ms : List Message) → length ms ≤ total message_weight (map plain_message ms)
+pub length-messages : (ms : List Message) → length ms ≤ total_weight message_weight (map plain_message ms)
 length-messages ms = omega (arith, length-map ms plain_message, count-le_total message_weight (map plain_message ms) (λ _. omega arith))
 
 pub ruleset by_count = (length-objects, length-known, length-subscriptions, length-messages, length-map)
 
 -- ---- what keeps each count within its field
 
-few-MessagesFit : (w : WorldRecord) (ms : List PlainMessage) → MessagesFit w ms → AllByRecursion HasFewArguments ms
-few-MessagesFit w [] fit = tt
-few-MessagesFit w (m ∷ ms) fit = (fit.0.5, few-MessagesFit w ms fit.1)
+few-MessagesFit : (time next : ℕ) (os : List ObjectRecord) (ms : List PlainMessage) → MessagesFit time next os ms → AllByRecursion MessageHasFewArguments ms
+few-MessagesFit time next os [] fit = tt
+few-MessagesFit time next os (m ∷ ms) fit = (fit.0.5, few-MessagesFit time next os ms fit.1)
 
 pub IsSmall-valid : (w : WorldRecord) → IsValid w → IsSmall w
-IsSmall-valid w valid = record { views = valid.1.views_fit; arguments = few-MessagesFit w w.pending valid.1.pending; weight = valid.1.weight }
+IsSmall-valid w valid = record {
+  views = valid.1.views.few;
+  arguments = few-MessagesFit w.time w.next_number w.objects w.pending valid.1.messages.fit;
+  weight = valid.1.weight;
+}
 
 -- ---- spellings of one thing
 
@@ -76,7 +83,7 @@ message_spelling-le m = simp length-append (omega (arith, text_field-le m.method
 list_field-le :
     {A : Type 0} (spelling : A → List ℕ) (weighs : A → ℕ) (xs : List A)
     → ((x : A) → length (spelling x) ≤ 16 * weighs x)
-    → length (list_field spelling xs) ≤ 4 + 16 * total weighs xs
+    → length (list_of spelling xs) ≤ 4 + 16 * total_weight weighs xs
 list_field-le spelling weighs [] each = omega arith
 list_field-le spelling weighs (x ∷ xs) each =
     omega (arith, length-append (spelling x) (flat_map spelling xs), each x, list_field-le spelling weighs xs each)
@@ -85,7 +92,7 @@ faults-length : (counts : List ℕ) → length (flat_map (to_be_bytes w64) count
 faults-length [] = omega arith
 faults-length (n ∷ ns) = omega (arith, faults-length ns)
 
-views-length : (views : List ℕ) → length (list_field (to_be_bytes w32) views) ≡ 4 + 4 * length views
+views-length : (views : List ℕ) → length (list_of (to_be_bytes w32) views) ≡ 4 + 4 * length views
 views-length [] = omega arith
 views-length (v ∷ vs) = omega (arith, views-length vs)
 

@@ -3,18 +3,19 @@ use Rattle.std.proofs.Common.{◌≡◌, ℕ, ◌^◌, ◌<◌, List, [], ◌∷
 use Rattle.std.specs.Int.{w16, w32, w64, to_be_bytes}
 use Rattle.std.specs.List.{flat_map, AllByRecursion}
 use Rattle.std.proofs.lemmas.Option.{none-some, same_Some}
-use Rattle.byte_fields.specs.Fields.{Reading, byte_at, headed_at, made_at, items_at, list_at}
+use Rattle.byte_fields.specs.Fields.{Reader, byte_at, headed_at, made_at, items_at, list_at, list_of}
 use Rattle.byte_fields.proofs.Codecs.{Codec, EachFits, FitsText, wide16, wide32, wide64, byte_codec, bytes_codec, number_codec, text_codec, paired_codec, headed_codec, made_codec, said_codec, never_codec, items_codec, list_codec}
-use Rattle.model_value.specs.Messages.{PlainMessage}
+use Rattle.world_plain.specs.Messages.{PlainMessage}
 use Rattle.model_value.specs.Plain.{PlainValue}
 use Rattle.model_value.specs.Reading.{bounded_at}
 use Rattle.model_value.specs.Spelling.{value_spelling}
-use Rattle.model_value.specs.World.{ObjectRecord, WorldRecord}
-use Rattle.model_value.specs.declared.message.Subscription.{Subscription}
-use Rattle.model_value.specs.declared.world.Known.{Known}
+use Rattle.world_plain.specs.WorldCode.{world_of_parts}
+use Rattle.world_plain.specs.World.{ObjectRecord, WorldRecord}
+use Rattle.world_plain.specs.declared.message.Subscription.{Subscription}
+use Rattle.world_plain.specs.declared.world.Known.{Known}
 use Rattle.model_value.proofs.ValueCodec.{FitsBounds, bounded_codec}
-use Rattle.snapshot_codec.specs.Reading.{values_at, fields_at, classed_at, object_at, known_at, subscription_at, message_at, Rows, singles_at, rows_at, world_at}
-use Rattle.snapshot_codec.specs.Spelling.{list_field, object_spelling, known_spelling, subscription_spelling, message_spelling, world_spelling}
+use Rattle.snapshot_codec.specs.Reading.{values_at, fields_at, classed_at, object_record_at, known_at, subscription_at, message_at, WorldLists, singles_at, rows_at, world_record_at}
+use Rattle.snapshot_codec.specs.Spelling.{object_spelling, known_spelling, subscription_spelling, message_spelling, world_spelling}
 
 -- ---- items that are read each as the others
 
@@ -34,14 +35,14 @@ FitsCount F count xs = (length xs ≡ count) × AllByRecursion F xs
 abbrev pub FitsList : {A : Type 0} → (A → Type 0) → List A → Type 0
 FitsList F xs = (length xs < 2 ^ 32) × AllByRecursion F xs
 
-count_codec : {A : Type 0} (s : A → List ℕ) (F : A → Type 0) (r : Reading A) → Codec A s F r → (count : ℕ) → Codec (List A) (flat_map s) (FitsCount F count) (items_at (λ _. r) [] count)
+count_codec : {A : Type 0} (s : A → List ℕ) (F : A → Type 0) (r : Reader A) → Codec A s F r → (count : ℕ) → Codec (List A) (flat_map s) (FitsCount F count) (items_at (λ _. r) [] count)
 count_codec s F r codec count =
     said_codec (flat_map s) (FitsCount F count) (λ xs _. refl) (λ xs fits. (fits.0, each-all F [] xs fits.1)) (λ xs fits. (fits.0, all-each F [] xs fits.1))
     (items_codec s (λ _. F) (λ _. r) (λ _. codec) count)
 
-all_codec : {A : Type 0} (s : A → List ℕ) (F : A → Type 0) (r : Reading A) → Codec A s F r → Codec (List A) (list_field s) (FitsList F) (list_at (λ _. r))
+all_codec : {A : Type 0} (s : A → List ℕ) (F : A → Type 0) (r : Reader A) → Codec A s F r → Codec (List A) (list_of s) (FitsList F) (list_at (λ _. r))
 all_codec s F r codec =
-    said_codec (list_field s) (FitsList F) (λ xs _. refl) (λ xs fits. (fits.0, each-all F [] xs fits.1)) (λ xs fits. (fits.0, all-each F [] xs fits.1))
+    said_codec (list_of s) (FitsList F) (λ xs _. refl) (λ xs fits. (fits.0, each-all F [] xs fits.1)) (λ xs fits. (fits.0, all-each F [] xs fits.1))
     (list_codec s (λ _. F) (λ _. r) (λ _. codec))
 
 -- ---- objects
@@ -73,8 +74,8 @@ classed_codec counts =
 abbrev pub FitsObject : List ℕ → ObjectRecord → Type 0
 FitsObject counts o = (o.id < 2 ^ 32) × ((o.class < 2 ^ 16) × FitsClass counts (o.class, o.fields))
 
-object_codec : (counts : List ℕ) → Codec ObjectRecord object_spelling (FitsObject counts) (object_at counts)
-unfolding object_at object_spelling
+object_codec : (counts : List ℕ) → Codec ObjectRecord object_spelling (FitsObject counts) (object_record_at counts)
+unfolding object_record_at object_spelling
 object_codec counts =
     made_codec (λ p. record { id = p.0; class = p.1.0; fields = p.1.1 }) object_spelling (FitsObject counts)
     (paired_codec (number_codec w32 (2 ^ 32) wide32) (classed_codec counts))
@@ -141,7 +142,7 @@ unfolding singles_at
 singles_codec =
     paired_codec (number_codec w64 (2 ^ 64) wide64) (paired_codec (number_codec w32 (2 ^ 32) wide32) (paired_codec (number_codec w64 (2 ^ 64) wide64) (paired_codec (number_codec w64 (2 ^ 64) wide64) (number_codec w32 (2 ^ 32) wide32))))
 
-abbrev FitsRows : List ℕ → Rows → Type 0
+abbrev FitsRows : List ℕ → WorldLists → Type 0
 FitsRows counts p =
     FitsList (λ n. n < 2 ^ 32) p.0
     × (FitsList (FitsObject counts) p.1.0
@@ -149,19 +150,19 @@ FitsRows counts p =
     × (FitsList FitsSubscription p.1.1.1.0
     × FitsList FitsMessage p.1.1.1.1)))
 
-abbrev rows_spelling : Rows → List ℕ
+abbrev rows_spelling : WorldLists → List ℕ
 rows_spelling p =
-    list_field (to_be_bytes w32) p.0
-    ++ (list_field object_spelling p.1.0
-    ++ (list_field known_spelling p.1.1.0
-    ++ (list_field subscription_spelling p.1.1.1.0
-    ++ list_field message_spelling p.1.1.1.1)))
+    list_of (to_be_bytes w32) p.0
+    ++ (list_of object_spelling p.1.0
+    ++ (list_of known_spelling p.1.1.0
+    ++ (list_of subscription_spelling p.1.1.1.0
+    ++ list_of message_spelling p.1.1.1.1)))
 
-rows_codec : (counts : List ℕ) → Codec Rows rows_spelling (FitsRows counts) (rows_at counts)
+rows_codec : (counts : List ℕ) → Codec WorldLists rows_spelling (FitsRows counts) (rows_at counts)
 unfolding rows_at
 rows_codec counts =
     paired_codec (all_codec (to_be_bytes w32) (λ n. n < 2 ^ 32) _ (number_codec w32 (2 ^ 32) wide32))
-    (paired_codec (all_codec object_spelling (FitsObject counts) (object_at counts) (object_codec counts))
+    (paired_codec (all_codec object_spelling (FitsObject counts) (object_record_at counts) (object_codec counts))
     (paired_codec (all_codec known_spelling FitsKnown known_at known_codec)
     (paired_codec (all_codec subscription_spelling FitsSubscription subscription_at subscription_codec)
     (all_codec message_spelling FitsMessage message_at message_codec))))
@@ -174,25 +175,10 @@ FitsWorld counts w =
     × (FitsCount (λ n. n < 2 ^ 64) 14 w.faults
     × FitsRows counts (w.views, (w.objects, (w.known, (w.subscriptions, w.pending))))))
 
-pub world_codec : (counts : List ℕ) → Codec WorldRecord world_spelling (FitsWorld counts) (world_at counts)
-unfolding world_at world_spelling
+pub world_codec : (counts : List ℕ) → Codec WorldRecord world_spelling (FitsWorld counts) (world_record_at counts)
+unfolding world_record_at world_spelling
 world_codec counts =
-    made_codec
-    (λ p. record {
-      id = p.0;
-      time = p.1.0.0;
-      next_object = p.1.0.1.0;
-      next_number = p.1.0.1.1.0;
-      random = p.1.0.1.1.1.0;
-      turns = p.1.0.1.1.1.1;
-      faults = p.1.1.0;
-      views = p.1.1.1.0;
-      objects = p.1.1.1.1.0;
-      known = p.1.1.1.1.1.0;
-      subscriptions = p.1.1.1.1.1.1.0;
-      pending = p.1.1.1.1.1.1.1;
-    })
-    world_spelling (FitsWorld counts)
+    made_codec world_of_parts world_spelling (FitsWorld counts)
     (paired_codec (bytes_codec 32) (paired_codec singles_codec (paired_codec (count_codec (to_be_bytes w64) (λ n. n < 2 ^ 64) _ (number_codec w64 (2 ^ 64) wide64) 14) (rows_codec counts))))
     (λ w fits. ((w.id, ((w.time, (w.next_object, (w.next_number, (w.random, w.turns)))), (w.faults, (w.views, (w.objects, (w.known, (w.subscriptions, w.pending))))))), refl, fits))
     (λ p fits. fits)

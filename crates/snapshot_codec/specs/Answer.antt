@@ -1,35 +1,38 @@
 -- Which bytes are a snapshot of a session, and what is answered to bytes.
-use Rattle.std.specs.Prelude.{◌≡◌, ◌≢◌, ◌≤◌, ◌<◌, ◌^◌, ℕ, true, List, length, take, Option, Some, None, Result, Ok, Err}
+use Rattle.std.specs.Prelude.{◌≡◌, ◌≢◌, ◌≤◌, ◌<◌, ◌^◌, ℕ, true, List, length, take, Option, Some, None, Result, Ok, Err, ◌&&◌, bytes_eq, if◌then◌else◌}
 use Rattle.std.specs.List.{AllByRecursion}
 use Rattle.std.specs.Str.{all_scalars}
-use Rattle.model_value.specs.Messages.{PlainMessage}
+use Rattle.byte_fields.specs.Fields.{◌>>=◌, whole}
+use Rattle.world_plain.specs.Messages.{PlainMessage}
 use Rattle.model_value.specs.Spelling.{IsValue}
-use Rattle.model_value.specs.Valid.{Valid}
-use Rattle.model_value.specs.World.{ObjectRecord, WorldRecord, world_record}
+use Rattle.world_plain.specs.Valid.{Valid}
+use Rattle.world_plain.specs.ValidTest.{is_valid}
+use Rattle.world_plain.specs.World.{ObjectRecord, WorldRecord, world_record}
 use Rattle.tea_base.specs.declared.entry.SessionId.{SessionId}
-use Rattle.model_value.specs.declared.message.Subscription.{Subscription}
-use Rattle.model_value.specs.declared.world.Known.{Known}
-use Rattle.model_value.specs.declared.world.PlainWorld.{PlainWorld}
+use Rattle.world_plain.specs.declared.message.Subscription.{Subscription}
+use Rattle.world_plain.specs.declared.world.Known.{Known}
+use Rattle.world_plain.specs.declared.world.PlainWorld.{PlainWorld}
+use Rattle.snapshot_codec.specs.Reading.{world_record_at}
 use Rattle.snapshot_codec.specs.Spelling.{world_spelling}
 use Rattle.snapshot_codec.specs.declared.fault.SnapFault.{SnapFault}
 use Rattle.snapshot_codec.specs.declared.fault.SnapFault.TheVariants.{OtherSession, Bad, WantOfMemory}
 
 -- ---- a record that a world can stand for: its numbers are of their types, and its texts of Unicode scalar values
 
-abbrev pub IsText : List ℕ → Type 0
-IsText characters = all_scalars characters ≡ true
+abbrev pub IsScalarText : List ℕ → Type 0
+IsScalarText characters = all_scalars characters ≡ true
 
 abbrev pub IsObject : ObjectRecord → Type 0
 IsObject o = (o.id < 2 ^ 32) × (o.class < 2 ^ 16) × AllByRecursion IsValue o.fields
 
 abbrev pub IsKnown : Known → Type 0
-IsKnown k = IsText k.name × (k.object < 2 ^ 32)
+IsKnown k = IsScalarText k.name × (k.object < 2 ^ 32)
 
 abbrev pub IsSubscription : Subscription → Type 0
-IsSubscription s = IsText s.scope × IsText s.event × (s.object < 2 ^ 32) × IsText s.method
+IsSubscription s = IsScalarText s.scope × IsScalarText s.event × (s.object < 2 ^ 32) × IsScalarText s.method
 
 abbrev pub IsMessage : PlainMessage → Type 0
-IsMessage m = (m.time < 2 ^ 64) × (m.number < 2 ^ 64) × (m.object < 2 ^ 32) × IsText m.method × AllByRecursion IsValue m.args
+IsMessage m = (m.time < 2 ^ 64) × (m.number < 2 ^ 64) × (m.object < 2 ^ 32) × IsScalarText m.method × AllByRecursion IsValue m.args
 
 pub record IsWorld (w : WorldRecord) : Type 0 where
   pub id : length w.id ≡ 32
@@ -54,6 +57,11 @@ pub record IsSnapshot (counts id bytes : List ℕ) (w : WorldRecord) : Type 0 wh
   pub valid : Valid counts w
   pub session : w.id ≡ id
   pub spelled : bytes ≡ world_spelling w
+
+-- the world that bytes spell, if it is valid and of the session of this id
+abbrev pub snapshot_world : List ℕ → List ℕ → List ℕ → Option WorldRecord
+snapshot_world counts id bytes =
+    whole (world_record_at counts) bytes >>= λ w. if is_valid counts w && bytes_eq w.id id then Some w else None
 
 -- there are 32 bytes or more, and the first 32 are another id
 abbrev pub IsOfOther : List ℕ → List ℕ → Type 0

@@ -2,15 +2,12 @@
 use Rattle.std.specs.Prelude.{ℕ, List, ◌∷◌, ◌++◌, length}
 use Rattle.std.specs.List.{flat_map}
 use Rattle.std.specs.Int.{to_be_bytes, w16, w32, w64}
-use Rattle.model_value.specs.Messages.{PlainMessage}
-use Rattle.model_value.specs.Spelling.{text_field, value_spelling}
-use Rattle.model_value.specs.World.{ObjectRecord, WorldRecord}
-use Rattle.model_value.specs.declared.message.Subscription.{Subscription}
-use Rattle.model_value.specs.declared.world.Known.{Known}
-
--- a list field: how many items there are, and the spelling of each
-abbrev pub list_field : {A : Type 0} → (A → List ℕ) → List A → List ℕ
-list_field spelling items = to_be_bytes w32 (length items) ++ flat_map spelling items
+use Rattle.world_plain.specs.Messages.{PlainMessage}
+use Rattle.byte_fields.specs.Fields.{list_of, text_field}
+use Rattle.model_value.specs.Spelling.{value_spelling}
+use Rattle.world_plain.specs.World.{ObjectRecord, WorldRecord}
+use Rattle.world_plain.specs.declared.message.Subscription.{Subscription}
+use Rattle.world_plain.specs.declared.world.Known.{Known}
 
 -- its fields have no count of their own, since the class says how many there are
 unfoldable pub object_spelling : ObjectRecord → List ℕ
@@ -50,8 +47,8 @@ world_spelling w =
     ++ to_be_bytes w64 w.random
     ++ to_be_bytes w32 w.turns
     ++ flat_map (to_be_bytes w64) w.faults
-    ++ list_field (to_be_bytes w32) w.views
-    ++ list_field object_spelling w.objects
-    ++ list_field known_spelling w.known
-    ++ list_field subscription_spelling w.subscriptions
-    ++ list_field message_spelling w.pending
+    ++ list_of (to_be_bytes w32) w.views
+    ++ list_of object_spelling w.objects
+    ++ list_of known_spelling w.known
+    ++ list_of subscription_spelling w.subscriptions
+    ++ list_of message_spelling w.pending

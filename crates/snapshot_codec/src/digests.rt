@@ -1,6 +1,6 @@
 //! Digests of bytes, and the ids of sessions.
 ghost use Rattle.std.specs.Prelude.{◌≡◌, ◌<◌, ◌^◌, ◌++◌, length, encode_utf8_all};
-ghost use Rattle.model_value.specs.Spelling.{text_field};
+ghost use Rattle.byte_fields.specs.Fields.{text_field};
 ghost use Rattle.sha2.specs.Sha256.{sha256};
 
 use sha2::{Digest, Sha256};

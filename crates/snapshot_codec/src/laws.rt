@@ -1,9 +1,11 @@
 //! What is written is read.
-ghost use Rattle.std.specs.Prelude.{◌≡◌, IfErr, IfOk};
+ghost use Rattle.std.specs.Prelude.{◌≡◌, ℕ, List, IfErr, IfOk};
 ghost use Rattle.model_check.specs.Methods.{field_counts};
 ghost use Rattle.model_lang.specs.TreeView.{program_tree};
-ghost use Rattle.model_value.specs.Valid.{Valid};
-ghost use Rattle.model_value.specs.World.{world_record};
+ghost use Rattle.world_plain.specs.Valid.{Valid};
+ghost use Rattle.world_plain.specs.World.{WorldRecord, world_record};
+ghost use Rattle.snapshot_codec.specs.Answer.{IsWorld, snapshot_world};
+ghost use Rattle.snapshot_codec.specs.Spelling.{world_spelling};
 
 use crate::fault::SnapFault;
 use crate::reading::unsnap;
@@ -21,3 +23,8 @@ pub fn again(alloc: Global, program: &Checked, world: &PlainWorld) -> Result<Pla
     let bytes = snapshot(alloc, world)?;
     unsnap(alloc, program, &world.id, bytes.bytes())
 }
+
+/// The bytes of a valid world are the snapshot of that world, and of no other one.
+pub fn snapshot_is_of_its_world()
+    ensures { (counts : List ℕ) (w : WorldRecord) → IsWorld w → Valid counts w → snapshot_world counts w.id (world_spelling w) ≡ Some w }
+{}

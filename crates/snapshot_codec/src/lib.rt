@@ -10,6 +10,6 @@ mod writing;
 
 pub use digests::{digest, session_id};
 pub use fault::SnapFault;
-pub use laws::again;
+pub use laws::{again, snapshot_is_of_its_world};
 pub use reading::unsnap;
 pub use writing::snapshot;

@@ -3,29 +3,27 @@ ghost use Rattle.std.specs.Prelude.{◌≡◌, [], length, map, slice_get};
 ghost use Rattle.std.specs.Int.{w32};
 ghost use Rattle.std.specs.Option.{option_map};
 ghost use Rattle.byte_fields.specs.Fields.{Gives, byte_at, bytes_at, number_at, headed_at, items_at, list_at, whole};
-ghost use Rattle.model_check.specs.Methods.{field_counts};
-ghost use Rattle.model_lang.specs.TreeView.{program_tree};
-ghost use Rattle.model_value.specs.Messages.{plain_message};
+ghost use Rattle.world_plain.specs.Messages.{plain_message};
 ghost use Rattle.model_value.specs.View.{plain_values};
-ghost use Rattle.model_value.specs.World.{object_record, world_record};
+ghost use Rattle.world_plain.specs.World.{object_record, world_record};
 ghost use Rattle.model_value.specs.declared.fault.ValueFault.TheVariants.{BadValue};
-ghost use Rattle.snapshot_codec.specs.Reading.{values_at, fields_at, object_at, known_at, subscription_at, message_at, singles_at, faults_at, rows_at, world_at};
+ghost use Rattle.snapshot_codec.specs.Reading.{values_at, fields_at, object_record_at, known_at, subscription_at, message_at, singles_at, faults_at, rows_at, world_record_at};
 
 use byte_fields::{bytes_at, u8_at, u16_at, u32_at, u64_at};
-use model_check::Checked;
-use model_value::{
-    Message, Messages, Subscription, Subscriptions, ValueFault, Values, bounded_at, owned_text_at,
-};
+use model_value::{ValueFault, Values, bounded_at, owned_text_at};
 use std::alloc::Global;
 use tea_base::{List, Numbers, SessionId};
-use world_plain::{Known, KnownNames, PlainObject, PlainObjects, PlainWorld};
+use world_plain::{
+    Known, KnownNames, Message, Messages, PlainObject, PlainObjects, PlainWorld, Subscription,
+    Subscriptions,
+};
 
 /// The world that all of the bytes spell, valid or not; of a class of the program each object has as many fields as that
 /// declares.
-pub fn read_all(alloc: Global, program: &Checked, bytes: &[u8]) -> Result<PlainWorld, ValueFault>
-    ensures { Gives BadValue world_record result (whole (world_at (field_counts (program_tree program.now))) bytes.now) }
+pub fn read_all(alloc: Global, counts: &[u32], bytes: &[u8]) -> Result<PlainWorld, ValueFault>
+    ensures { Gives BadValue world_record result (whole (world_record_at counts.now) bytes.now) }
 {
-    let (world, rest) = world_at(alloc, program, bytes)?;
+    let (world, rest) = world_at(alloc, counts, bytes)?;
     if !rest.is_empty() {
         return Err(ValueFault::BadValue);
     }
@@ -34,18 +32,18 @@ pub fn read_all(alloc: Global, program: &Checked, bytes: &[u8]) -> Result<PlainW
 
 // Each reader below gives what its bytes begin with, and the bytes behind it.
 
-#[tactic(auto, unfolding(crate::specs::Reading::world_at))]
+#[tactic(auto, unfolding(crate::specs::Reading::world_record_at))]
 fn world_at<'a>(
     alloc: Global,
-    program: &Checked,
+    counts: &[u32],
     bytes: &'a [u8],
 ) -> Result<(PlainWorld, &'a [u8]), ValueFault>
-    ensures { Gives BadValue (λ x. (world_record x.0, x.1.now)) result (world_at (field_counts (program_tree program.now)) bytes.now) }
+    ensures { Gives BadValue (λ x. (world_record x.0, x.1.now)) result (world_record_at counts.now bytes.now) }
 {
     let (id, rest) = id_at(bytes).ok_or(ValueFault::BadValue)?;
     let (singles, rest) = singles_at(rest).ok_or(ValueFault::BadValue)?;
     let (faults, rest) = faults_at(rest).ok_or(ValueFault::BadValue)?;
-    let (rows, rest) = rows_at(alloc, program, rest)?;
+    let (rows, rest) = rows_at(alloc, counts, rest)?;
     let world = PlainWorld {
         id,
         time: singles.time,
@@ -135,14 +133,14 @@ struct Rows {
 #[tactic(auto, unfolding(crate::specs::Reading::rows_at))]
 fn rows_at<'a>(
     alloc: Global,
-    program: &Checked,
+    counts: &[u32],
     bytes: &'a [u8],
 ) -> Result<(Rows, &'a [u8]), ValueFault>
     ensures { Gives BadValue (λ x. ((x.0.views, (map object_record x.0.objects, (x.0.known, (x.0.subscriptions, map plain_message x.0.pending)))), x.1.now)) result
-        (rows_at (field_counts (program_tree program.now)) bytes.now) }
+        (rows_at counts.now bytes.now) }
 {
     let (views, rest) = views_at(alloc, bytes)?;
-    let (objects, rest) = objects_at(alloc, program, rest)?;
+    let (objects, rest) = objects_at(alloc, counts, rest)?;
     let (known, rest) = known_names_at(alloc, rest)?;
     let (subscriptions, rest) = subscriptions_at(alloc, rest)?;
     let (pending, rest) = messages_at(alloc, rest)?;
@@ -178,58 +176,58 @@ fn views_of(alloc: Global, count: u32, bytes: &[u8]) -> Result<(Numbers, &[u8]),
 
 fn objects_at<'a>(
     alloc: Global,
-    program: &Checked,
+    counts: &[u32],
     bytes: &'a [u8],
 ) -> Result<(PlainObjects, &'a [u8]), ValueFault>
-    ensures { Gives BadValue (λ x. (map object_record x.0, x.1.now)) result (list_at (λ _. object_at (field_counts (program_tree program.now))) bytes.now) }
+    ensures { Gives BadValue (λ x. (map object_record x.0, x.1.now)) result (list_at (λ _. object_record_at counts.now) bytes.now) }
 {
     let (count, rest) = u32_at(bytes).ok_or(ValueFault::BadValue)?;
-    objects_of(alloc, program, count, rest)
+    objects_of(alloc, counts, count, rest)
 }
 
 fn objects_of<'a>(
     alloc: Global,
-    program: &Checked,
+    counts: &[u32],
     count: u32,
     bytes: &'a [u8],
 ) -> Result<(PlainObjects, &'a [u8]), ValueFault>
-    ensures { Gives BadValue (λ x. (map object_record x.0, x.1.now)) result (items_at (λ _. object_at (field_counts (program_tree program.now))) [] count bytes.now) }
+    ensures { Gives BadValue (λ x. (map object_record x.0, x.1.now)) result (items_at (λ _. object_record_at counts.now) [] count bytes.now) }
 {
     let mut objects = List::new(alloc);
     let mut rest = bytes;
     for _ in 0..count {
-        let (object, after) = object_at(alloc, program, rest)?;
+        let (object, after) = object_at(alloc, counts, rest)?;
         objects.push(object)?;
         rest = after;
     }
     Ok((objects, rest))
 }
 
-#[tactic(auto, unfolding(crate::specs::Reading::object_at))]
+#[tactic(auto, unfolding(crate::specs::Reading::object_record_at))]
 fn object_at<'a>(
     alloc: Global,
-    program: &Checked,
+    counts: &[u32],
     bytes: &'a [u8],
 ) -> Result<(PlainObject, &'a [u8]), ValueFault>
-    ensures { Gives BadValue (λ x. (object_record x.0, x.1.now)) result (object_at (field_counts (program_tree program.now)) bytes.now) }
+    ensures { Gives BadValue (λ x. (object_record x.0, x.1.now)) result (object_record_at counts.now bytes.now) }
 {
     let (id, rest) = u32_at(bytes).ok_or(ValueFault::BadValue)?;
     let (class, rest) = u16_at(rest).ok_or(ValueFault::BadValue)?;
-    let (fields, rest) = fields_at(alloc, program, class, rest)?;
+    let (fields, rest) = fields_at(alloc, counts, class, rest)?;
     Ok((PlainObject { id, class, fields }, rest))
 }
 
 /// The fields of an object of a class.
 fn fields_at<'a>(
     alloc: Global,
-    program: &Checked,
+    counts: &[u32],
     class: u16,
     bytes: &'a [u8],
 ) -> Result<(Values, &'a [u8]), ValueFault>
-    ensures { Gives BadValue (λ x. (plain_values x.0, x.1.now)) result (fields_at (slice_get (field_counts (program_tree program.now)) class) bytes.now) }
+    ensures { Gives BadValue (λ x. (plain_values x.0, x.1.now)) result (fields_at (slice_get counts.now class) bytes.now) }
 {
-    match program.fields(class) {
-        Some(count) => values_at(alloc, count, bytes),
+    match counts.get(class as usize) {
+        Some(count) => values_at(alloc, *count, bytes),
         None => Err(ValueFault::BadValue),
     }
 }

@@ -1,9 +1,9 @@
 //! Worlds of snapshots.
-ghost use Rattle.std.specs.Prelude.{◌≡◌};
+ghost use Rattle.byte_fields.specs.Fields.{Gives};
 ghost use Rattle.model_check.specs.Methods.{field_counts};
 ghost use Rattle.model_lang.specs.TreeView.{program_tree};
-ghost use Rattle.model_value.specs.World.{WorldRecord, world_record};
-ghost use Rattle.snapshot_codec.specs.Answer.{HasId, IsSnapshot, ReadsWorld, TellsOther, Unsnaps};
+ghost use Rattle.world_plain.specs.World.{WorldRecord, world_record};
+ghost use Rattle.snapshot_codec.specs.Answer.{HasId, IsSnapshot, ReadsWorld, TellsOther, Unsnaps, snapshot_world};
 
 use crate::fault::SnapFault;
 use crate::parts::{id_at, read_all};
@@ -27,13 +27,31 @@ pub fn unsnap(
     bytes: &[u8],
 ) -> Result<PlainWorld, SnapFault>
     ensures answer { Unsnaps result (field_counts (program_tree program.now)) id.now.0 bytes.now }
+    // The same by the world that the bytes spell.
+    ensures read { Gives SnapFault.Bad world_record result (snapshot_world (field_counts (program_tree program.now)) id.now.0 bytes.now) }
     // What is spelled so is read, unless memory runs out.
+    ensures only { (w : WorldRecord) → IsSnapshot (field_counts (program_tree program.now)) id.now.0 bytes.now w →
+        ReadsWorld result w }
+{
+    read_session(alloc, program, id, bytes)
+}
+
+fn read_session(
+    alloc: Global,
+    program: &Checked,
+    id: &SessionId,
+    bytes: &[u8],
+) -> Result<PlainWorld, SnapFault>
+    ensures answer { Unsnaps result (field_counts (program_tree program.now)) id.now.0 bytes.now }
     ensures only { (w : WorldRecord) → IsSnapshot (field_counts (program_tree program.now)) id.now.0 bytes.now w →
         ReadsWorld result w }
 {
     match other_session(id, bytes) {
         Some(found) => Err(SnapFault::OtherSession { found }),
-        None => read_own(alloc, program, id, bytes),
+        None => {
+            let counts = program.field_counts(alloc)?;
+            read_own(alloc, counts.as_slice(), id, bytes)
+        }
     }
 }
 
@@ -50,18 +68,18 @@ fn other_session(id: &SessionId, bytes: &[u8]) -> Option<SessionId>
 /// The world that the bytes spell, which do not begin with the id of another session.
 fn read_own(
     alloc: Global,
-    program: &Checked,
+    counts: &[u32],
     id: &SessionId,
     bytes: &[u8],
 ) -> Result<PlainWorld, SnapFault>
     requires { HasId id.now.0 bytes.now }
-    ensures answer { Unsnaps result (field_counts (program_tree program.now)) id.now.0 bytes.now }
-    ensures only { (w : WorldRecord) → IsSnapshot (field_counts (program_tree program.now)) id.now.0 bytes.now w →
+    ensures answer { Unsnaps result counts.now id.now.0 bytes.now }
+    ensures only { (w : WorldRecord) → IsSnapshot counts.now id.now.0 bytes.now w →
         ReadsWorld result w }
 {
-    match read_all(alloc, program, bytes) {
+    match read_all(alloc, counts, bytes) {
         Ok(world) => {
-            if valid(&world, program) {
+            if valid(&world, counts) {
                 Ok(world)
             } else {
                 Err(SnapFault::Bad)

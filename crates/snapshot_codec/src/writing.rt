@@ -2,19 +2,23 @@
 ghost use Rattle.std.specs.Prelude.{◌≡◌, ◌≤◌, ◌<◌, ◌^◌, ◌++◌, ◌∷◌, OnOk, IfOk, length, map};
 ghost use Rattle.std.specs.Int.{to_be_bytes, w32, w64};
 ghost use Rattle.std.specs.List.{flat_map, AllByRecursion};
-ghost use Rattle.model_value.specs.Messages.{plain_message};
+ghost use Rattle.world_plain.specs.Messages.{plain_message};
 ghost use Rattle.model_value.specs.Spelling.{value_spelling, IsValue};
-ghost use Rattle.model_value.specs.Valid.{most_parameters};
+ghost use Rattle.world_plain.specs.Valid.{most_parameters};
 ghost use Rattle.model_value.specs.View.{plain_values};
-ghost use Rattle.model_value.specs.World.{object_record, world_record, values_weight, object_weight, message_weight, subscription_weight, known_weight, total, most_world_weight};
+ghost use Rattle.world_plain.specs.World.{object_record, world_record, object_weight, message_weight, subscription_weight, known_weight, total_weight, most_world_weight};
+ghost use Rattle.model_value.specs.Plain.{values_weight};
 ghost use Rattle.snapshot_codec.specs.Answer.{IsKnown, IsMessage, IsObject, IsSubscription, IsWorld};
-ghost use Rattle.snapshot_codec.specs.Conditions.{IsValid, IsSmall, HasFewArguments, most_snapshot};
-ghost use Rattle.snapshot_codec.specs.Spelling.{list_field, object_spelling, known_spelling, subscription_spelling, message_spelling, world_spelling};
+ghost use Rattle.snapshot_codec.specs.Conditions.{IsValid, IsSmall, MessageHasFewArguments};
+ghost use Rattle.tea_base.specs.Limits.{most_snapshot};
+ghost use Rattle.byte_fields.specs.Fields.{list_of};
+ghost use Rattle.snapshot_codec.specs.Spelling.{object_spelling, known_spelling, subscription_spelling, message_spelling, world_spelling};
 
-use model_value::{Message, Subscription, Values, put_text, put_value};
+use byte_fields::Writer;
+use model_value::{Values, put_value};
 use std::alloc::Global;
-use tea_base::{Blob, WantOfMemory, Writer};
-use world_plain::{Known, PlainObject, PlainWorld};
+use tea_base::{Blob, WantOfMemory};
+use world_plain::{Known, Message, PlainObject, PlainWorld, Subscription};
 
 /// The one spelling of a world, in memory of its own. Numbers are big-endian. In this order:
 ///
@@ -91,10 +95,10 @@ fn put_faults(out: &mut Writer, faults: &[u64; 14]) -> Result<(), WantOfMemory>
 
 fn put_views(out: &mut Writer, views: &[u32]) -> Result<(), WantOfMemory>
     requires { length views.now < 2 ^ 32 }
-    ensures spelled { OnOk result (out.new ≡ out.old ++ list_field (to_be_bytes w32) views.now) }
+    ensures spelled { OnOk result (out.new ≡ out.old ++ list_of (to_be_bytes w32) views.now) }
     ensures views { OnOk result (AllByRecursion (λ n. n < 2 ^ 32) views.now) }
 {
-    out.put_u32(views.len() as u32)?;
+    out.put_count(views.len())?;
     for view in views {
         out.put_u32(*view)?;
     }
@@ -125,11 +129,11 @@ fn put_object(out: &mut Writer, object: &PlainObject) -> Result<(), WantOfMemory
 
 #[tactic(auto, using(crate::proofs::Sizes::by_count))]
 fn put_objects(out: &mut Writer, objects: &[PlainObject]) -> Result<(), WantOfMemory>
-    requires { total object_weight (map object_record objects.now) ≤ most_world_weight }
-    ensures spelled { OnOk result (out.new ≡ out.old ++ list_field object_spelling (map object_record objects.now)) }
+    requires { total_weight object_weight (map object_record objects.now) ≤ most_world_weight }
+    ensures spelled { OnOk result (out.new ≡ out.old ++ list_of object_spelling (map object_record objects.now)) }
     ensures objects { OnOk result (AllByRecursion IsObject (map object_record objects.now)) }
 {
-    out.put_u32(objects.len() as u32)?;
+    out.put_count(objects.len())?;
     for object in objects {
         put_object(out, object)?;
     }
@@ -142,17 +146,17 @@ fn put_known(out: &mut Writer, known: &Known) -> Result<(), WantOfMemory>
     ensures spelled { OnOk result (out.new ≡ out.old ++ known_spelling known.now) }
     ensures known { OnOk result (IsKnown known.now) }
 {
-    put_text(out, &known.name)?;
+    out.put_text(&known.name)?;
     out.put_u32(known.object)
 }
 
 #[tactic(auto, using(crate::proofs::Sizes::by_count))]
 fn put_known_names(out: &mut Writer, known: &[Known]) -> Result<(), WantOfMemory>
-    requires { total known_weight known.now ≤ most_world_weight }
-    ensures spelled { OnOk result (out.new ≡ out.old ++ list_field known_spelling known.now) }
+    requires { total_weight known_weight known.now ≤ most_world_weight }
+    ensures spelled { OnOk result (out.new ≡ out.old ++ list_of known_spelling known.now) }
     ensures known { OnOk result (AllByRecursion IsKnown known.now) }
 {
-    out.put_u32(known.len() as u32)?;
+    out.put_count(known.len())?;
     for one in known {
         put_known(out, one)?;
     }
@@ -165,19 +169,19 @@ fn put_subscription(out: &mut Writer, subscription: &Subscription) -> Result<(),
     ensures spelled { OnOk result (out.new ≡ out.old ++ subscription_spelling subscription.now) }
     ensures subscription { OnOk result (IsSubscription subscription.now) }
 {
-    put_text(out, &subscription.scope)?;
-    put_text(out, &subscription.event)?;
+    out.put_text(&subscription.scope)?;
+    out.put_text(&subscription.event)?;
     out.put_u32(subscription.object)?;
-    put_text(out, &subscription.method)
+    out.put_text(&subscription.method)
 }
 
 #[tactic(auto, using(crate::proofs::Sizes::by_count))]
 fn put_subscriptions(out: &mut Writer, subscriptions: &[Subscription]) -> Result<(), WantOfMemory>
-    requires { total subscription_weight subscriptions.now ≤ most_world_weight }
-    ensures spelled { OnOk result (out.new ≡ out.old ++ list_field subscription_spelling subscriptions.now) }
+    requires { total_weight subscription_weight subscriptions.now ≤ most_world_weight }
+    ensures spelled { OnOk result (out.new ≡ out.old ++ list_of subscription_spelling subscriptions.now) }
     ensures subscriptions { OnOk result (AllByRecursion IsSubscription subscriptions.now) }
 {
-    out.put_u32(subscriptions.len() as u32)?;
+    out.put_count(subscriptions.len())?;
     for subscription in subscriptions {
         put_subscription(out, subscription)?;
     }
@@ -186,7 +190,7 @@ fn put_subscriptions(out: &mut Writer, subscriptions: &[Subscription]) -> Result
 
 #[tactic(auto, using(crate::proofs::Rows::by_rows))]
 fn put_message(out: &mut Writer, message: &Message) -> Result<(), WantOfMemory>
-    requires few { HasFewArguments (plain_message message.now) }
+    requires few { MessageHasFewArguments (plain_message message.now) }
     requires light { message_weight (plain_message message.now) ≤ most_world_weight }
     ensures spelled { OnOk result (out.new ≡ out.old ++ message_spelling (plain_message message.now)) }
     ensures message { OnOk result (IsMessage (plain_message message.now)) }
@@ -194,7 +198,7 @@ fn put_message(out: &mut Writer, message: &Message) -> Result<(), WantOfMemory>
     out.put_u64(message.time)?;
     out.put_u64(message.number)?;
     out.put_u32(message.object)?;
-    put_text(out, &message.method)?;
+    out.put_text(&message.method)?;
     put_arguments(out, &message.args)
 }
 
@@ -210,12 +214,12 @@ fn put_arguments(out: &mut Writer, arguments: &Values) -> Result<(), WantOfMemor
 
 #[tactic(auto, using(crate::proofs::Sizes::by_count))]
 fn put_messages(out: &mut Writer, messages: &[Message]) -> Result<(), WantOfMemory>
-    requires few { AllByRecursion HasFewArguments (map plain_message messages.now) }
-    requires light { total message_weight (map plain_message messages.now) ≤ most_world_weight }
-    ensures spelled { OnOk result (out.new ≡ out.old ++ list_field message_spelling (map plain_message messages.now)) }
+    requires few { AllByRecursion MessageHasFewArguments (map plain_message messages.now) }
+    requires light { total_weight message_weight (map plain_message messages.now) ≤ most_world_weight }
+    ensures spelled { OnOk result (out.new ≡ out.old ++ list_of message_spelling (map plain_message messages.now)) }
     ensures messages { OnOk result (AllByRecursion IsMessage (map plain_message messages.now)) }
 {
-    out.put_u32(messages.len() as u32)?;
+    out.put_count(messages.len())?;
     for message in messages {
         put_message(out, message)?;
     }

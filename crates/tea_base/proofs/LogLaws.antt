@@ -9,8 +9,9 @@ use Rattle.std.proofs.lemmas.Bool.Decides.{nat_tests}
 use Rattle.tea_base.specs.declared.entry.Entry.{Entry}
 use Rattle.tea_base.specs.declared.entry.What.{What}
 use Rattle.tea_base.specs.declared.entry.What.TheVariants.{Join, Exit, Event}
-use Rattle.tea_base.specs.Readings.{last_entry, time_or_zero, is_some_join, is_join, is_exit, is_event, is_presence_of, is_event_of, presence, sent, is_here, payload_bytes, payload_len, last_time, last_number, here_count, event, events}
-use Rattle.tea_base.specs.Legal.{IsLegal, IsLegalAfter, MayFollow, Allows, TimesRise, TimesRiseAfter, HasNumber, AreNumberedFrom, EachCountsItsEvents, most_entries, most_bytes}
+use Rattle.tea_base.specs.Readings.{last_entry, time_or_zero, is_some_join, is_join, is_exit, is_event, is_presence_of, is_event_of, presence, view_events, is_here, payload_bytes, payload_len, last_time, last_number, here_count, view_event, events}
+use Rattle.tea_base.specs.Legal.{IsLegal, IsLegalAfter, MayFollow, LogAllows, TimesRise, TimesRiseAfter, HasNumber, AreNumberedFrom, EachCountsItsEvents}
+use Rattle.tea_base.specs.Limits.{most_entries, most_bytes}
 
 pub last_entry-push : (log : List Entry) (entry : Entry) → last_entry (log ++ entry ∷ []) ≡ Some entry
 last_entry-push [] entry = refl
@@ -24,7 +25,7 @@ pub last_presence-push : (log : List Entry) (entry : Entry) (view : ℕ) → las
 last_presence-push log entry view =
     ap last_entry (filter-append (is_presence_of view) log (entry ∷ [])) ∙ last_entry-push_if (is_presence_of view entry) (presence log view) entry
 
-pub sent-push : (log : List Entry) (entry : Entry) (view : ℕ) → sent (log ++ entry ∷ []) view ≡ sent log view ++ cond (is_event_of view entry) (entry ∷ []) []
+pub sent-push : (log : List Entry) (entry : Entry) (view : ℕ) → view_events (log ++ entry ∷ []) view ≡ view_events log view ++ cond (is_event_of view entry) (entry ∷ []) []
 sent-push log entry view = filter-append (is_event_of view) log (entry ∷ [])
 
 pub last_time-push : (log : List Entry) (entry : Entry) → last_time (log ++ entry ∷ []) ≡ entry.time
@@ -98,7 +99,7 @@ here_count-push (first ∷ rest) entry =
     (same_view rest entry.view first.view) (is_here-none rest entry.view) (here_count-push rest entry))
 
 -- no log with an entry after it has the most entries that there may be
-Allows-short : (log : List Entry) (view : ℕ) (what : What) → Allows log view what → length log < most_entries
+Allows-short : (log : List Entry) (view : ℕ) (what : What) → LogAllows log view what → length log < most_entries
 Allows-short log view Join allowed = omega arith
 Allows-short log view Exit allowed = allowed.1
 Allows-short log view (Event number payload) allowed = omega arith
@@ -179,15 +180,15 @@ some_of_cond true found entry is = absurd cc
 some_of_cond false found entry is = is
 
 -- the Event that is found stands in the log at its seq
-pub event_stands : (log : List Entry) (view number : ℕ) (entry : Entry) → IsLegal log → event log view number ≡ Some entry → StandsAfter 0 log entry × is_event_of view entry ≡ true
+pub event_stands : (log : List Entry) (view number : ℕ) (entry : Entry) → IsLegal log → view_event log view number ≡ Some entry → StandsAfter 0 log entry × is_event_of view entry ≡ true
 event_stands log view number entry legal found =
-    filtered_stands (is_event_of view) [] log (number - 1) entry legal (some_of_cond (number == 0) (slice_get (sent log view) (number - 1)) entry found)
+    filtered_stands (is_event_of view) [] log (number - 1) entry legal (some_of_cond (number == 0) (slice_get (view_events log view) (number - 1)) entry found)
 
 -- where a number is counted, its Event is the one at its place
-pub event-counted : (log : List Entry) (view number : ℕ) → 0 < number → event log view number ≡ slice_get (sent log view) (number - 1)
+pub event-counted : (log : List Entry) (view number : ℕ) → 0 < number → view_event log view number ≡ slice_get (view_events log view) (number - 1)
 event-counted log view number counted = grind (arith, nat_tests)
 
-Allows-bytes : (log : List Entry) (view : ℕ) (what : What) → Allows log view what → payload_bytes log ≤ most_bytes → payload_bytes log + payload_len what ≤ most_bytes
+Allows-bytes : (log : List Entry) (view : ℕ) (what : What) → LogAllows log view what → payload_bytes log ≤ most_bytes → payload_bytes log + payload_len what ≤ most_bytes
 Allows-bytes log view Join allowed bound = omega arith
 Allows-bytes log view Exit allowed bound = omega arith
 Allows-bytes log view (Event number payload) allowed bound = allowed.3
@@ -227,33 +228,33 @@ filter-cond : (p : Entry → Bool) (b : Bool) (first : Entry) (rest : List Entry
 filter-cond p true first rest = refl
 filter-cond p false first rest = refl
 
-pub sent-events : (log : List Entry) (view : ℕ) → sent log view ≡ filter (λ entry. entry.view == view) (events log)
+pub sent-events : (log : List Entry) (view : ℕ) → view_events log view ≡ filter (λ entry. entry.view == view) (events log)
 sent-events [] view = refl
 sent-events (first ∷ rest) view =
-    sent-events_if (first.view == view) (is_event first.what) first (filter (λ entry. entry.view == view) (events rest)) (sent rest view) (sent-events rest view)
+    sent-events_if (first.view == view) (is_event first.what) first (filter (λ entry. entry.view == view) (events rest)) (view_events rest view) (sent-events rest view)
     ∙ sym (filter-cond (λ entry. entry.view == view) (is_event first.what) first (events rest))
 
 -- an Event that may follow has the next number of its view
-HasNumber-allowed : (log : List Entry) (view : ℕ) (what : What) → Allows log view what → is_event what ≡ true → HasNumber (last_number log view + 1) what
+HasNumber-allowed : (log : List Entry) (view : ℕ) (what : What) → LogAllows log view what → is_event what ≡ true → HasNumber (last_number log view + 1) what
 HasNumber-allowed log view Join allowed is = absurd cc
 HasNumber-allowed log view Exit allowed is = absurd cc
 HasNumber-allowed log view (Event number payload) allowed is = allowed.1
 
 AreNumberedFrom-first : (b : Bool) (before : List Entry) (first : Entry) (later : List Entry) (view : ℕ)
-    → is_event_of view first ≡ b → Allows before first.view first.what → AreNumberedFrom (last_number (before ++ first ∷ []) view + 1) later → AreNumberedFrom (last_number before view + 1) (cond b (first ∷ later) later)
+    → is_event_of view first ≡ b → LogAllows before first.view first.what → AreNumberedFrom (last_number (before ++ first ∷ []) view + 1) later → AreNumberedFrom (last_number before view + 1) (cond b (first ∷ later) later)
 AreNumberedFrom-first true before first later view is allowed more =
     let own : view ≡ first.view = grind (arith, nat_tests) in
     let event_too : is_event first.what ≡ true = grind arith in
-    let count : last_number (before ++ first ∷ []) view ≡ last_number before view + 1 = rw (sent-push before first view, is) (omega (arith, length-append (sent before view) (first ∷ []))) in
+    let count : last_number (before ++ first ∷ []) view ≡ last_number before view + 1 = rw (sent-push before first view, is) (omega (arith, length-append (view_events before view) (first ∷ []))) in
     (rw own (HasNumber-allowed before first.view first.what allowed event_too), rw count at more)
 AreNumberedFrom-first false before first later view is allowed more =
-    let count : last_number (before ++ first ∷ []) view ≡ last_number before view = rw (sent-push before first view, is) (ap length (append-nil (sent before view))) in
+    let count : last_number (before ++ first ∷ []) view ≡ last_number before view = rw (sent-push before first view, is) (ap length (append-nil (view_events before view))) in
     rw count at more
 
-AreNumberedFrom-legal_after : (before log : List Entry) (view : ℕ) → IsLegalAfter before log → AreNumberedFrom (last_number before view + 1) (sent log view)
+AreNumberedFrom-legal_after : (before log : List Entry) (view : ℕ) → IsLegalAfter before log → AreNumberedFrom (last_number before view + 1) (view_events log view)
 AreNumberedFrom-legal_after before [] view legal = tt
 AreNumberedFrom-legal_after before (first ∷ rest) view legal =
-    AreNumberedFrom-first (is_event_of view first) before first (sent rest view) view refl legal.0.allowed (AreNumberedFrom-legal_after (before ++ first ∷ []) rest view legal.1)
+    AreNumberedFrom-first (is_event_of view first) before first (view_events rest view) view refl legal.0.allowed (AreNumberedFrom-legal_after (before ++ first ∷ []) rest view legal.1)
 
 -- in a legal log the Events of each view are numbered 1, 2, 3 and so on
 pub EachCountsItsEvents-legal : (log : List Entry) → IsLegal log → EachCountsItsEvents log

@@ -21,10 +21,10 @@ is_event Exit = false
 is_event (Event number payload) = true
 
 -- an Event's payload, and nothing of a Join or an Exit
-abbrev pub payload_of : What → List ℕ
-payload_of Join = []
-payload_of Exit = []
-payload_of (Event number payload) = payload
+abbrev pub event_payload : What → List ℕ
+event_payload Join = []
+event_payload Exit = []
+event_payload (Event number payload) = payload
 
 -- it is an Event with this payload
 abbrev pub IsEventOf : What → List ℕ → Type 0
@@ -34,7 +34,7 @@ IsEventOf (Event number payload) bytes = payload ≡ bytes
 
 -- its length
 abbrev pub payload_len : What → ℕ
-payload_len what = length (payload_of what)
+payload_len what = length (event_payload what)
 
 -- the entry is a view's Join or Exit
 abbrev pub is_presence_of : ℕ → Entry → Bool
@@ -77,8 +77,8 @@ abbrev pub is_here : List Entry → ℕ → Bool
 is_here log view = is_some_join (last_entry (presence log view))
 
 -- the Events of a view
-abbrev pub sent : List Entry → ℕ → List Entry
-sent log view = filter (is_event_of view) log
+abbrev pub view_events : List Entry → ℕ → List Entry
+view_events log view = filter (is_event_of view) log
 
 -- the Events of all views
 abbrev pub events : List Entry → List Entry
@@ -86,19 +86,19 @@ events log = filter (λ entry. is_event entry.what) log
 
 -- how many Events a view sent, which is the number of the last one
 abbrev pub last_number : List Entry → ℕ → ℕ
-last_number log view = length (sent log view)
+last_number log view = length (view_events log view)
 
 -- the Event of a view with a number, counted from 1
-abbrev pub event : List Entry → ℕ → ℕ → Option Entry
-event log view number = if number == 0 then None else slice_get (sent log view) (number - 1)
+abbrev pub view_event : List Entry → ℕ → ℕ → Option Entry
+view_event log view number = if number == 0 then None else slice_get (view_events log view) (number - 1)
 
 -- the payload bytes of all Events
 abbrev pub payload_bytes : List Entry → ℕ
 payload_bytes log = sum_by (λ entry. payload_len entry.what) log
 
 -- how many entries have a time of at most this
-abbrev pub count : List Entry → ℕ → ℕ
-count log time = count_by (λ entry. nat_le entry.time time) log
+abbrev pub count_until : List Entry → ℕ → ℕ
+count_until log time = count_by (λ entry. nat_le entry.time time) log
 
 -- how many views are here: the Joins that no Join or Exit of the same view comes after
 abbrev pub here_count : List Entry → ℕ

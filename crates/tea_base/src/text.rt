@@ -1,10 +1,14 @@
 //! Text that is owned.
-ghost use Rattle.std.specs.Prelude.{◌≡◌, ◌↔◌, IfOk, OnOk, IsTrue, encode_utf8_all, Err};
-ghost use Rattle.std.specs.Str.{IsUtf8, chars};
+ghost use Rattle.std.specs.Prelude.{◌≡◌, ◌↔◌, IfOk, OnOk, IsTrue, encode_utf8_all, Err, true};
+ghost use Rattle.std.specs.Cmp.Lexicographic.{slice_cmp};
+ghost use Rattle.std.specs.Ordering.{nat_cmp};
+ghost use Rattle.std.specs.Str.{IsUtf8, all_scalars, chars};
+ghost use Rattle.tea_base.specs.Order.{comes_before};
 
 use crate::list::List;
 use crate::want::WantOfMemory;
 use std::alloc::{AllocError, Global};
+use std::cmp::Ordering;
 use std::marker::Model;
 
 /// Why bytes were not read as text.
@@ -61,6 +65,13 @@ impl Text {
         })
     }
 
+    /// The same text in memory of its own, as `clone`, by the one error of want of memory.
+    pub fn try_clone(&self) -> Result<Text, WantOfMemory>
+        ensures { IfOk result (λ copy. copy ≡ self.now) }
+    {
+        Ok(self.clone()?)
+    }
+
     /// The text, borrowed.
     pub fn as_str(&self) -> &str
         ensures { result.now ≡ encode_utf8_all self.now }
@@ -68,10 +79,11 @@ impl Text {
         self.held.as_str()
     }
 
-    /// Its UTF-8.
+    /// Its UTF-8. The characters of a text are Unicode scalar values.
     pub fn bytes(&self) -> &[u8]
         ensures bytes { result.now ≡ encode_utf8_all self.now }
         ensures utf8 { IsUtf8 result.now }
+        ensures scalars { all_scalars self.now ≡ true }
     {
         self.held.as_str().as_bytes()
     }
@@ -81,6 +93,41 @@ impl Text {
         ensures { IsTrue result ↔ (self.now ≡ other.now) }
     {
         self.held.as_str() == other.held.as_str()
+    }
+
+    /// Which of two texts stands first, by the numbers of their characters. A text stands before one that it begins.
+    pub fn order(&self, other: &Text) -> Ordering
+        ensures { result ≡ slice_cmp nat_cmp self.now other.now }
+    {
+        order(self.held.as_str(), other.held.as_str())
+    }
+
+    /// Whether it stands before another text in that order.
+    #[tactic(auto, using(crate::proofs::Order::by_order))]
+    pub fn is_before(&self, other: &Text) -> bool
+        ensures { result ≡ comes_before self.now other.now }
+    {
+        self.order(other).is_lt()
+    }
+}
+
+/// The order of two texts, character by character.
+fn order(first: &str, second: &str) -> Ordering
+    ensures { result ≡ slice_cmp nat_cmp (chars first.now) (chars second.now) }
+{
+    let mut mine = first.chars();
+    let mut others = second.chars();
+    loop {
+        match (mine.next(), others.next()) {
+            (None, None) => return Ordering::Equal,
+            (None, Some(_)) => return Ordering::Less,
+            (Some(_), None) => return Ordering::Greater,
+            (Some(a), Some(b)) => {
+                if a != b {
+                    return a.cmp(&b);
+                }
+            }
+        }
     }
 }
 

@@ -17,6 +17,10 @@ grown-grown (Some xs) a b = ap Some (append_assoc xs a b)
 pub HasWritten-start : (old : Option (List ℕ)) (text : List ℕ) → HasWritten old old text text
 HasWritten-start old text = record { front = []; whole = refl; written = grown-nil old }
 
+-- nothing was written
+pub GrowsWithin-nothing : (told : Option (List ℕ)) (text : List ℕ) → GrowsWithin told told text
+GrowsWithin-nothing told text = (text, HasWritten-start told text)
+
 -- a piece more is written
 pub HasWritten-piece
     : (old now new : Option (List ℕ)) (left piece more text : List ℕ)

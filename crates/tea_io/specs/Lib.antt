@@ -1,6 +1,10 @@
 pub mod Told
 pub mod Files
 pub mod Sink
+pub mod Links
+pub mod Nets
 pub mod Calls
 pub mod MemFiles
 pub mod MemSink
+pub mod MemLink
+pub mod MemNet

@@ -9,11 +9,12 @@ pub record MemSinkState : Type 0 where
   pub failing : List ℕ
   pub next_call : ℕ
   pub faults : ℕ
+  pub wants : ℕ
 
--- what a write leaves: a call that fails or wants memory writes nothing
+-- what a write leaves: a call that fails or wants memory writes nothing, and is counted
 abbrev pub after : {T : Type 0} → Result T SinkFault → MemSinkState → List ℕ → MemSinkState
 after (Ok value) sink piece =
     record sink { written = sink.written ++ piece; next_call = count_up sink.next_call }
 after (Err Failed) sink piece =
     record sink { next_call = count_up sink.next_call; faults = count_up sink.faults }
-after (Err WantOfMemory) sink piece = sink
+after (Err WantOfMemory) sink piece = record sink { wants = count_up sink.wants }

@@ -1,10 +1,21 @@
 -- What is known of the outside, and the counts of its faults.
-use Rattle.std.specs.Prelude.{ℕ, ◌+◌, ◌-◌, ◌^◌, ◌≤◌, min, List, ◌++◌, Option, Some, None}
+use Rattle.std.specs.Prelude.{◌≡◌, ℕ, ⊤, ◌+◌, ◌-◌, ◌^◌, ◌≤◌, min, List, [], ◌∷◌, ◌++◌, Option, Some, None}
 
 -- a list that is told, with more behind it; one that is not told stays so
 abbrev pub grown : {A : Type 0} → Option (List A) → List A → Option (List A)
 grown None more = None
 grown (Some told) more = Some (told ++ more)
+
+-- the first of what is told to come is this one, and the rest is still to come; what is not told
+-- stays so
+abbrev pub Gives : {A : Type 0} → Option (List A) → Option (List A) → A → Type 0
+Gives None now first = now ≡ None
+Gives (Some told) now first = (rest : _) × (told ≡ first ∷ rest) × (now ≡ Some rest)
+
+-- nothing is left to come, where that is told
+abbrev pub HasNoMore : {A : Type 0} → Option (List A) → Type 0
+HasNoMore None = ⊤
+HasNoMore (Some told) = told ≡ []
 
 -- a count that goes up by one, and stays at the last value of a `u64`
 abbrev pub count_up : ℕ → ℕ

@@ -1,7 +1,7 @@
 //! A sink in memory.
 ghost use Rattle.std.specs.Prelude.{◌≡◌, ◌↔◌, [], Some, OnOk, OnErr, IsErrOf, IsTrue};
 ghost use Rattle.tea_io.specs.Told.{grown};
-ghost use Rattle.tea_io.specs.Sink.{GrowsWithin, SinkCause};
+ghost use Rattle.tea_io.specs.Sink.{GrowsWithin, SinkCause, SinkWant};
 ghost use Rattle.tea_io.specs.Calls.{fails_at};
 ghost use Rattle.tea_io.specs.MemSink.{after};
 
@@ -12,13 +12,14 @@ use std::marker::Model;
 use tea_base::{Blob, Numbers};
 
 /// A sink that keeps what is written. The calls whose numbers it was given fail and write nothing.
-/// They are counted from 1. A call that answers want of memory changes nothing: it is not counted.
+/// They are counted from 1. A call that answers want of memory writes nothing, and is not among them.
 #[derive(Drop)]
 pub struct MemSink {
     written: Vec<u8>,
     failing: Numbers,
     next_call: u64,
     faults: u64,
+    wants: u64,
 }
 
 impl Model for MemSink {
@@ -31,6 +32,7 @@ impl Model for MemSink {
       failing = sink.failing;
       next_call = sink.next_call;
       faults = sink.faults;
+      wants = sink.wants;
     } };
 }
 
@@ -41,12 +43,14 @@ impl MemSink {
         ensures failing { result.failing ≡ fail }
         ensures first { result.next_call ≡ 1 }
         ensures faults { result.faults ≡ 0 }
+        ensures wants { result.wants ≡ 0 }
     {
         MemSink {
             written: Vec::new(alloc),
             failing: fail,
             next_call: 1,
             faults: 0,
+            wants: 0,
         }
     }
 
@@ -71,11 +75,14 @@ impl Sink for MemSink {
 
     ghost faults = { λ sink. sink.faults };
 
+    ghost wants = { λ sink. sink.wants };
+
     fn write(&mut self, bytes: &[u8]) -> Result<(), SinkFault>
         ensures ok { OnOk result (Some self.new.written ≡ grown (Some self.old.written) bytes.now) }
         ensures part { OnErr result
             (GrowsWithin (Some self.old.written) (Some self.new.written) bytes.now) }
         ensures cause { SinkCause self.old.faults self.new.faults result }
+        ensures want { SinkWant self.old.wants self.new.wants result }
 
         // A call fails exactly where its number stands in the list.
         ensures fails { IsErrOf result SinkFault.Failed
@@ -87,7 +94,10 @@ impl Sink for MemSink {
             self.faults = self.faults.saturating_add(1);
             return Err(SinkFault::Failed);
         }
-        self.written.extend_from_slice(bytes)?;
+        if self.written.extend_from_slice(bytes).is_err() {
+            self.wants = self.wants.saturating_add(1);
+            return Err(SinkFault::WantOfMemory);
+        }
         self.next_call = self.next_call.saturating_add(1);
         Ok(())
     }

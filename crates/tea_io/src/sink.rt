@@ -2,7 +2,7 @@
 ghost use Rattle.std.specs.Prelude.{◌≡◌, ℕ, List, Option, OnOk, OnErr};
 ghost use Rattle.tea_io.specs.declared.sink.SinkFault.TheVariants.{WantOfMemory};
 ghost use Rattle.tea_io.specs.Told.{grown};
-ghost use Rattle.tea_io.specs.Sink.{GrowsWithin, SinkCause};
+ghost use Rattle.tea_io.specs.Sink.{GrowsWithin, SinkCause, SinkWant};
 
 use std::alloc::AllocError;
 
@@ -11,7 +11,7 @@ use std::alloc::AllocError;
 pub enum SinkFault {
     /// The write failed. This is counted.
     Failed,
-    /// An allocation was refused.
+    /// An allocation was refused. This is counted too.
     WantOfMemory,
 }
 
@@ -31,9 +31,13 @@ pub trait Sink {
     /// How often a write has failed.
     ghost faults: { Self → ℕ };
 
+    /// How often a write has wanted memory.
+    ghost wants: { Self → ℕ };
+
     /// Writes all the bytes, or at an error a first part of them.
     fn write(&mut self, bytes: &[u8]) -> Result<(), SinkFault>
         ensures ok { OnOk result (written self.new ≡ grown (written self.old) bytes.now) }
         ensures part { OnErr result (GrowsWithin (written self.old) (written self.new) bytes.now) }
-        ensures cause { SinkCause (faults self.old) (faults self.new) result };
+        ensures cause { SinkCause (faults self.old) (faults self.new) result }
+        ensures want { SinkWant (wants self.old) (wants self.new) result };
 }

@@ -32,8 +32,8 @@ abbrev pub in_range : ℕ → ℕ → ℕ → Option ℕ
 in_range low high number = if nat_le low number && nat_le number high then Some number else None
 
 -- the number from low to high that a word spells
-abbrev pub number_of : ℕ → ℕ → Word → Option ℕ
-number_of low high word = option_and_then (in_range low high) (spelled_by word)
+abbrev pub number_of_word : ℕ → ℕ → Word → Option ℕ
+number_of_word low high word = option_and_then (in_range low high) (spelled_by word)
 
 -- the word is not empty, has no plus, and no zero before its last digit
 pub record IsPlain (word : Word) : Type 0 where

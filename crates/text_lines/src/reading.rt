@@ -3,7 +3,7 @@ ghost use Rattle.std.specs.Prelude.{◌≡◌, ℕ, ◌≤◌, ◌<◌, ◌^◌,
 ghost use Rattle.std.specs.Fmt.{decimal};
 ghost use Rattle.std.specs.Str.Lines.{lines};
 ghost use Rattle.std.specs.List.{slice_split};
-ghost use Rattle.text_lines.specs.Lines.{words_of, ends_in_space, parts_of, spelled_by, number_of, IsPlain};
+ghost use Rattle.text_lines.specs.Lines.{words_of, ends_in_space, parts_of, spelled_by, number_of_word, IsPlain};
 
 use std::alloc::{AllocError, Global};
 use tea_base::WantOfMemory;
@@ -81,7 +81,7 @@ fn spelled(word: &str) -> Option<u64>
 
 /// The number from `low` to `high` that a word spells in decimal, without a sign or leading zeros.
 pub fn number(word: &str, low: u64, high: u64) -> Option<u64>
-    ensures read { result ≡ number_of low high word.now }
+    ensures read { result ≡ number_of_word low high word.now }
     ensures found { IfSome result (λ n. (word.now ≡ decimal n) × (low ≤ n) × (n ≤ high)) }
     ensures none { IfNone result ((n : ℕ) → low ≤ n → n ≤ high → word.now ≡ decimal n → ⊥) }
 {

@@ -1,16 +1,14 @@
 //! Fields of frames.
 ghost use Rattle.std.specs.Prelude.{◌≡◌, length};
 ghost use Rattle.std.specs.Option.{option_map};
-ghost use Rattle.wire_frames.specs.Lent.{base_of};
-ghost use Rattle.wire_frames.specs.Reading.{time_at, session_at, base_of_mark, base_at, want_of_mark, want_at};
+ghost use Rattle.wire_frames.specs.Lent.{base_of, frame_entry_of};
+ghost use Rattle.wire_frames.specs.Reading.{time_at, session_at, frame_entry_at, base_of_mark, base_at, want_of_mark, want_at};
 
-use crate::lent::LentBase;
+use crate::lent::{LentBase, LentFrameEntry};
 use crate::start::Want;
-use byte_fields::{blob_at, bytes_at, u8_at, u64_at};
-use tea_base::SessionId;
-
-/// Times are below this, in microseconds.
-const TIME_LIMIT: u64 = 1 << 53;
+use byte_fields::{blob_at, bytes_at, u8_at, u32_at, u64_at};
+use entry_fields::what_at;
+use tea_base::{SessionId, TIME_LIMIT};
 
 /// A TeaTime, which is below 2^53.
 #[tactic(auto, unfolding(crate::specs::Reading::time_at))]
@@ -41,6 +39,26 @@ fn session_of(bytes: &[u8]) -> SessionId
     let mut id = [0; 32];
     id.copy_from_slice(bytes);
     SessionId(id)
+}
+
+/// An entry.
+#[tactic(auto, unfolding(crate::specs::Reading::frame_entry_at))]
+pub fn entry_at(bytes: &[u8]) -> Option<(LentFrameEntry<'_>, &[u8])>
+    ensures { option_map (λ x. (frame_entry_of x.0, x.1.now)) result ≡ frame_entry_at bytes.now }
+{
+    let (seq, rest) = u32_at(bytes)?;
+    let (time, rest) = time_at(rest)?;
+    let (view, rest) = u32_at(rest)?;
+    let (what, rest) = what_at(rest)?;
+    Some((
+        LentFrameEntry {
+            seq,
+            time,
+            view,
+            what,
+        },
+        rest,
+    ))
 }
 
 /// The base, or that there is none, behind the mark that says which.

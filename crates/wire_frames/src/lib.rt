@@ -1,7 +1,6 @@
 //! The frames between a view and its session's reflector, and their one spelling.
 #![tactic(auto)]
 
-mod entries;
 mod fault;
 mod fields;
 mod frame;
@@ -14,7 +13,9 @@ mod writing;
 
 pub use fault::FrameFault;
 pub use frame::{ClientFrame, ServerFrame};
-pub use laws::{again_client, again_server, one_client, one_server, typed_client, typed_server};
+pub use laws::{
+    again_client, again_server, frames_are_read, one_client, one_server, typed_client, typed_server,
+};
 pub use reading::{read_client, read_server};
 pub use start::{Base, Want};
 pub use writing::{write_client, write_server};

@@ -1,34 +1,21 @@
 //! Frames in memory of their own.
 ghost use Rattle.std.specs.Prelude.{◌≡◌, IfOk};
-ghost use Rattle.wire_frames.specs.Lent.{what_of, entry_of, base_of, server_of, client_of};
+ghost use Rattle.wire_frames.specs.Lent.{frame_entry_of, base_of, server_of, client_of};
 
 use crate::frame::{ClientFrame, ServerFrame};
-use crate::lent::{LentBase, LentClient, LentEntry, LentServer, LentWhat};
+use crate::lent::{LentBase, LentClient, LentFrameEntry, LentServer};
 use crate::start::Base;
 use std::alloc::Global;
-use tea_base::{Blob, Entry, WantOfMemory, What};
+use tea_base::{Blob, Entry, WantOfMemory};
 
-fn own_what(alloc: Global, what: LentWhat<'_>) -> Result<What, WantOfMemory>
-    ensures { IfOk result (λ owned. owned ≡ what_of what.entry) }
-{
-    match what {
-        LentWhat::Join => Ok(What::Join),
-        LentWhat::Exit => Ok(What::Exit),
-        LentWhat::Event { number, payload } => Ok(What::Event {
-            number,
-            payload: Blob::copy(alloc, payload)?,
-        }),
-    }
-}
-
-fn own_entry(alloc: Global, entry: LentEntry<'_>) -> Result<Entry, WantOfMemory>
-    ensures { IfOk result (λ owned. owned ≡ entry_of entry.entry) }
+fn own_entry(alloc: Global, entry: LentFrameEntry<'_>) -> Result<Entry, WantOfMemory>
+    ensures { IfOk result (λ owned. owned ≡ frame_entry_of entry.entry) }
 {
     Ok(Entry {
         seq: entry.seq,
         time: entry.time,
         view: entry.view,
-        what: own_what(alloc, entry.what)?,
+        what: entry.what.own(alloc)?,
     })
 }
 

@@ -1,54 +1,25 @@
 //! Writing frames.
-ghost use Rattle.std.specs.Prelude.{◌≡◌, ◌^◌, ◌<◌, ◌++◌, ◌∷◌, OnOk, IfOk, length};
+ghost use Rattle.std.specs.Prelude.{◌≡◌, ◌++◌, ◌∷◌, OnOk, IfOk};
 ghost use Rattle.std.specs.Int.{to_be_bytes, w64};
-ghost use Rattle.byte_fields.specs.Fields.{blob};
-ghost use Rattle.wire_frames.specs.Frames.{FitsBase, FitsClient, FitsServer, FitsWhat};
-ghost use Rattle.wire_frames.specs.Spelling.{what_spelling, entry_spelling, base_spelling, want_spelling, client_spelling, server_spelling};
+ghost use Rattle.wire_frames.specs.Frames.{FitsBase, FitsClient, FitsServer};
+ghost use Rattle.entry_fields.specs.Spelling.{FitsWhat};
+ghost use Rattle.wire_frames.specs.Spelling.{frame_entry_spelling, base_spelling, want_spelling, client_spelling, server_spelling};
 
 use crate::frame::{ClientFrame, ServerFrame};
 use crate::start::{Base, Want};
+use byte_fields::Writer;
+use entry_fields::{LentWhat, put_what};
 use std::alloc::Global;
-use tea_base::{Blob, Entry, WantOfMemory, What, Writer};
-
-fn put_blob(out: &mut Writer, bytes: &[u8]) -> Result<(), WantOfMemory>
-    requires { length bytes.now < 2 ^ 32 }
-    ensures { OnOk result (out.new ≡ out.old ++ blob bytes.now) }
-{
-    out.put_u32(bytes.len() as u32)?;
-    out.put_bytes(bytes)?;
-    Ok(())
-}
-
-fn put_what(out: &mut Writer, what: &What) -> Result<(), WantOfMemory>
-    requires { FitsWhat what.now }
-    ensures { OnOk result (out.new ≡ out.old ++ what_spelling what.now) }
-{
-    match what {
-        What::Join => {
-            out.put_u8(1)?;
-            Ok(())
-        }
-        What::Exit => {
-            out.put_u8(2)?;
-            Ok(())
-        }
-        What::Event { number, payload } => {
-            out.put_u8(3)?;
-            out.put_u32(*number)?;
-            put_blob(out, payload.bytes())?;
-            Ok(())
-        }
-    }
-}
+use tea_base::{Blob, Entry, WantOfMemory};
 
 fn put_entry(out: &mut Writer, entry: &Entry) -> Result<(), WantOfMemory>
     requires { FitsWhat entry.now.what }
-    ensures { OnOk result (out.new ≡ out.old ++ entry_spelling entry.now) }
+    ensures { OnOk result (out.new ≡ out.old ++ frame_entry_spelling entry.now) }
 {
     out.put_u32(entry.seq)?;
     out.put_u64(entry.time)?;
     out.put_u32(entry.view)?;
-    put_what(out, &entry.what)?;
+    put_what(out, LentWhat::of(&entry.what))?;
     Ok(())
 }
 
@@ -64,7 +35,7 @@ fn put_base(out: &mut Writer, base: &Option<Base>) -> Result<(), WantOfMemory>
         Some(base) => {
             out.put_u8(1)?;
             out.put_u64(base.time)?;
-            put_blob(out, base.bytes.bytes())?;
+            out.put_blob(base.bytes.bytes())?;
             Ok(())
         }
     }
@@ -167,13 +138,13 @@ fn put_client(out: &mut Writer, frame: &ClientFrame) -> Result<(), WantOfMemory>
         ClientFrame::Send { number, payload } => {
             out.put_u8(2)?;
             out.put_u32(*number)?;
-            put_blob(out, payload.bytes())?;
+            out.put_blob(payload.bytes())?;
             Ok(())
         }
         ClientFrame::Snap { time, bytes } => {
             out.put_u8(3)?;
             out.put_u64(*time)?;
-            put_blob(out, bytes.bytes())?;
+            out.put_blob(bytes.bytes())?;
             Ok(())
         }
         ClientFrame::Leave => {

@@ -4,44 +4,32 @@ use Rattle.std.proofs.lemmas.Bool.{eqb-false, ltb-true, ltb-false}
 use Rattle.tea_base.specs.declared.entry.Entry.{Entry}
 use Rattle.tea_base.specs.declared.entry.What.{What}
 use Rattle.tea_base.specs.declared.entry.What.TheVariants.{Join, Exit, Event}
-use Rattle.model_value.specs.Messages.{PlainMessage}
-use Rattle.model_value.specs.World.{WorldRecord}
-use Rattle.model_value.specs.Valid.{Valid, MessagesFit, RiseFrom, most_views, time_limit}
+use Rattle.world_plain.specs.World.{WorldRecord}
+use Rattle.world_plain.specs.Valid.{Valid, RiseFrom, most_views}
+use Rattle.tea_base.specs.Limits.{time_limit}
 use Rattle.model_value.specs.Plain.{int}
-use Rattle.model_value.specs.Payload.{PlainPayload, payload_of}
+use Rattle.model_value.specs.Payload.{PlainPayload, whole_payload}
 use Rattle.model_value.proofs.PayloadCodec.{payload_of-in_bounds}
 use Rattle.model_lang.specs.Tree.{Name, ProgramTree}
 use Rattle.model_eval.proofs.ValueBounds.{int-in_bounds}
 use Rattle.model_eval.specs.declared.fault.Fault.TheVariants.{Full}
-use Rattle.world.specs.Worlds.{Scene, with_world, begun, counted, bad_event, advance, session_scope, view_join, view_exit, told_of, is_among, with_view, without_view, came, went, heard, entered, external}
+use Rattle.world.specs.Worlds.{Scene, scene_with_world, with_next_turn, with_fault, bad_event, advance, session_scope, view_join, view_exit, after_telling_of, is_view_here, with_view, without_view, after_join, after_exit, after_event, after_entry, external}
 use Rattle.world.proofs.Running.{Fits, with_count-valid, counted-valid, begun-valid, informed-valid}
 use Rattle.world.proofs.Advancing.{advance-valid}
 
 views-valid : (counts : List ℕ) (views : List ℕ) (w : WorldRecord) → RiseFrom 0 views → length views ≤ most_views → Valid counts w → Valid counts (record w { views = views })
 views-valid counts views w rise few v = record {
-  time = v.time;
-  next_object = v.next_object;
-  turns = v.turns;
-  views = rise;
-  views_fit = few;
-  ids = v.ids;
+  clock = v.clock;
+  views = record {
+    rise = rise;
+    few = few;
+  };
   objects = v.objects;
-  objects_fit = v.objects_fit;
-  known_order = v.known_order;
-  known = v.known;
-  subscriptions_differ = v.subscriptions_differ;
+  names = v.names;
   subscriptions = v.subscriptions;
-  subscriptions_fit = v.subscriptions_fit;
-  order = v.order;
-  numbers_differ = v.numbers_differ;
-  pending = fit w.pending v.pending;
-  pending_fit = v.pending_fit;
+  messages = v.messages;
   weight = v.weight;
 }
-  where
-    fit : (ms : List PlainMessage) → MessagesFit w ms → MessagesFit (record w { views = views }) ms
-    fit [] h = tt
-    fit (m ∷ ms) h = ((h.0.0, h.0.1, h.0.2, h.0.3, h.0.4, h.0.5, h.0.6), fit ms h.1)
 
 -- ---- a view that comes
 
@@ -53,10 +41,10 @@ not_first : (same among : Bool) (view x : ℕ) → same ≡ nat_eq view x → (s
 not_first true among view x e h = cc
 not_first false among view x e h = (eqb-false view x (sym e), h)
 
-rise-with : (low view : ℕ) (xs : List ℕ) → low < view → is_among view xs ≡ false → RiseFrom low xs → RiseFrom low (with_view view xs)
+rise-with : (low view : ℕ) (xs : List ℕ) → low < view → is_view_here view xs ≡ false → RiseFrom low xs → RiseFrom low (with_view view xs)
 rise-with low view [] above new h = (above, tt)
 rise-with low view (x ∷ xs) above new h =
-    let n = not_first (nat_eq view x) (is_among view xs) view x refl new in
+    let n = not_first (nat_eq view x) (is_view_here view xs) view x refl new in
     rise_if (nat_lt view x) low view x xs (with_view view xs) refl above n.0 h (λ less. rise-with x view xs less n.1 h.1)
 
 length_if : (before : Bool) (view x : ℕ) (xs more : List ℕ) → length more ≡ suc (length xs) → length (if before then view ∷ x ∷ xs else x ∷ more) ≡ suc (suc (length xs))
@@ -67,24 +55,24 @@ length-with : (view : ℕ) (xs : List ℕ) → length (with_view view xs) ≡ su
 length-with view [] = refl
 length-with view (x ∷ xs) = length_if (nat_lt view x) view x xs (with_view view xs) (length-with view xs)
 
-told_of-valid : (counts : List ℕ) (program : ProgramTree) (event : Name) (view : ℕ) (s : Scene) → Fits counts program → Valid counts s.world → Valid counts (told_of program event view s).world
+told_of-valid : (counts : List ℕ) (program : ProgramTree) (event : Name) (view : ℕ) (s : Scene) → Fits counts program → Valid counts s.world → Valid counts (after_telling_of program event view s).world
 told_of-valid counts program event view s fits v = informed-valid counts program (session_scope s.world) event (int (pos view)) s fits (int-in_bounds (pos view)) v
 
-came_if : (counts : List ℕ) (program : ProgramTree) (none here few : Bool) (view : ℕ) (s : Scene) → Fits counts program → none ≡ nat_eq view 0 → here ≡ is_among view s.world.views → few ≡ nat_lt (length s.world.views) most_views → Valid counts s.world
-    → Valid counts (if none || here then s else (if few then told_of program view_join view (with_world s (record (s.world) { views = with_view view s.world.views })) else with_world s (counted Full s.world))).world
+came_if : (counts : List ℕ) (program : ProgramTree) (none here few : Bool) (view : ℕ) (s : Scene) → Fits counts program → none ≡ nat_eq view 0 → here ≡ is_view_here view s.world.views → few ≡ nat_lt (length s.world.views) most_views → Valid counts s.world
+    → Valid counts (if none || here then s else (if few then after_telling_of program view_join view (scene_with_world s (record (s.world) { views = with_view view s.world.views })) else scene_with_world s (with_fault Full s.world))).world
 came_if counts program true here few view s fits n h f v = v
 came_if counts program false true few view s fits n h f v = v
 came_if counts program false false true view s fits n h f v =
     let w = s.world in
     let above : ¬ (view ≡ 0) = eqb-false view 0 (sym n) in
     let room : length w.views < most_views = ltb-true (length w.views) most_views (sym f) in
-    told_of-valid counts program view_join view (with_world s (record w { views = with_view view w.views })) fits
-    (views-valid counts (with_view view w.views) w (rise-with 0 view w.views (omega (arith, above)) (sym h) v.views) (omega (arith, length-with view w.views, room)) v)
+    told_of-valid counts program view_join view (scene_with_world s (record w { views = with_view view w.views })) fits
+    (views-valid counts (with_view view w.views) w (rise-with 0 view w.views (omega (arith, above)) (sym h) v.views.rise) (omega (arith, length-with view w.views, room)) v)
 came_if counts program false false false view s fits n h f v = counted-valid counts Full s.world v
 
-pub came-valid : (counts : List ℕ) (program : ProgramTree) (view : ℕ) (s : Scene) → Fits counts program → Valid counts s.world → Valid counts (came program view s).world
+pub came-valid : (counts : List ℕ) (program : ProgramTree) (view : ℕ) (s : Scene) → Fits counts program → Valid counts s.world → Valid counts (after_join program view s).world
 came-valid counts program view s fits v =
-    came_if counts program (nat_eq view 0) (is_among view s.world.views) (nat_lt (length s.world.views) most_views) view s fits refl refl refl v
+    came_if counts program (nat_eq view 0) (is_view_here view s.world.views) (nat_lt (length s.world.views) most_views) view s fits refl refl refl v
 
 -- ---- a view that goes
 
@@ -109,28 +97,28 @@ shorter view [] = omega arith
 shorter view (x ∷ xs) = shorter_if (nat_eq view x) x xs (without_view view xs) (shorter view xs)
 
 went_if : (counts : List ℕ) (program : ProgramTree) (here : Bool) (view : ℕ) (s : Scene) → Fits counts program → Valid counts s.world
-    → Valid counts (if here then told_of program view_exit view (with_world s (record (s.world) { views = without_view view s.world.views })) else s).world
+    → Valid counts (if here then after_telling_of program view_exit view (scene_with_world s (record (s.world) { views = without_view view s.world.views })) else s).world
 went_if counts program true view s fits v =
     let w = s.world in
-    told_of-valid counts program view_exit view (with_world s (record w { views = without_view view w.views })) fits
-    (views-valid counts (without_view view w.views) w (rise-without 0 view w.views v.views) (omega (arith, shorter view w.views, v.views_fit)) v)
+    told_of-valid counts program view_exit view (scene_with_world s (record w { views = without_view view w.views })) fits
+    (views-valid counts (without_view view w.views) w (rise-without 0 view w.views v.views.rise) (omega (arith, shorter view w.views, v.views.few)) v)
 went_if counts program false view s fits v = v
 
-pub went-valid : (counts : List ℕ) (program : ProgramTree) (view : ℕ) (s : Scene) → Fits counts program → Valid counts s.world → Valid counts (went program view s).world
-went-valid counts program view s fits v = went_if counts program (is_among view s.world.views) view s fits v
+pub went-valid : (counts : List ℕ) (program : ProgramTree) (view : ℕ) (s : Scene) → Fits counts program → Valid counts s.world → Valid counts (after_exit program view s).world
+went-valid counts program view s fits v = went_if counts program (is_view_here view s.world.views) view s fits v
 
 -- ---- an event
 
-heard_by : (counts : List ℕ) (program : ProgramTree) (bytes : List ℕ) (read : Option PlainPayload) (s : Scene) → Fits counts program → payload_of bytes ≡ read → Valid counts s.world → Valid counts (heard program read s).world
+heard_by : (counts : List ℕ) (program : ProgramTree) (bytes : List ℕ) (read : Option PlainPayload) (s : Scene) → Fits counts program → whole_payload bytes ≡ read → Valid counts s.world → Valid counts (after_event program read s).world
 heard_by counts program bytes None s fits e v = with_count-valid counts bad_event s.world v
 heard_by counts program bytes (Some p) s fits e v = informed-valid counts program p.scope p.event p.value s fits (payload_of-in_bounds bytes p e) v
 
-pub entered-valid : (counts : List ℕ) (program : ProgramTree) (what : What) (view : ℕ) (s : Scene) → Fits counts program → Valid counts s.world → Valid counts (entered program what view s).world
+pub entered-valid : (counts : List ℕ) (program : ProgramTree) (what : What) (view : ℕ) (s : Scene) → Fits counts program → Valid counts s.world → Valid counts (after_entry program what view s).world
 entered-valid counts program Join view s fits v = came-valid counts program view s fits v
 entered-valid counts program Exit view s fits v = went-valid counts program view s fits v
-entered-valid counts program (Event number payload) view s fits v = heard_by counts program payload (payload_of payload) s fits refl v
+entered-valid counts program (Event number payload) view s fits v = heard_by counts program payload (whole_payload payload) s fits refl v
 
 pub external-valid : (counts : List ℕ) (program : ProgramTree) (e : Entry) (s : Scene) → Fits counts program → e.time < time_limit → Valid counts s.world → Valid counts (external program e s).world
 external-valid counts program e s fits below v =
     let a : Scene = advance program e.time s in
-    entered-valid counts program e.what e.view (with_world a (begun a.world)) fits (begun-valid counts a.world (advance-valid counts program e.time s fits below v))
+    entered-valid counts program e.what e.view (scene_with_world a (with_next_turn a.world)) fits (begun-valid counts a.world (advance-valid counts program e.time s fits below v))

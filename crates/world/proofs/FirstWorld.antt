@@ -4,13 +4,14 @@ use Rattle.std.specs.Prelude.{slice_get, bytes_eq, is_some, encode_utf8_all}
 use Rattle.std.proofs.lemmas.Option.{none-some, same_Some, slice_get-map}
 use Rattle.std.proofs.lemmas.List.{length-replicate}
 use Rattle.model_value.specs.Plain.{nil}
-use Rattle.model_value.specs.World.{values_weight}
-use Rattle.model_value.specs.Valid.{Valid, AllInBounds}
+use Rattle.model_value.specs.Plain.{values_weight}
+use Rattle.world_plain.specs.Valid.{Valid}
+use Rattle.model_value.specs.Plain.{AllInBounds}
 use Rattle.model_lang.specs.Tree.{ClassTree, ProgramTree, root_name}
 use Rattle.model_lang.specs.Bounds.{most_members, ClassesFit}
 use Rattle.model_check.specs.Methods.{method_named}
 use Rattle.model_eval.proofs.FieldBounds.{nil-in_bounds}
-use Rattle.world.specs.Worlds.{Scene, empty_world, begun, rooted, root_from, field_counts, first_with, first, ran, init, model_root}
+use Rattle.world.specs.Worlds.{Scene, empty_world, with_next_turn, with_root, root_from, field_counts, first_with, first_scene, after_method, init, model_root}
 use Rattle.world.proofs.Running.{Fits, ran-keeps}
 
 pub nils-fit : (n : ℕ) → AllInBounds (replicate n nil)
@@ -25,25 +26,37 @@ name-bytes : length (encode_utf8_all model_root) ≡ 9
 unfolding lib.Utf8.encode
 name-bytes = refl
 
-pub rooted-valid : (counts : List ℕ) (number : ℕ) (class : ClassTree) (id : List ℕ) → slice_get counts number ≡ Some (length class.fields) → length class.fields ≤ most_members → Valid counts (rooted number class (begun (empty_world id)))
+pub rooted-valid : (counts : List ℕ) (number : ℕ) (class : ClassTree) (id : List ℕ) → slice_get counts number ≡ Some (length class.fields) → length class.fields ≤ most_members → Valid counts (with_root number class (with_next_turn (empty_world id)))
 rooted-valid counts number class id at few = record {
-  time = omega arith;
-  next_object = omega arith;
-  turns = omega arith;
-  views = tt;
-  views_fit = omega arith;
-  ids = (omega arith, tt);
-  objects = ((omega arith, at ∙ ap (λ (n : ℕ). Some n) (sym (length-replicate (length class.fields) nil)), nils-fit (length class.fields)), tt);
-  objects_fit = omega arith;
-  known_order = (tt, tt);
-  known = (omega (arith, name-bytes), (_, refl), tt);
-  subscriptions_differ = tt;
-  subscriptions = tt;
-  subscriptions_fit = omega arith;
-  order = tt;
-  numbers_differ = tt;
-  pending = tt;
-  pending_fit = omega arith;
+  clock = record {
+    time_fits = omega arith;
+    turns_fit = omega arith;
+  };
+  views = record {
+    rise = tt;
+    few = omega arith;
+  };
+  objects = record {
+    positive = omega arith;
+    rise = (omega arith, tt);
+    fit = ((omega arith, at ∙ ap (λ (n : ℕ). Some n) (sym (length-replicate (length class.fields) nil)), nils-fit (length class.fields)), tt);
+    few = omega arith;
+  };
+  names = record {
+    rise = (tt, tt);
+    fit = ((omega (arith, name-bytes), (_, refl)), tt);
+  };
+  subscriptions = record {
+    differ = tt;
+    fit = tt;
+    few = omega arith;
+  };
+  messages = record {
+    order = tt;
+    differ = tt;
+    fit = tt;
+    few = omega arith;
+  };
   weight = omega (arith, nils-weight (length class.fields), few, name-bytes);
 }
 
@@ -68,7 +81,7 @@ few_fields j [] d fit h = absurd (none-some d h)
 few_fields zero (c ∷ cs) d fit h = subst (λ (k : ClassTree). length k.fields ≤ most_members) (same_Some c d h) fit.0.0
 few_fields (suc j) (c ∷ cs) d fit h = few_fields j cs d fit.1 h
 
-root-valid : (program : ProgramTree) (id : List ℕ) (n : ℕ) (c : ClassTree) → Fits (field_counts program) program → root_from 0 program ≡ Some (n, c) → Valid (field_counts program) (rooted n c (begun (empty_world id)))
+root-valid : (program : ProgramTree) (id : List ℕ) (n : ℕ) (c : ClassTree) → Fits (field_counts program) program → root_from 0 program ≡ Some (n, c) → Valid (field_counts program) (with_root n c (with_next_turn (empty_world id)))
 root-valid program id n c fits h =
     let f = root_found 0 n c program h in
     let place : n ≡ 0 + f.0 = f.1 in
@@ -77,36 +90,48 @@ root-valid program id n c fits h =
     let counted : slice_get (field_counts program) n ≡ Some (length c.fields) = slice_get-map (λ (k : ClassTree). length k.fields) program n ∙ rw at refl in
     rooted-valid (field_counts program) n c id counted (few_fields n program c fits.classes at)
 
-empty-valid : (counts : List ℕ) (id : List ℕ) → Valid counts (begun (empty_world id))
+empty-valid : (counts : List ℕ) (id : List ℕ) → Valid counts (with_next_turn (empty_world id))
 empty-valid counts id = record {
-  time = omega arith;
-  next_object = omega arith;
-  turns = omega arith;
-  views = tt;
-  views_fit = omega arith;
-  ids = tt;
-  objects = tt;
-  objects_fit = omega arith;
-  known_order = tt;
-  known = tt;
-  subscriptions_differ = tt;
-  subscriptions = tt;
-  subscriptions_fit = omega arith;
-  order = tt;
-  numbers_differ = tt;
-  pending = tt;
-  pending_fit = omega arith;
+  clock = record {
+    time_fits = omega arith;
+    turns_fit = omega arith;
+  };
+  views = record {
+    rise = tt;
+    few = omega arith;
+  };
+  objects = record {
+    positive = omega arith;
+    rise = tt;
+    fit = tt;
+    few = omega arith;
+  };
+  names = record {
+    rise = tt;
+    fit = tt;
+  };
+  subscriptions = record {
+    differ = tt;
+    fit = tt;
+    few = omega arith;
+  };
+  messages = record {
+    order = tt;
+    differ = tt;
+    fit = tt;
+    few = omega arith;
+  };
   weight = omega arith;
 }
 
-initialised_if : (has : Bool) (program : ProgramTree) (s : Scene) → Fits (field_counts program) program → Valid (field_counts program) s.world → Valid (field_counts program) (if has then ran program 1 init (nil ∷ []) s else s).world
+initialised_if : (has : Bool) (program : ProgramTree) (s : Scene) → Fits (field_counts program) program → Valid (field_counts program) s.world → Valid (field_counts program) (if has then after_method program 1 init (nil ∷ []) s else s).world
 initialised_if true program s fits v = (ran-keeps (field_counts program) program 1 init (nil ∷ []) s fits).valid (v, (nil-in_bounds, tt))
 initialised_if false program s fits v = v
 
-first_by : (program : ProgramTree) (id : List ℕ) (root : Option (ℕ × ClassTree)) → root_from 0 program ≡ root → Fits (field_counts program) program → Valid (field_counts program) (first_with program root (begun (empty_world id))).world
+first_by : (program : ProgramTree) (id : List ℕ) (root : Option (ℕ × ClassTree)) → root_from 0 program ≡ root → Fits (field_counts program) program → Valid (field_counts program) (first_with program root (with_next_turn (empty_world id))).world
 first_by program id None e fits = empty-valid (field_counts program) id
 first_by program id (Some r) e fits =
-    initialised_if (is_some (method_named init r.1.methods)) program (record { world = rooted r.0 r.1 (begun (empty_world id)); published = [] }) fits (root-valid program id r.0 r.1 fits e)
+    initialised_if (is_some (method_named init r.1.methods)) program (record { world = with_root r.0 r.1 (with_next_turn (empty_world id)); published = [] }) fits (root-valid program id r.0 r.1 fits e)
 
-pub first-valid : (program : ProgramTree) (id : List ℕ) → Fits (field_counts program) program → Valid (field_counts program) (first program id).world
+pub first-valid : (program : ProgramTree) (id : List ℕ) → Fits (field_counts program) program → Valid (field_counts program) (first_scene program id).world
 first-valid program id fits = first_by program id (root_from 0 program) refl fits

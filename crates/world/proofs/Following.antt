@@ -4,10 +4,11 @@ use Rattle.std.proofs.lemmas.Bool.{leb-true, leb-false, le-leb, lt-leb, le-ltb, 
 use Rattle.tea_base.specs.Legal.{IsLegal, TimesRiseAfter}
 use Rattle.tea_base.proofs.LogLaws.{TimesRise-legal}
 use Rattle.tea_base.specs.declared.entry.Entry.{Entry}
-use Rattle.model_value.specs.World.{WorldRecord}
-use Rattle.model_value.specs.Valid.{Valid, time_limit}
+use Rattle.world_plain.specs.World.{WorldRecord}
+use Rattle.world_plain.specs.Valid.{Valid}
+use Rattle.tea_base.specs.Limits.{time_limit}
 use Rattle.model_lang.specs.Tree.{ProgramTree}
-use Rattle.world.specs.Worlds.{Scene, advance, first, external, replayed, replay, taken_up, behind, resumed, Follows}
+use Rattle.world.specs.Worlds.{Scene, advance, first_scene, external, replay_from, replay, take_up, entries_behind, replay_on, Follows}
 use Rattle.world.proofs.Running.{Fits}
 use Rattle.world.proofs.Advancing.{advance-twice}
 use Rattle.world.proofs.Entries.{external-valid}
@@ -20,17 +21,17 @@ rise-from low high [] le rise = tt
 rise-from low high (e ∷ es) le rise = (omega (arith, le, rise.0), rise.1)
 
 -- where all lie behind s, none is left out
-pub all-behind : (s : ℕ) (es : List Entry) → TimesRiseAfter s es → behind s es ≡ es
+pub all-behind : (s : ℕ) (es : List Entry) → TimesRiseAfter s es → entries_behind s es ≡ es
 all-behind s [] rise = refl
 all-behind s (e ∷ es) rise =
-    ap (λ b. cond b (e ∷ behind s es) (behind s es)) (lt-ltb s e.time rise.0)
+    ap (λ b. cond b (e ∷ entries_behind s es) (entries_behind s es)) (lt-ltb s e.time rise.0)
     ∙ ap (λ xs. e ∷ xs) (all-behind s es (rise-from s e.time es (omega (arith, rise.0)) rise.1))
 
 -- and up to s none is handled
-none-handled : (program : ProgramTree) (s : ℕ) (es : List Entry) (r : Scene) → TimesRiseAfter s es → replayed program s es r ≡ advance program s r
+none-handled : (program : ProgramTree) (s : ℕ) (es : List Entry) (r : Scene) → TimesRiseAfter s es → replay_from program s es r ≡ advance program s r
 none-handled program s [] r rise = refl
 none-handled program s (e ∷ es) r rise =
-    ap (λ b. replayed program s es (if b then external program e r else r)) (lt-leb e.time s rise.0)
+    ap (λ b. replay_from program s es (if b then external program e r else r)) (lt-leb e.time s rise.0)
     ∙ none-handled program s es r (rise-from s e.time es (omega (arith, rise.0)) rise.1)
 
 module _ (counts : List ℕ) (program : ProgramTree) (s t : ℕ) (fits : Fits counts program) (le : s ≤ t) (below : t < time_limit) where
@@ -48,43 +49,43 @@ module _ (counts : List ℕ) (program : ProgramTree) (s t : ℕ) (fits : Fits co
   external-alike e a b later va vb meet =
       same-world (arrived program e) (arrived-by_world program e) (advance program e.time a) (advance program e.time b) (advance-alike e.time a b later va vb meet)
 
-  either_alike : (b : Bool) (es : List Entry) (v w x y : Scene) → (replayed program t es v).world ≡ (replayed program t es w).world → (replayed program t es x).world ≡ (replayed program t es y).world
-      → (replayed program t es (if b then v else x)).world ≡ (replayed program t es (if b then w else y)).world
+  either_alike : (b : Bool) (es : List Entry) (v w x y : Scene) → (replay_from program t es v).world ≡ (replay_from program t es w).world → (replay_from program t es x).world ≡ (replay_from program t es y).world
+      → (replay_from program t es (if b then v else x)).world ≡ (replay_from program t es (if b then w else y)).world
   either_alike true es v w x y h k = h
   either_alike false es v w x y h k = k
 
   -- where all entries lie behind s
-  replayed-alike : (es : List Entry) (a b : Scene) → TimesRiseAfter s es → Valid counts a.world → Valid counts b.world → Meet a b → (replayed program t es a).world ≡ (replayed program t es b).world
+  replayed-alike : (es : List Entry) (a b : Scene) → TimesRiseAfter s es → Valid counts a.world → Valid counts b.world → Meet a b → (replay_from program t es a).world ≡ (replay_from program t es b).world
   replayed-alike [] a b rise va vb meet = advance-alike t a b le va vb meet
   replayed-alike (e ∷ es) a b rise va vb meet =
       let later : s ≤ e.time = omega (arith, rise.0) in
       either_alike (nat_le e.time t) es (external program e a) (external program e b) a b
-      (same-world (replayed program t es) (replayed-by_world program t es) (external program e a) (external program e b) (external-alike e a b later va vb meet))
+      (same-world (replay_from program t es) (replayed-by_world program t es) (external program e a) (external program e b) (external-alike e a b later va vb meet))
       (replayed-alike es a b (rise-from s e.time es later rise.1) va vb meet)
 
   -- an entry up to s is left out on the one side, and handled on the other
   step : (early : Bool) (e : Entry) (es : List Entry) (a r : Scene) → early ≡ nat_le e.time s → TimesRiseAfter e.time es → Valid counts a.world → Valid counts r.world
-      → (advance program s a).world ≡ (replayed program s es (if early then external program e r else r)).world
-      → ((u : Scene) → Valid counts u.world → (advance program s a).world ≡ (replayed program s es u).world → (replayed program t (behind s es) a).world ≡ (replayed program t es u).world)
-      → (replayed program t (behind s (e ∷ es)) a).world ≡ (replayed program t (e ∷ es) r).world
+      → (advance program s a).world ≡ (replay_from program s es (if early then external program e r else r)).world
+      → ((u : Scene) → Valid counts u.world → (advance program s a).world ≡ (replay_from program s es u).world → (replay_from program t (entries_behind s es) a).world ≡ (replay_from program t es u).world)
+      → (replay_from program t (entries_behind s (e ∷ es)) a).world ≡ (replay_from program t (e ∷ es) r).world
   step true e es a r at rise va vr meet more =
       let here : e.time ≤ s = leb-true e.time s (sym at) in
-      ap (λ b. (replayed program t (cond b (e ∷ behind s es) (behind s es)) a).world) (le-ltb s e.time here)
+      ap (λ b. (replay_from program t (cond b (e ∷ entries_behind s es) (entries_behind s es)) a).world) (le-ltb s e.time here)
       ∙ more (external program e r) (external-valid counts program e r fits (omega (arith, here, le, below)) vr) meet
-      ∙ ap (λ b. (replayed program t es (if b then external program e r else r)).world) (sym (le-leb e.time t (omega (arith, here, le))))
+      ∙ ap (λ b. (replay_from program t es (if b then external program e r else r)).world) (sym (le-leb e.time t (omega (arith, here, le))))
   step false e es a r at rise va vr meet more =
       let past : s < e.time = leb-false e.time s (sym at) in
       let all : TimesRiseAfter s (e ∷ es) = (past, rise) in
-      ap (λ xs. (replayed program t xs a).world) (all-behind s (e ∷ es) all)
+      ap (λ xs. (replay_from program t xs a).world) (all-behind s (e ∷ es) all)
       ∙ replayed-alike (e ∷ es) a r all va vr (meet ∙ ap (λ (x : Scene). x.world) (none-handled program s es r (rise-from s e.time es (omega (arith, past)) rise)))
 
   followed : (low : ℕ) (es : List Entry) (a r : Scene) → TimesRiseAfter low es → Valid counts a.world → Valid counts r.world
-      → (advance program s a).world ≡ (replayed program s es r).world → (replayed program t (behind s es) a).world ≡ (replayed program t es r).world
+      → (advance program s a).world ≡ (replay_from program s es r).world → (replay_from program t (entries_behind s es) a).world ≡ (replay_from program t es r).world
   followed low [] a r rise va vr meet = advance-alike t a r le va vr meet
   followed low (e ∷ es) a r rise va vr meet =
       step (nat_le e.time s) e es a r refl rise.1 va vr meet (λ u valid same. followed e.time es a u rise.1 va valid same)
 
-pub follows-on : (counts : List ℕ) (program : ProgramTree) (w : WorldRecord) (entries : List Entry) (t : ℕ) → Fits counts program → Valid counts w → Valid counts (first program w.id).world → IsLegal entries
-    → w.time ≤ t → t < time_limit → Follows program w entries → (resumed program w entries t).world ≡ (replay program w.id entries t).world
+pub follows-on : (counts : List ℕ) (program : ProgramTree) (w : WorldRecord) (entries : List Entry) (t : ℕ) → Fits counts program → Valid counts w → Valid counts (first_scene program w.id).world → IsLegal entries
+    → w.time ≤ t → t < time_limit → Follows program w entries → (replay_on program w entries t).world ≡ (replay program w.id entries t).world
 follows-on counts program w entries t fits v begins legal le below follows =
-    followed counts program w.time t fits le below 0 entries (taken_up w) (first program w.id) (TimesRise-legal entries legal) v begins follows
+    followed counts program w.time t fits le below 0 entries (take_up w) (first_scene program w.id) (TimesRise-legal entries legal) v begins follows

@@ -2,11 +2,12 @@
 use Rattle.std.proofs.Common.{◌≡◌, ℕ, ◌+◌, ◌<◌, ◌≤◌, inl, inr, Bool, true, false, if◌then◌else◌, nat_lt, nat_le, List, [], ◌∷◌, length, Some, None, refl, sym, ap, ◌∙◌, subst, arith}
 use Rattle.std.proofs.lemmas.Bool.{leb-true, leb-false, lt-leb}
 use Rattle.std.proofs.lemmas.Option.{none-some, same_Some}
-use Rattle.model_value.specs.Messages.{PlainMessage}
-use Rattle.model_value.specs.World.{WorldRecord, total, object_weight, message_weight, subscription_weight, known_weight, most_world_weight}
-use Rattle.model_value.specs.Valid.{Valid, time_limit, most_turns, most_pending, PrecedesAll, AreInOrder, MessageFits, MessagesFit, NumbersDiffer}
+use Rattle.world_plain.specs.Messages.{PlainMessage}
+use Rattle.world_plain.specs.World.{ObjectRecord, WorldRecord, total_weight, object_weight, message_weight, subscription_weight, known_weight, most_world_weight}
+use Rattle.world_plain.specs.Valid.{Valid, most_turns, most_pending, PrecedesAll, AreInOrder, MessageFits, MessagesFit, NumbersDiffer}
+use Rattle.tea_base.specs.Limits.{time_limit}
 use Rattle.world.specs.View.{AreBehind}
-use Rattle.world.specs.Worlds.{moved, first_where, due}
+use Rattle.world.specs.Worlds.{at_later_time, first_where, due}
 
 abbrev pub AllFrom : ℕ → List PlainMessage → Type 0
 AllFrom t [] = Unit {0}
@@ -63,30 +64,27 @@ due-some t [] m rest h = absurd (none-some (m, rest) h)
 due-some t (n ∷ ns) m rest h = some_due t (nat_le n.time t) n ns m rest refl h
 
 -- the messages still fit in a world of another time, where they lie from it on
-fit-at : (t turns : ℕ) (w : WorldRecord) (ms : List PlainMessage) → AllFrom t ms → MessagesFit w ms → MessagesFit (record w { time = t; turns = turns }) ms
-fit-at t turns w [] from h = tt
-fit-at t turns w (m ∷ ms) from h = ((from.0, h.0.1, h.0.2, h.0.3, h.0.4, h.0.5, h.0.6), fit-at t turns w ms from.1 h.1)
+fit-at : (t time next : ℕ) (os : List ObjectRecord) (ms : List PlainMessage) → AllFrom t ms → MessagesFit time next os ms → MessagesFit t next os ms
+fit-at t time next os [] from h = tt
+fit-at t time next os (m ∷ ms) from h = ((from.0, h.0.1, h.0.2, h.0.3, h.0.4, h.0.5, h.0.6), fit-at t time next os ms from.1 h.1)
 
 -- the world as it is at another time
 at-valid : (counts : List ℕ) (t turns : ℕ) (w : WorldRecord) → t < time_limit → turns ≤ most_turns → AllFrom t w.pending → Valid counts w → Valid counts (record w { time = t; turns = turns })
 at-valid counts t turns w below few from v = record {
-  time = below;
-  next_object = v.next_object;
-  turns = few;
+  clock = record {
+    time_fits = below;
+    turns_fit = few;
+  };
   views = v.views;
-  views_fit = v.views_fit;
-  ids = v.ids;
   objects = v.objects;
-  objects_fit = v.objects_fit;
-  known_order = v.known_order;
-  known = v.known;
-  subscriptions_differ = v.subscriptions_differ;
+  names = v.names;
   subscriptions = v.subscriptions;
-  subscriptions_fit = v.subscriptions_fit;
-  order = v.order;
-  numbers_differ = v.numbers_differ;
-  pending = fit-at t turns w w.pending from v.pending;
-  pending_fit = v.pending_fit;
+  messages = record {
+    order = v.messages.order;
+    differ = v.messages.differ;
+    fit = fit-at t w.time w.next_number w.objects w.pending from v.messages.fit;
+    few = v.messages.few;
+  };
   weight = v.weight;
 }
 
@@ -94,51 +92,40 @@ pub moved-if : (counts : List ℕ) (t : ℕ) (later : Bool) (w : WorldRecord) �
 moved-if counts t true w below from v = at-valid counts t 0 w below (omega arith) from v
 moved-if counts t false w below from v = v
 
-pub moved-valid : (counts : List ℕ) (t : ℕ) (w : WorldRecord) → t < time_limit → AllFrom t w.pending → Valid counts w → Valid counts (moved t w)
+pub moved-valid : (counts : List ℕ) (t : ℕ) (w : WorldRecord) → t < time_limit → AllFrom t w.pending → Valid counts w → Valid counts (at_later_time t w)
 moved-valid counts t w below from v = moved-if counts t (nat_lt w.time t) w below from v
-
--- the same messages in a world without the first of them
-fit-without : (w : WorldRecord) (rest ms : List PlainMessage) → MessagesFit w ms → MessagesFit (record w { pending = rest }) ms
-fit-without w rest [] h = tt
-fit-without w rest (m ∷ ms) h = ((h.0.0, h.0.1, h.0.2, h.0.3, h.0.4, h.0.5, h.0.6), fit-without w rest ms h.1)
 
 pub taken-valid : (counts : List ℕ) (w : WorldRecord) (m : PlainMessage) (rest : List PlainMessage) → w.pending ≡ m ∷ rest → Valid counts w → Valid counts (record w { pending = rest })
 taken-valid counts w m rest e v =
-    let order : AreInOrder (m ∷ rest) = subst AreInOrder e v.order in
-    let differ : NumbersDiffer (m ∷ rest) = subst NumbersDiffer e v.numbers_differ in
-    let fit : MessagesFit w (m ∷ rest) = subst (MessagesFit w) e v.pending in
-    let few : length (m ∷ rest) ≤ most_pending = subst (λ ms. length ms ≤ most_pending) e v.pending_fit in
-    let light : total object_weight w.objects + total message_weight (m ∷ rest) + total subscription_weight w.subscriptions + total known_weight w.known ≤ most_world_weight =
-    subst (λ ms. total object_weight w.objects + total message_weight ms + total subscription_weight w.subscriptions + total known_weight w.known ≤ most_world_weight) e v.weight in
+    let order : AreInOrder (m ∷ rest) = subst AreInOrder e v.messages.order in
+    let differ : NumbersDiffer (m ∷ rest) = subst NumbersDiffer e v.messages.differ in
+    let fit : MessagesFit w.time w.next_number w.objects (m ∷ rest) = subst (MessagesFit w.time w.next_number w.objects) e v.messages.fit in
+    let few : length (m ∷ rest) ≤ most_pending = subst (λ ms. length ms ≤ most_pending) e v.messages.few in
+    let light : total_weight object_weight w.objects + total_weight message_weight (m ∷ rest) + total_weight subscription_weight w.subscriptions + total_weight known_weight w.known ≤ most_world_weight =
+    subst (λ ms. total_weight object_weight w.objects + total_weight message_weight ms + total_weight subscription_weight w.subscriptions + total_weight known_weight w.known ≤ most_world_weight) e v.weight in
     record {
-      time = v.time;
-      next_object = v.next_object;
-      turns = v.turns;
+      clock = v.clock;
       views = v.views;
-      views_fit = v.views_fit;
-      ids = v.ids;
       objects = v.objects;
-      objects_fit = v.objects_fit;
-      known_order = v.known_order;
-      known = v.known;
-      subscriptions_differ = v.subscriptions_differ;
+      names = v.names;
       subscriptions = v.subscriptions;
-      subscriptions_fit = v.subscriptions_fit;
-      order = order.1;
-      numbers_differ = differ.1;
-      pending = fit-without w rest rest fit.1;
-      pending_fit = omega (arith, few);
+      messages = record {
+        order = order.1;
+        differ = differ.1;
+        fit = fit.1;
+        few = omega (arith, few);
+      };
       weight = omega (arith, light);
     }
 
-pub first-fits : (counts : List ℕ) (w : WorldRecord) (m : PlainMessage) (rest : List PlainMessage) → w.pending ≡ m ∷ rest → Valid counts w → MessageFits w m
+pub first-fits : (counts : List ℕ) (w : WorldRecord) (m : PlainMessage) (rest : List PlainMessage) → w.pending ≡ m ∷ rest → Valid counts w → MessageFits w.time w.next_number w.objects m
 first-fits counts w m rest e v =
-    let fit : MessagesFit w (m ∷ rest) = subst (MessagesFit w) e v.pending in
+    let fit : MessagesFit w.time w.next_number w.objects (m ∷ rest) = subst (MessagesFit w.time w.next_number w.objects) e v.messages.fit in
     fit.0
 
 pub rest-from : (counts : List ℕ) (w : WorldRecord) (m : PlainMessage) (rest : List PlainMessage) → w.pending ≡ m ∷ rest → Valid counts w → AllFrom m.time rest
 rest-from counts w m rest e v =
-    let order : AreInOrder (m ∷ rest) = subst AreInOrder e v.order in
+    let order : AreInOrder (m ∷ rest) = subst AreInOrder e v.messages.order in
     preceded-from m rest order.0
 
 behind-from : (t : ℕ) (ms : List PlainMessage) → AreBehind t ms → AllFrom t ms
@@ -146,5 +133,5 @@ behind-from t [] h = tt
 behind-from t (m ∷ ms) h = (omega (arith, h.0), behind-from t ms h.1)
 
 -- where nothing is due, the time may become t
-pub arrived-valid : (counts : List ℕ) (t : ℕ) (w : WorldRecord) → t < time_limit → due t w.pending ≡ None → Valid counts w → Valid counts (moved t w)
-arrived-valid counts t w below none v = moved-valid counts t w below (behind-from t w.pending (due-none t w.pending v.order none)) v
+pub arrived-valid : (counts : List ℕ) (t : ℕ) (w : WorldRecord) → t < time_limit → due t w.pending ≡ None → Valid counts w → Valid counts (at_later_time t w)
+arrived-valid counts t w below none v = moved-valid counts t w below (behind-from t w.pending (due-none t w.pending v.messages.order none)) v

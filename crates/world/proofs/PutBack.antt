@@ -5,17 +5,18 @@ use Rattle.std.proofs.lemmas.Bool.{le-ltb, ne_eqb, and_right, false_from_ne_true
 use Rattle.std.proofs.lemmas.List.{at_drop_more}
 use Rattle.model_value.specs.Plain.{PlainValue}
 use Rattle.model_value.specs.View.{plain_values}
-use Rattle.model_value.specs.Messages.{PlainMessage, plain_message}
-use Rattle.model_value.specs.World.{ObjectRecord, WorldRecord, object_weight, total, object_record}
-use Rattle.model_value.specs.declared.message.Message.{Message}
-use Rattle.model_value.specs.declared.message.Subscription.{Subscription}
-use Rattle.model_value.specs.declared.world.PlainObject.{PlainObject}
-use Rattle.model_value.specs.Valid.{Valid, RiseFrom, ObjectFits, ObjectsFit, SubscriptionFits, SubscriptionsFit, IsNew, SubscriptionsDiffer, Precedes, PrecedesAll, AreInOrder, IsUnused, NumbersDiffer, MessageFits, MessagesFit, most_objects, most_pending}
+use Rattle.world_plain.specs.Messages.{PlainMessage, plain_message}
+use Rattle.world_plain.specs.World.{ObjectRecord, WorldRecord, object_weight, total_weight, object_record}
+use Rattle.world_plain.specs.declared.message.Message.{Message}
+use Rattle.world_plain.specs.declared.message.Subscription.{Subscription}
+use Rattle.world_plain.specs.declared.world.PlainObject.{PlainObject}
+use Rattle.world_plain.specs.Valid.{Valid, RiseFrom, ObjectFits, ObjectsFit, SubscriptionFits, SubscriptionsFit, IsNew, SubscriptionsDiffer, Precedes, PrecedesAll, AreInOrder, IsUnused, NumbersDiffer, MessageFits, MessagesFit, most_objects, most_pending}
 use Rattle.object_store.specs.Store.{IsAboveAll, AreFields}
 use Rattle.object_store.proofs.Objects.{AreFields-light}
-use Rattle.pubsub.specs.Topics.{IsLight, same, is_held}
+use Rattle.pubsub.specs.Topics.{IsLightSubscription, is_subscribed}
+use Rattle.world_plain.specs.ValidTest.{same_subscription}
 use Rattle.pubsub.proofs.Subscriptions.{same-true, IsLight-fits}
-use Rattle.message_queue.specs.Queue.{IsLight as IsLightMessage, precedes, inserted}
+use Rattle.message_queue.specs.Queue.{IsLightMessage, precedes, inserted}
 use Rattle.message_queue.proofs.Order.{IsLight-fits as IsLightMessage-fits}
 
 -- ---- lists
@@ -32,7 +33,7 @@ put-next before after behind all y e is = ap (λ ys. ys ++ behind) is ∙ append
 few-before : {Y : Type 0} (before behind : List Y) (y : Y) (most : ℕ) → length (before ++ y ∷ behind) ≤ most → length before < most
 few-before before behind y most h = omega (arith, length-append before (y ∷ behind), h)
 
-weight-of-next : {Y : Type 0} (weighs : Y → ℕ) (before behind : List Y) (y : Y) → weighs y ≤ total weighs (before ++ y ∷ behind)
+weight-of-next : {Y : Type 0} (weighs : Y → ℕ) (before behind : List Y) (y : Y) → weighs y ≤ total_weight weighs (before ++ y ∷ behind)
 weight-of-next weighs [] behind y = omega arith
 weight-of-next weighs (z ∷ before) behind y = omega (arith, weight-of-next weighs before behind y)
 
@@ -59,10 +60,10 @@ pub record IsNextObject (w : WorldRecord) (before behind : List ObjectRecord) (o
 object-between : (counts : List ℕ) (w : WorldRecord) (before behind : List ObjectRecord) (o : ObjectRecord) → Valid counts w → before ++ o ∷ behind ≡ w.objects → IsNextObject w before behind o
 object-between counts w before behind o v e = record {
   whole = e;
-  above = (above-all 0 before behind o (rw e v.ids)).1;
-  below = (object-fits counts w.next_object before behind o (rw e v.objects)).0;
-  few = few-before before behind o most_objects (rw e v.objects_fit);
-  fields = AreFields-light o.fields (omega (arith, weight-of-next object_weight before behind o, ap (total object_weight) e, v.weight));
+  above = (above-all 0 before behind o (rw e v.objects.rise)).1;
+  below = (object-fits counts w.next_object before behind o (rw e v.objects.fit)).0;
+  few = few-before before behind o most_objects (rw e v.objects.few);
+  fields = AreFields-light o.fields (omega (arith, weight-of-next object_weight before behind o, ap (total_weight object_weight) e, v.weight));
 }
 
 -- a copy of what stands next in memory is it
@@ -75,14 +76,14 @@ next-object w before items i x fields v inside is same e =
 
 -- ---- subscriptions
 
-not-same : (s t : Subscription) → ¬ (t ≡ s) → same t s ≡ false
-not-same s t h = false_from_ne_true (same t s) (λ e. h (same-true t s e))
+not-same : (s t : Subscription) → ¬ (t ≡ s) → same_subscription t s ≡ false
+not-same s t h = false_from_ne_true (same_subscription t s) (λ e. h (same-true t s e))
 
 new-among : (before behind : List Subscription) (s t : Subscription) → IsNew t (before ++ s ∷ behind) → ¬ (t ≡ s)
 new-among [] behind s t h = h.0
 new-among (u ∷ before) behind s t h = new-among before behind s t h.1
 
-not-held : (before behind : List Subscription) (s : Subscription) → SubscriptionsDiffer (before ++ s ∷ behind) → is_held s before ≡ false
+not-held : (before behind : List Subscription) (s : Subscription) → SubscriptionsDiffer (before ++ s ∷ behind) → is_subscribed s before ≡ false
 not-held [] behind s h = refl
 not-held (t ∷ before) behind s h = rw (not-same s t (new-among before behind s t h.0)) (not-held before behind s h.1)
 
@@ -93,17 +94,17 @@ subscription-fits objects (t ∷ before) behind s h = subscription-fits objects 
 -- the next subscription of a valid world
 pub record IsNextSubscription (w : WorldRecord) (before behind : List Subscription) (s : Subscription) : Type 0 where
   pub whole : before ++ s ∷ behind ≡ w.subscriptions
-  pub new : is_held s before ≡ false
+  pub new : is_subscribed s before ≡ false
   pub few : length before < most_pending
-  pub light : IsLight s
+  pub light : IsLightSubscription s
 
 subscription-between : (counts : List ℕ) (w : WorldRecord) (before behind : List Subscription) (s : Subscription) → Valid counts w → before ++ s ∷ behind ≡ w.subscriptions → IsNextSubscription w before behind s
 subscription-between counts w before behind s v e =
-    let fits = subscription-fits w.objects before behind s (rw e v.subscriptions) in
+    let fits = subscription-fits w.objects before behind s (rw e v.subscriptions.fit) in
     record {
       whole = e;
-      new = not-held before behind s (rw e v.subscriptions_differ);
-      few = few-before before behind s most_pending (rw e v.subscriptions_fit);
+      new = not-held before behind s (rw e v.subscriptions.differ);
+      few = few-before before behind s most_pending (rw e v.subscriptions.few);
       light = IsLight-fits s fits.0 fits.1 fits.2;
     }
 
@@ -124,9 +125,9 @@ not-used : (before behind : List PlainMessage) (m : PlainMessage) → NumbersDif
 not-used [] behind m h = tt
 not-used (n ∷ before) behind m h = ((λ e. other-number before behind n.number m h.0 (sym e)), not-used before behind m h.1)
 
-message-fits : (w : WorldRecord) (before behind : List PlainMessage) (m : PlainMessage) → MessagesFit w (before ++ m ∷ behind) → MessageFits w m
-message-fits w [] behind m h = h.0
-message-fits w (n ∷ before) behind m h = message-fits w before behind m h.1
+message-fits : (time next : ℕ) (os : List ObjectRecord) (before behind : List PlainMessage) (m : PlainMessage) → MessagesFit time next os (before ++ m ∷ behind) → MessageFits time next os m
+message-fits time next os [] behind m h = h.0
+message-fits time next os (n ∷ before) behind m h = message-fits time next os before behind m h.1
 
 precedes-among : (before behind : List PlainMessage) (n m : PlainMessage) → PrecedesAll n (before ++ m ∷ behind) → Precedes n m
 precedes-among [] behind n m h = h.0
@@ -156,14 +157,14 @@ pub record IsNextMessage (w : WorldRecord) (before behind : List PlainMessage) (
 
 message-between : (counts : List ℕ) (w : WorldRecord) (before behind : List PlainMessage) (m : PlainMessage) → Valid counts w → before ++ m ∷ behind ≡ w.pending → IsNextMessage w before behind m
 message-between counts w before behind m v e =
-    let fits = message-fits w before behind m (rw e v.pending) in
+    let fits = message-fits w.time w.next_number w.objects before behind m (rw e v.messages.fit) in
     record {
       whole = e;
       below = fits.2;
-      unused = not-used before behind m (rw e v.numbers_differ);
-      few = few-before before behind m most_pending (rw e v.pending_fit);
+      unused = not-used before behind m (rw e v.messages.differ);
+      few = few-before before behind m most_pending (rw e v.messages.few);
       light = IsLightMessage-fits m fits.4 fits.5 fits.6;
-      last = inserted-last before behind m (rw e v.order);
+      last = inserted-last before behind m (rw e v.messages.order);
     }
 
 pub next-message : (w : WorldRecord) (before : List PlainMessage) (items : List Message) (i : ℕ) (x : Message) (m : PlainMessage) → ((counts : List ℕ) × Valid counts w) → i < length items → x ≡ get_or items i x → m ≡ plain_message x

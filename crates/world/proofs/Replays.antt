@@ -8,16 +8,17 @@ use Rattle.tea_base.specs.declared.entry.What.{What}
 use Rattle.tea_base.specs.declared.entry.What.TheVariants.{Join, Exit, Event}
 use Rattle.tea_base.proofs.LogLaws.{TimesRise-legal}
 use Rattle.model_value.specs.Plain.{PlainValue, nil, int}
-use Rattle.model_value.specs.Messages.{PlainMessage}
-use Rattle.model_value.specs.Payload.{PlainPayload, payload_of}
-use Rattle.model_value.specs.Valid.{Valid, most_views, time_limit}
-use Rattle.model_value.specs.World.{WorldRecord}
+use Rattle.world_plain.specs.Messages.{PlainMessage}
+use Rattle.model_value.specs.Payload.{PlainPayload, whole_payload}
+use Rattle.world_plain.specs.Valid.{Valid, most_views}
+use Rattle.tea_base.specs.Limits.{time_limit}
+use Rattle.world_plain.specs.World.{WorldRecord}
 use Rattle.model_value.proofs.PayloadCodec.{payload_of-in_bounds}
 use Rattle.model_check.specs.Methods.{method_named}
 use Rattle.model_lang.specs.Tree.{Name, ClassTree, ProgramTree}
 use Rattle.model_eval.specs.declared.fault.Fault.TheVariants.{Full}
 use Rattle.model_eval.proofs.ValueBounds.{int-in_bounds}
-use Rattle.world.specs.Worlds.{Scene, with_world, counted, field_counts, begun, ran, init, empty_world, rooted, root_from, first_with, first, moved, due, handled, on_due, advance_within, advance, enough, is_among, with_view, without_view, told_of, session_scope, view_join, view_exit, came, went, heard, entered, external, replayed, replay, taken_up, behind, resumed, Follows}
+use Rattle.world.specs.Worlds.{Scene, scene_with_world, with_fault, field_counts, with_next_turn, after_method, init, empty_world, with_root, root_from, first_with, first_scene, at_later_time, due, after_message, on_due, advance_within, advance, enough, is_view_here, with_view, without_view, after_telling_of, session_scope, view_join, view_exit, after_join, after_exit, after_event, after_entry, external, replay_from, replay, take_up, entries_behind, replay_on, Follows}
 use Rattle.world.proofs.Running.{Fits, ran-keeps, informed-keeps}
 use Rattle.world.proofs.Advancing.{advance-valid, advance-arrives, advance-twice}
 use Rattle.world.proofs.Entries.{external-valid}
@@ -32,46 +33,46 @@ record Stays (v w : WorldRecord) : Type 0 where
   time : w.time ≡ v.time
 
 stays-on : (u v w : WorldRecord) → Stays u v → Stays v w → Stays u w
-stays-on u v w first second = record { id = second.id ∙ first.id; time = second.time ∙ first.time }
+stays-on u v w first_scene second = record { id = second.id ∙ first_scene.id; time = second.time ∙ first_scene.time }
 
 here : (w : WorldRecord) → Stays w w
 here w = record { id = refl; time = refl }
 
 either : (b : Bool) (v : WorldRecord) (x y : Scene) → Stays v x.world → Stays v y.world → Stays v (if b then x else y).world
-either true v x y first second = first
-either false v x y first second = second
+either true v x y first_scene second = first_scene
+either false v x y first_scene second = second
 
 module _ (program : ProgramTree) (fits : Fits (field_counts program) program) where
-  ran-stays : (object : ℕ) (x : Name) (args : List PlainValue) (s : Scene) → Stays s.world (ran program object x args s).world
+  ran-stays : (object : ℕ) (x : Name) (args : List PlainValue) (s : Scene) → Stays s.world (after_method program object x args s).world
   ran-stays object x args s = let k = ran-keeps (field_counts program) program object x args s fits in record { id = k.id; time = k.time }
 
-  told_of-stays : (event : Name) (view : ℕ) (s : Scene) → Stays s.world (told_of program event view s).world
+  told_of-stays : (event : Name) (view : ℕ) (s : Scene) → Stays s.world (after_telling_of program event view s).world
   told_of-stays event view s = let k = informed-keeps program (session_scope s.world) event (int (pos view)) s fits (int-in_bounds (pos view)) in record { id = k.id; time = k.time }
 
-  came-stays : (view : ℕ) (s : Scene) → Stays s.world (came program view s).world
+  came-stays : (view : ℕ) (s : Scene) → Stays s.world (after_join program view s).world
   came-stays view s =
       let w : WorldRecord = s.world in
-      let with : Scene = with_world s (record w { views = with_view view w.views }) in
-      let full : Scene = with_world s (counted Full w) in
-      either (nat_eq view 0 || is_among view w.views) w s (if nat_lt (length w.views) most_views then told_of program view_join view with else full) (here w)
-      (either (nat_lt (length w.views) most_views) w (told_of program view_join view with) full
-      (stays-on w with.world (told_of program view_join view with).world (record { id = refl; time = refl }) (told_of-stays view_join view with)) (record { id = refl; time = refl }))
+      let with : Scene = scene_with_world s (record w { views = with_view view w.views }) in
+      let full : Scene = scene_with_world s (with_fault Full w) in
+      either (nat_eq view 0 || is_view_here view w.views) w s (if nat_lt (length w.views) most_views then after_telling_of program view_join view with else full) (here w)
+      (either (nat_lt (length w.views) most_views) w (after_telling_of program view_join view with) full
+      (stays-on w with.world (after_telling_of program view_join view with).world (record { id = refl; time = refl }) (told_of-stays view_join view with)) (record { id = refl; time = refl }))
 
-  went-stays : (view : ℕ) (s : Scene) → Stays s.world (went program view s).world
+  went-stays : (view : ℕ) (s : Scene) → Stays s.world (after_exit program view s).world
   went-stays view s =
       let w : WorldRecord = s.world in
-      let left : Scene = with_world s (record w { views = without_view view w.views }) in
-      either (is_among view w.views) w (told_of program view_exit view left) s
-      (stays-on w left.world (told_of program view_exit view left).world (record { id = refl; time = refl }) (told_of-stays view_exit view left)) (here w)
+      let left : Scene = scene_with_world s (record w { views = without_view view w.views }) in
+      either (is_view_here view w.views) w (after_telling_of program view_exit view left) s
+      (stays-on w left.world (after_telling_of program view_exit view left).world (record { id = refl; time = refl }) (told_of-stays view_exit view left)) (here w)
 
-  heard-stays : (bytes : List ℕ) (read : Option PlainPayload) (s : Scene) → payload_of bytes ≡ read → Stays s.world (heard program read s).world
+  heard-stays : (bytes : List ℕ) (read : Option PlainPayload) (s : Scene) → whole_payload bytes ≡ read → Stays s.world (after_event program read s).world
   heard-stays bytes None s e = record { id = refl; time = refl }
   heard-stays bytes (Some p) s e = let k = informed-keeps program p.scope p.event p.value s fits (payload_of-in_bounds bytes p e) in record { id = k.id; time = k.time }
 
-  entered-stays : (what : What) (view : ℕ) (s : Scene) → Stays s.world (entered program what view s).world
+  entered-stays : (what : What) (view : ℕ) (s : Scene) → Stays s.world (after_entry program what view s).world
   entered-stays Join view s = came-stays view s
   entered-stays Exit view s = went-stays view s
-  entered-stays (Event number payload) view s = heard-stays payload (payload_of payload) s refl
+  entered-stays (Event number payload) view s = heard-stays payload (whole_payload payload) s refl
 
   -- ---- advancing
 
@@ -83,8 +84,8 @@ module _ (program : ProgramTree) (fits : Fits (field_counts program) program) wh
   on_due-id n t None s more = moved-id (nat_lt s.world.time t) t s.world
   on_due-id n t (Some d) s more =
       let w : WorldRecord = record (s.world) { pending = d.1 } in
-      let u : Scene = with_world s (begun (moved d.0.time w)) in
-      more (handled program d.0 d.1 s) ∙ (ran-stays d.0.object d.0.method d.0.args u).id ∙ moved-id (nat_lt w.time d.0.time) d.0.time w
+      let u : Scene = scene_with_world s (with_next_turn (at_later_time d.0.time w)) in
+      more (after_message program d.0 d.1 s) ∙ (ran-stays d.0.object d.0.method d.0.args u).id ∙ moved-id (nat_lt w.time d.0.time) d.0.time w
 
   within-id : (n t : ℕ) (s : Scene) → (advance_within program n t s).world.id ≡ s.world.id
   within-id zero t s = moved-id (nat_lt s.world.time t) t s.world
@@ -99,12 +100,12 @@ module _ (program : ProgramTree) (fits : Fits (field_counts program) program) wh
   pub external-id : (e : Entry) (s : Scene) → (external program e s).world.id ≡ s.world.id
   external-id e s =
       let a : Scene = advance program e.time s in
-      (entered-stays e.what e.view (with_world a (begun a.world))).id ∙ advance-id e.time s
+      (entered-stays e.what e.view (scene_with_world a (with_next_turn a.world))).id ∙ advance-id e.time s
 
   pub external-time : (e : Entry) (s : Scene) → Valid (field_counts program) s.world → s.world.time ≤ e.time → (external program e s).world.time ≡ e.time
   external-time e s v le =
       let a : Scene = advance program e.time s in
-      (entered-stays e.what e.view (with_world a (begun a.world))).time ∙ advance-arrives (field_counts program) program e.time fits s v le
+      (entered-stays e.what e.view (scene_with_world a (with_next_turn a.world))).time ∙ advance-arrives (field_counts program) program e.time fits s v le
 
   -- a valid world of this session at this time, which has come to it
   pub record Stands (id : List ℕ) (t : ℕ) (s : Scene) : Type 0 where
@@ -114,14 +115,14 @@ module _ (program : ProgramTree) (fits : Fits (field_counts program) program) wh
     pub rests : advance program t s ≡ s
 
   step : (b : Bool) (t : ℕ) (id : List ℕ) (e : Entry) (es : List Entry) (s : Scene) → nat_le e.time t ≡ b → t < time_limit → TimesRiseAfter e.time es → Valid (field_counts program) s.world → s.world.id ≡ id → s.world.time ≤ t → s.world.time ≤ e.time
-      → ((u : Scene) → Valid (field_counts program) u.world → u.world.id ≡ id → u.world.time ≤ t → u.world.time ≤ e.time → Stands id t (replayed program t es u)) → Stands id t (replayed program t es (if b then external program e s else s))
+      → ((u : Scene) → Valid (field_counts program) u.world → u.world.id ≡ id → u.world.time ≤ t → u.world.time ≤ e.time → Stands id t (replay_from program t es u)) → Stands id t (replay_from program t es (if b then external program e s else s))
   step true t id e es s is below rise v same le early more =
       let reached : e.time ≤ t = leb-true e.time t is in
       let time = external-time e s v early in
       more (external program e s) (external-valid (field_counts program) program e s fits (omega (arith, reached, below)) v) (external-id e s ∙ same) (omega (arith, time, reached)) (omega (arith, time))
   step false t id e es s is below rise v same le early more = more s v same le early
 
-  stands : (t low : ℕ) (id : List ℕ) (es : List Entry) (s : Scene) → t < time_limit → TimesRiseAfter low es → Valid (field_counts program) s.world → s.world.id ≡ id → s.world.time ≤ t → s.world.time ≤ low → Stands id t (replayed program t es s)
+  stands : (t low : ℕ) (id : List ℕ) (es : List Entry) (s : Scene) → t < time_limit → TimesRiseAfter low es → Valid (field_counts program) s.world → s.world.id ≡ id → s.world.time ≤ t → s.world.time ≤ low → Stands id t (replay_from program t es s)
   stands t low id [] s below rise v same le early = record {
     valid = advance-valid (field_counts program) program t s fits below v;
     session = advance-id t s ∙ same;
@@ -133,48 +134,48 @@ module _ (program : ProgramTree) (fits : Fits (field_counts program) program) wh
 
   -- ---- a world that is taken up
 
-  rise_behind : (t : ℕ) (e : Entry) (es : List Entry) (b : Bool) → nat_lt t e.time ≡ b → TimesRiseAfter e.time es → TimesRiseAfter t (behind t es) → TimesRiseAfter t (if b then e ∷ behind t es else behind t es)
+  rise_behind : (t : ℕ) (e : Entry) (es : List Entry) (b : Bool) → nat_lt t e.time ≡ b → TimesRiseAfter e.time es → TimesRiseAfter t (entries_behind t es) → TimesRiseAfter t (if b then e ∷ entries_behind t es else entries_behind t es)
   rise_behind t e es true is rise rest =
       let later : t < e.time = ltb-true t e.time is in
       (later, subst (TimesRiseAfter e.time) (sym (all-behind t es (rise-from t e.time es (omega (arith, later)) rise))) rise)
   rise_behind t e es false is rise rest = rest
 
-  behind-rises : (t low : ℕ) (es : List Entry) → TimesRiseAfter low es → TimesRiseAfter t (behind t es)
+  behind-rises : (t low : ℕ) (es : List Entry) → TimesRiseAfter low es → TimesRiseAfter t (entries_behind t es)
   behind-rises t low [] rise = tt
   behind-rises t low (e ∷ es) rise = rise_behind t e es (nat_lt t e.time) refl rise.1 (behind-rises t e.time es rise.1)
 
-  pub resumed-stands : (w : WorldRecord) (entries : List Entry) (t : ℕ) → Valid (field_counts program) w → IsLegal entries → w.time ≤ t → t < time_limit → Stands w.id t (resumed program w entries t)
-  resumed-stands w entries t v legal le below = stands t w.time w.id (behind w.time entries) (taken_up w) below (behind-rises w.time 0 entries (TimesRise-legal entries legal)) v refl le (omega arith)
+  pub resumed-stands : (w : WorldRecord) (entries : List Entry) (t : ℕ) → Valid (field_counts program) w → IsLegal entries → w.time ≤ t → t < time_limit → Stands w.id t (replay_on program w entries t)
+  resumed-stands w entries t v legal le below = stands t w.time w.id (entries_behind w.time entries) (take_up w) below (behind-rises w.time 0 entries (TimesRise-legal entries legal)) v refl le (omega arith)
 
   -- ---- the first world
 
-  first-stays : (has : Bool) (w : WorldRecord) (s : Scene) → Stays w s.world → Stays w (if has then ran program 1 init (nil ∷ []) s else s).world
-  first-stays true w s stays = stays-on w s.world (ran program 1 init (nil ∷ []) s).world stays (ran-stays 1 init (nil ∷ []) s)
+  first-stays : (has : Bool) (w : WorldRecord) (s : Scene) → Stays w s.world → Stays w (if has then after_method program 1 init (nil ∷ []) s else s).world
+  first-stays true w s stays = stays-on w s.world (after_method program 1 init (nil ∷ []) s).world stays (ran-stays 1 init (nil ∷ []) s)
   first-stays false w s stays = stays
 
-  first_with-stays : (id : List ℕ) (root : Option (ℕ × ClassTree)) → Stays (empty_world id) (first_with program root (begun (empty_world id))).world
+  first_with-stays : (id : List ℕ) (root : Option (ℕ × ClassTree)) → Stays (empty_world id) (first_with program root (with_next_turn (empty_world id))).world
   first_with-stays id None = record { id = refl; time = refl }
   first_with-stays id (Some r) =
-      first-stays (is_some (method_named init r.1.methods)) (empty_world id) (record { world = rooted r.0 r.1 (begun (empty_world id)); published = [] }) (record { id = refl; time = refl })
+      first-stays (is_some (method_named init r.1.methods)) (empty_world id) (record { world = with_root r.0 r.1 (with_next_turn (empty_world id)); published = [] }) (record { id = refl; time = refl })
 
-  pub first-begins : (id : List ℕ) → (first program id).world.time ≡ 0
+  pub first-begins : (id : List ℕ) → (first_scene program id).world.time ≡ 0
   first-begins id = (first_with-stays id (root_from 0 program)).time
 
-  pub first-id : (id : List ℕ) → (first program id).world.id ≡ id
+  pub first-id : (id : List ℕ) → (first_scene program id).world.id ≡ id
   first-id id = (first_with-stays id (root_from 0 program)).id
 
-  pub replay-stands : (id : List ℕ) (entries : List Entry) (t : ℕ) → Valid (field_counts program) (first program id).world → IsLegal entries → t < time_limit → Stands id t (replay program id entries t)
+  pub replay-stands : (id : List ℕ) (entries : List Entry) (t : ℕ) → Valid (field_counts program) (first_scene program id).world → IsLegal entries → t < time_limit → Stands id t (replay program id entries t)
   replay-stands id entries t begins legal below =
       let stays = first_with-stays id (root_from 0 program) in
       let zero_is = stays.time in
-      stands t 0 id entries (first program id) below (TimesRise-legal entries legal) begins stays.id (omega (arith, zero_is)) (omega (arith, zero_is))
+      stands t 0 id entries (first_scene program id) below (TimesRise-legal entries legal) begins stays.id (omega (arith, zero_is)) (omega (arith, zero_is))
 
   follows-if : (t : ℕ) (id : List ℕ) (entries : List Entry) (s : Scene) → s ≡ replay program id entries t → Stands id t s → Follows program s.world entries
   follows-if t id entries s is stands =
-      let P : ℕ → List ℕ → Type 0 = λ u i. (advance program u (taken_up s.world)).world ≡ (replay program i entries u).world in
+      let P : ℕ → List ℕ → Type 0 = λ u i. (advance program u (take_up s.world)).world ≡ (replay program i entries u).world in
       let Q : ℕ → Type 0 = λ u. P u s.world.id in
       subst Q (sym stands.time) (subst (P t) (sym stands.session)
       (sym (advance-by_world program t s) ∙ ap (λ (x : Scene). x.world) (stands.rests ∙ is)))
 
-  pub replay-follows : (id : List ℕ) (entries : List Entry) (t : ℕ) → Valid (field_counts program) (first program id).world → IsLegal entries → t < time_limit → Follows program (replay program id entries t).world entries
+  pub replay-follows : (id : List ℕ) (entries : List Entry) (t : ℕ) → Valid (field_counts program) (first_scene program id).world → IsLegal entries → t < time_limit → Follows program (replay program id entries t).world entries
   replay-follows id entries t begins legal below = follows-if t id entries (replay program id entries t) refl (replay-stands id entries t begins legal below)

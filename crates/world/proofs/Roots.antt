@@ -11,7 +11,7 @@ use Rattle.model_check.specs.Faults.{is_among, twice_where, missing_from, faults
 use Rattle.model_check.specs.Methods.{IsClass}
 use Rattle.model_check.proofs.Faultless.{none-left, none-right}
 use Rattle.model_check.proofs.Words.{compared_back}
-use Rattle.world.specs.Worlds.{empty_world, begun, rooted, root_from, initialised, first_with, first}
+use Rattle.world.specs.Worlds.{empty_world, with_next_turn, with_root, root_from, with_root_init, first_with, first_scene}
 
 neither : (a b : Bool) → (a || b) ≡ false → (a ≡ false) × (b ≡ false)
 neither true b e = absurd cc
@@ -37,8 +37,8 @@ unseen classes seen [] i c none at = absurd (none-some c at)
 unseen classes seen (d ∷ cs) zero c none at =
     let name = faults_of_name seen d.name in
     let own = faults_of_class classes d in
-    let first = none-left name own (none-left (name ++ own) (faults_of_classes classes (seen ++ d.name ∷ []) cs) none) in
-    subst (λ (k : ClassTree). is_among k.name seen ≡ false) (same_Some d c at) (once_unseen (is_among d.name seen) d.name first)
+    let first_scene = none-left name own (none-left (name ++ own) (faults_of_classes classes (seen ++ d.name ∷ []) cs) none) in
+    subst (λ (k : ClassTree). is_among k.name seen ≡ false) (same_Some d c at) (once_unseen (is_among d.name seen) d.name first_scene)
 unseen classes seen (d ∷ cs) (suc i) c none at =
     let behind = none-right (faults_of_name seen d.name ++ faults_of_class classes d) (faults_of_classes classes (seen ++ d.name ∷ []) cs) none in
     among-front c.name seen (d.name ∷ []) (unseen classes (seen ++ d.name ∷ []) cs i c behind at)
@@ -63,8 +63,8 @@ first_root tree n is none =
     let number : 0 + n ≡ n = omega arith in
     root_at (class_names tree) [] tree 0 n is.0 classes is.1 is.2 ∙ ap (λ (m : ℕ). Some (m, is.0)) number
 
-pub first-is : (tree : ProgramTree) (id : List ℕ) (n : ℕ) (is : IsClass tree n root_name) → first_fault tree ≡ None → first tree id ≡ initialised tree is.0 (record { world = rooted n is.0 (begun (empty_world id)); published = [] })
-first-is tree id n is none = ap (λ (root : Option (ℕ × ClassTree)). first_with tree root (begun (empty_world id))) (first_root tree n is none)
+pub first-is : (tree : ProgramTree) (id : List ℕ) (n : ℕ) (is : IsClass tree n root_name) → first_fault tree ≡ None → first_scene tree id ≡ with_root_init tree is.0 (record { world = with_root n is.0 (with_next_turn (empty_world id)); published = [] })
+first-is tree id n is none = ap (λ (root : Option (ℕ × ClassTree)). first_with tree root (with_next_turn (empty_world id))) (first_root tree n is none)
 
 -- the class at a place has the fields that its tree has
 pub fields_there : (cs : List Class) (n : ℕ) (c : Class) (tree : ClassTree) → n < length cs → c ≡ get_or cs n c → slice_get (program_tree cs) n ≡ Some tree → length tree.fields ≡ length c.fields.items

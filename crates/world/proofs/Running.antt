@@ -1,64 +1,46 @@
 -- What a message leaves of a world: it stays valid, its time and its turns stay, and at too many turns no more is due.
 use Rattle.std.proofs.Common.{◌≡◌, ℕ, ◌≤◌, List, sym, subst, arith}
 use Rattle.model_value.specs.Plain.{PlainValue, InBounds}
-use Rattle.model_value.specs.World.{WorldRecord}
-use Rattle.model_value.specs.Valid.{Valid, AllInBounds, most_turns}
+use Rattle.world_plain.specs.World.{WorldRecord}
+use Rattle.world_plain.specs.Valid.{Valid, most_turns}
+use Rattle.model_value.specs.Plain.{AllInBounds}
 use Rattle.model_lang.specs.Tree.{Name, ProgramTree}
 use Rattle.model_lang.specs.Bounds.{ClassesFit}
 use Rattle.model_lang.specs.Names.{ClassNamesAreShort}
 use Rattle.model_eval.specs.declared.fault.Fault.{Fault}
 use Rattle.model_eval.specs.Running.{Outcome, Gives, Faults}
 use Rattle.model_eval.specs.Meaning.{starts, most_open}
-use Rattle.model_eval.specs.Publishing.{told}
+use Rattle.model_eval.specs.Publishing.{tell_handlers}
 use Rattle.model_check.specs.Methods.{field_counts}
 use Rattle.model_eval.specs.Kept.{now_due, Anything, CarriesIf}
 use Rattle.model_eval.proofs.KeptLaws.{starts-carries, told-kept}
-use Rattle.world.specs.Worlds.{Scene, fault_number, with_count, counted, begun, running, ended, ran, informed}
+use Rattle.world.specs.Worlds.{Scene, fault_number, with_count, with_fault, with_next_turn, with_full_budget, scene_of_outcome, after_method, after_telling}
 
 pub with_count-valid : (counts : List ℕ) (k : ℕ) (w : WorldRecord) → Valid counts w → Valid counts (with_count k w)
 with_count-valid counts k w v = record {
-  time = v.time;
-  next_object = v.next_object;
-  turns = v.turns;
+  clock = v.clock;
   views = v.views;
-  views_fit = v.views_fit;
-  ids = v.ids;
   objects = v.objects;
-  objects_fit = v.objects_fit;
-  known_order = v.known_order;
-  known = v.known;
-  subscriptions_differ = v.subscriptions_differ;
+  names = v.names;
   subscriptions = v.subscriptions;
-  subscriptions_fit = v.subscriptions_fit;
-  order = v.order;
-  numbers_differ = v.numbers_differ;
-  pending = v.pending;
-  pending_fit = v.pending_fit;
+  messages = v.messages;
   weight = v.weight;
 }
 
-pub counted-valid : (counts : List ℕ) (f : Fault) (w : WorldRecord) → Valid counts w → Valid counts (counted f w)
+pub counted-valid : (counts : List ℕ) (f : Fault) (w : WorldRecord) → Valid counts w → Valid counts (with_fault f w)
 counted-valid counts f w v = with_count-valid counts (fault_number f) w v
 
-pub begun-valid : (counts : List ℕ) (w : WorldRecord) → Valid counts w → Valid counts (begun w)
+pub begun-valid : (counts : List ℕ) (w : WorldRecord) → Valid counts w → Valid counts (with_next_turn w)
 begun-valid counts w v = record {
-  time = v.time;
-  next_object = v.next_object;
-  turns = omega arith;
+  clock = record {
+    time_fits = v.clock.time_fits;
+    turns_fit = omega arith;
+  };
   views = v.views;
-  views_fit = v.views_fit;
-  ids = v.ids;
   objects = v.objects;
-  objects_fit = v.objects_fit;
-  known_order = v.known_order;
-  known = v.known;
-  subscriptions_differ = v.subscriptions_differ;
+  names = v.names;
   subscriptions = v.subscriptions;
-  subscriptions_fit = v.subscriptions_fit;
-  order = v.order;
-  numbers_differ = v.numbers_differ;
-  pending = v.pending;
-  pending_fit = v.pending_fit;
+  messages = v.messages;
   weight = v.weight;
 }
 
@@ -70,7 +52,7 @@ pub record Keeps (H : Type 0) (counts : List ℕ) (s t : Scene) : Type 0 where
   pub calm : s.world.turns ≡ most_turns → now_due t.world ≤ now_due s.world
   pub valid : H → Valid counts t.world
 
-ended-keeps : {A : Type 0} (P : A → Type 0) (H : Type 0) (counts : List ℕ) (s : Scene) (o : Outcome A) → CarriesIf H counts P (running s) o → Keeps H counts s (ended o)
+ended-keeps : {A : Type 0} (P : A → Type 0) (H : Type 0) (counts : List ℕ) (s : Scene) (o : Outcome A) → CarriesIf H counts P (with_full_budget s) o → Keeps H counts s (scene_of_outcome o)
 ended-keeps P H counts s (Gives v r) h = record { id = h.0.id; time = h.0.time; turns = h.0.turns; calm = h.0.calm; valid = λ valid. (h.1 valid).0 }
 ended-keeps P H counts s (Faults f r) h = record { id = h.0.id; time = h.0.time; turns = h.0.turns; calm = h.0.calm; valid = λ valid. counted-valid counts f r.world (h.1 valid) }
 
@@ -80,20 +62,20 @@ pub record Fits (counts : List ℕ) (program : ProgramTree) : Type 0 where
   pub classes : ClassesFit program
   pub names : ClassNamesAreShort program
 
-pub ran-keeps : (counts : List ℕ) (program : ProgramTree) (object : ℕ) (x : Name) (args : List PlainValue) (s : Scene) → Fits counts program → Keeps (Valid counts s.world × AllInBounds args) counts s (ran program object x args s)
+pub ran-keeps : (counts : List ℕ) (program : ProgramTree) (object : ℕ) (x : Name) (args : List PlainValue) (s : Scene) → Fits counts program → Keeps (Valid counts s.world × AllInBounds args) counts s (after_method program object x args s)
 ran-keeps counts program object x args s fits =
-    subst (λ (cs : List ℕ). Keeps (Valid cs s.world × AllInBounds args) cs s (ran program object x args s)) (sym fits.counted)
-    (ended-keeps InBounds (Valid (field_counts program) s.world × AllInBounds args) (field_counts program) s (starts program most_open object x args (running s)) (starts-carries program most_open object x args (running s) fits.classes fits.names))
+    subst (λ (cs : List ℕ). Keeps (Valid cs s.world × AllInBounds args) cs s (after_method program object x args s)) (sym fits.counted)
+    (ended-keeps InBounds (Valid (field_counts program) s.world × AllInBounds args) (field_counts program) s (starts program most_open object x args (with_full_budget s)) (starts-carries program most_open object x args (with_full_budget s) fits.classes fits.names))
 
 -- models that are told of an event
-pub informed-keeps : (program : ProgramTree) (scope event : Name) (v : PlainValue) (s : Scene) → Fits (field_counts program) program → InBounds v → Keeps (Valid (field_counts program) s.world) (field_counts program) s (informed program scope event v s)
+pub informed-keeps : (program : ProgramTree) (scope event : Name) (v : PlainValue) (s : Scene) → Fits (field_counts program) program → InBounds v → Keeps (Valid (field_counts program) s.world) (field_counts program) s (after_telling program scope event v s)
 informed-keeps program scope event v s fits bound =
-    ended-keeps Anything (Valid (field_counts program) s.world) (field_counts program) s (told (starts program most_open) scope event v (running s)) (told-kept program most_open scope event v (running s) fits.classes fits.names bound)
+    ended-keeps Anything (Valid (field_counts program) s.world) (field_counts program) s (tell_handlers (starts program most_open) scope event v (with_full_budget s)) (told-kept program most_open scope event v (with_full_budget s) fits.classes fits.names bound)
 
 -- they leave a valid world valid
-pub informed-valid : (counts : List ℕ) (program : ProgramTree) (scope event : Name) (v : PlainValue) (s : Scene) → Fits counts program → InBounds v → Valid counts s.world → Valid counts (informed program scope event v s).world
+pub informed-valid : (counts : List ℕ) (program : ProgramTree) (scope event : Name) (v : PlainValue) (s : Scene) → Fits counts program → InBounds v → Valid counts s.world → Valid counts (after_telling program scope event v s).world
 informed-valid counts program scope event v s fits bound valid =
     let counted = fits.counted in
     let here : Valid (field_counts program) s.world = subst (λ (cs : List ℕ). Valid cs s.world) counted valid in
     let own : Fits (field_counts program) program = subst (λ (cs : List ℕ). Fits cs program) counted fits in
-    subst (λ (cs : List ℕ). Valid cs (informed program scope event v s).world) (sym counted) ((informed-keeps program scope event v s own bound).valid here)
+    subst (λ (cs : List ℕ). Valid cs (after_telling program scope event v s).world) (sym counted) ((informed-keeps program scope event v s own bound).valid here)

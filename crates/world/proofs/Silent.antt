@@ -4,10 +4,10 @@ use Rattle.std.specs.Prelude.{⊤, is_some}
 use Rattle.hex.specs.Hex.{encode_lower}
 use Rattle.model_value.specs.Plain.{PlainValue, nil, bool, int, text, ref, list, weight, is_in_bounds}
 use Rattle.model_value.specs.View.{plains_of}
-use Rattle.model_value.specs.Messages.{PlainMessage}
-use Rattle.model_value.specs.World.{ObjectRecord, WorldRecord, world_weight, most_world_weight}
-use Rattle.model_value.specs.Valid.{object_at, most_turns}
-use Rattle.model_value.specs.declared.message.Subscription.{Subscription}
+use Rattle.world_plain.specs.Messages.{PlainMessage}
+use Rattle.world_plain.specs.World.{ObjectRecord, WorldRecord, world_weight, most_world_weight}
+use Rattle.world_plain.specs.Valid.{object_at, most_turns}
+use Rattle.world_plain.specs.declared.message.Subscription.{Subscription}
 use Rattle.model_builtin.specs.declared.builtin.Pure.{Pure}
 use Rattle.model_builtin.specs.Builtins.{applied}
 use Rattle.model_builtin.specs.Builtins as without_world
@@ -20,16 +20,16 @@ use Rattle.model_check.specs.declared.builtin.Builtin.TheVariants as builtin_nam
 use Rattle.model_check.specs.Builtins.{builtin_named}
 use Rattle.model_check.specs.Methods.{method_named}
 use Rattle.pubsub.specs.declared.handler.Handler.{Handler}
-use Rattle.pubsub.specs.Topics.{is_held as is_subscribed, without as without_subscription, handlers_of}
+use Rattle.pubsub.specs.Topics.{is_subscribed, without_subscription, handlers_of}
 use Rattle.model_eval.specs.declared.fault.Fault.{Fault}
 use Rattle.model_eval.specs.declared.fault.Fault.TheVariants.{BadIndex, NoObject, Arity, Fuel, Depth, Size, Instant, Full}
-use Rattle.model_eval.specs.Running.{Running, with_world, Outcome, Gives, Faults, and_then, entering, spending, bounded, weighed, Reply, value, fails, replying, truth, deciding}
+use Rattle.model_eval.specs.Running.{Running, with_world, Outcome, Gives, Faults, and_then, entering, spending, bounded, weighed, PureOutcome, value, fails, replying, truth, deciding}
 use Rattle.model_eval.specs.Operators.{operated, truly, operating, unary_operated}
-use Rattle.model_eval.specs.Objects.{got, with_fields, if_light, put, new_object, has_room_for, with_object, made, without_object, is_held, destroyed, with_named, with_known, made_known}
+use Rattle.model_eval.specs.Objects.{got, with_fields, if_light, put_fields, new_object, has_room_for, with_object, made, without_object, is_held, destroyed, with_named, with_known, made_known}
 use Rattle.model_eval.specs.Futures.{ahead, has_room, with_message, sent, sent_to, send}
-use Rattle.model_eval.specs.Builtins.{drawn, pure_of, takes_steps, given, pure_answered, on_none, on_int, on_text, on_texts, on_event, on_ref, time_told, id_told, known_told, held_told, answered_alone, answered, answered_by}
-use Rattle.model_eval.specs.Publishing.{handled_by, handled, told, with_outgoing, published, has_room_to, with_subscription, added, subscription, subscribed, unsubscribed, uncalled, cancelled, views_counted, views_told}
-use Rattle.model_eval.specs.Meaning.{Here, Local, locals_of, with_local, Flow, next, returned, follow, behind, value_of, set_named, Evaluate, Execute, Start, evaluated, in_turn, block, otherwise, looped, called_on, init, initialised, created, created_by, number_of, expression_row, statement_row, performed, starts_in, starts_on, starting, evaluate, execute, starts}
+use Rattle.model_eval.specs.Builtins.{drawn, pure_of, takes_steps, builtin_outcome, pure_answered, on_none, on_int, on_text, on_texts, on_event, on_ref, time_told, id_told, known_told, held_told, answered_alone, answered, answered_by}
+use Rattle.model_eval.specs.Publishing.{handled_by, run_handlers, tell_handlers, with_outgoing, published, has_room_to, with_subscription, added, subscription, subscribed, unsubscribed, uncalled, cancelled, views_counted, views_told}
+use Rattle.model_eval.specs.Meaning.{Here, Local, locals_of, with_local, Flow, next, returned, follow, leave_block, value_of, set_named, Evaluate, Execute, Start, evaluated, in_turn, block, otherwise, looped, called_on, init, run_init, created, created_by, number_of_class, expression_row, statement_row, performed, starts_in, starts_on, starting, evaluate, execute, starts}
 
 -- what runs, as if nothing was published yet
 abbrev pub bare : Running → Running
@@ -70,7 +70,7 @@ bounded-silent v r = either-silent (is_in_bounds v) (Gives v) (Faults Size) r re
 weighed-silent : (v : PlainValue) (r : Running) → IsSilent (weighed v) r
 weighed-silent v r = either-silent (is_in_bounds v) (λ s. spending (weight v) s (Gives v)) (Faults Size) r (spending-silent (weight v) v r) refl
 
-replying-silent : (reply : Reply) (r : Running) → IsSilent (replying reply) r
+replying-silent : (reply : PureOutcome) (r : Running) → IsSilent (replying reply) r
 replying-silent (value v) r = refl
 replying-silent (fails f) r = refl
 
@@ -96,7 +96,7 @@ got-silent : (o : Option ObjectRecord) (x : Name) (names : List Name) (r : Runni
 got-silent None x names r = refl
 got-silent (Some o) x names r = refl
 
-put-silent : (o : Option ObjectRecord) (id : ℕ) (change : List PlainValue → List PlainValue) (r : Running) → IsSilent (put o id change) r
+put-silent : (o : Option ObjectRecord) (id : ℕ) (change : List PlainValue → List PlainValue) (r : Running) → IsSilent (put_fields o id change) r
 put-silent None id change r = refl
 put-silent (Some o) id change r = light-silent tt (record (r.world) { objects = with_fields id change r.world.objects }) r
 
@@ -165,7 +165,7 @@ drawn-silent : (n : ℤ) (r : Running) → IsSilent (drawn n) r
 drawn-silent (pos n) r = fault_or-silent (nat_eq n 0) BadIndex _ _ r
 drawn-silent (negsuc n) r = refl
 
-given-silent : (costs : Bool) (reply : without_world.Reply) (r : Running) → IsSilent (given costs reply) r
+given-silent : (costs : Bool) (reply : without_world.BuiltinReply) (r : Running) → IsSilent (builtin_outcome costs reply) r
 given-silent true (without_world.value v) r = spending-silent (weight v) v r
 given-silent false (without_world.value v) r = refl
 given-silent costs without_world.bad_kind r = refl
@@ -240,14 +240,14 @@ module _ (start : Start) (begins : StartsSilently start) where
   called_on-silent (ref object) x args r = begins object x args r
   called_on-silent _ x args r = refl
 
-  initialised-silent : (c : ClassTree) (v : PlainValue) (id : ℕ) (r : Running) → IsSilent (initialised start c v id) r
+  initialised-silent : (c : ClassTree) (v : PlainValue) (id : ℕ) (r : Running) → IsSilent (run_init start c v id) r
   initialised-silent c v id r =
       either-silent (is_some (method_named init c.methods)) (λ s. and_then (start id init (v ∷ []) s) (λ _. Gives (ref id))) (Gives (ref id)) r
       (then-silent (start id init (v ∷ [])) (λ _. Gives (ref id)) r (begins id init (v ∷ []) r) (λ _ s. refl)) refl
 
   created-silent : (n : ℕ) (c : Option ClassTree) (v : PlainValue) (r : Running) → IsSilent (created start n c v) r
   created-silent n None v r = refl
-  created-silent n (Some c) v r = then-silent (made n (length c.fields)) (initialised start c v) r (made-silent n (length c.fields) r) (λ id s. initialised-silent c v id s)
+  created-silent n (Some c) v r = then-silent (made n (length c.fields)) (run_init start c v) r (made-silent n (length c.fields) r) (λ id s. initialised-silent c v id s)
 
   created_by-silent : (program : ProgramTree) (n : Option ℕ) (v : PlainValue) (r : Running) → IsSilent (created_by program start n v) r
   created_by-silent program None v r = refl
@@ -261,21 +261,21 @@ module _ (start : Start) (begins : StartsSilently start) where
       either-silent (is_held h.object r.world) (λ s. entering s go) (Gives tt) r
       (entering-silent go r (then-silent (start h.object h.method (v ∷ [])) (λ _. Gives tt) r1 (begins h.object h.method (v ∷ []) r1) (λ _ s. refl))) refl
 
-  handled-silent : (v : PlainValue) (hs : List Handler) (r : Running) → IsSilent (handled start v hs) r
+  handled-silent : (v : PlainValue) (hs : List Handler) (r : Running) → IsSilent (run_handlers start v hs) r
   handled-silent v [] r = refl
-  handled-silent v (h ∷ hs) r = then-silent (handled_by start v h) (λ _. handled start v hs) r (handled_by-silent v h r) (λ _ s. handled-silent v hs s)
+  handled-silent v (h ∷ hs) r = then-silent (handled_by start v h) (λ _. run_handlers start v hs) r (handled_by-silent v h r) (λ _ s. handled-silent v hs s)
 
-  pub told-silent : (scope event : Name) (v : PlainValue) (r : Running) → IsSilent (told start scope event v) r
+  pub told-silent : (scope event : Name) (v : PlainValue) (r : Running) → IsSilent (tell_handlers start scope event v) r
   told-silent scope event v r = handled-silent v (handlers_of scope event r.world.subscriptions) r
 
   -- the event that is published stands where no program reads it
-  outgoing-silent : (scope event : Name) (v : PlainValue) (r : Running) → IsSilent (λ s. told start scope event v (with_outgoing scope event v s)) r
+  outgoing-silent : (scope event : Name) (v : PlainValue) (r : Running) → IsSilent (λ s. tell_handlers start scope event v (with_outgoing scope event v s)) r
   outgoing-silent scope event v r =
       told-silent scope event v (with_outgoing scope event v r) ∙ sym (told-silent scope event v (with_outgoing scope event v (bare r)))
 
   published-silent : (scope event : Name) (v : PlainValue) (r : Running) → IsSilent (published start scope event v) r
   published-silent scope event v r =
-      then-silent (λ s. told start scope event v (with_outgoing scope event v s)) (λ _. Gives nil) r (outgoing-silent scope event v r) (λ _ s. refl)
+      then-silent (λ s. tell_handlers start scope event v (with_outgoing scope event v s)) (λ _. Gives nil) r (outgoing-silent scope event v r) (λ _ s. refl)
 
   answered-silent : (f : Builtin) (object : ℕ) (args : List PlainValue) (r : Running) → IsSilent (answered start f object args) r
   answered-silent builtin_name.Publish object args r = on_event-silent (published start) args r (λ scope event v. published-silent scope event v r)
@@ -342,7 +342,7 @@ module _ (program : ProgramTree) (ev : Evaluate) (start : Start) (evaluates : Ev
       (λ o s. part-silent ev evaluates here delay locals s (λ d t. and_then (evaluated ev here args locals [] t) (send o d x))
       (λ d t. arguments-silent ev evaluates here args locals t (send o d x) (λ vs u. send-silent o d x vs u)))
   expression-silent here (create x options) locals r =
-      part-silent ev evaluates here options locals r (created_by program start (number_of x program)) (λ v s. created_by-silent start begins program (number_of x program) v s)
+      part-silent ev evaluates here options locals r (created_by program start (number_of_class x program)) (λ v s. created_by-silent start begins program (number_of_class x program) v s)
 
 -- ---- statements
 
@@ -359,7 +359,7 @@ module _ (ex : Execute) (executes : ExecutesSilently ex) where
       (λ flow t. follow-silent (in_turn ex here ss) flow t (λ ls. in_turn-silent here ss ls t))
 
   block-silent : (here : Here) (ss : Statements) (locals : List Local) (r : Running) → IsSilent (block ex here ss locals) r
-  block-silent here ss locals r = then-silent (in_turn ex here ss locals) (λ f. Gives (behind (length locals) f)) r (in_turn-silent here ss locals r) (λ f s. refl)
+  block-silent here ss locals r = then-silent (in_turn ex here ss locals) (λ f. Gives (leave_block (length locals) f)) r (in_turn-silent here ss locals r) (λ f s. refl)
 
   otherwise-silent : (here : Here) (o : Otherwise) (locals : List Local) (r : Running) → IsSilent (otherwise ex here o locals) r
   otherwise-silent here no_else locals r = refl

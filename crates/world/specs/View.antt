@@ -1,20 +1,20 @@
 -- What contracts see of worlds.
 use Rattle.std.specs.Prelude.{◌≡◌, ◌<◌, ℕ, Bool, true, false, List, [], ◌∷◌, map, Option, Some, None, Result, Ok, Err, ⊤, length, remove, refl}
 use Rattle.std.specs.Coded.{Coded, code_by, coded×, coded_bool, coded_list}
-use Rattle.model_value.specs.Messages.{PlainMessage, PlainOutgoing, plain_message, plain_outgoing, coded_outgoing}
-use Rattle.model_value.specs.World.{WorldRecord, world_record}
-use Rattle.model_value.specs.WorldCode.{coded_world}
-use Rattle.model_value.specs.declared.message.Message.{Message}
-use Rattle.model_value.specs.declared.world.PlainWorld.{PlainWorld}
+use Rattle.world_plain.specs.Messages.{PlainMessage, PlainOutgoing, plain_message, plain_outgoing, coded_outgoing}
+use Rattle.world_plain.specs.World.{WorldRecord, world_record}
+use Rattle.world_plain.specs.WorldCode.{coded_world}
+use Rattle.world_plain.specs.declared.message.Message.{Message}
+use Rattle.world_plain.specs.declared.world.PlainWorld.{PlainWorld}
 use Rattle.model_eval.specs.declared.state.State.{State}
 use Rattle.model_eval.specs.Answer.{world_of}
-use Rattle.model_value.specs.Valid.{Valid}
+use Rattle.world_plain.specs.Valid.{Valid}
 use Rattle.model_lang.specs.declared.tree.Class.{Class}
 use Rattle.model_lang.specs.TreeView.{program_tree}
 use Rattle.model_lang.specs.Program.{IsProgram}
 use Rattle.world.specs.declared.fault.WorldFault.{WorldFault}
 use Rattle.world.specs.declared.fault.WorldFault.TheVariants as fault
-use Rattle.world.specs.Worlds.{Scene, with_world, due, without_view, field_counts}
+use Rattle.world.specs.Worlds.{Scene, scene_with_world, due, without_view, field_counts}
 
 abbrev pub scene : State → Scene
 scene state = record { world = world_of state; published = map plain_outgoing state.published }
@@ -23,7 +23,7 @@ scene state = record { world = world_of state; published = map plain_outgoing st
 abbrev pub Takes : Option Message → ℕ → Scene → Scene → Type 0
 Takes None t before after = (due t before.world.pending ≡ None) × (after ≡ before)
 Takes (Some m) t before after =
-    (rest : List PlainMessage) × (due t before.world.pending ≡ Some (plain_message m, rest)) × (after ≡ with_world before (record (before.world) { pending = rest }))
+    (rest : List PlainMessage) × (due t before.world.pending ≡ Some (plain_message m, rest)) × (after ≡ scene_with_world before (record (before.world) { pending = rest }))
 
 -- each message is of a later time
 abbrev pub AreBehind : ℕ → List PlainMessage → Type 0

@@ -8,10 +8,10 @@ use Rattle.tea_base.specs.declared.entry.Entry.{Entry}
 use Rattle.tea_base.specs.declared.entry.What.{What}
 use Rattle.tea_base.specs.declared.entry.What.TheVariants.{Join, Exit, Event}
 use Rattle.model_value.specs.Plain.{PlainValue, nil, int}
-use Rattle.model_value.specs.Payload.{PlainPayload, payload_of}
-use Rattle.model_value.specs.Messages.{PlainMessage, PlainOutgoing}
-use Rattle.model_value.specs.World.{WorldRecord}
-use Rattle.model_value.specs.Valid.{most_turns, most_views, most_pending}
+use Rattle.model_value.specs.Payload.{PlainPayload, whole_payload}
+use Rattle.world_plain.specs.Messages.{PlainMessage, PlainOutgoing}
+use Rattle.world_plain.specs.World.{WorldRecord}
+use Rattle.world_plain.specs.Valid.{most_turns, most_views, most_pending}
 use Rattle.model_lang.specs.Tree.{Name, ClassTree, ProgramTree, root_name}
 use Rattle.model_eval.specs.declared.fault.Fault.{Fault}
 use Rattle.model_eval.specs.declared.fault.Fault.TheVariants as fault
@@ -20,7 +20,7 @@ use Rattle.model_eval.specs.Kept.{now_due}
 use Rattle.model_eval.specs.Running.{Running, Outcome, Gives, Faults}
 pub use Rattle.model_eval.specs.Meaning.{init}
 use Rattle.model_eval.specs.Meaning.{starts, most_open, most_fuel}
-use Rattle.model_eval.specs.Publishing.{told}
+use Rattle.model_eval.specs.Publishing.{tell_handlers}
 use Rattle.model_check.specs.Methods.{method_named}
 
 -- a world, and what its models published
@@ -28,8 +28,8 @@ pub record Scene : Type 0 where
   pub world : WorldRecord
   pub published : List PlainOutgoing
 
-abbrev pub with_world : Scene → WorldRecord → Scene
-with_world s w = record { world = w; published = s.published }
+abbrev pub scene_with_world : Scene → WorldRecord → Scene
+scene_with_world s w = record { world = w; published = s.published }
 
 -- ---- messages
 
@@ -57,25 +57,25 @@ bad_event = 13
 abbrev pub with_count : ℕ → WorldRecord → WorldRecord
 with_count k w = record w { faults = slice_set w.faults k (min (slice_index_or w.faults k 0 + 1) (2 ^ 64 - 1)) }
 
-abbrev pub counted : Fault → WorldRecord → WorldRecord
-counted f = with_count (fault_number f)
+abbrev pub with_fault : Fault → WorldRecord → WorldRecord
+with_fault f = with_count (fault_number f)
 
 -- a message begins: one more turn
-abbrev pub begun : WorldRecord → WorldRecord
-begun w = record w { turns = min (w.turns + 1) most_turns }
+abbrev pub with_next_turn : WorldRecord → WorldRecord
+with_next_turn w = record w { turns = min (w.turns + 1) most_turns }
 
 -- with the steps of a message
-abbrev pub running : Scene → Running
-running s = record { fuel = most_fuel; world = s.world; published = s.published }
+abbrev pub with_full_budget : Scene → Running
+with_full_budget s = record { fuel = most_fuel; world = s.world; published = s.published }
 
 -- a fault is counted; what was done until then stays
-abbrev pub ended : {A : Type 0} → Outcome A → Scene
-ended (Gives a r) = record { world = r.world; published = r.published }
-ended (Faults f r) = record { world = counted f r.world; published = r.published }
+abbrev pub scene_of_outcome : {A : Type 0} → Outcome A → Scene
+scene_of_outcome (Gives a r) = record { world = r.world; published = r.published }
+scene_of_outcome (Faults f r) = record { world = with_fault f r.world; published = r.published }
 
 -- a message of its own: the method starts with all steps and nothing open
-abbrev pub ran : ProgramTree → ℕ → Name → List PlainValue → Scene → Scene
-ran program object x args s = ended (starts program most_open object x args (running s))
+abbrev pub after_method : ProgramTree → ℕ → Name → List PlainValue → Scene → Scene
+after_method program object x args s = scene_of_outcome (starts program most_open object x args (with_full_budget s))
 
 -- ---- the first world
 
@@ -100,8 +100,8 @@ abbrev pub model_root : Name
 model_root = codes "modelRoot"
 
 -- with one object, of a class of this number, known as `modelRoot`
-abbrev pub rooted : ℕ → ClassTree → WorldRecord → WorldRecord
-rooted number class w = record w {
+abbrev pub with_root : ℕ → ClassTree → WorldRecord → WorldRecord
+with_root number class w = record w {
   next_object = 2;
   objects = record { id = 1; class = number; fields = replicate (length class.fields) nil } ∷ [];
   known = record { name = model_root; object = 1 } ∷ [];
@@ -113,22 +113,22 @@ root_from n [] = None
 root_from n (c ∷ cs) = if bytes_eq c.name root_name then Some (n, c) else root_from (n + 1) cs
 
 -- a class without `init` starts nothing
-abbrev pub initialised : ProgramTree → ClassTree → Scene → Scene
-initialised program class s = if is_some (method_named init class.methods) then ran program 1 init (nil ∷ []) s else s
+abbrev pub with_root_init : ProgramTree → ClassTree → Scene → Scene
+with_root_init program class s = if is_some (method_named init class.methods) then after_method program 1 init (nil ∷ []) s else s
 
 abbrev pub first_with : ProgramTree → Option (ℕ × ClassTree) → WorldRecord → Scene
 first_with program None w = record { world = w; published = [] }
-first_with program (Some root) w = initialised program root.1 (record { world = rooted root.0 root.1 w; published = [] })
+first_with program (Some root) w = with_root_init program root.1 (record { world = with_root root.0 root.1 w; published = [] })
 
 -- one message makes the object of class Root and starts its `init` with nil
-abbrev pub first : ProgramTree → List ℕ → Scene
-first program id = first_with program (root_from 0 program) (begun (empty_world id))
+abbrev pub first_scene : ProgramTree → List ℕ → Scene
+first_scene program id = first_with program (root_from 0 program) (with_next_turn (empty_world id))
 
 -- ---- advance
 
 -- the time becomes a later one, at which no message ran yet
-abbrev pub moved : ℕ → WorldRecord → WorldRecord
-moved t w = if nat_lt w.time t then record w { time = t; turns = 0 } else w
+abbrev pub at_later_time : ℕ → WorldRecord → WorldRecord
+at_later_time t w = if nat_lt w.time t then record w { time = t; turns = 0 } else w
 
 abbrev pub first_where : Bool → PlainMessage → List PlainMessage → Option (PlainMessage × List PlainMessage)
 first_where true m ms = Some (m, ms)
@@ -139,9 +139,9 @@ abbrev pub due : ℕ → List PlainMessage → Option (PlainMessage × List Plai
 due t [] = None
 due t (m ∷ ms) = first_where (nat_le m.time t) m ms
 
-abbrev pub handled : ProgramTree → PlainMessage → List PlainMessage → Scene → Scene
-handled program m rest s =
-    ran program m.object m.method m.args (with_world s (begun (moved m.time (record (s.world) { pending = rest }))))
+abbrev pub after_message : ProgramTree → PlainMessage → List PlainMessage → Scene → Scene
+after_message program m rest s =
+    after_method program m.object m.method m.args (scene_with_world s (with_next_turn (at_later_time m.time (record (s.world) { pending = rest }))))
 
 -- No more messages than this are due up to t: at one time at most 1,024 of them can add others to it, and the time rises.
 abbrev pub enough : ℕ → WorldRecord → ℕ
@@ -151,11 +151,11 @@ enough t w =
 
 -- the messages that are due, one after the other, and at most so many; then the time becomes this one
 abbrev pub on_due : ProgramTree → ℕ → (Scene → Scene) → Option (PlainMessage × List PlainMessage) → Scene → Scene
-on_due program t more None s = with_world s (moved t s.world)
-on_due program t more (Some d) s = more (handled program d.0 d.1 s)
+on_due program t more None s = scene_with_world s (at_later_time t s.world)
+on_due program t more (Some d) s = more (after_message program d.0 d.1 s)
 
 abbrev pub advance_within : ProgramTree → ℕ → ℕ → Scene → Scene
-advance_within program zero t s = with_world s (moved t s.world)
+advance_within program zero t s = scene_with_world s (at_later_time t s.world)
 advance_within program (suc n) t s = on_due program t (advance_within program n t) (due t s.world.pending) s
 
 abbrev pub advance : ProgramTree → ℕ → Scene → Scene
@@ -163,9 +163,9 @@ advance program t s = advance_within program (enough t s.world) t s
 
 -- ---- entries
 
-abbrev pub is_among : ℕ → List ℕ → Bool
-is_among view [] = false
-is_among view (v ∷ vs) = nat_eq view v || is_among view vs
+abbrev pub is_view_here : ℕ → List ℕ → Bool
+is_view_here view [] = false
+is_view_here view (v ∷ vs) = nat_eq view v || is_view_here view vs
 
 abbrev pub with_view : ℕ → List ℕ → List ℕ
 with_view view [] = view ∷ []
@@ -177,8 +177,8 @@ without_view view [] = []
 without_view view (v ∷ vs) = if nat_eq view v then vs else v ∷ without_view view vs
 
 -- models alone are told of an event, as a message of its own: with all steps and nothing open
-abbrev pub informed : ProgramTree → Name → Name → PlainValue → Scene → Scene
-informed program scope event v s = ended (told (starts program most_open) scope event v (running s))
+abbrev pub after_telling : ProgramTree → Name → Name → PlainValue → Scene → Scene
+after_telling program scope event v s = scene_of_outcome (tell_handlers (starts program most_open) scope event v (with_full_budget s))
 
 -- the scope of what the session tells of its views: its id in hexadecimal digits
 abbrev pub session_scope : WorldRecord → Name
@@ -191,59 +191,59 @@ abbrev pub view_exit : Name
 view_exit = codes "view-exit"
 
 -- models are told of a view, by its number
-abbrev pub told_of : ProgramTree → Name → ℕ → Scene → Scene
-told_of program event view s = informed program (session_scope s.world) event (int (pos view)) s
+abbrev pub after_telling_of : ProgramTree → Name → ℕ → Scene → Scene
+after_telling_of program event view s = after_telling program (session_scope s.world) event (int (pos view)) s
 
-abbrev pub came : ProgramTree → ℕ → Scene → Scene
-came program view s =
+abbrev pub after_join : ProgramTree → ℕ → Scene → Scene
+after_join program view s =
     let w = s.world in
-    if nat_eq view 0 || is_among view w.views then s
-    else (if nat_lt (length w.views) most_views then told_of program view_join view (with_world s (record w { views = with_view view w.views }))
-    else with_world s (counted fault.Full w))
+    if nat_eq view 0 || is_view_here view w.views then s
+    else (if nat_lt (length w.views) most_views then after_telling_of program view_join view (scene_with_world s (record w { views = with_view view w.views }))
+    else scene_with_world s (with_fault fault.Full w))
 
-abbrev pub went : ProgramTree → ℕ → Scene → Scene
-went program view s =
+abbrev pub after_exit : ProgramTree → ℕ → Scene → Scene
+after_exit program view s =
     let w = s.world in
-    if is_among view w.views then told_of program view_exit view (with_world s (record w { views = without_view view w.views })) else s
+    if is_view_here view w.views then after_telling_of program view_exit view (scene_with_world s (record w { views = without_view view w.views })) else s
 
 -- an event of a view, by the payload that its bytes spell
-abbrev pub heard : ProgramTree → Option PlainPayload → Scene → Scene
-heard program None s = with_world s (with_count bad_event s.world)
-heard program (Some p) s = informed program p.scope p.event p.value s
+abbrev pub after_event : ProgramTree → Option PlainPayload → Scene → Scene
+after_event program None s = scene_with_world s (with_count bad_event s.world)
+after_event program (Some p) s = after_telling program p.scope p.event p.value s
 
-abbrev pub entered : ProgramTree → What → ℕ → Scene → Scene
-entered program Join view s = came program view s
-entered program Exit view s = went program view s
-entered program (Event number payload) view s = heard program (payload_of payload) s
+abbrev pub after_entry : ProgramTree → What → ℕ → Scene → Scene
+after_entry program Join view s = after_join program view s
+after_entry program Exit view s = after_exit program view s
+after_entry program (Event number payload) view s = after_event program (whole_payload payload) s
 
 -- an entry of the log is one message, at its time
 abbrev pub external : ProgramTree → Entry → Scene → Scene
 external program e s =
     let a = advance program e.time s in
-    entered program e.what e.view (with_world a (begun a.world))
+    after_entry program e.what e.view (scene_with_world a (with_next_turn a.world))
 
 -- the entries with a time of at most t, and then the world advances to t
-abbrev pub replayed : ProgramTree → ℕ → List Entry → Scene → Scene
-replayed program t [] s = advance program t s
-replayed program t (e ∷ es) s = replayed program t es (if nat_le e.time t then external program e s else s)
+abbrev pub replay_from : ProgramTree → ℕ → List Entry → Scene → Scene
+replay_from program t [] s = advance program t s
+replay_from program t (e ∷ es) s = replay_from program t es (if nat_le e.time t then external program e s else s)
 
 abbrev pub replay : ProgramTree → List ℕ → List Entry → ℕ → Scene
-replay program id entries t = replayed program t entries (first program id)
+replay program id entries t = replay_from program t entries (first_scene program id)
 
 -- ---- going on from a world
 
 -- a world on which nothing was published yet
-abbrev pub taken_up : WorldRecord → Scene
-taken_up w = record { world = w; published = [] }
+abbrev pub take_up : WorldRecord → Scene
+take_up w = record { world = w; published = [] }
 
 -- the entries behind a time
-abbrev pub behind : ℕ → List Entry → List Entry
-behind t = filter (λ e. nat_lt t e.time)
+abbrev pub entries_behind : ℕ → List Entry → List Entry
+entries_behind t = filter (λ e. nat_lt t e.time)
 
 -- a world that is taken up: the entries behind its time with a time of at most t, and then it advances to t
-abbrev pub resumed : ProgramTree → WorldRecord → List Entry → ℕ → Scene
-resumed program w entries t = replayed program t (behind w.time entries) (taken_up w)
+abbrev pub replay_on : ProgramTree → WorldRecord → List Entry → ℕ → Scene
+replay_on program w entries t = replay_from program t (entries_behind w.time entries) (take_up w)
 
 -- a world follows a log: once it has advanced to its own time it is the replay of the log to that time
 abbrev pub Follows : ProgramTree → WorldRecord → List Entry → Type 0
-Follows program w entries = (advance program w.time (taken_up w)).world ≡ (replay program w.id entries w.time).world
+Follows program w entries = (advance program w.time (take_up w)).world ≡ (replay program w.id entries w.time).world

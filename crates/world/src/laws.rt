@@ -4,11 +4,12 @@ ghost use Rattle.std.specs.List.{fold, filter};
 ghost use Rattle.std.specs.Thread.{IsSend};
 ghost use Rattle.tea_base.specs.Legal.{IsLegal};
 ghost use Rattle.tea_base.specs.declared.entry.Entry.{Entry};
-ghost use Rattle.model_value.specs.World.{WorldRecord};
-ghost use Rattle.model_value.specs.Valid.{Valid, time_limit};
+ghost use Rattle.world_plain.specs.World.{WorldRecord};
+ghost use Rattle.world_plain.specs.Valid.{Valid};
+ghost use Rattle.tea_base.specs.Limits.{time_limit};
 ghost use Rattle.model_lang.specs.Tree.{ProgramTree};
 ghost use Rattle.model_lang.specs.Program.{IsProgram};
-ghost use Rattle.world.specs.Worlds.{Scene, field_counts, first, advance, due, on_due, external, replay, taken_up, resumed, Follows};
+ghost use Rattle.world.specs.Worlds.{Scene, field_counts, first_scene, advance, due, on_due, external, replay, take_up, replay_on, Follows};
 ghost use Rattle.world.specs.View.{AreBehind};
 ghost use Rattle.world.specs.contracts.world.World as world;
 
@@ -16,9 +17,9 @@ use model_check::checked_crosses_threads;
 
 /// The first world of a session is valid, of that session, and at time 0.
 pub fn first_stands()
-    ensures valid { (program : ProgramTree) (id : List ℕ) → IsProgram program → Valid (field_counts program) (first program id).world }
-    ensures session { (program : ProgramTree) (id : List ℕ) → IsProgram program → (first program id).world.id ≡ id }
-    ensures time { (program : ProgramTree) (id : List ℕ) → IsProgram program → (first program id).world.time ≡ 0 }
+    ensures valid { (program : ProgramTree) (id : List ℕ) → IsProgram program → Valid (field_counts program) (first_scene program id).world }
+    ensures session { (program : ProgramTree) (id : List ℕ) → IsProgram program → (first_scene program id).world.id ≡ id }
+    ensures time { (program : ProgramTree) (id : List ℕ) → IsProgram program → (first_scene program id).world.time ≡ 0 }
 {}
 
 /// To advance to s and then to a later t is to advance to t.
@@ -59,31 +60,31 @@ pub fn external_after()
 
 /// Which world an advance or an entry leaves follows from the world before it, and not from what was published until then.
 pub fn world_decides()
-    ensures advance { (program : ProgramTree) (t : ℕ) (a : Scene) → (advance program t a).world ≡ (advance program t (taken_up a.world)).world }
-    ensures external { (program : ProgramTree) (e : Entry) (a : Scene) → (external program e a).world ≡ (external program e (taken_up a.world)).world }
+    ensures advance { (program : ProgramTree) (t : ℕ) (a : Scene) → (advance program t a).world ≡ (advance program t (take_up a.world)).world }
+    ensures external { (program : ProgramTree) (e : Entry) (a : Scene) → (external program e a).world ≡ (external program e (take_up a.world)).world }
 {}
 
 /// The replay of a log to t is what the first world comes to by the entries with a time of at most t, one after the other,
 /// and then by an advance to t. Its world is the same where the world is taken up anew before each of these steps.
 pub fn replay_folds()
     ensures scene { (program : ProgramTree) (id : List ℕ) (entries : List Entry) (t : ℕ) →
-        replay program id entries t ≡ advance program t (fold (λ (a : Scene) (e : Entry). external program e a) (first program id) (filter (λ (e : Entry). nat_le e.time t) entries)) }
+        replay program id entries t ≡ advance program t (fold (λ (a : Scene) (e : Entry). external program e a) (first_scene program id) (filter (λ (e : Entry). nat_le e.time t) entries)) }
     ensures world { (program : ProgramTree) (id : List ℕ) (entries : List Entry) (t : ℕ) →
-        (replay program id entries t).world ≡ (advance program t (taken_up (fold (λ (w : WorldRecord) (e : Entry). (external program e (taken_up w)).world) (first program id).world (filter (λ (e : Entry). nat_le e.time t) entries)))).world }
+        (replay program id entries t).world ≡ (advance program t (take_up (fold (λ (w : WorldRecord) (e : Entry). (external program e (take_up w)).world) (first_scene program id).world (filter (λ (e : Entry). nat_le e.time t) entries)))).world }
 {}
 
 /// A world that follows a log, taken up at its time, is from there on the replay of the whole log: it handles the entries
 /// behind its time alone.
 pub fn resumed_follows()
     ensures { (program : ProgramTree) (w : WorldRecord) (entries : List Entry) (t : ℕ) → IsProgram program → Valid (field_counts program) w → IsLegal entries → w.time ≤ t → t < time_limit → Follows program w entries →
-        (resumed program w entries t).world ≡ (replay program w.id entries t).world }
+        (replay_on program w entries t).world ≡ (replay program w.id entries t).world }
 {}
 
 /// A world that is taken up and goes on to t is a valid world of its session at t, whether it follows the log or not.
 pub fn resumed_stands()
-    ensures valid { (program : ProgramTree) (w : WorldRecord) (entries : List Entry) (t : ℕ) → IsProgram program → Valid (field_counts program) w → IsLegal entries → w.time ≤ t → t < time_limit → Valid (field_counts program) (resumed program w entries t).world }
-    ensures session { (program : ProgramTree) (w : WorldRecord) (entries : List Entry) (t : ℕ) → IsProgram program → Valid (field_counts program) w → IsLegal entries → w.time ≤ t → t < time_limit → (resumed program w entries t).world.id ≡ w.id }
-    ensures time { (program : ProgramTree) (w : WorldRecord) (entries : List Entry) (t : ℕ) → IsProgram program → Valid (field_counts program) w → IsLegal entries → w.time ≤ t → t < time_limit → (resumed program w entries t).world.time ≡ t }
+    ensures valid { (program : ProgramTree) (w : WorldRecord) (entries : List Entry) (t : ℕ) → IsProgram program → Valid (field_counts program) w → IsLegal entries → w.time ≤ t → t < time_limit → Valid (field_counts program) (replay_on program w entries t).world }
+    ensures session { (program : ProgramTree) (w : WorldRecord) (entries : List Entry) (t : ℕ) → IsProgram program → Valid (field_counts program) w → IsLegal entries → w.time ≤ t → t < time_limit → (replay_on program w entries t).world.id ≡ w.id }
+    ensures time { (program : ProgramTree) (w : WorldRecord) (entries : List Entry) (t : ℕ) → IsProgram program → Valid (field_counts program) w → IsLegal entries → w.time ≤ t → t < time_limit → (replay_on program w entries t).world.time ≡ t }
 {}
 
 /// The replay of a log to t is a valid world of its session at t, and it follows the log: so it may be put away, and goes on

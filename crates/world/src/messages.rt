@@ -1,19 +1,16 @@
 //! Messages of a world, run one after the other.
 ghost use Rattle.std.specs.Prelude.{◌≡◌, OnOk};
-ghost use Rattle.model_value.specs.Messages.{plain_message};
+ghost use Rattle.world_plain.specs.Messages.{plain_message};
 ghost use Rattle.model_value.specs.View.{plain, plain_values};
 ghost use Rattle.model_lang.specs.TreeView.{program_tree};
-ghost use Rattle.world.specs.Worlds.{ran, informed, counted, with_count, bad_event, begun, moved, with_world, fault_number};
+ghost use Rattle.world.specs.Worlds.{after_method, after_telling, with_fault, with_count, bad_event, with_next_turn, at_later_time, scene_with_world, fault_number};
 ghost use Rattle.world.specs.View.{scene, Takes};
 
 use model_check::Checked;
-use model_eval::{Budget, Fault, State, Stop, run_method, tell_models};
-use model_value::{Message, Value, Values};
+use model_eval::{Budget, Call, Event, Fault, State, Stop, run_method, tell_models};
 use std::alloc::Global;
-use tea_base::{Text, WantOfMemory};
-
-/// The most turns that are counted at one time.
-const MOST_TURNS: u32 = 1024;
+use tea_base::WantOfMemory;
+use world_plain::{MOST_TURNS, Message};
 
 /// Where events that cannot be read are counted, behind the faults.
 const BAD_EVENT: usize = 13;
@@ -23,14 +20,13 @@ pub fn run(
     alloc: Global,
     program: &Checked,
     state: &mut State,
-    object: u32,
-    method: &Text,
-    args: Values,
+    call: Call<'_>,
 ) -> Result<(), WantOfMemory>
-    ensures { OnOk result (scene state.new ≡ ran (program_tree program.now) object method.now (plain_values args) (scene state.old)) }
+    ensures { let c = call.entry in
+        OnOk result (scene state.new ≡ after_method (program_tree program.now) c.object c.method.now (plain_values c.args) (scene state.old)) }
 {
     let mut budget = Budget::new();
-    match run_method(alloc, program, state, object, method, args, &mut budget) {
+    match run_method(alloc, program, call, state, &mut budget) {
         Ok(_) => Ok(()),
         Err(Stop::Fault(fault)) => {
             count(state, fault);
@@ -46,14 +42,13 @@ pub fn inform(
     alloc: Global,
     program: &Checked,
     state: &mut State,
-    scope: &Text,
-    event: &Text,
-    value: &Value,
+    event: &Event<'_>,
 ) -> Result<(), WantOfMemory>
-    ensures { OnOk result (scene state.new ≡ informed (program_tree program.now) scope.now event.now (plain value.now) (scene state.old)) }
+    ensures { let e = event.now in
+        OnOk result (scene state.new ≡ after_telling (program_tree program.now) e.scope.now e.name.now (plain e.value.now) (scene state.old)) }
 {
     let mut budget = Budget::new();
-    match tell_models(alloc, program, state, scope, event, value, &mut budget) {
+    match tell_models(alloc, program, event, state, &mut budget) {
         Ok(()) => Ok(()),
         Err(Stop::Fault(fault)) => {
             count(state, fault);
@@ -65,7 +60,7 @@ pub fn inform(
 
 /// Counts a fault. A count stops at the last number of 64 bits.
 pub fn count(state: &mut State, fault: Fault)
-    ensures { scene state.new ≡ with_world (scene state.old) (counted fault (scene state.old).world) }
+    ensures { scene state.new ≡ scene_with_world (scene state.old) (with_fault fault (scene state.old).world) }
 {
     let kind = number(fault);
     state.faults[kind] = state.faults[kind].saturating_add(1);
@@ -73,7 +68,7 @@ pub fn count(state: &mut State, fault: Fault)
 
 /// Counts an event that cannot be read. A count stops at the last number of 64 bits.
 pub fn count_bad_event(state: &mut State)
-    ensures { scene state.new ≡ with_world (scene state.old) (with_count bad_event (scene state.old).world) }
+    ensures { scene state.new ≡ scene_with_world (scene state.old) (with_count bad_event (scene state.old).world) }
 {
     state.faults[BAD_EVENT] = state.faults[BAD_EVENT].saturating_add(1);
 }
@@ -100,14 +95,14 @@ fn number(fault: Fault) -> usize
 
 /// One more message runs at the world's time.
 pub fn begin(state: &mut State)
-    ensures { scene state.new ≡ with_world (scene state.old) (begun (scene state.old).world) }
+    ensures { scene state.new ≡ scene_with_world (scene state.old) (with_next_turn (scene state.old).world) }
 {
     state.turns = state.turns.saturating_add(1).min(MOST_TURNS);
 }
 
 /// Moves the world to a later time, at which no message ran yet.
 pub fn move_to(state: &mut State, time: u64)
-    ensures { scene state.new ≡ with_world (scene state.old) (moved time (scene state.old).world) }
+    ensures { scene state.new ≡ scene_with_world (scene state.old) (at_later_time time (scene state.old).world) }
 {
     if state.time < time {
         state.time = time;
@@ -134,7 +129,7 @@ pub fn handle(
     message: Message,
 ) -> Result<(), WantOfMemory>
     ensures { let m = plain_message message in
-        OnOk result (scene state.new ≡ ran (program_tree program.now) m.object m.method m.args (with_world (scene state.old) (begun (moved m.time (scene state.old).world)))) }
+        OnOk result (scene state.new ≡ after_method (program_tree program.now) m.object m.method m.args (scene_with_world (scene state.old) (with_next_turn (at_later_time m.time (scene state.old).world)))) }
 {
     move_to(state, message.time);
     begin(state);
@@ -144,5 +139,10 @@ pub fn handle(
         args,
         ..
     } = message;
-    run(alloc, program, state, object, &method, args)
+    let call = Call {
+        object,
+        method: &method,
+        args,
+    };
+    run(alloc, program, state, call)
 }

@@ -7,18 +7,19 @@ ghost use Rattle.model_lang.specs.Program.{IsProgram};
 ghost use Rattle.model_lang.specs.Tree.{ClassTree};
 ghost use Rattle.model_lang.specs.TreeView.{program_tree};
 ghost use Rattle.model_lang.specs.Bounds.{most_members};
-ghost use Rattle.world.specs.Worlds.{empty_world, rooted, with_world, first as first_of, initialised};
+ghost use Rattle.world.specs.Worlds.{empty_world, with_root, scene_with_world, first_scene as first_of, with_root_init};
 ghost use Rattle.world.specs.View.{scene};
 
 use crate::messages::{begin, run};
 use message_queue::Queue;
 use model_check::Checked;
-use model_eval::State;
-use model_value::{Known, Value, Values};
+use model_eval::{Call, State};
+use model_value::{Value, Values};
 use object_store::Store;
 use pubsub::Topics;
 use std::alloc::Global;
 use tea_base::{List, SessionId, Text, WantOfMemory};
+use world_plain::Known;
 
 /// The first world: one message makes an object of class Root, known as `modelRoot`, and starts its `init`, if it has
 /// one, with nil.
@@ -72,7 +73,7 @@ fn make_root(
     fields: usize,
 ) -> Result<(), WantOfMemory>
     requires { fields ≤ most_members }
-    ensures { (root : ClassTree) → length root.fields ≡ fields → OnOk result (scene state.new ≡ with_world (scene state.old) (rooted class root (scene state.old).world)) }
+    ensures { (root : ClassTree) → length root.fields ≡ fields → OnOk result (scene state.new ≡ scene_with_world (scene state.old) (with_root class root (scene state.old).world)) }
 {
     let fields = nils(alloc, fields)?;
     let known = Known {
@@ -111,12 +112,17 @@ fn initialise(
     state: &mut State,
     class: u16,
 ) -> Result<(), WantOfMemory>
-    ensures { (root : ClassTree) → slice_get (program_tree program.now) class ≡ Some root → OnOk result (scene state.new ≡ initialised (program_tree program.now) root (scene state.old)) }
+    ensures { (root : ClassTree) → slice_get (program_tree program.now) class ≡ Some root → OnOk result (scene state.new ≡ with_root_init (program_tree program.now) root (scene state.old)) }
 {
     let init = Text::copy(alloc, "init")?;
     if program.method(class, &init).is_none() {
         return Ok(());
     }
     let args = only(alloc, Value::Nil)?;
-    run(alloc, program, state, 1, &init, args)
+    let call = Call {
+        object: 1,
+        method: &init,
+        args,
+    };
+    run(alloc, program, state, call)
 }

@@ -1,26 +1,27 @@
 //! A world that goes on from plain data.
 ghost use Rattle.std.specs.Prelude.{◌≡◌, ◌<◌, ◌++◌, ◌∷◌, [], ℕ, List, false, length, IfOk, OnOk};
-ghost use Rattle.model_value.specs.Valid.{Valid, most_pending};
-ghost use Rattle.model_value.specs.World.{world_record};
-ghost use Rattle.pubsub.specs.Topics.{IsLight, is_held};
-ghost use Rattle.world.specs.Worlds.{taken_up};
+ghost use Rattle.world_plain.specs.Valid.{Valid, most_pending};
+ghost use Rattle.world_plain.specs.World.{world_record};
+ghost use Rattle.pubsub.specs.Topics.{IsLightSubscription, is_subscribed};
+ghost use Rattle.world.specs.Worlds.{take_up};
 ghost use Rattle.world.specs.View.{scene};
 
 use message_queue::Queue;
 use model_eval::State;
-use model_value::{
-    Subscription, copy_known_names, copy_message, copy_numbers, copy_subscription, copy_values,
-};
+use model_value::copy_values;
 use object_store::Store;
-use pubsub::{TopicRefusal, Topics};
+use pubsub::Topics;
 use std::alloc::Global;
 use tea_base::{List, WantOfMemory};
-use world_plain::PlainWorld;
+use world_plain::{
+    PlainWorld, StoreRefusal, Subscription, copy_known_names, copy_message, copy_numbers,
+    copy_subscription,
+};
 
 /// The world that plain data tells, on which nothing was published yet.
 pub fn from_plain(alloc: Global, plain: &PlainWorld) -> Result<State, WantOfMemory>
     requires { (counts : List ℕ) × Valid counts (world_record plain.now) }
-    ensures { IfOk result (λ state. scene state ≡ taken_up (world_record plain.now)) }
+    ensures { IfOk result (λ state. scene state ≡ take_up (world_record plain.now)) }
 {
     let views = copy_numbers(alloc, plain.views.as_slice())?;
     let objects = put_objects(alloc, plain)?;
@@ -70,15 +71,15 @@ fn put_subscriptions(alloc: Global, plain: &PlainWorld) -> Result<Topics, WantOf
 
 /// Adds a subscription, which is new and for which there is room, behind all others.
 fn put_subscription(topics: &mut Topics, subscription: Subscription) -> Result<(), WantOfMemory>
-    requires new { is_held subscription topics.old ≡ false }
+    requires new { is_subscribed subscription topics.old ≡ false }
     requires few { length topics.old < most_pending }
-    requires light { IsLight subscription }
+    requires light { IsLightSubscription subscription }
     ensures { OnOk result (topics.new ≡ topics.old ++ subscription ∷ []) }
 {
     match topics.subscribe(subscription) {
         Ok(_) => Ok(()),
-        Err(TopicRefusal::WantOfMemory) => Err(WantOfMemory),
-        Err(TopicRefusal::Full { .. }) => unreachable!(),
+        Err(StoreRefusal::WantOfMemory) => Err(WantOfMemory),
+        Err(StoreRefusal::Full { .. } | StoreRefusal::Spent) => unreachable!(),
     }
 }
 

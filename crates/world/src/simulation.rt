@@ -1,24 +1,23 @@
 //! The first world, and how time and entries change a world.
 ghost use Rattle.std.specs.Prelude.{◌≡◌, ◌≤◌, ◌<◌, IfOk, OnOk, length, insert};
 ghost use Rattle.tea_base.specs.declared.entry.Entry.{Entry as Held};
-ghost use Rattle.model_value.specs.Valid.{Valid, time_limit};
-ghost use Rattle.model_value.specs.Payload.{payload_of};
+ghost use Rattle.world_plain.specs.Valid.{Valid};
+ghost use Rattle.tea_base.specs.Limits.{time_limit};
+ghost use Rattle.model_value.specs.Payload.{whole_payload};
 ghost use Rattle.model_lang.specs.TreeView.{program_tree};
 ghost use Rattle.model_lang.specs.Program.{IsProgram};
-ghost use Rattle.world.specs.Worlds.{field_counts, advance as advanced, external as entered_by, entered, came, went, heard, told_of, view_join, view_exit, is_among, with_view, without_view};
+ghost use Rattle.world.specs.Worlds.{field_counts, advance as advanced, external as entered_by, after_entry, after_join, after_exit, after_event, after_telling_of, view_join, view_exit, is_view_here, with_view, without_view};
 ghost use Rattle.model_eval.specs.Answer.{world_of};
 ghost use Rattle.world.specs.View.{scene, IsPlaceOf};
 
 use crate::messages::{begin, count, count_bad_event, handle, inform, move_to, take_due};
 use model_check::Checked;
-use model_eval::{Fault, State, session_text};
+use model_eval::{Event, Fault, State, session_text};
 use model_value::{Value, ValueFault, read_payload};
 use std::alloc::Global;
 use std::mem;
 use tea_base::{Entry, List, Numbers, Text, WantOfMemory, What};
-
-/// The most views that are here.
-const MOST_VIEWS: usize = 1024;
+use world_plain::MOST_VIEWS;
 
 /// Runs the messages that are due up to a time, which then is the world's.
 pub fn advance(
@@ -64,7 +63,7 @@ fn enter(
     state: &mut State,
     entry: &Entry,
 ) -> Result<(), WantOfMemory>
-    ensures { OnOk result (scene state.new ≡ entered (program_tree program.now) entry.now.what entry.now.view (scene state.old)) }
+    ensures { OnOk result (scene state.new ≡ after_entry (program_tree program.now) entry.now.what entry.now.view (scene state.old)) }
 {
     match &entry.what {
         What::Join => come(alloc, program, state, entry.view),
@@ -75,7 +74,7 @@ fn enter(
 
 /// Adds a view that is not here and tells models of it, unless too many are here: that is a fault.
 fn come(alloc: Global, program: &Checked, state: &mut State, view: u32) -> Result<(), WantOfMemory>
-    ensures { OnOk result (scene state.new ≡ came (program_tree program.now) view (scene state.old)) }
+    ensures { OnOk result (scene state.new ≡ after_join (program_tree program.now) view (scene state.old)) }
 {
     if view == 0 || is_here(state.views.as_slice(), view) {
         return Ok(());
@@ -91,7 +90,7 @@ fn come(alloc: Global, program: &Checked, state: &mut State, view: u32) -> Resul
 
 /// Takes away a view that is here, and tells models of it.
 fn go(alloc: Global, program: &Checked, state: &mut State, view: u32) -> Result<(), WantOfMemory>
-    ensures { OnOk result (scene state.new ≡ went (program_tree program.now) view (scene state.old)) }
+    ensures { OnOk result (scene state.new ≡ after_exit (program_tree program.now) view (scene state.old)) }
 {
     if !is_here(state.views.as_slice(), view) {
         return Ok(());
@@ -108,10 +107,17 @@ fn hear(
     state: &mut State,
     payload: &[u8],
 ) -> Result<(), WantOfMemory>
-    ensures { OnOk result (scene state.new ≡ heard (program_tree program.now) (payload_of payload.now) (scene state.old)) }
+    ensures { OnOk result (scene state.new ≡ after_event (program_tree program.now) (whole_payload payload.now) (scene state.old)) }
 {
     match read_payload(alloc, payload) {
-        Ok((scope, event, value)) => inform(alloc, program, state, &scope, &event, &value),
+        Ok((scope, name, value)) => {
+            let event = Event {
+                scope: &scope,
+                name: &name,
+                value: &value,
+            };
+            inform(alloc, program, state, &event)
+        }
         Err(ValueFault::BadValue) => {
             count_bad_event(state);
             Ok(())
@@ -125,20 +131,19 @@ fn tell_of(
     alloc: Global,
     program: &Checked,
     state: &mut State,
-    event: &Text,
+    name: &Text,
     view: u32,
 ) -> Result<(), WantOfMemory>
-    ensures { OnOk result (scene state.new ≡ told_of (program_tree program.now) event.now view (scene state.old)) }
+    ensures { OnOk result (scene state.new ≡ after_telling_of (program_tree program.now) name.now view (scene state.old)) }
 {
     let scope = session_text(alloc, &state.id)?;
-    inform(
-        alloc,
-        program,
-        state,
-        &scope,
-        event,
-        &Value::Int(i64::from(view)),
-    )
+    let value = Value::Int(i64::from(view));
+    let event = Event {
+        scope: &scope,
+        name,
+        value: &value,
+    };
+    inform(alloc, program, state, &event)
 }
 
 /// The event of a view that comes.
@@ -156,7 +161,7 @@ fn exit_event(alloc: Global) -> Result<Text, WantOfMemory>
 }
 
 fn is_here(views: &[u32], view: u32) -> bool
-    ensures { result ≡ is_among view views.now }
+    ensures { result ≡ is_view_here view views.now }
 {
     for other in views {
         if view == *other {

@@ -1,24 +1,24 @@
 //! Worlds.
 ghost use Rattle.std.specs.Prelude.{◌≡◌, ◌≢◌, ◌<◌, [], map, nat_lt, nat_le, IfOk, OnOk, false};
 ghost use Rattle.std.specs.Arc.{arc_value};
-ghost use Rattle.model_value.specs.Messages.{plain_outgoing};
-ghost use Rattle.model_value.specs.Valid.{Valid, time_limit};
-ghost use Rattle.model_value.specs.World.{world_record};
+ghost use Rattle.world_plain.specs.Messages.{plain_outgoing};
+ghost use Rattle.world_plain.specs.Valid.{Valid};
+ghost use Rattle.tea_base.specs.Limits.{time_limit};
+ghost use Rattle.world_plain.specs.World.{world_record};
 ghost use Rattle.model_lang.specs.TreeView.{program_tree};
-ghost use Rattle.world.specs.Worlds.{field_counts, first as first_of, advance as advanced, external as entered_by, taken_up};
+ghost use Rattle.world.specs.Worlds.{field_counts, first_scene as first_of, advance as advanced, external as entered_by, take_up};
 ghost use Rattle.world.specs.View.{Moves, Copies, IsSound};
 
 use crate::fault::WorldFault;
 use crate::{opening, resuming, simulation};
 use model_check::Checked;
 use model_eval::State;
-use model_value::Published;
 use std::alloc::Global;
 use std::marker::Model;
 use std::mem;
 use std::sync::Arc;
 use tea_base::{Entry, List, SessionId, WantOfMemory};
-use world_plain::PlainWorld;
+use world_plain::{PlainWorld, Published};
 
 /// A world of a session: what its models hold at a TeaTime.
 ///
@@ -76,7 +76,7 @@ impl World {
         plain: &PlainWorld,
     ) -> Result<World, WantOfMemory>
         requires { Valid (field_counts (program_tree (arc_value program))) (world_record plain.now) }
-        ensures { IfOk result (λ w. w ≡ record { program = arc_value program; scene = taken_up (world_record plain.now); broken = false }) }
+        ensures { IfOk result (λ w. w ≡ record { program = arc_value program; scene = take_up (world_record plain.now); broken = false }) }
     {
         let state = resuming::from_plain(alloc, plain)?;
         // The classes tell what a world wants of its program: that it is one.

@@ -7,9 +7,9 @@ use Rattle.std.proofs.lemmas.Cmp.{ranked}
 use Rattle.std.proofs.lemmas.Bool.Decides.{nat_tests}
 use Rattle.std.proofs.lemmas.Bool.{cases_lt, both_ways, eq-eqb, eqb-true}
 use Rattle.std.proofs.lemmas.Option.{none-some}
-use Rattle.model_value.specs.World.{ObjectRecord, object_record}
-use Rattle.model_value.specs.Valid.{RiseFrom, IsHeld, object_at, if_same}
-use Rattle.model_value.specs.declared.world.PlainObject.{PlainObject}
+use Rattle.world_plain.specs.World.{ObjectRecord, object_record}
+use Rattle.world_plain.specs.Valid.{RiseFrom, IsHeld, object_at, if_same}
+use Rattle.world_plain.specs.declared.world.PlainObject.{PlainObject}
 
 -- ---- numbers that rise
 

@@ -1,17 +1,13 @@
 -- Neighbours tell whether names and messages are in order, since both orders are transitive.
-use Rattle.std.proofs.Common.{◌≡◌, ℕ, ◌+◌, ◌-◌, ◌<◌, ◌≤◌, ◌⊎◌, inl, inr, Bool, true, false, List, [], ◌∷◌, length, get_or, drop, map, refl, sym, ap, ap₂, ◌∙◌, subst, IsTrue, arith}
-use Rattle.std.specs.Prelude.{◌↔◌, nat_lt, nat_eq, if◌then◌else◌}
-use Rattle.std.specs.Ordering.{nat_cmp, ordering_then, is_lt}
-use Rattle.std.specs.Cmp.Lexicographic.{slice_cmp}
-use Rattle.std.specs.declared.cmp.Ordering.{Ordering}
-use Rattle.std.specs.declared.cmp.Ordering.TheVariants.{Less, Equal, Greater}
-use Rattle.std.proofs.lemmas.Bool.{ltb-true, ltb-false, eqb-true, eqb-false}
-use Rattle.std.proofs.lemmas.List.{drop_more, length-drop}
-use Rattle.model_value.specs.Messages.{plain_message}
-use Rattle.model_value.specs.Valid.{IsBefore, KnownRise, Precedes, AreInOrder}
-use Rattle.model_value.specs.declared.message.Message.{Message}
-use Rattle.model_value.specs.declared.world.Known.{Known}
-use Rattle.model_value.proofs.Order.{IsBeforeAll-trans, AreInOrder-cons}
+use Rattle.std.proofs.Common.{◌≡◌, ℕ, ◌+◌, ◌-◌, ◌<◌, ◌≤◌, List, [], ◌∷◌, length, get_or, take, drop, map, sym, ap, ap₂, ◌∙◌, subst, arith}
+use Rattle.std.specs.Prelude.{◌↔◌}
+use Rattle.std.proofs.lemmas.List.{drop_more, length-drop, take_all}
+use Rattle.world_plain.specs.Messages.{plain_message}
+use Rattle.tea_base.specs.Order.{IsBefore}
+use Rattle.world_plain.specs.Valid.{KnownRise, Precedes, AreInOrder, IsUnused, NumbersDiffer}
+use Rattle.world_plain.specs.declared.message.Message.{Message}
+use Rattle.world_plain.specs.declared.world.Known.{Known}
+use Rattle.world_plain.proofs.Order.{IsBeforeAll-trans, AreInOrder-cons}
 
 -- ---- neighbours
 
@@ -61,34 +57,18 @@ order_parts m n ns order = (order.0.0, order.1)
 pub order_whole : (m n : Message) (ns : List Message) → Precedes (plain_message m) (plain_message n) → AreInOrder (map plain_message (n ∷ ns)) → AreInOrder (map plain_message (m ∷ n ∷ ns))
 order_whole m n ns before order = AreInOrder-cons (plain_message m) (plain_message n) (map plain_message ns) before order
 
--- ---- the order of texts
-
--- the front characters tell, or what stands behind them
-tells : (less same : Bool) (o : Ordering) (c d : ℕ) (P : Type 0) → (less ≡ true → c < d) → (same ≡ true → c ≡ d) → (is_lt o ≡ true → P)
-    → is_lt (ordering_then (if less then Less else (if same then Equal else Greater)) o) ≡ true → (c < d) ⊎ ((c ≡ d) × P)
-tells true same o c d P f g h e = inl (f refl)
-tells false true o c d P f g h e = inr (g refl, h e)
-tells false false o c d P f g h e = absurd cc
-
-told : (less same : Bool) (o : Ordering) (c d : ℕ) (P : Type 0) → (less ≡ false → c < d → ⊥) → (same ≡ false → c ≡ d → ⊥) → (P → is_lt o ≡ true)
-    → (c < d) ⊎ ((c ≡ d) × P) → is_lt (ordering_then (if less then Less else (if same then Equal else Greater)) o) ≡ true
-told true same o c d P f g h both = refl
-told false same o c d P f g h (inl before) = absurd (f refl before)
-told false true o c d P f g h (inr both) = h both.1
-told false false o c d P f g h (inr both) = absurd (g refl both.0)
-
-is_lt-IsBefore : (x y : List ℕ) → is_lt (slice_cmp nat_cmp x y) ≡ true → IsBefore x y
-is_lt-IsBefore [] [] e = absurd cc
-is_lt-IsBefore [] (d ∷ ds) e = tt
-is_lt-IsBefore (c ∷ cs) [] e = absurd cc
-is_lt-IsBefore (c ∷ cs) (d ∷ ds) e = tells (nat_lt c d) (nat_eq c d) (slice_cmp nat_cmp cs ds) c d (IsBefore cs ds) (ltb-true c d) (eqb-true c d) (is_lt-IsBefore cs ds) e
-
-IsBefore-is_lt : (x y : List ℕ) → IsBefore x y → is_lt (slice_cmp nat_cmp x y) ≡ true
-IsBefore-is_lt [] [] h = absurd h
-IsBefore-is_lt [] (d ∷ ds) h = refl
-IsBefore-is_lt (c ∷ cs) [] h = absurd h
-IsBefore-is_lt (c ∷ cs) (d ∷ ds) h =
-    told (nat_lt c d) (nat_eq c d) (slice_cmp nat_cmp cs ds) c d (IsBefore cs ds) (λ e below. let least = ltb-false c d e in omega (arith, least)) (eqb-false c d) (IsBefore-is_lt cs ds) h
-
-pub before-is : (x y : List ℕ) (b : Bool) → b ≡ is_lt (slice_cmp nat_cmp x y) → (IsTrue b ↔ IsBefore x y)
-before-is x y b e = (λ is. is_lt-IsBefore x y (sym e ∙ is), λ before. e ∙ IsBefore-is_lt x y before)
+-- one more message has a number that none behind it has
+pub differs_on :
+    (ms : List Message) (i : ℕ) (m : Message) → i < length ms → m ≡ get_or ms i m → IsUnused (get_or ms i m).number (map plain_message (take (length ms - (i + 1)) (drop (i + 1) ms)))
+    → (NumbersDiffer (map plain_message ms) ↔ NumbersDiffer (map plain_message (drop i ms)))
+    → (NumbersDiffer (map plain_message ms) ↔ NumbersDiffer (map plain_message (drop (i + 1) ms)))
+differs_on ms i m h is unused so_far =
+    let here : drop i ms ≡ m ∷ drop (i + 1) ms = drop_more ms i m h ∙ ap (λ x. x ∷ drop (i + 1) ms) (sym is) in
+    let behind : List Message = drop (i + 1) ms in
+    let whole : take (length ms - (i + 1)) behind ≡ behind = take_all (length ms - (i + 1)) behind (simp length-drop (omega arith)) in
+    let new : IsUnused m.number (map plain_message behind) =
+    subst (λ (n : Message). IsUnused n.number (map plain_message behind)) (sym is) (subst (λ ns. IsUnused (get_or ms i m).number (map plain_message ns)) whole unused) in
+    let family : List Message → Type 0 = λ ns. NumbersDiffer (map plain_message ns) in (
+      λ all. (subst family here (so_far.0 all)).1,
+      λ rest. so_far.1 (subst family (sym here) (new, rest)),
+    )

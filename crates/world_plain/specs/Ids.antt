@@ -1,7 +1,7 @@
 -- The numbers of objects.
 use Rattle.std.specs.Prelude.{List, map}
-use Rattle.model_value.specs.World.{ObjectRecord}
-use Rattle.model_value.specs.Valid.{RiseFrom}
+use Rattle.world_plain.specs.World.{ObjectRecord}
+use Rattle.world_plain.specs.Valid.{RiseFrom}
 
 -- each object has a higher number than the one before it, and the first one at least 1
 abbrev pub HaveRisingIds : List ObjectRecord → Type 0

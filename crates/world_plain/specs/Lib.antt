@@ -1,1 +1,6 @@
-mod Ids
+pub mod Messages
+pub mod World
+pub mod Valid
+pub mod ValidTest
+pub mod WorldCode
+pub mod Ids

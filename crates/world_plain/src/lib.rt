@@ -3,17 +3,32 @@
 //!
 //! [`PlainWorld`] is the session's id, the world's time and its other numbers, the views that are here, and its
 //! objects, known names, subscriptions and pending messages. [`valid`] tells whether a world is valid for a program,
-//! and [`room`] what weight may still be added to it, up to [`MOST_WORLD_WEIGHT`]. The types stand in `model_value`, and
-//! are exported here for what stands above.
+//! and [`room`] what weight may still be added to it, up to [`MOST_WORLD_WEIGHT`].
 #![tactic(auto)]
 
-mod bounds;
+mod copies;
+mod limits;
+mod message;
 mod messages;
 mod objects;
+mod refusal;
 mod subscriptions;
 mod validity;
+mod weights;
+mod world;
 
-pub use model_value::{
-    Known, KnownNames, MOST_WORLD_WEIGHT, PlainObject, PlainObjects, PlainWorld, room,
+pub use copies::{
+    copy_known_names, copy_message, copy_messages, copy_numbers, copy_subscription,
+    copy_subscriptions,
 };
+pub use limits::{
+    MOST_ARGUMENTS, MOST_MESSAGES, MOST_OBJECTS, MOST_SUBSCRIPTIONS, MOST_TURNS, MOST_VIEWS,
+    MOST_WORLD_WEIGHT,
+};
+pub use message::{Message, Messages, Outgoing, Published, Subscription, Subscriptions};
+pub use refusal::StoreRefusal;
 pub use validity::valid;
+pub use weights::{
+    known_fits, message_fits, object_fits, room, room_behind_known, subscription_fits, value_fits,
+};
+pub use world::{Known, KnownNames, PlainObject, PlainObjects, PlainWorld};

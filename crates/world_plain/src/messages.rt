@@ -1,16 +1,17 @@
 //! What is asked of the pending messages of a world.
 ghost use Rattle.std.specs.Prelude.{◌≤◌, ◌<◌, ◌↔◌, map, length, IsTrue};
-ghost use Rattle.model_value.specs.Messages.{plain_message};
-ghost use Rattle.model_value.specs.Valid.{time_limit, most_parameters, Precedes, AreInOrder, IsUnused, NumbersDiffer, MessageFits, MessagesFit};
-ghost use Rattle.model_value.specs.World.{object_record, world_record};
+ghost use Rattle.world_plain.specs.Messages.{plain_message};
+ghost use Rattle.tea_base.specs.Limits.{time_limit};
+ghost use Rattle.world_plain.specs.Valid.{most_parameters, Precedes, AreInOrder, IsUnused, NumbersDiffer, MessageFits, MessagesFit};
+ghost use Rattle.world_plain.specs.World.{object_record};
 ghost use Rattle.world_plain.specs.Ids.{HaveRisingIds};
 
-use crate::bounds::{are_in_bounds, text_fits};
+use crate::limits::MOST_ARGUMENTS;
+use crate::message::Message;
 use crate::objects::is_held;
-use crate::validity::TIME_LIMIT;
-use model_value::{Message, PlainWorld};
-
-const MOST_PARAMETERS: usize = 16;
+use crate::world::PlainWorld;
+use model_value::{are_in_bounds, text_fits};
+use tea_base::TIME_LIMIT;
 
 /// Whether messages stand by rising time and number.
 pub fn are_in_order(messages: &[Message]) -> bool
@@ -58,7 +59,7 @@ fn is_unused(number: u64, messages: &[Message]) -> bool
 /// Whether each message is one that is still to come in the world, for an object that is held.
 pub fn messages_fit(world: &PlainWorld, messages: &[Message]) -> bool
     requires { HaveRisingIds (map object_record world.now.objects) }
-    ensures { IsTrue result ↔ MessagesFit (world_record world.now) (map plain_message messages.now) }
+    ensures { IsTrue result ↔ MessagesFit world.now.time world.now.next_number (map object_record world.now.objects) (map plain_message messages.now) }
 {
     for message in messages {
         if !message_fits(world, message) {
@@ -70,13 +71,13 @@ pub fn messages_fit(world: &PlainWorld, messages: &[Message]) -> bool
 
 fn message_fits(world: &PlainWorld, message: &Message) -> bool
     requires { HaveRisingIds (map object_record world.now.objects) }
-    ensures { IsTrue result ↔ MessageFits (world_record world.now) (plain_message message.now) }
+    ensures { IsTrue result ↔ MessageFits world.now.time world.now.next_number (map object_record world.now.objects) (plain_message message.now) }
 {
     world.time <= message.time
         && message.time < TIME_LIMIT
         && message.number < world.next_number
         && is_held(world.objects.as_slice(), message.object)
         && text_fits(&message.method)
-        && message.args.len() <= MOST_PARAMETERS
+        && message.args.len() <= MOST_ARGUMENTS
         && are_in_bounds(message.args.as_slice())
 }

@@ -1,16 +1,11 @@
 //! What is asked of the objects of a world and of the names by which they are known.
 ghost use Rattle.std.specs.Prelude.{◌≡◌, ◌↔◌, map, slice_get, length, IsTrue};
-ghost use Rattle.model_lang.specs.TreeView.{program_tree};
-ghost use Rattle.model_check.specs.Methods.{field_counts};
-ghost use Rattle.model_value.specs.Valid.{IsHeld, ObjectFits, ObjectsFit, IsBefore, KnownRise, KnownFit};
-ghost use Rattle.model_value.specs.World.{object_record};
+ghost use Rattle.world_plain.specs.Valid.{IsHeld, ObjectFits, ObjectsFit, KnownRise, KnownFit};
+ghost use Rattle.world_plain.specs.World.{object_record};
 ghost use Rattle.world_plain.specs.Ids.{HaveRisingIds};
 
-use crate::bounds::{are_in_bounds, text_fits};
-use model_builtin::order;
-use model_check::Checked;
-use model_value::{Known, PlainObject};
-use tea_base::Text;
+use crate::world::{Known, PlainObject};
+use model_value::{are_in_bounds, text_fits};
 
 /// Whether objects stand by rising number, from 1 at least.
 pub fn ids_rise(objects: &[PlainObject]) -> bool
@@ -26,31 +21,32 @@ pub fn ids_rise(objects: &[PlainObject]) -> bool
     true
 }
 
-/// Whether each object is one of the program with values in bounds, and has a number below the next one.
-pub fn objects_fit(objects: &[PlainObject], next: u32, program: &Checked) -> bool
-    ensures { IsTrue result ↔ ObjectsFit (field_counts (program_tree program.now)) next (map object_record objects.now) }
+/// Whether each object is of a class of the program, which is told by the numbers of fields of its classes, holds values
+/// in bounds, and has a number below the next one.
+pub fn objects_fit(objects: &[PlainObject], next: u32, counts: &[u32]) -> bool
+    ensures { IsTrue result ↔ ObjectsFit counts.now next (map object_record objects.now) }
 {
     for object in objects {
-        if !object_fits(object, next, program) {
+        if !object_fits(object, next, counts) {
             return false;
         }
     }
     true
 }
 
-fn object_fits(object: &PlainObject, next: u32, program: &Checked) -> bool
-    ensures { IsTrue result ↔ ObjectFits (field_counts (program_tree program.now)) next (object_record object.now) }
+fn object_fits(object: &PlainObject, next: u32, counts: &[u32]) -> bool
+    ensures { IsTrue result ↔ ObjectFits counts.now next (object_record object.now) }
 {
-    object.id < next && has_its_fields(object, program) && are_in_bounds(object.fields.as_slice())
+    object.id < next && has_its_fields(object, counts) && are_in_bounds(object.fields.as_slice())
 }
 
 /// Whether an object is of a class of the program, and has as many fields as that declares.
-fn has_its_fields(object: &PlainObject, program: &Checked) -> bool
-    ensures { IsTrue result ↔ slice_get (field_counts (program_tree program.now)) object.now.class ≡ Some (length object.now.fields) }
+fn has_its_fields(object: &PlainObject, counts: &[u32]) -> bool
+    ensures { IsTrue result ↔ slice_get counts.now object.now.class ≡ Some (length object.now.fields) }
 {
-    match program.fields(object.class) {
+    match counts.get(object.class as usize) {
         None => false,
-        Some(count) => object.fields.len() == count as usize,
+        Some(count) => object.fields.len() == *count as usize,
     }
 }
 
@@ -70,18 +66,11 @@ pub fn names_rise(known: &[Known]) -> bool
 {
     // The order is transitive, so neighbours tell.
     for i in 1..known.len() {
-        if !is_before(&known[i - 1].name, &known[i].name) {
+        if !known[i - 1].name.is_before(&known[i].name) {
             return false;
         }
     }
     true
-}
-
-/// Whether a text stands before another in the order of characters.
-fn is_before(text: &Text, other: &Text) -> bool
-    ensures { IsTrue result ↔ IsBefore text.now other.now }
-{
-    order(text.as_str(), other.as_str()).is_lt()
 }
 
 /// Whether each known name is a text that fits, of an object that is held.

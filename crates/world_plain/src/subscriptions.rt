@@ -1,12 +1,13 @@
 //! What is asked of the subscriptions of a world.
 ghost use Rattle.std.specs.Prelude.{◌≡◌, ◌↔◌, map, IsTrue};
-ghost use Rattle.model_value.specs.Valid.{IsNew, SubscriptionsDiffer, SubscriptionFits, SubscriptionsFit};
-ghost use Rattle.model_value.specs.World.{object_record};
+ghost use Rattle.world_plain.specs.Valid.{IsNew, SubscriptionsDiffer, SubscriptionFits, SubscriptionsFit};
+ghost use Rattle.world_plain.specs.World.{object_record};
 ghost use Rattle.world_plain.specs.Ids.{HaveRisingIds};
 
-use crate::bounds::text_fits;
+use crate::message::Subscription;
 use crate::objects::is_held;
-use model_value::{PlainObject, Subscription};
+use crate::world::PlainObject;
+use model_value::text_fits;
 
 /// Whether no two subscriptions are the same. It compares each with each.
 pub fn subscriptions_differ(subscriptions: &[Subscription]) -> bool

@@ -1,32 +1,22 @@
 //! Which worlds are valid for a program.
-ghost use Rattle.std.specs.Prelude.{◌≤◌, ◌<◌, ◌↔◌, length, map, IsTrue};
-ghost use Rattle.model_lang.specs.TreeView.{program_tree};
-ghost use Rattle.model_check.specs.Methods.{field_counts};
-ghost use Rattle.model_value.specs.Valid.{time_limit, most_turns, most_views, most_objects, most_pending, RiseFrom, ObjectsFit, KnownRise, KnownFit, SubscriptionsDiffer, SubscriptionsFit, AreInOrder, NumbersDiffer, MessagesFit, Valid};
-ghost use Rattle.model_value.specs.Messages.{plain_message};
-ghost use Rattle.model_value.specs.World.{object_record, world_record, world_weight, most_world_weight};
+ghost use Rattle.std.specs.Prelude.{◌≡◌, ◌≤◌, ◌<◌, ◌↔◌, length, map, IsTrue};
+ghost use Rattle.world_plain.specs.ValidTest.{is_valid};
+ghost use Rattle.tea_base.specs.Limits.{time_limit};
+ghost use Rattle.world_plain.specs.Valid.{most_turns, most_views, most_objects, most_pending, RiseFrom, ObjectsFit, KnownRise, KnownFit, SubscriptionsFit, AreInOrder, MessagesFit, Valid};
+ghost use Rattle.world_plain.specs.Messages.{plain_message};
+ghost use Rattle.world_plain.specs.World.{object_record, world_record, world_weight, most_world_weight};
 ghost use Rattle.world_plain.specs.Ids.{HaveRisingIds};
 
+use crate::limits::{MOST_MESSAGES, MOST_OBJECTS, MOST_SUBSCRIPTIONS, MOST_TURNS, MOST_VIEWS};
 use crate::messages::{are_in_order, messages_fit, numbers_differ};
 use crate::objects::{ids_rise, names_fit, names_rise, objects_fit};
 use crate::subscriptions::{subscriptions_differ, subscriptions_fit};
-use model_check::Checked;
-use model_value::{PlainWorld, room};
+use crate::weights::room;
+use crate::world::PlainWorld;
+use tea_base::TIME_LIMIT;
 
-/// The times of a world are below this many microseconds.
-pub(crate) const TIME_LIMIT: u64 = 1 << 53;
-
-/// How far turns are counted.
-const MOST_TURNS: u32 = 1024;
-
-const MOST_VIEWS: usize = 1024;
-
-const MOST_OBJECTS: usize = 4096;
-
-/// The most pending messages, and the most subscriptions.
-const MOST_PENDING: usize = 16_384;
-
-/// Whether a world is valid for a program. Any world may be asked about, and it takes no memory.
+/// Whether a world is valid for a program, which is told by the numbers of fields of its classes, in their order. Any world
+/// may be asked about, and it takes no memory.
 ///
 /// - Its time is below 2^53 microseconds, the next object's number is at least 1, and at most 1,024 turns are counted.
 /// - Its views rise, and none is 0. There are at most 1,024.
@@ -38,18 +28,28 @@ const MOST_PENDING: usize = 16_384;
 ///   or at 2^53 or later. Their numbers differ from each other, and are below the next message's number. Each is for an
 ///   object that is held, and has at most 16 arguments, each in bounds.
 /// - Each text weighs at most 4,096, and the world at most 131,072.
-pub fn valid(world: &PlainWorld, program: &Checked) -> bool
-    ensures { IsTrue result ↔ Valid (field_counts (program_tree program.now)) (world_record world.now) }
+pub fn valid(world: &PlainWorld, counts: &[u32]) -> bool
+    ensures valid { IsTrue result ↔ Valid counts.now (world_record world.now) }
+    ensures test { result ≡ is_valid counts.now (world_record world.now) }
 {
-    // The counts and the weight come first, since what compares each with each would take too long on more.
+    has_valid_parts(world, counts)
+}
+
+fn has_valid_parts(world: &PlainWorld, counts: &[u32]) -> bool
+    ensures { IsTrue result ↔ Valid counts.now (world_record world.now) }
+{
+    // Each value is found in bounds before the world is weighed, since weighing goes as deep as its lists nest. The counts
+    // come first, and what compares each with each last, since that would take too long on more.
     has_few_parts(world)
-        && is_light(world)
         && has_fit_numbers(world)
         && rise(world.views.as_slice())
-        && has_fit_objects(world, program)
+        && has_fit_objects(world, counts)
         && has_fit_names(world)
         && has_fit_subscriptions(world)
         && has_fit_messages(world)
+        && is_light(world)
+        && subscriptions_differ(world.subscriptions.as_slice())
+        && numbers_differ(world.pending.as_slice())
 }
 
 /// Whether there are no more views, objects, subscriptions and pending messages than there may be.
@@ -59,8 +59,8 @@ fn has_few_parts(world: &PlainWorld) -> bool
 {
     world.views.len() <= MOST_VIEWS
         && world.objects.len() <= MOST_OBJECTS
-        && world.subscriptions.len() <= MOST_PENDING
-        && world.pending.len() <= MOST_PENDING
+        && world.subscriptions.len() <= MOST_SUBSCRIPTIONS
+        && world.pending.len() <= MOST_MESSAGES
 }
 
 fn has_fit_numbers(world: &PlainWorld) -> bool
@@ -90,12 +90,12 @@ fn rise(numbers: &[u32]) -> bool
     true
 }
 
-fn has_fit_objects(world: &PlainWorld, program: &Checked) -> bool
+fn has_fit_objects(world: &PlainWorld, counts: &[u32]) -> bool
     ensures { let objects = map object_record world.now.objects in
-        IsTrue result ↔ (HaveRisingIds objects × ObjectsFit (field_counts (program_tree program.now)) world.now.next_object objects) }
+        IsTrue result ↔ (HaveRisingIds objects × ObjectsFit counts.now world.now.next_object objects) }
 {
     let objects = world.objects.as_slice();
-    ids_rise(objects) && objects_fit(objects, world.next_object, program)
+    ids_rise(objects) && objects_fit(objects, world.next_object, counts)
 }
 
 fn has_fit_names(world: &PlainWorld) -> bool
@@ -108,18 +108,16 @@ fn has_fit_names(world: &PlainWorld) -> bool
 
 fn has_fit_subscriptions(world: &PlainWorld) -> bool
     requires { HaveRisingIds (map object_record world.now.objects) }
-    ensures { IsTrue result ↔ (SubscriptionsDiffer world.now.subscriptions × SubscriptionsFit (map object_record world.now.objects) world.now.subscriptions) }
+    ensures { IsTrue result ↔ SubscriptionsFit (map object_record world.now.objects) world.now.subscriptions }
 {
-    let subscriptions = world.subscriptions.as_slice();
-    subscriptions_differ(subscriptions)
-        && subscriptions_fit(subscriptions, world.objects.as_slice())
+    subscriptions_fit(world.subscriptions.as_slice(), world.objects.as_slice())
 }
 
 fn has_fit_messages(world: &PlainWorld) -> bool
     requires { HaveRisingIds (map object_record world.now.objects) }
     ensures { let messages = map plain_message world.now.pending in
-        IsTrue result ↔ (AreInOrder messages × NumbersDiffer messages × MessagesFit (world_record world.now) messages) }
+        IsTrue result ↔ (AreInOrder messages × MessagesFit world.now.time world.now.next_number (map object_record world.now.objects) messages) }
 {
     let messages = world.pending.as_slice();
-    are_in_order(messages) && numbers_differ(messages) && messages_fit(world, messages)
+    are_in_order(messages) && messages_fit(world, messages)
 }

@@ -1,15 +1,15 @@
 //! What holds objects, messages and subscriptions, at numbers that no program reaches.
 ghost use Rattle.std.specs.Prelude.{◌≤◌, length, IfOk};
-ghost use Rattle.model_value.specs.Valid.{TextFits};
-ghost use Rattle.pubsub.specs.Topics.{IsLight};
+ghost use Rattle.model_value.specs.Plain.{TextFits};
+ghost use Rattle.pubsub.specs.Topics.{IsLightSubscription};
 
-use message_queue::{Queue, QueueRefusal};
-use model_value::{Message, Subscription};
-use object_store::{Store, StoreRefusal};
+use message_queue::Queue;
+use object_store::Store;
 use pubsub::Topics;
 use std::alloc::Global;
 use std::test::Fail;
 use tea_base::{List, Text, WantOfMemory};
+use world_plain::{Message, StoreRefusal, Subscription};
 
 #[test]
 fn the_last_id_is_given_once(rt: HostRuntime) -> Result<(), Fail> {
@@ -45,13 +45,13 @@ fn the_last_number_is_given_once(rt: HostRuntime) -> Result<(), Fail> {
     let last = queue.push(2, 1, name(alloc, "a")?, List::new(alloc));
     assert_eq!(rt; last, Ok(u64::MAX - 1));
     let none = queue.push(1, 1, name(alloc, "a")?, List::new(alloc));
-    assert_eq!(rt; none, Err(QueueRefusal::Spent));
+    assert_eq!(rt; none, Err(StoreRefusal::Spent));
     assert_eq!(rt; queue.least(), Some((2, u64::MAX - 1)));
     Ok(())
 }
 
 fn subscription(alloc: Global, object: u32) -> Result<Subscription, WantOfMemory>
-    ensures { IfOk result (λ s. IsLight s) }
+    ensures { IfOk result (λ s. IsLightSubscription s) }
 {
     Ok(Subscription {
         scope: name(alloc, "room")?,

@@ -2,14 +2,16 @@
 //! kind.
 use model_check::{Checked, check};
 use model_lang::parse;
-use model_value::{Message, Subscription, Value, Values};
+use model_value::{Value, Values};
 use snapshot_codec::{SnapFault, again, digest, session_id, snapshot, unsnap};
 use std::alloc::Global;
 use std::sync::Arc;
 use std::test::Fail;
 use tea_base::{Blob, List, Numbers, SessionId, Text, WantOfMemory};
 use world::World;
-use world_plain::{Known, MOST_WORLD_WEIGHT, PlainObject, PlainWorld, room, valid};
+use world_plain::{
+    Known, MOST_WORLD_WEIGHT, Message, PlainObject, PlainWorld, Subscription, room, valid,
+};
 
 /// The digest of `abc` in FIPS 180-4.
 const ABC_DIGEST: [u8; 32] = *b"\xba\x78\x16\xbf\x8f\x01\xcf\xea\x41\x41\x40\xde\x5d\xae\x22\x23\
@@ -172,7 +174,7 @@ fn full(alloc: Global) -> Result<PlainWorld, WantOfMemory> {
 
 /// The spelling of a world that is valid for the program.
 fn spelled(alloc: Global, program: &Checked, world: &PlainWorld) -> Result<Blob, Fail> {
-    if valid(world, program) {
+    if valid(world, program.field_counts(alloc)?.as_slice()) {
         Ok(snapshot(alloc, world)?)
     } else {
         Err("the world is not valid".into())
@@ -195,7 +197,8 @@ fn a_full_world_is_read(rt: HostRuntime) -> Result<(), Fail> {
     let alloc = rt.alloc();
     let program = checked(alloc, SIX)?;
     let world = unsnap(alloc, &program, &SessionId([7; 32]), FULL)?;
-    assert!(rt; valid(&world, &program));
+    let counts = program.field_counts(alloc)?;
+    assert!(rt; valid(&world, counts.as_slice()));
     let again = again(alloc, &program, &world)?;
     assert!(rt; spelled(alloc, &program, &again)?.is_bytes(FULL));
     Ok(())

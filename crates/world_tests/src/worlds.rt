@@ -3,12 +3,13 @@ ghost use Rattle.std.specs.Prelude.{◌<◌, ◌^◌, IfOk};
 
 use model_check::check;
 use model_lang::parse;
-use model_value::{Published, Value};
+use model_value::Value;
 use std::alloc::Global;
 use std::sync::Arc;
 use std::test::Fail;
 use tea_base::{Blob, Entry, SessionId, What};
 use world::{World, WorldFault};
+use world_plain::Published;
 
 /// The first world of a program.
 fn first(alloc: Global, text: &str) -> Result<World, Fail> {

@@ -1,6 +1,6 @@
 //! The entries that views are sent.
 ghost use Rattle.std.specs.Prelude.{◌≡◌, ◌+◌, ◌≤◌, length, take, drop, IfOk, OnErr};
-ghost use Rattle.tea_base.specs.Legal.{most_entries};
+ghost use Rattle.tea_base.specs.Limits.{most_entries};
 ghost use Rattle.reflector_core.specs.Answer.{with_reply, MayWantMemory, pull};
 
 use crate::request::{Refusal, Reply};

@@ -1,21 +1,15 @@
 //! The events that views send.
 ghost use Rattle.std.specs.Prelude.{◌≡◌, ◌+◌, ◌<◌, ◌≤◌, ◌||◌, nat_lt, true, length, IfOk, IsOk, OnErr};
-ghost use Rattle.tea_base.specs.Readings.{payload_bytes, event, is_here, last_number};
-ghost use Rattle.tea_base.specs.Legal.{most_payload, most_bytes, most_open_entries};
+ghost use Rattle.tea_base.specs.Readings.{payload_bytes, view_event, is_here, last_number};
+ghost use Rattle.tea_base.specs.Limits.{most_payload, most_bytes, most_open_entries, end_of_time};
 ghost use Rattle.reflector_core.specs.SessionState.{UsesAtMost};
 ghost use Rattle.reflector_core.specs.declared.request.Reply.{Reply};
-ghost use Rattle.reflector_core.specs.Answer.{with_reply, MayWantMemory, capped, is_closed, repeats, stamps, send, end_of_time};
+ghost use Rattle.reflector_core.specs.Answer.{with_reply, MayWantMemory, capped, is_closed, repeats, stamps, send_event};
 
 use crate::request::{Refusal, Reply};
 use crate::session::Session;
-use crate::session::times::{END_OF_TIME, stamp};
-use tea_base::WantOfMemory;
-
-/// The most payload bytes of an event.
-const MOST_PAYLOAD: usize = 4_096;
-
-/// The most payload bytes of a log.
-const MOST_BYTES: u64 = 67_108_864;
+use crate::session::times::stamp;
+use tea_base::{END_OF_TIME, MOST_BYTES, MOST_PAYLOAD, WantOfMemory};
 
 /// A length as a reply gives it.
 pub(super) fn capped(len: usize) -> u32
@@ -35,12 +29,12 @@ impl Session {
         now: u64,
     ) -> Result<Reply, WantOfMemory>
         ensures ok { IfOk result (λ reply. with_reply self.new.plain reply ≡
-            send self.old.plain view joined number payload.now now) }
+            send_event self.old.plain view joined number payload.now now) }
         ensures prepared { 0 < self.old.ready_entries → length payload.now ≤ self.old.ready_bytes →
             IsOk result }
         ensures used { UsesAtMost self.old self.new 1 (length payload.now) }
         ensures memory { OnErr result
-            (MayWantMemory (send self.old.plain view joined number payload.now now).reply) }
+            (MayWantMemory (send_event self.old.plain view joined number payload.now now).reply) }
         ensures err { OnErr result (self.new.plain ≡ self.old.plain) }
     {
         if self.is_stale(view, joined) {
@@ -86,7 +80,7 @@ impl Session {
         requires counted { 0 < number }
         requires sent { number ≤ last_number self.now.plain.log view }
         ensures { (otherwise : Reply) → result ≡
-            repeats self.now.plain payload.now (event self.now.plain.log view number) otherwise }
+            repeats self.now.plain payload.now (view_event self.now.plain.log view number) otherwise }
     {
         match self.log.seq_of(view, number) {
             None => unreachable!(),

@@ -1,21 +1,15 @@
 //! The coming and going of views.
 ghost use Rattle.std.specs.Prelude.{◌≡◌, ◌≢◌, ◌<◌, ◌≤◌, ◌^◌, false, length, IfOk, IsOk, OnErr};
 ghost use Rattle.tea_base.specs.Readings.{current, here_count, is_here};
-ghost use Rattle.tea_base.specs.Legal.{most_here, most_open_entries};
+ghost use Rattle.tea_base.specs.Limits.{most_here, most_open_entries, end_of_time};
 ghost use Rattle.reflector_core.specs.SessionState.{UsesAtMost};
-ghost use Rattle.reflector_core.specs.Answer.{with_reply, MayWantMemory, is_stale, is_closed, log_full, joins, join, leave, end_of_time};
+ghost use Rattle.reflector_core.specs.Answer.{with_reply, MayWantMemory, is_stale, is_closed, log_full, joins, join, leave};
 
 use crate::request::{Refusal, Reply};
 use crate::session::Session;
-use crate::session::times::{END_OF_TIME, stamp};
-use tea_base::{WantOfMemory, What};
+use crate::session::times::stamp;
+use tea_base::{END_OF_TIME, MOST_HERE, MOST_OPEN_ENTRIES, WantOfMemory, What};
 use wire_frames::Want;
-
-/// How many entries a log may have before nothing is added but Exits.
-const MOST_OPEN_ENTRIES: u32 = 1_048_576;
-
-/// The most views that are here.
-const MOST_HERE: u32 = 1_024;
 
 impl Session {
     /// Whether the view is not here, or has another Join or Exit after the caller's Join.

@@ -6,11 +6,8 @@ ghost use Rattle.reflector_core.specs.Answer.{with_reply, MayWantMemory, is_ahea
 use crate::request::{Refusal, Reply};
 use crate::session::Session;
 use crate::session::events::capped;
-use tea_base::{Blob, WantOfMemory};
+use tea_base::{Blob, MOST_SNAPSHOT, WantOfMemory};
 use wire_frames::{Base, Want};
-
-/// The most bytes of a snapshot.
-const MOST_SNAPSHOT: usize = 4_194_304;
 
 impl Session {
     /// Answers an Offer.

@@ -1,18 +1,16 @@
 //! The times that a session gives.
-ghost use Rattle.std.specs.Prelude.{◌≡◌, ◌<◌, ◌^◌};
+ghost use Rattle.std.specs.Prelude.{◌≡◌, ◌<◌};
+ghost use Rattle.tea_base.specs.Limits.{time_limit};
 ghost use Rattle.reflector_core.specs.SessionState.{UsesAtMost};
 ghost use Rattle.reflector_core.specs.Answer.{with_reply, stamp, tick};
 
 use crate::request::Reply;
 use crate::session::Session;
-
-/// From this horizon on nothing is stamped but Exits: 2^53 - 4,096. The times above it, which are
-/// more than the views that can be here, are kept for their Exits.
-pub(super) const END_OF_TIME: u64 = 9_007_199_254_736_896;
+use tea_base::END_OF_TIME;
 
 /// The time of the next entry.
 pub(super) fn stamp(horizon: u64, now: u64) -> u64
-    requires { horizon < 2 ^ 53 }
+    requires { horizon < time_limit }
     ensures { result ≡ stamp horizon now }
 {
     now.min(END_OF_TIME).max(horizon + 1)

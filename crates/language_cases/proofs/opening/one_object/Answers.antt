@@ -1,6 +1,7 @@
 use Rattle.std.proofs.Common.{◌≤◌, ◌+◌, arith}
 use Rattle.model_value.specs.View.{plain_values}
-use Rattle.model_value.specs.World.{values_weight, most_world_weight}
+use Rattle.model_value.specs.Plain.{values_weight}
+use Rattle.world_plain.specs.World.{most_world_weight}
 use Rattle.object_store.proofs.Objects.{AreFields-light}
 use Rattle.language_cases.proofs.opening.one_object.Goals as goal
 

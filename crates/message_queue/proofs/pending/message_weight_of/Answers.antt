@@ -1,6 +1,6 @@
 use Rattle.std.proofs.Common.{ap, arith}
 use Rattle.model_value.specs.View.{plain_values}
-use Rattle.model_value.specs.World.{values_weight}
+use Rattle.model_value.specs.Plain.{values_weight}
 use Rattle.message_queue.proofs.pending.message_weight_of.Goals as goal
 
 pub overflow_add-result-2 : goal.overflow_add-result-2

@@ -1,5 +1,5 @@
 use Rattle.std.proofs.Common.{◌≡◌, ◌++◌, take, drop}
-use Rattle.model_value.specs.Messages.{plain_message}
+use Rattle.world_plain.specs.Messages.{plain_message}
 use Rattle.message_queue.specs.Queue.{inserted}
 use Rattle.message_queue.specs.View.{messages_seen}
 use Rattle.message_queue.proofs.pending.place_for.Given as goal

@@ -1,8 +1,8 @@
 use Rattle.std.proofs.Common.{rules, ap, ◌∙◌}
 use Rattle.std.specs.Prelude.{not}
 use Rattle.std.proofs.lemmas.Fn.{filter_same}
-use Rattle.model_value.specs.Messages.{PlainMessage, plain_message}
-use Rattle.model_value.specs.declared.message.Message.{Message}
+use Rattle.world_plain.specs.Messages.{PlainMessage, plain_message}
+use Rattle.world_plain.specs.declared.message.Message.{Message}
 use Rattle.message_queue.specs.Queue.{calls}
 use Rattle.message_queue.specs.View.{messages_seen}
 use Rattle.message_queue.proofs.Messages.{seen_filter}

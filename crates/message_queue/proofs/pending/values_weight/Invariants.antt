@@ -1,6 +1,6 @@
 use Rattle.std.proofs.Common.{◌≡◌, ◌+◌, drop}
 use Rattle.model_value.specs.View.{plain_values}
-use Rattle.model_value.specs.World.{values_weight}
+use Rattle.model_value.specs.Plain.{values_weight}
 use Rattle.message_queue.proofs.pending.values_weight.Given as goal
 
 abbrev pub invariant-loop-value : goal.invariant-loop-value

@@ -1,7 +1,7 @@
 use Rattle.std.proofs.Common.{◌++◌, ap, ◌∙◌, arith, encode_utf8_all, take}
 use Rattle.std.specs.Str.{chars}
 use Rattle.std.specs.Str.Iter.{chars_rest}
-use Rattle.model_builtin.proofs.Characters.{stepped, is_parted_at}
+use Rattle.tea_base.proofs.Characters.{stepped, is_parted_at}
 use Rattle.model_builtin.proofs.texts.behind.Goals as goal
 
 pub loop-preserved : goal.loop-preserved

@@ -1,5 +1,5 @@
 use Rattle.std.specs.Str.Iter.{chars_rest}
-use Rattle.model_builtin.proofs.Characters.{Behind}
+use Rattle.tea_base.proofs.Characters.{Behind}
 use Rattle.model_builtin.proofs.texts.behind.Given as goal
 
 abbrev pub invariant-loop : goal.invariant-loop

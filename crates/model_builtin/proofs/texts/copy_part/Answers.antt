@@ -1,5 +1,5 @@
 use Rattle.std.proofs.Common.{arith}
-use Rattle.model_builtin.proofs.Characters.{behind_is}
+use Rattle.tea_base.proofs.Characters.{behind_is}
 use Rattle.model_builtin.proofs.texts.copy_part.Goals as goal
 
 pub returns : goal.returns

@@ -9,5 +9,5 @@ place-requires c = rw c.deref.ensures.value (omega (arith, c.args.scope.now.with
 pub returns-in-Some : goal.returns-in-Some
 returns-in-Some c = place_found c.args.scope.now.names.items c.args.name.now (NoName c.args.name.now) c.in-Some.slot (rw c.deref.ensures.value at c.in-Some.ensures)
 
-pub returns-in_ok-clone-in-None : goal.returns-in_ok-clone-in-None
-returns-in_ok-clone-in-None c = λ _. place_missing_told c.args.scope.now.names.items c.args.name.now c.in_ok-clone-in-None.field-0 (λ x. NoName x) (rw c.deref.ensures.value at c.in-None.ensures) c.in_ok-clone-in-None.ensures.cases
+pub returns-in_ok-try_clone-in-None : goal.returns-in_ok-try_clone-in-None
+returns-in_ok-try_clone-in-None c = λ _. place_missing_told c.args.scope.now.names.items c.args.name.now c.in_ok-try_clone-in-None.field-0 (λ x. NoName x) (rw c.deref.ensures.value at c.in-None.ensures) c.in_ok-try_clone-in-None.ensures

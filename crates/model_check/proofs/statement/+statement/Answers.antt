@@ -18,7 +18,7 @@ block-loop-stmt-preserved t c =
     let fields = c.args.fields.now in
     let scope = c.args.scope.now.names.items in
     let now = c.loop-stmt.scope in
-    list_goes classes fields scope c.args.stmts.now c.args.scope.now.slots now.names.items c.statement.new.scope.names.items now.slots c.statement.new.scope.slots c.loop-stmt.solved.items c.push.new.self.items c.loop-stmt.stmt-index c.stmt-item.result c.in_ok-statement.field-0 c.loop-stmt-test.true c.stmt-item.is c.loop-stmt.invariant c.in_ok-statement.ensures.solved c.in_ok-statement.ensures.scope c.in_ok-statement.ensures.slots c.in_ok-push.ensures.items
+    list_goes classes fields scope c.args.stmts.now c.args.scope.now.slots now.names.items c.statement.new.scope.names.items now.slots c.statement.new.scope.slots c.loop-stmt.solved.items c.push.new.items.items c.loop-stmt.stmt-index c.stmt-item.result c.in_ok-statement.field-0 c.loop-stmt-test.true c.stmt-item.is c.loop-stmt.invariant c.in_ok-statement.ensures.solved c.in_ok-statement.ensures.scope c.in_ok-statement.ensures.slots c.in_ok-push.ensures.ok
 
 pub block-returns-in_err-statement-clause-solved : goal.block-returns-in_err-statement-clause-solved
 block-returns-in_err-statement-clause-solved t c =

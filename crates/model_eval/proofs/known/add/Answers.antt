@@ -2,8 +2,8 @@ use Rattle.std.proofs.Common.{◌<◌, ◌≤◌, ◌+◌, sym, List, ap₂, ◌
 use Rattle.std.specs.Prelude.{insert}
 use Rattle.std.proofs.lemmas.Bool.Decides.{nat_tests}
 use Rattle.model_value.specs.Plain.{PlainValue, nil}
-use Rattle.model_value.specs.World.{world_weight, known_weight, most_world_weight}
-use Rattle.model_value.specs.declared.world.Known.{Known}
+use Rattle.world_plain.specs.World.{world_weight, known_weight, most_world_weight}
+use Rattle.world_plain.specs.declared.world.Known.{Known}
 use Rattle.model_eval.specs.Running.{Running, Gives, with_world}
 use Rattle.model_eval.specs.Answer.{running}
 use Rattle.model_eval.proofs.Fields.{too_heavy, light_enough}

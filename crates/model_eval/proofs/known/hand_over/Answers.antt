@@ -1,7 +1,7 @@
 use Rattle.std.proofs.Common.{◌≡◌, ◌<◌, ◌≤◌, ℕ, set, sym, List, ap₂, subst, ◌∙◌, arith}
 use Rattle.model_value.specs.Plain.{PlainValue, nil}
-use Rattle.model_value.specs.World.{world_weight, most_world_weight}
-use Rattle.model_value.specs.declared.world.Known.{Known}
+use Rattle.world_plain.specs.World.{world_weight, most_world_weight}
+use Rattle.world_plain.specs.declared.world.Known.{Known}
 use Rattle.model_eval.specs.Running.{Running, Gives, with_world}
 use Rattle.model_eval.specs.Answer.{running}
 use Rattle.model_eval.proofs.Fields.{heavy, too_heavy, light_enough}

@@ -1,5 +1,5 @@
 use Rattle.std.proofs.Common.{sym}
-use Rattle.model_value.specs.Valid.{object_at}
+use Rattle.world_plain.specs.Valid.{object_at}
 use Rattle.model_eval.proofs.Fields.{absent-replies}
 use Rattle.model_eval.proofs.objects.get_slot.Goals as goal
 

@@ -3,7 +3,7 @@ use Rattle.std.proofs.lemmas.Bool.{lt-leb}
 use Rattle.std.specs.Prelude.{nat_le}
 use Rattle.model_value.specs.Plain.{weight}
 use Rattle.model_value.specs.View.{plain}
-use Rattle.model_value.specs.World.{ObjectRecord, world_weight, most_world_weight}
+use Rattle.world_plain.specs.World.{ObjectRecord, world_weight, most_world_weight}
 use Rattle.model_eval.specs.Answer.{world_of}
 use Rattle.model_eval.proofs.Fields.{with_fields-absent, weight-with_fields, room-tells, told-le}
 use Rattle.model_eval.proofs.objects.has_room_for_value.Goals as goal

@@ -1,7 +1,8 @@
 use Rattle.std.proofs.Common.{◌≤◌, sym, ◌∙◌, arith}
 use Rattle.std.proofs.lemmas.Bool.{leb-true}
 use Rattle.model_value.specs.View.{plain_values}
-use Rattle.model_value.specs.World.{values_weight, most_world_weight}
+use Rattle.model_value.specs.Plain.{values_weight}
+use Rattle.world_plain.specs.World.{most_world_weight}
 use Rattle.object_store.proofs.Objects.{AreFields-light}
 use Rattle.model_eval.proofs.objects.make.Goals as goal
 

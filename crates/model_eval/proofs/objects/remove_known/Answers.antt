@@ -2,7 +2,7 @@ use Rattle.std.proofs.Common.{rules, ap, ◌∙◌}
 use Rattle.std.specs.Prelude.{nat_eq, not}
 use Rattle.std.specs.List.{filter}
 use Rattle.std.proofs.lemmas.Fn.{filter_same}
-use Rattle.model_value.specs.declared.world.Known.{Known}
+use Rattle.world_plain.specs.declared.world.Known.{Known}
 use Rattle.model_eval.proofs.objects.remove_known.Goals as goal
 
 pub returns : goal.returns

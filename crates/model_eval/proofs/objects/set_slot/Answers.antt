@@ -2,8 +2,8 @@ use Rattle.std.proofs.Common.{List, set, sym, ap, ◌∙◌, arith}
 use Rattle.std.proofs.lemmas.Bool.{leb-true}
 use Rattle.model_value.specs.Plain.{PlainValue}
 use Rattle.model_value.specs.View.{plain}
-use Rattle.model_value.specs.Valid.{object_at}
-use Rattle.model_value.specs.World.{ObjectRecord}
+use Rattle.world_plain.specs.Valid.{object_at}
+use Rattle.world_plain.specs.World.{ObjectRecord}
 use Rattle.object_store.specs.Store.{StoreRecord}
 use Rattle.model_eval.specs.Running.{Gives}
 use Rattle.model_eval.specs.Objects.{with_objects}

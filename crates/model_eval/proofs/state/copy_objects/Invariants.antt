@@ -1,5 +1,5 @@
 use Rattle.std.proofs.Common.{◌≡◌, map, take}
-use Rattle.model_value.specs.World.{object_record}
+use Rattle.world_plain.specs.World.{object_record}
 use Rattle.object_store.specs.View.{objects_seen}
 use Rattle.model_eval.proofs.state.copy_objects.Given as goal
 

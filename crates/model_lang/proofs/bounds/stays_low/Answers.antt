@@ -1,7 +1,7 @@
 use Rattle.std.proofs.Common.{◌≡◌, ℕ, suc, ◌<◌, ◌≤◌, ◌∷◌, List, length, get_or, drop, drop-cons, sym, ap, ◌∙◌, subst, arith}
 use Rattle.model_tokens.specs.declared.token.Token.{Token}
 use Rattle.model_tokens.specs.declared.token.Symbol.{Symbol}
-use Rattle.model_lang.specs.Bounds.{greatest, count_after, counted, most_nested}
+use Rattle.model_lang.specs.Bounds.{greatest, count_after, count_symbol, most_nested}
 use Rattle.model_lang.proofs.Counts.{greatest-le}
 use Rattle.model_lang.proofs.bounds.stays_low.Goals as goal
 
@@ -15,5 +15,5 @@ too_many after ts i count next t h is n over low =
 pub returns-then-count-gt-MOST_NESTED : goal.returns-then-count-gt-MOST_NESTED
 returns-then-count-gt-MOST_NESTED c = (
   λ h. cc,
-  λ h. absurd (too_many (counted c.args.what) c.args.tokens.now c.loop-token.token-index c.loop-token.count _ _ c.loop-token-test.true c.token-item.is c.after_token-count.ensures c.if-count-gt-MOST_NESTED.true (c.loop-token.invariant.1.1 h)),
+  λ h. absurd (too_many (count_symbol c.args.what) c.args.tokens.now c.loop-token.token-index c.loop-token.count _ _ c.loop-token-test.true c.token-item.is c.after_token-count.ensures c.if-count-gt-MOST_NESTED.true (c.loop-token.invariant.1.1 h)),
 )

@@ -1,7 +1,7 @@
 use Rattle.std.proofs.Common.{◌≡◌, ◌-◌, length, refl, sym, ◌∙◌, subst, Some, arith}
 use Rattle.model_lang.specs.Answer.{Reads}
 use Rattle.model_lang.specs.TreeView.{expression_tree}
-use Rattle.model_lang.specs.Reader.{read_line, read_unary, read_prim}
+use Rattle.model_lang.specs.Reader.{read_operator_line, read_unary, read_prim}
 use Rattle.model_lang.proofs.Turns.{line_begins, tightest_sides}
 use Rattle.model_lang.proofs.expression.+line.Goals as goal
 
@@ -14,6 +14,6 @@ line-loop-turn-init t c = line_begins (read_unary c.args.room) c.args.line c.arg
 
 pub post-loop-turn-init : goal.post-loop-turn-init
 post-loop-turn-init t c =
-    let first : read_prim (read_line (read_unary c.args.room) 6) c.args.tokens.now ≡ Some (expression_tree c.in_ok-object.object, c.in_ok-object.rest.now) = c.in_ok-object.ensures in
+    let first : read_prim (read_operator_line (read_unary c.args.room) 6) c.args.tokens.now ≡ Some (expression_tree c.in_ok-object.object, c.in_ok-object.rest.now) = c.in_ok-object.ensures in
     let whole : length c.args.tokens.now - 0 ≡ length c.args.tokens.now = omega arith in
     rw (whole, first) refl

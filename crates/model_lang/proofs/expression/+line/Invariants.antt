@@ -2,7 +2,7 @@
 use Rattle.std.proofs.Common.{◌≡◌, ◌+◌, ◌-◌, ◌*◌, length, map}
 use Rattle.model_lang.specs.TreeView.{expression_tree}
 use Rattle.model_lang.specs.Lines.{line_number}
-use Rattle.model_lang.specs.Reader.{read_line, read_unary, read_post, suffixes_of, read_more, more_of, turns_of}
+use Rattle.model_lang.specs.Reader.{read_operator_line, read_unary, read_post, suffixes_of, read_more, more_of, turns_of}
 use Rattle.model_lang.proofs.expression.+line.Given as goal
 
 abbrev pub decreases-unary : goal.decreases-unary
@@ -50,15 +50,15 @@ decreases-post l = 32 * l.room + 19
 abbrev pub invariant-line-loop-turn : goal.invariant-line-loop-turn
 invariant-line-loop-turn l =
     let number = line_number l.line in
-    let inner = read_line (read_unary l.room) (number - 1) in
-    more_of number inner (turns_of number (length l.tokens) - l._turn) (expression_tree l.left) l.rest ≡ read_line (read_unary l.room) number l.tokens
+    let inner = read_operator_line (read_unary l.room) (number - 1) in
+    more_of number inner (turns_of number (length l.tokens) - l._turn) (expression_tree l.left) l.rest ≡ read_operator_line (read_unary l.room) number l.tokens
 
 abbrev pub invariant-post-loop-turn : goal.invariant-post-loop-turn
 invariant-post-loop-turn l =
-    let inner = read_line (read_unary l.room) 6 in
+    let inner = read_operator_line (read_unary l.room) 6 in
     suffixes_of inner (length l.tokens - l._turn) (expression_tree l.object) l.rest ≡ read_post inner l.tokens
 
 abbrev pub invariant-further-loop-turn : goal.invariant-further-loop-turn
 invariant-further-loop-turn l =
-    let inner = read_line (read_unary l.room) 6 in
+    let inner = read_operator_line (read_unary l.room) 6 in
     read_more l.close inner (l.turns - l._turn) (map expression_tree l.found.items) l.rest ≡ read_more l.close inner l.turns (map expression_tree l.fn.found.items) l.tokens

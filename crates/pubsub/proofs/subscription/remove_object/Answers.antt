@@ -1,7 +1,7 @@
 use Rattle.std.proofs.Common.{rules}
 use Rattle.std.specs.Prelude.{nat_eq, not}
 use Rattle.std.proofs.lemmas.Fn.{filter_same}
-use Rattle.model_value.specs.declared.message.Subscription.{Subscription}
+use Rattle.world_plain.specs.declared.message.Subscription.{Subscription}
 use Rattle.pubsub.proofs.subscription.remove_object.Goals as goal
 
 pub returns : goal.returns

@@ -1,5 +1,5 @@
 use Rattle.std.proofs.Common.{ap, arith}
-use Rattle.model_value.specs.World.{subscription_weight}
+use Rattle.world_plain.specs.World.{subscription_weight}
 use Rattle.pubsub.proofs.Subscriptions.{total_bound, weight_at}
 use Rattle.pubsub.proofs.subscription.weight_of.Goals as goal
 

@@ -1,12 +1,12 @@
 use Rattle.std.proofs.Common.{◌≡◌, ◌++◌, drop}
-use Rattle.reflector_core.specs.PlainSession.{IsSound}
-use Rattle.reflector_core.specs.Play.{first, after_all, replies_from}
+use Rattle.reflector_core.specs.PlainSession.{IsSoundSession}
+use Rattle.reflector_core.specs.Play.{first_session, after_all, replies_from}
 use Rattle.reflector_core.proofs.run.play.Given as goal
 
 -- what is done, and then what the rest makes of it, is what all make of the first session
 abbrev pub invariant-loop-request : goal.invariant-loop-request
 invariant-loop-request l = record {
-  replies : l.replies ++ replies_from l.session.plain (drop l.request-index l.requests) ≡ replies_from first l.requests;
-  session : after_all l.session.plain (drop l.request-index l.requests) ≡ after_all first l.requests;
-  sound : IsSound l.session.plain;
+  replies : l.replies ++ replies_from l.session.plain (drop l.request-index l.requests) ≡ replies_from first_session l.requests;
+  session : after_all l.session.plain (drop l.request-index l.requests) ≡ after_all first_session l.requests;
+  sound : IsSoundSession l.session.plain;
 }

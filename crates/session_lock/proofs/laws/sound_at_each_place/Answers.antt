@@ -1,4 +1,4 @@
-use Rattle.reflector_core.specs.Play.{first as first_session}
+use Rattle.reflector_core.specs.Play.{first_session}
 use Rattle.session_lock.proofs.Histories.{sound_first, sound_end}
 use Rattle.session_lock.proofs.laws.sound_at_each_place.Goals as goal
 

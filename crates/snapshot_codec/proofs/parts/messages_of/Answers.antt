@@ -2,7 +2,7 @@ use Rattle.std.proofs.Common.{◌≡◌, map, ◌++◌, ◌∷◌, []}
 use Rattle.std.proofs.lemmas.Result.{err_from_is_err_and}
 use Rattle.std.proofs.lemmas.List.{map_push}
 use Rattle.byte_fields.proofs.Loops.{goes_on, ends, is_done}
-use Rattle.model_value.specs.Messages.{plain_message}
+use Rattle.world_plain.specs.Messages.{plain_message}
 use Rattle.snapshot_codec.specs.Reading.{message_at}
 use Rattle.snapshot_codec.proofs.parts.messages_of.Goals as goal
 

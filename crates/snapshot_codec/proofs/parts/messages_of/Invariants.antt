@@ -1,6 +1,6 @@
 use Rattle.std.proofs.Common.{◌≡◌, ◌-◌, [], map}
 use Rattle.byte_fields.specs.Fields.{items_at}
-use Rattle.model_value.specs.Messages.{plain_message}
+use Rattle.world_plain.specs.Messages.{plain_message}
 use Rattle.snapshot_codec.specs.Reading.{message_at}
 use Rattle.snapshot_codec.proofs.parts.messages_of.Given as goal
 

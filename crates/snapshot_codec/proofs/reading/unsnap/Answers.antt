@@ -1,8 +1,9 @@
+use Rattle.std.proofs.Common.{arith}
 use Rattle.model_check.specs.Methods.{field_counts}
 use Rattle.model_lang.specs.TreeView.{program_tree}
-use Rattle.snapshot_codec.proofs.Snapshots.{none_other}
+use Rattle.snapshot_codec.proofs.Snapshots.{gives-snapshot}
 use Rattle.snapshot_codec.proofs.reading.unsnap.Goals as goal
 
-pub returns-in-Some-clause-only : goal.returns-in-Some-clause-only
-returns-in-Some-clause-only c w is =
-    none_other (field_counts (program_tree c.args.program.now)) c.args.id.now.0 c.args.bytes.now w c.in-Some.ensures.0 is
+pub returns-clause-read : goal.returns-clause-read
+returns-clause-read c =
+    gives-snapshot c.read_session.result (field_counts (program_tree c.args.program.now)) c.args.id.now.0 c.args.bytes.now (λ i. omega (arith, c.type_inv.bytes i)) c.read_session.ensures.answer

@@ -2,7 +2,8 @@ use Rattle.std.proofs.Common.{◌≡◌, ◌≤◌, ◌++◌, drop}
 use Rattle.std.specs.List.{flat_map, AllByRecursion}
 use Rattle.model_value.specs.Spelling.{value_spelling, IsValue}
 use Rattle.model_value.specs.View.{plain_values}
-use Rattle.model_value.specs.World.{values_weight, most_world_weight}
+use Rattle.model_value.specs.Plain.{values_weight}
+use Rattle.world_plain.specs.World.{most_world_weight}
 use Rattle.snapshot_codec.proofs.writing.put_values.Given as goal
 
 abbrev pub invariant-loop-value : goal.invariant-loop-value

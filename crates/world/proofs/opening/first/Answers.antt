@@ -1,6 +1,6 @@
 use Rattle.std.proofs.Common.{◌≡◌, ◌<◌, [], length, get_or, ap, sym, ◌∙◌, arith}
 use Rattle.model_lang.specs.TreeView.{program_tree}
-use Rattle.world.specs.Worlds.{Scene, with_world, empty_world, begun, rooted, initialised}
+use Rattle.world.specs.Worlds.{Scene, scene_with_world, empty_world, with_next_turn, with_root, with_root_init}
 use Rattle.world.specs.View.{scene}
 use Rattle.world.proofs.FirstWorld.{few_fields}
 use Rattle.world.proofs.Roots.{first-is, fields_there}
@@ -31,8 +31,8 @@ returns-clause-first c =
     let count : c.len.result ≡ length class.fields.items = omega (arith, c.len.ensures, class.fields.ok) in
     let fields : length root.0.fields ≡ c.len.result = fields_there cs n class root.0 inside here root.1 ∙ sym count in
     let made = c.in_ok-make_root.ensures root.0 fields in
-    let before : scene c.begin.new.state ≡ record { world = begun (empty_world c.args.id.0); published = [] } =
-    c.begin.ensures ∙ ap (λ (s : Scene). with_world s (begun s.world)) c.empty-state.ensures in
-    let start : scene c.make_root.new.state ≡ record { world = rooted n root.0 (begun (empty_world c.args.id.0)); published = [] } =
-    made ∙ ap (λ (s : Scene). with_world s (rooted n root.0 s.world)) before in
-    c.in_ok-initialise.ensures root.0 root.1 ∙ ap (initialised (program_tree cs) root.0) start ∙ sym (first-is (program_tree cs) c.args.id.0 n root c.program.ensures.faultless)
+    let before : scene c.begin.new.state ≡ record { world = with_next_turn (empty_world c.args.id.0); published = [] } =
+    c.begin.ensures ∙ ap (λ (s : Scene). scene_with_world s (with_next_turn s.world)) c.empty-state.ensures in
+    let start : scene c.make_root.new.state ≡ record { world = with_root n root.0 (with_next_turn (empty_world c.args.id.0)); published = [] } =
+    made ∙ ap (λ (s : Scene). scene_with_world s (with_root n root.0 s.world)) before in
+    c.in_ok-initialise.ensures root.0 root.1 ∙ ap (with_root_init (program_tree cs) root.0) start ∙ sym (first-is (program_tree cs) c.args.id.0 n root c.program.ensures.faultless)

@@ -2,11 +2,11 @@ use Rattle.std.proofs.Common.{◌≡◌, ℕ, ◌≤◌, List, [], ◌∷◌, re
 use Rattle.std.proofs.lemmas.List.{length-replicate}
 use Rattle.model_value.specs.Plain.{nil}
 use Rattle.model_value.specs.View.{plain_values}
-use Rattle.model_value.specs.World.{ObjectRecord}
-use Rattle.model_value.specs.declared.world.Known.{Known}
-use Rattle.object_store.specs.Store.{AreFields, StoreRecord, with_object}
+use Rattle.world_plain.specs.World.{ObjectRecord}
+use Rattle.world_plain.specs.declared.world.Known.{Known}
+use Rattle.object_store.specs.Store.{AreFields, StoreRecord, store_with}
 use Rattle.model_eval.specs.Answer.{world_of}
-use Rattle.world.specs.Worlds.{Scene, with_world}
+use Rattle.world.specs.Worlds.{Scene, scene_with_world}
 use Rattle.world.specs.View.{scene}
 use Rattle.world.proofs.Rooted.{made}
 use Rattle.world.proofs.Texts.{root-chars}
@@ -24,7 +24,7 @@ pub returns : goal.returns
 returns c = λ root e.
     let st = c.args.state.now in
     let o : ObjectRecord = record { id = 1; class = c.args.class; fields = plain_values c.in_ok-fields.fields } in
-    let objects : c.put_back.new.self ≡ record { objects = o ∷ []; next = 2 } = c.in_ok-put_back.ensures.ok ∙ ap (with_object o) c.resume-objects.ensures in
-    let after : StoreRecord → List Known → Scene = λ s ks. with_world (scene st) (record (world_of st) { next_object = s.next; objects = s.objects; known = ks }) in
+    let objects : c.put_back.new.self ≡ record { objects = o ∷ []; next = 2 } = c.in_ok-put_back.ensures.ok ∙ ap (store_with o) c.resume-objects.ensures in
+    let after : StoreRecord → List Known → Scene = λ s ks. scene_with_world (scene st) (record (world_of st) { next_object = s.next; objects = s.objects; known = ks }) in
     ap₂ after objects c.in_ok-state.ensures
-    ∙ ap (with_world (scene st)) (made (world_of st) c.args.class c.args.fields root (plain_values c.in_ok-fields.fields) c.in_ok-copy.field-0 e c.in_ok-fields.ensures (c.in_ok-copy.ensures.characters ∙ root-chars))
+    ∙ ap (scene_with_world (scene st)) (made (world_of st) c.args.class c.args.fields root (plain_values c.in_ok-fields.fields) c.in_ok-copy.field-0 e c.in_ok-fields.ensures (c.in_ok-copy.ensures.characters ∙ root-chars))

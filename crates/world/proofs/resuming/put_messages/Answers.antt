@@ -1,6 +1,6 @@
 use Rattle.std.proofs.Common.{◌+◌, ◌∙◌, map, drop, ap}
-use Rattle.model_value.specs.Messages.{plain_message}
-use Rattle.model_value.specs.World.{world_record}
+use Rattle.world_plain.specs.Messages.{plain_message}
+use Rattle.world_plain.specs.World.{world_record}
 use Rattle.message_queue.specs.Queue.{QueueRecord}
 use Rattle.world.proofs.PutBack.{next-message, put-next}
 use Rattle.world.proofs.resuming.put_messages.Goals as goal

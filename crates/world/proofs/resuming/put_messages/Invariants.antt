@@ -1,5 +1,5 @@
 use Rattle.std.proofs.Common.{◌≡◌, ◌++◌, map, drop}
-use Rattle.model_value.specs.Messages.{plain_message}
+use Rattle.world_plain.specs.Messages.{plain_message}
 use Rattle.world.proofs.resuming.put_messages.Given as goal
 
 -- the messages put back so far, and behind them those that are left, are all

@@ -1,6 +1,6 @@
 use Rattle.std.proofs.Common.{◌+◌, ◌∙◌, map, drop, ap}
 use Rattle.model_value.specs.View.{plain_values}
-use Rattle.model_value.specs.World.{world_record, object_record}
+use Rattle.world_plain.specs.World.{world_record, object_record}
 use Rattle.object_store.specs.Store.{StoreRecord}
 use Rattle.world.proofs.PutBack.{next-object, put-next}
 use Rattle.world.proofs.resuming.put_objects.Goals as goal

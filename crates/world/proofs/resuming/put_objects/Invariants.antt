@@ -1,5 +1,5 @@
 use Rattle.std.proofs.Common.{◌≡◌, ◌++◌, map, drop}
-use Rattle.model_value.specs.World.{object_record}
+use Rattle.world_plain.specs.World.{object_record}
 use Rattle.world.proofs.resuming.put_objects.Given as goal
 
 -- the objects put back so far, and behind them those that are left, are all

@@ -1,5 +1,5 @@
 use Rattle.std.proofs.Common.{◌+◌, drop}
-use Rattle.model_value.specs.World.{world_record}
+use Rattle.world_plain.specs.World.{world_record}
 use Rattle.world.proofs.PutBack.{next-subscription, put-next}
 use Rattle.world.proofs.resuming.put_subscriptions.Goals as goal
 

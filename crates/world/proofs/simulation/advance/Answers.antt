@@ -1,16 +1,16 @@
 use Rattle.std.proofs.Common.{◌≡◌, ap, ◌∙◌, sym, subst}
-use Rattle.model_value.specs.Messages.{plain_message}
+use Rattle.world_plain.specs.Messages.{plain_message}
 use Rattle.model_eval.specs.Answer.{world_of}
-use Rattle.model_value.specs.Valid.{Valid}
+use Rattle.world_plain.specs.Valid.{Valid}
 use Rattle.model_lang.specs.TreeView.{program_tree}
-use Rattle.world.specs.Worlds.{Scene, handled, field_counts, moved, with_world}
+use Rattle.world.specs.Worlds.{Scene, after_message, field_counts, at_later_time, scene_with_world}
 use Rattle.world.specs.View.{scene}
 use Rattle.world.proofs.Moving.{arrived-valid}
 use Rattle.world.proofs.Turn.{turned, turn-valid, turn-falls, turn-same, arrived}
 use Rattle.world.proofs.simulation.advance.Goals as goal
 
 abbrev Turned : goal.In_ok-handle → Type 0
-Turned c = scene c.handle.new.state ≡ handled (program_tree c.args.program.now) (plain_message c.in-Some.message) c.in-Some.ensures.0 (scene c.loop-message.state)
+Turned c = scene c.handle.new.state ≡ after_message (program_tree c.args.program.now) (plain_message c.in-Some.message) c.in-Some.ensures.0 (scene c.loop-message.state)
 
 turn : (c : goal.In_ok-handle) → Turned c
 turn c = turned (program_tree c.args.program.now) (plain_message c.in-Some.message) c.in-Some.ensures.0 (scene c.loop-message.state) (scene c.take_due.new.state) (scene c.handle.new.state) c.in-Some.ensures.2 c.in_ok-handle.ensures
@@ -25,8 +25,8 @@ loop-message-preserved c = (
   turn-same (program_tree c.args.program.now) c.args.time (plain_message c.in-Some.message) c.in-Some.ensures.0 (scene c.loop-message.state) (scene c.handle.new.state) c.requires.program c.loop-message.invariant.0 c.in-Some.ensures.1 (turn c) ∙ c.loop-message.invariant.1,
 )
 
-at_end : (c : goal.After-move_to) → scene c.move_to.new.state ≡ with_world (scene c.loop-message.state) (moved c.args.time (scene c.loop-message.state).world)
-at_end c = c.move_to.ensures ∙ ap (λ (s : Scene). with_world s (moved c.args.time s.world)) c.in_default.ensures.1
+at_end : (c : goal.After-move_to) → scene c.move_to.new.state ≡ scene_with_world (scene c.loop-message.state) (at_later_time c.args.time (scene c.loop-message.state).world)
+at_end c = c.move_to.ensures ∙ ap (λ (s : Scene). scene_with_world s (at_later_time c.args.time s.world)) c.in_default.ensures.1
 
 pub returns-clause-advanced : goal.returns-clause-advanced
 returns-clause-advanced c =

@@ -1,5 +1,5 @@
 use Rattle.std.proofs.Common.{◌≡◌}
-use Rattle.model_value.specs.Valid.{Valid}
+use Rattle.world_plain.specs.Valid.{Valid}
 use Rattle.model_eval.specs.Answer.{world_of}
 use Rattle.model_lang.specs.TreeView.{program_tree}
 use Rattle.world.specs.Worlds.{field_counts, enough, advance}

@@ -1,7 +1,7 @@
 use Rattle.std.proofs.Common.{Result, Ok, Err, OnOk, sym, subst}
 use Rattle.std.specs.Prelude.{⊤}
 use Rattle.model_eval.specs.Answer.{world_of}
-use Rattle.model_value.specs.Valid.{Valid}
+use Rattle.world_plain.specs.Valid.{Valid}
 use Rattle.model_lang.specs.TreeView.{program_tree}
 use Rattle.tea_base.specs.declared.want.WantOfMemory.{WantOfMemory}
 use Rattle.world.specs.Worlds.{Scene, field_counts}

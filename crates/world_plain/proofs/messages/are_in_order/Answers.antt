@@ -1,6 +1,6 @@
 use Rattle.std.proofs.Common.{map, refl, arith}
-use Rattle.model_value.specs.Messages.{plain_message}
-use Rattle.model_value.specs.Valid.{Precedes, AreInOrder}
+use Rattle.world_plain.specs.Messages.{plain_message}
+use Rattle.world_plain.specs.Valid.{Precedes, AreInOrder}
 use Rattle.world_plain.proofs.Neighbours.{goes_on, ended, order_parts, order_whole}
 use Rattle.world_plain.proofs.messages.are_in_order.Goals as goal
 

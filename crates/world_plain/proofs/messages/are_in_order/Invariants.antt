@@ -1,7 +1,7 @@
 use Rattle.std.proofs.Common.{◌-◌, map, drop}
 use Rattle.std.specs.Prelude.{◌↔◌}
-use Rattle.model_value.specs.Messages.{plain_message}
-use Rattle.model_value.specs.Valid.{AreInOrder}
+use Rattle.world_plain.specs.Messages.{plain_message}
+use Rattle.world_plain.specs.Valid.{AreInOrder}
 use Rattle.world_plain.proofs.messages.are_in_order.Given as goal
 
 abbrev pub invariant-loop-i : goal.invariant-loop-i

@@ -1,9 +1,9 @@
 use Rattle.std.proofs.Common.{map, drop}
 use Rattle.std.specs.Prelude.{◌↔◌}
-use Rattle.model_value.specs.Messages.{plain_message}
-use Rattle.model_value.specs.Valid.{MessagesFit}
-use Rattle.model_value.specs.World.{world_record}
+use Rattle.world_plain.specs.Messages.{plain_message}
+use Rattle.world_plain.specs.Valid.{MessagesFit}
+use Rattle.world_plain.specs.World.{object_record}
 use Rattle.world_plain.proofs.messages.messages_fit.Given as goal
 
 abbrev pub invariant-loop-message : goal.invariant-loop-message
-invariant-loop-message l = let w = world_record l.world in MessagesFit w (map plain_message l.messages) ↔ MessagesFit w (map plain_message (drop l.message-index l.messages))
+invariant-loop-message l = let w = l.world in let objects = map object_record w.objects in MessagesFit w.time w.next_number objects (map plain_message l.messages) ↔ MessagesFit w.time w.next_number objects (map plain_message (drop l.message-index l.messages))

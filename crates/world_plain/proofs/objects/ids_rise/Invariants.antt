@@ -1,7 +1,7 @@
 use Rattle.std.proofs.Common.{map, drop}
 use Rattle.std.specs.Prelude.{◌↔◌}
-use Rattle.model_value.specs.Valid.{RiseFrom}
-use Rattle.model_value.specs.World.{object_record}
+use Rattle.world_plain.specs.Valid.{RiseFrom}
+use Rattle.world_plain.specs.World.{object_record}
 use Rattle.world_plain.proofs.objects.ids_rise.Given as goal
 
 abbrev pub invariant-loop-object : goal.invariant-loop-object

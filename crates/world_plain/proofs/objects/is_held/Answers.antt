@@ -1,6 +1,6 @@
 use Rattle.std.proofs.Common.{rules}
 use Rattle.std.proofs.lemmas.List.Sorted.{answers_always}
-use Rattle.model_value.specs.declared.world.PlainObject.{PlainObject}
+use Rattle.world_plain.specs.declared.world.PlainObject.{PlainObject}
 use Rattle.world_plain.proofs.Held.{searched}
 use Rattle.world_plain.proofs.objects.is_held.Goals as goal
 

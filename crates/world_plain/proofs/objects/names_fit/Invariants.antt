@@ -1,7 +1,7 @@
 use Rattle.std.proofs.Common.{map, drop}
 use Rattle.std.specs.Prelude.{◌↔◌}
-use Rattle.model_value.specs.Valid.{KnownFit}
-use Rattle.model_value.specs.World.{object_record}
+use Rattle.world_plain.specs.Valid.{KnownFit}
+use Rattle.world_plain.specs.World.{object_record}
 use Rattle.world_plain.proofs.objects.names_fit.Given as goal
 
 abbrev pub invariant-loop-one : goal.invariant-loop-one

@@ -1,6 +1,6 @@
 use Rattle.std.proofs.Common.{◌-◌, drop}
 use Rattle.std.specs.Prelude.{◌↔◌}
-use Rattle.model_value.specs.Valid.{KnownRise}
+use Rattle.world_plain.specs.Valid.{KnownRise}
 use Rattle.world_plain.proofs.objects.names_rise.Given as goal
 
 abbrev pub invariant-loop-i : goal.invariant-loop-i

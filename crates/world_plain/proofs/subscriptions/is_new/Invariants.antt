@@ -1,6 +1,6 @@
 use Rattle.std.proofs.Common.{drop}
 use Rattle.std.specs.Prelude.{◌↔◌}
-use Rattle.model_value.specs.Valid.{IsNew}
+use Rattle.world_plain.specs.Valid.{IsNew}
 use Rattle.world_plain.proofs.subscriptions.is_new.Given as goal
 
 abbrev pub invariant-loop-other : goal.invariant-loop-other

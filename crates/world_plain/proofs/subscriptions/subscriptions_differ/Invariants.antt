@@ -1,6 +1,6 @@
 use Rattle.std.proofs.Common.{drop}
 use Rattle.std.specs.Prelude.{◌↔◌}
-use Rattle.model_value.specs.Valid.{SubscriptionsDiffer}
+use Rattle.world_plain.specs.Valid.{SubscriptionsDiffer}
 use Rattle.world_plain.proofs.subscriptions.subscriptions_differ.Given as goal
 
 abbrev pub invariant-loop-i : goal.invariant-loop-i

@@ -1,7 +1,7 @@
 use Rattle.std.proofs.Common.{map, drop}
 use Rattle.std.specs.Prelude.{◌↔◌}
-use Rattle.model_value.specs.Valid.{SubscriptionsFit}
-use Rattle.model_value.specs.World.{object_record}
+use Rattle.world_plain.specs.Valid.{SubscriptionsFit}
+use Rattle.world_plain.specs.World.{object_record}
 use Rattle.world_plain.proofs.subscriptions.subscriptions_fit.Given as goal
 
 abbrev pub invariant-loop-subscription : goal.invariant-loop-subscription

@@ -1,6 +1,6 @@
 use Rattle.std.proofs.Common.{drop}
 use Rattle.std.specs.Prelude.{◌↔◌}
-use Rattle.model_value.specs.Valid.{RiseFrom}
+use Rattle.world_plain.specs.Valid.{RiseFrom}
 use Rattle.world_plain.proofs.validity.rise.Given as goal
 
 abbrev pub invariant-loop-number : goal.invariant-loop-number

@@ -1,5 +1,5 @@
 use Rattle.std.proofs.Common.{None}
-use Rattle.croquet.proofs.VerdictLaws.{GrowsWithin-nothing}
+use Rattle.tea_io.proofs.Writing.{GrowsWithin-nothing}
 use Rattle.croquet_main.proofs.system.OutputSink.write.Goals as goal
 
 pub returns-in-Err-clause-part : goal.returns-in-Err-clause-part

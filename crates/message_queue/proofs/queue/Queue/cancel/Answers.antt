@@ -1,6 +1,6 @@
 use Rattle.std.proofs.Common.{arith, ap, length, not}
 use Rattle.std.proofs.lemmas.List.{length-map}
-use Rattle.model_value.specs.Messages.{PlainMessage, plain_message}
+use Rattle.world_plain.specs.Messages.{PlainMessage, plain_message}
 use Rattle.message_queue.specs.Queue.{QueueRecord, calls}
 use Rattle.message_queue.specs.View.{messages_seen}
 use Rattle.message_queue.proofs.Messages.{filtered}

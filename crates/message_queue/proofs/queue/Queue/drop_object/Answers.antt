@@ -1,7 +1,7 @@
 use Rattle.std.proofs.Common.{arith, ap, length, not}
 use Rattle.std.specs.Prelude.{nat_eq}
 use Rattle.std.proofs.lemmas.List.{length-map}
-use Rattle.model_value.specs.Messages.{PlainMessage, plain_message}
+use Rattle.world_plain.specs.Messages.{PlainMessage, plain_message}
 use Rattle.message_queue.specs.Queue.{QueueRecord}
 use Rattle.message_queue.specs.View.{messages_seen}
 use Rattle.message_queue.proofs.Messages.{filtered}

@@ -1,8 +1,8 @@
 use Rattle.std.proofs.Common.{◌+◌, ◌<◌, length, arith}
 use Rattle.std.proofs.lemmas.List.{length-map}
-use Rattle.model_value.specs.Messages.{PlainMessage, plain_message}
+use Rattle.world_plain.specs.Messages.{PlainMessage, plain_message}
 use Rattle.model_value.specs.View.{plain_values}
-use Rattle.model_value.specs.Valid.{most_pending}
+use Rattle.world_plain.specs.Valid.{most_pending}
 use Rattle.message_queue.specs.View.{messages_seen}
 use Rattle.message_queue.proofs.Messages.{with_one}
 use Rattle.message_queue.proofs.Order.{next-unused}

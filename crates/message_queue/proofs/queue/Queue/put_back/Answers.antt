@@ -1,6 +1,6 @@
 use Rattle.std.proofs.Common.{◌<◌, length, subst, sym, ap, arith}
-use Rattle.model_value.specs.Messages.{plain_message}
-use Rattle.model_value.specs.Valid.{IsUnused, most_pending}
+use Rattle.world_plain.specs.Messages.{plain_message}
+use Rattle.world_plain.specs.Valid.{IsUnused, most_pending}
 use Rattle.message_queue.specs.Queue.{QueueRecord}
 use Rattle.message_queue.specs.View.{messages_seen}
 use Rattle.message_queue.proofs.Messages.{with_one}

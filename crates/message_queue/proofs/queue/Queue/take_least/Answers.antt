@@ -1,5 +1,5 @@
 use Rattle.std.proofs.Common.{List, subst, sym}
-use Rattle.model_value.specs.declared.message.Message.{Message}
+use Rattle.world_plain.specs.declared.message.Message.{Message}
 use Rattle.message_queue.specs.Queue.{IsQueue}
 use Rattle.message_queue.specs.View.{messages_seen}
 use Rattle.message_queue.proofs.Messages.{without_first}

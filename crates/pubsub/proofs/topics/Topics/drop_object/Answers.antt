@@ -1,6 +1,6 @@
 use Rattle.std.proofs.Common.{length, ap, arith}
 use Rattle.std.specs.Prelude.{nat_eq, not}
-use Rattle.model_value.specs.declared.message.Subscription.{Subscription}
+use Rattle.world_plain.specs.declared.message.Subscription.{Subscription}
 use Rattle.pubsub.proofs.Subscriptions.{filtered, length-filtered}
 use Rattle.pubsub.proofs.topics.Topics.drop_object.Goals as goal
 

@@ -1,5 +1,5 @@
 use Rattle.session_lock.specs.Trusts.{IsTrusted}
-use Rattle.session_lock.specs.Passes.{stand}
+use Rattle.session_lock.specs.Passes.{pass_state}
 use Rattle.session_lock.proofs.Contracts.{told_call, call_kept}
 use Rattle.session_lock.proofs.lock.SharedSession.ask.Goals as goal
 
@@ -10,6 +10,6 @@ returns-clause-call g c =
 
 pub returns-clause-kept : goal.returns-clause-kept
 returns-clause-kept g c =
-    call_kept (IsTrusted g.T.Trust.allows c.args.self.now.trust c.args.self.now.id) c.make.result c.args.pass.now (stand c.make.new.seat.table_id c.make.new.seat.me.0) c.args.request.now
+    call_kept (IsTrusted g.T.Trust.allows c.args.self.now.trust c.args.self.now.id) c.make.result c.args.pass.now (pass_state c.make.new.seat.table_id c.make.new.seat.me.0) c.args.request.now
     (told_call (IsTrusted g.T.Trust.allows c.args.self.now.trust c.args.self.now.id) c.make.result c.pass.inside.seat.table_id c.make.new.seat.table_id c.pass.inside.seat.me.0 c.make.new.seat.me c.args.pass.now c.args.request.now c.pass.view_is
     (cc (c.make.ensures.table, c.requires.session, c.pass.view_is)) c.make.ensures.made c.make.ensures.plays.0)

@@ -1,9 +1,9 @@
-use Rattle.std.proofs.Common.{arith, ◌<◌, ◌-◌, refl, length}
+use Rattle.std.proofs.Common.{arith, ◌<◌, ◌-◌, ◌∙◌, refl, length}
 use Rattle.session_log.proofs.HeadLaws.{IsKindWithin-read, slice_get-read}
 use Rattle.session_log.proofs.log.Log.get.Goals as goal
 
-pub load-requires : goal.load-requires
-load-requires c =
+pub lent-requires : goal.lent-requires
+lent-requires c =
     let fields = c.self.inside in
     let below : c.args.seq - 1 < length fields.heads.items = omega arith in
     rw c.deref.ensures.value (IsKindWithin-read _ fields.heads.items (c.args.seq - 1) c.index-head.result.now below c.self.invariant.kept.within c.index-head.ensures)
@@ -13,5 +13,5 @@ returns-in-Ok-clause-ok c =
     let fields = c.self.inside in
     let below : c.args.seq - 1 < length fields.heads.items = omega arith in
     let read = slice_get-read fields.payloads.items fields.heads.items (c.args.seq - 1) c.index-head.result.now below c.index-head.ensures in
-    let what = rw c.deref.ensures.value at c.in-Ok.ensures in
+    let what = rw c.deref.ensures.value at (c.in-Ok.ensures ∙ c.lent.ensures.what) in
     rw (← c.self.view_is, read, what) refl

@@ -1,7 +1,7 @@
 use Rattle.std.proofs.Common.{arith, ◌≡◌, ◌++◌, [], sym}
 use Rattle.std.proofs.lemmas.List.{append-nil}
 use Rattle.tea_base.specs.Legal.{MayFollow}
-use Rattle.tea_base.specs.Readings.{payload_of}
+use Rattle.tea_base.specs.Readings.{event_payload}
 use Rattle.session_log.specs.Heads.{what_of}
 use Rattle.session_log.specs.Kept.{entries_of}
 use Rattle.session_log.specs.LogState.{next_entry}
@@ -14,7 +14,7 @@ invariant_of-self c =
     let is = c.requires.presence in
     let recorded = what_of [] c.args.kind in
     let may : MayFollow (entries_of fields) (next_entry (entries_of fields) c.args.time c.args.view recorded) = rw (← c.self.view_is) at c.requires.legal in
-    let same : fields.payloads.items ≡ fields.payloads.items ++ payload_of recorded = rw (payload_of-presence c.args.kind is) (sym (append-nil fields.payloads.items)) in
+    let same : fields.payloads.items ≡ fields.payloads.items ++ event_payload recorded = rw (payload_of-presence c.args.kind is) (sym (append-nil fields.payloads.items)) in
     record {
       kept = AreSound-push _ _ fields.heads.items _ _ recorded c.self.invariant.kept same c.push_head.ensures.items (what_of-presence _ _ is) (IsKindWithin-presence _ _ is) (omega (arith, c.len.ensures)) may;
       short = omega (arith, short-push fields.payloads.items fields.heads.items c.args.time c.args.view recorded may, c.push_head.ensures.len, c.len.ensures);

@@ -1,17 +1,17 @@
 use Rattle.std.proofs.Common.{◌≡◌, ◌∙◌, List, ℕ, false, ap, sym, subst}
 use Rattle.std.specs.Arc.{arc_value}
-use Rattle.model_value.specs.Valid.{Valid}
+use Rattle.world_plain.specs.Valid.{Valid}
 use Rattle.model_lang.specs.Program.{IsProgram}
 use Rattle.model_lang.specs.TreeView.{program_tree}
 use Rattle.model_lang.specs.declared.tree.Class.{Class}
-use Rattle.world.specs.Worlds.{Scene, first, field_counts}
+use Rattle.world.specs.Worlds.{Scene, first_scene, field_counts}
 use Rattle.world.specs.View.{scene, IsSound}
 use Rattle.world.proofs.FirstWorld.{first-valid}
 use Rattle.world.proofs.Replays.{first-begins}
 use Rattle.world.proofs.Turn.{program-fits}
 use Rattle.world.proofs.world.World.first.Goals as goal
 
-sound : (program : List Class) (id : List ℕ) (s : Scene) → IsProgram (program_tree program) → s ≡ first (program_tree program) id → IsSound (record { program = program; scene = s; broken = false })
+sound : (program : List Class) (id : List ℕ) (s : Scene) → IsProgram (program_tree program) → s ≡ first_scene (program_tree program) id → IsSound (record { program = program; scene = s; broken = false })
 sound program id s p e = record {
   program = p;
   valid = λ _. subst (λ (u : Scene). Valid (field_counts (program_tree program)) u.world) (sym e) (first-valid (program_tree program) id (program-fits (program_tree program) p));

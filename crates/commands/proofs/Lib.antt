@@ -1,0 +1,11 @@
+pub mod Agreement
+pub mod CheckLaws
+pub mod EventLaws
+pub mod OneVerdict
+pub mod ProgramLaws
+pub mod ScriptLaws
+pub mod SomeVerdict
+pub mod StampLaws
+pub mod WaitLaws
+pub mod WordLaws
+pub mod WorldLaws

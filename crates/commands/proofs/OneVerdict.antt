@@ -1,0 +1,184 @@
+-- One verdict comes of a command, as long as its steps were told the same.
+use Rattle.std.proofs.Common.{◌≡◌, ◌⊎◌, inl, inr, ℕ, List, [], ◌∷◌, length, Option, Some, None, refl, sym, ap, subst, ◌∙◌}
+use Rattle.std.proofs.lemmas.Option.{same_Some}
+use Rattle.byte_fields.specs.Fields.{whole}
+use Rattle.byte_fields.proofs.Codecs.{whole_again}
+use Rattle.tea_base.specs.Legal.{IsLegal}
+use Rattle.tea_base.specs.declared.entry.Entry.{Entry}
+use Rattle.session_log.specs.Reading.{log_at}
+use Rattle.session_log.specs.Spelling.{log_spelling}
+use Rattle.session_log.proofs.LogCodec.{log_codec}
+use Rattle.reflector_core.specs.declared.request.Request.{Request}
+use Rattle.model_lang.specs.Program.{Reading, a_program, no_program, too_large, IsReading}
+use Rattle.model_lang.specs.Tree.{ProgramTree}
+use Rattle.model_check.specs.declared.fault.CheckFault.{CheckFault}
+use Rattle.model_check.specs.Faults.{first_fault}
+use Rattle.model_check.specs.Methods.{field_counts}
+use Rattle.world_plain.specs.World.{WorldRecord}
+use Rattle.snapshot_codec.specs.Answer.{IsSnapshot}
+use Rattle.snapshot_codec.specs.Reading.{world_record_at}
+use Rattle.snapshot_codec.proofs.Fitting.{world-fits}
+use Rattle.snapshot_codec.proofs.WorldCodec.{world_codec}
+use Rattle.commands.specs.declared.outcome.Input.{Input}
+use Rattle.commands.specs.declared.outcome.Input.TheVariants as input
+use Rattle.commands.specs.declared.outcome.Refusal.TheVariants as refusal
+use Rattle.commands.specs.declared.words.ReplayRequest.{ReplayRequest}
+use Rattle.commands.specs.declared.words.Command.{Command}
+use Rattle.commands.specs.declared.words.Command.TheVariants.{Stamp, Check, Replay}
+use Rattle.commands.specs.PrintedText.{syntax_line}
+use Rattle.commands.specs.Script.{script_of}
+use Rattle.commands.specs.Verdict.{Ask, Step, Loads, Puts, Prints, Closing, ByRefusal, ByWant, Verdict, AreAlike, AreDoneAlike, Coming, Free, IsLineOf, IsOneVerdict, IsFunction, IsRefused, IsRefusedBy, OfFile, OfGiven, OfLog, OfProgram, OfScript, OfSnapshot, OfTree, OfWords, Only, Starts, ask_log, ask_program, ask_script, ask_snapshot, before, at_once, count_verdict, resumed_verdict, session_of, stamp_verdict}
+
+-- what `model_lang::one_reading` says
+abbrev pub IsOneReading : Type 0
+IsOneReading = (text : List ℕ) (reading other : Reading) → IsReading text reading → IsReading text other → reading ≡ other
+
+abbrev pub Alike : Verdict → Verdict → Type 0
+Alike verdict other = AreAlike verdict.steps verdict.closing other.steps other.closing
+
+-- want of memory is like all that may stand in its place
+wants_first : (steps : List Step) (closing : Closing) → AreAlike [] ByWant steps closing
+wants_first [] closing = inr (inl refl)
+wants_first (step ∷ steps) closing = refl
+
+wants_last : (steps : List Step) (closing : Closing) → AreAlike steps closing [] ByWant
+wants_last [] closing = inr (inr (inl refl))
+wants_last (step ∷ steps) closing = refl
+
+-- a verdict is like itself
+step_alike : (step : Step) (alike : Type 0) → alike → AreDoneAlike step step alike
+step_alike (Loads ask given) alike holds = (refl, λ (same : given ≡ given). holds)
+step_alike (Puts name bytes) alike holds = (refl, holds)
+step_alike (Prints text) alike holds = (refl, holds)
+
+self_alike : (steps : List Step) (closing : Closing) → AreAlike steps closing steps closing
+self_alike [] closing = inl refl
+self_alike (step ∷ steps) closing = step_alike step (AreAlike steps closing steps closing) (self_alike steps closing)
+
+alike_by : (verdict other first second : Verdict) → verdict ≡ first → other ≡ second → Alike first second → Alike verdict other
+alike_by verdict other first second is also alike =
+    subst (λ (v : Verdict). Alike v other) (sym is) (subst (λ (v : Verdict). Alike first v) (sym also) alike)
+
+one_only : (is : Verdict) → IsOneVerdict (Only is)
+one_only is verdict other a b = alike_by verdict other is is a b (self_alike is.steps is.closing)
+
+one_free : (coming : Coming) → IsOneVerdict coming → IsOneVerdict (Free coming)
+one_free coming one verdict other (inl a) b = alike_by verdict other (at_once ByWant) other a refl (wants_first other.steps other.closing)
+one_free coming one verdict other (inr a) (inl b) = alike_by verdict other verdict (at_once ByWant) refl b (wants_last verdict.steps verdict.closing)
+one_free coming one verdict other (inr a) (inr b) = one verdict other a b
+
+one_given : (at : Input) (given : Option (List ℕ)) (next : List ℕ → Coming) → ((bytes : List ℕ) → IsOneVerdict (next bytes)) → IsOneVerdict (OfGiven at given next)
+one_given at None next one = one_only (at_once (ByRefusal (refusal.Input at)))
+one_given at (Some bytes) next one = one bytes
+
+one_file : (ask : Ask) (next : List ℕ → Coming) → ((bytes : List ℕ) → IsOneVerdict (next bytes)) → IsOneVerdict (OfFile ask next)
+one_file ask next one verdict other (given, (rest, is, a)) (told, (more, also, b)) =
+    alike_by verdict other (before (Loads ask given) rest) (before (Loads ask told) more) is also (
+      refl,
+      λ (same : given ≡ told).
+          one_free (OfGiven ask.input given next) (one_given ask.input given next one) rest more a
+          (subst (λ (bytes : Option (List ℕ)). Free (OfGiven ask.input bytes next) more) (sym same) b),
+    )
+
+one_script : (log : Option (List ℕ)) (script : Option (List Request)) → IsOneVerdict (OfScript log script)
+one_script log None = one_only (at_once (ByRefusal (refusal.Input input.Script)))
+one_script log (Some requests) = one_only (stamp_verdict log requests)
+
+-- ---- programs
+
+same_tree : (tree other : ProgramTree) → a_program tree ≡ a_program other → tree ≡ other
+same_tree tree other is = cc
+
+no_line : (found : Option CheckFault) (line : List ℕ) {fact : Type 0} → found ≡ None → IsLineOf found line → fact
+no_line None line none is = absurd is
+no_line (Some fault) line none is = absurd cc
+
+-- a program without faults is not refused
+not_refused : IsOneReading → (bytes line : List ℕ) (tree : ProgramTree) {fact : Type 0} → IsReading bytes (a_program tree) → first_fault tree ≡ None → IsRefused bytes line → fact
+not_refused one bytes line tree read sound refused =
+    no_line (first_fault tree) line sound
+    (subst (λ (r : Reading). IsRefusedBy r (length bytes) line) (one bytes refused.reading (a_program tree) refused.is_reading read) refused.refused)
+
+abbrev pub AreLinesAlike : List ℕ → List ℕ → Type 0
+AreLinesAlike line other = (line ≡ other) ⊎ ((at : ℕ) × (also : ℕ) × (line ≡ syntax_line at) × (other ≡ syntax_line also))
+
+fault_lines : (found : Option CheckFault) (line other : List ℕ) → IsLineOf found line → IsLineOf found other → line ≡ other
+fault_lines None line other a b = absurd a
+fault_lines (Some fault) line other a b = a ∙ sym b
+
+lines_alike : (reading : Reading) (bytes : ℕ) (line other : List ℕ) → IsRefusedBy reading bytes line → IsRefusedBy reading bytes other → AreLinesAlike line other
+lines_alike (a_program tree) bytes line other a b = inl (fault_lines (first_fault tree) line other a b)
+lines_alike no_program bytes line other a b = inr (a.0, b.0, a.2, b.2)
+lines_alike (too_large what count) bytes line other a b = inl (a ∙ sym b)
+
+refused_alike : IsOneReading → (bytes line other : List ℕ) → IsRefused bytes line → IsRefused bytes other → AreLinesAlike line other
+refused_alike one bytes line other a b =
+    let same : b.reading ≡ a.reading = one bytes b.reading a.reading b.is_reading a.is_reading in
+    lines_alike a.reading (length bytes) line other a.refused (subst (λ (r : Reading). IsRefusedBy r (length bytes) other) same b.refused)
+
+-- two refusals of a text
+abbrev pub refused_as : List ℕ → Verdict
+refused_as line = at_once (ByRefusal (refusal.Program line))
+
+told_alike : (line other : List ℕ) → AreLinesAlike line other → Alike (refused_as line) (refused_as other)
+told_alike line other (inl same) = inl (ap (λ (l : List ℕ). ByRefusal (refusal.Program l)) same)
+told_alike line other (inr (at, also, first, second)) =
+    inr (inr (inr ((at, ap (λ (l : List ℕ). ByRefusal (refusal.Program l)) first), (also, ap (λ (l : List ℕ). ByRefusal (refusal.Program l)) second))))
+
+one_program : IsOneReading → (next : ProgramTree → Coming) → ((tree : ProgramTree) → IsOneVerdict (next tree)) → (bytes : List ℕ) → IsOneVerdict (OfProgram next bytes)
+one_program one next each bytes verdict other (inl (tree, sound, a)) (inl (tree', sound', b)) =
+    let same : tree' ≡ tree = same_tree tree' tree (one bytes (a_program tree') (a_program tree) sound'.read sound.read) in
+    each tree verdict other a (subst (λ (t : ProgramTree). next t other) same b)
+one_program one next each bytes verdict other (inl (tree, sound, a)) (inr (line, refused, b)) = not_refused one bytes line tree sound.read sound.sound refused
+one_program one next each bytes verdict other (inr (line, refused, a)) (inl (tree, sound, b)) = not_refused one bytes line tree sound.read sound.sound refused
+one_program one next each bytes verdict other (inr (line, refused, a)) (inr (line', refused', b)) =
+    alike_by verdict other (refused_as line) (refused_as line') a b (told_alike line line' (refused_alike one bytes line line' refused refused'))
+
+-- ---- replay
+
+same_log : (bytes : List ℕ) (log other : List Entry) → IsLegal log → bytes ≡ log_spelling log → IsLegal other → bytes ≡ log_spelling other → other ≡ log
+same_log bytes log other legal spelled legal' spelled' =
+    same_Some other log (sym (whole_again log_codec other legal') ∙ ap (whole log_at) (sym spelled' ∙ spelled) ∙ whole_again log_codec log legal)
+
+one_log : (next : List Entry → Coming) → ((log : List Entry) → IsOneVerdict (next log)) → (bytes : List ℕ) → IsOneVerdict (OfLog next bytes)
+one_log next each bytes verdict other (inl (log, legal, spelled, a)) (inl (log', legal', spelled', b)) =
+    each log verdict other a (subst (λ (l : List Entry). next l other) (same_log bytes log log' legal spelled legal' spelled') b)
+one_log next each bytes verdict other (inl (log, legal, spelled, a)) (inr (none, b)) = absurd (none log legal spelled)
+one_log next each bytes verdict other (inr (none, a)) (inl (log, legal, spelled, b)) = absurd (none log legal spelled)
+one_log next each bytes verdict other (inr (none, a)) (inr (none', b)) = one_only (at_once (ByRefusal (refusal.Input input.Log))) verdict other a b
+
+same_world : (counts id bytes : List ℕ) (w v : WorldRecord) → IsSnapshot counts id bytes w → IsSnapshot counts id bytes v → v ≡ w
+same_world counts id bytes w v is is' =
+    same_Some v w
+    (sym (whole_again (world_codec counts) v (world-fits counts v is'.world is'.valid)) ∙ ap (whole (world_record_at counts)) (sym is'.spelled ∙ is.spelled)
+    ∙ whole_again (world_codec counts) w (world-fits counts w is.world is.valid))
+
+one_snapshot : (request : ReplayRequest) (tree : ProgramTree) (id : List ℕ) (log : List Entry) (bytes : List ℕ) → IsOneVerdict (OfSnapshot request tree id log bytes)
+one_snapshot request tree id log bytes verdict other (inl (w, is, a)) (inl (v, is', b)) =
+    let same = same_world (field_counts tree) id bytes w v is is' in
+    one_only (resumed_verdict request tree log w) verdict other a (subst (λ (u : WorldRecord). Only (resumed_verdict request tree log u) other) same b)
+one_snapshot request tree id log bytes verdict other (inl (w, is, a)) (inr (none, b)) = absurd (none w is)
+one_snapshot request tree id log bytes verdict other (inr (none, a)) (inl (w, is, b)) = absurd (none w is)
+one_snapshot request tree id log bytes verdict other (inr (none, a)) (inr (none', b)) = one_only (at_once (ByRefusal (refusal.Input input.Snapshot))) verdict other a b
+
+one_start : (from : Option (List ℕ)) (request : ReplayRequest) (tree : ProgramTree) (id : List ℕ) (log : List Entry) → IsOneVerdict (Starts from request tree id log)
+one_start None request tree id log = one_only _
+one_start (Some from) request tree id log = one_file (ask_snapshot from) (OfSnapshot request tree id log) (one_snapshot request tree id log)
+
+one_tree : (request : ReplayRequest) (id : List ℕ) (tree : ProgramTree) → IsOneVerdict (OfTree request id tree)
+one_tree request id tree =
+    one_file (ask_log request.log) (OfLog (Starts request.from request tree id)) (one_log (Starts request.from request tree id) (one_start request.from request tree id))
+
+-- ---- the commands
+
+one_words : IsOneReading → (command : Option Command) → IsOneVerdict (OfWords command)
+one_words one None = one_only (at_once (ByRefusal refusal.Usage))
+one_words one (Some (Stamp script log)) = one_file (ask_script script) (λ bytes. OfScript log (script_of bytes)) (λ bytes. one_script log (script_of bytes))
+one_words one (Some (Check program)) =
+    one_file (ask_program program) (OfProgram (λ tree. Only (count_verdict tree))) (one_program one (λ tree. Only (count_verdict tree)) (λ tree. one_only (count_verdict tree)))
+one_words one (Some (Replay request)) =
+    one_file (ask_program request.program) (λ bytes. OfProgram (OfTree request (session_of request.name bytes)) bytes)
+    (λ bytes. one_program one (OfTree request (session_of request.name bytes)) (one_tree request (session_of request.name bytes)) bytes)
+
+pub is_function : IsOneReading → IsFunction
+is_function one command = one_free (OfWords command) (one_words one command)

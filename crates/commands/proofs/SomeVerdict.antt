@@ -1,0 +1,119 @@
+-- Some verdict other than want of memory comes of a command, whatever its files give.
+use Rattle.std.proofs.Common.{◌≡◌, inl, inr, ℕ, Bool, true, false, cond, nat_lt, List, [], ◌∷◌, Option, Some, None, refl, sym, arith, subst}
+use Rattle.tea_base.specs.declared.entry.Entry.{Entry}
+use Rattle.reflector_core.specs.declared.request.Request.{Request}
+use Rattle.model_lang.specs.Program.{Reading, a_program, no_program, too_large, IsReading, IsRead}
+use Rattle.model_lang.specs.Tree.{ProgramTree}
+use Rattle.model_check.specs.declared.fault.CheckFault.{CheckFault}
+use Rattle.model_check.specs.Faults.{first_fault}
+use Rattle.commands.specs.declared.outcome.Input.{Input}
+use Rattle.commands.specs.declared.outcome.Input.TheVariants as input
+use Rattle.commands.specs.declared.outcome.Refusal.{Refusal}
+use Rattle.commands.specs.declared.outcome.Refusal.TheVariants as refusal
+use Rattle.commands.specs.declared.outcome.Put.{Put}
+use Rattle.commands.specs.declared.words.ReplayRequest.{ReplayRequest}
+use Rattle.commands.specs.declared.words.Command.{Command}
+use Rattle.commands.specs.declared.words.Command.TheVariants.{Stamp, Check, Replay}
+use Rattle.commands.specs.PrintedText.{check_line, counts_line, syntax_line, too_large_line}
+use Rattle.commands.specs.Script.{script_of}
+use Rattle.commands.specs.Verdict.{Ask, Loads, Fine, ByRefusal, ByWant, AreGiven, Coming, IsLineOf, IsOnlyWant, OfCommand, OfFile, OfGiven, OfLog, OfProgram, OfScript, OfSnapshot, OfTree, SomeVerdictComes, Starts, ask_log, ask_program, ask_script, ask_snapshot, at_once, before, count_verdict, fine, session_of, steps_of}
+
+abbrev pub Told : Type 0
+Told = Ask → Option (List ℕ)
+
+-- what `model_lang::one_reading` says besides
+abbrev pub IsSomeReading : Type 0
+IsSomeReading = (text : List ℕ) → ¬ ((reading : Reading) → ¬ IsReading text reading)
+
+-- a refusal is no want of memory, and a text that was printed is none
+refused_not_want : (told : Told) (coming : Coming) (why : Refusal) → coming (at_once (ByRefusal why)) → ¬ IsOnlyWant told coming
+refused_not_want told coming why comes only = let want : ByRefusal why ≡ ByWant = only (at_once (ByRefusal why)) comes tt in absurd cc
+
+no_file_given : (told : Told) (puts : List Put) (text : List ℕ) → AreGiven told (steps_of puts text)
+no_file_given told [] text = tt
+no_file_given told (put ∷ puts) text = no_file_given told puts text
+
+fine_not_want : (told : Told) (coming : Coming) (puts : List Put) (text : List ℕ) → coming (fine (steps_of puts text)) → ¬ IsOnlyWant told coming
+fine_not_want told coming puts text comes only = let want : Fine ≡ ByWant = only (fine (steps_of puts text)) comes (no_file_given told puts text) in absurd cc
+
+-- what comes of the bytes of a file comes of the file
+given_not_want : (told : Told) (at : Input) (given : Option (List ℕ)) (next : List ℕ → Coming) → ((bytes : List ℕ) → ¬ IsOnlyWant told (next bytes)) → ¬ IsOnlyWant told (OfGiven at given next)
+given_not_want told at None next each = refused_not_want told (OfGiven at None next) (refusal.Input at) refl
+given_not_want told at (Some bytes) next each = each bytes
+
+file_not_want : (told : Told) (ask : Ask) (next : List ℕ → Coming) → ((bytes : List ℕ) → ¬ IsOnlyWant told (next bytes)) → ¬ IsOnlyWant told (OfFile ask next)
+file_not_want told ask next each only =
+    given_not_want told ask.input (told ask) next each
+    (λ rest comes given. only (before (Loads ask (told ask)) rest) (told ask, (rest, refl, inr comes)) (refl, given))
+
+-- ---- stamp
+
+script_not_want : (told : Told) (log : Option (List ℕ)) (requests : Option (List Request)) → ¬ IsOnlyWant told (OfScript log requests)
+script_not_want told log None = refused_not_want told (OfScript log None) (refusal.Input input.Script) refl
+script_not_want told log (Some requests) = fine_not_want told (OfScript log (Some requests)) _ _ refl
+
+-- ---- programs
+
+faulty_line : (found : Option CheckFault) (fault : CheckFault) → found ≡ Some fault → IsLineOf found (check_line fault)
+faulty_line found fault is = subst (λ (f : Option CheckFault). IsLineOf f (check_line fault)) (sym is) refl
+
+read_not_want : (told : Told) (next : ProgramTree → Coming) (bytes : List ℕ) (tree : ProgramTree) (found : Option CheckFault) → first_fault tree ≡ found → IsRead bytes tree → ¬ IsOnlyWant told (next tree) → ¬ IsOnlyWant told (OfProgram next bytes)
+read_not_want told next bytes tree None sound read each =
+    λ only. each (λ verdict comes given. only verdict (inl (tree, record { read = read; sound = sound }, comes)) given)
+read_not_want told next bytes tree (Some fault) is read each =
+    refused_not_want told (OfProgram next bytes) (refusal.Program (check_line fault))
+    (inr (check_line fault, record { reading = a_program tree; is_reading = read; refused = faulty_line (first_fault tree) fault is }, refl))
+
+reading_not_want : (told : Told) (next : ProgramTree → Coming) (bytes : List ℕ) (reading : Reading) → IsReading bytes reading → ((tree : ProgramTree) → ¬ IsOnlyWant told (next tree)) → ¬ IsOnlyWant told (OfProgram next bytes)
+reading_not_want told next bytes (a_program tree) is each = read_not_want told next bytes tree (first_fault tree) refl is (each tree)
+reading_not_want told next bytes no_program is each =
+    refused_not_want told (OfProgram next bytes) (refusal.Program (syntax_line 0))
+    (inr (syntax_line 0, record { reading = no_program; is_reading = is; refused = (0, omega arith, refl) }, refl))
+reading_not_want told next bytes (too_large what count) is each =
+    refused_not_want told (OfProgram next bytes) (refusal.Program (too_large_line what count))
+    (inr (too_large_line what count, record { reading = too_large what count; is_reading = is; refused = refl }, refl))
+
+program_not_want : IsSomeReading → (told : Told) (next : ProgramTree → Coming) (bytes : List ℕ) → ((tree : ProgramTree) → ¬ IsOnlyWant told (next tree)) → ¬ IsOnlyWant told (OfProgram next bytes)
+program_not_want some told next bytes each only = some bytes (λ reading is. reading_not_want told next bytes reading is each only)
+
+-- ---- replay
+
+resumed_if : (told : Told) (coming : Coming) (early : Bool) (puts : List Put) (text : List ℕ) (why : Refusal) → coming (cond early (at_once (ByRefusal why)) (fine (steps_of puts text))) → ¬ IsOnlyWant told coming
+resumed_if told coming true puts text why comes = refused_not_want told coming why comes
+resumed_if told coming false puts text why comes = fine_not_want told coming puts text comes
+
+snapshot_not_want : (told : Told) (request : ReplayRequest) (tree : ProgramTree) (id : List ℕ) (log : List Entry) (bytes : List ℕ) → ¬ IsOnlyWant told (OfSnapshot request tree id log bytes)
+snapshot_not_want told request tree id log bytes only =
+    refused_not_want told (OfSnapshot request tree id log bytes) (refusal.Input input.Snapshot)
+    (inr (λ w is. resumed_if told (OfSnapshot request tree id log bytes) (nat_lt request.time w.time) _ _ (refusal.Input input.Time) (inl (w, is, refl)) only, refl))
+    only
+
+starts_not_want : (told : Told) (from : Option (List ℕ)) (request : ReplayRequest) (tree : ProgramTree) (id : List ℕ) (log : List Entry) → ¬ IsOnlyWant told (Starts from request tree id log)
+starts_not_want told None request tree id log = fine_not_want told (Starts None request tree id log) _ _ refl
+starts_not_want told (Some from) request tree id log = file_not_want told (ask_snapshot from) (OfSnapshot request tree id log) (snapshot_not_want told request tree id log)
+
+log_not_want : (told : Told) (next : List Entry → Coming) (bytes : List ℕ) → ((log : List Entry) → ¬ IsOnlyWant told (next log)) → ¬ IsOnlyWant told (OfLog next bytes)
+log_not_want told next bytes each only =
+    refused_not_want told (OfLog next bytes) (refusal.Input input.Log)
+    (inr (λ log legal is. each log (λ verdict comes given. only verdict (inl (log, legal, is, comes)) given), refl))
+    only
+
+tree_not_want : (told : Told) (request : ReplayRequest) (id : List ℕ) (tree : ProgramTree) → ¬ IsOnlyWant told (OfTree request id tree)
+tree_not_want told request id tree =
+    file_not_want told (ask_log request.log) (OfLog (Starts request.from request tree id))
+    (λ bytes. log_not_want told (Starts request.from request tree id) bytes (starts_not_want told request.from request tree id))
+
+-- ---- the commands
+
+command_not_want : IsSomeReading → (told : Told) (command : Command) → ¬ IsOnlyWant told (OfCommand command)
+command_not_want some told (Stamp script log) =
+    file_not_want told (ask_script script) (λ bytes. OfScript log (script_of bytes)) (λ bytes. script_not_want told log (script_of bytes))
+command_not_want some told (Check program) =
+    file_not_want told (ask_program program) _ (λ bytes. program_not_want some told _ bytes (λ tree. fine_not_want told (λ came. came ≡ count_verdict tree) [] (counts_line tree) refl))
+command_not_want some told (Replay request) =
+    file_not_want told (ask_program request.program) (λ bytes. OfProgram (OfTree request (session_of request.name bytes)) bytes)
+    (λ bytes. program_not_want some told (OfTree request (session_of request.name bytes)) bytes (tree_not_want told request (session_of request.name bytes)))
+
+pub some_verdict_comes : IsSomeReading → SomeVerdictComes
+some_verdict_comes some None told only = refused_not_want told _ refusal.Usage (inr refl) only
+some_verdict_comes some (Some command) told only = command_not_want some told command (λ verdict comes given. only verdict (inr comes) given)

@@ -1,0 +1,5 @@
+use Rattle.commands.proofs.EventLaws.{events_told}
+use Rattle.commands.proofs.laws.logs_tell_their_events.Goals as goal
+
+pub returns : goal.returns
+returns c = events_told

@@ -1,0 +1,12 @@
+use Rattle.std.proofs.Common.{◌≡◌, subst, IfOk, Option}
+use Rattle.std.specs.Option.{option_map}
+use Rattle.world_plain.specs.World.{WorldRecord, world_record}
+use Rattle.commands.proofs.WorldLaws.{gone_on}
+use Rattle.commands.proofs.world_run.arrive.Goals as goal
+
+pub returns-clause-world : goal.returns-clause-world
+returns-clause-world c =
+    let start : Option WorldRecord = option_map world_record c.args.start in
+    subst (λ w. IfOk c.plain_of.result (λ plain. world_record plain ≡ w))
+    (gone_on c.in_ok-world.world c.go_on.new.world c.args.recording start c.args.time c.in_ok-world.ensures c.in_ok-go_on.ensures.legal c.in_ok-go_on.ensures.goes)
+    c.plain_of.ensures.copy

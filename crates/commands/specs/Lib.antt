@@ -1,0 +1,5 @@
+pub mod PrintedText
+pub mod Script
+pub mod CommandWords
+pub mod Verdict
+pub mod Work

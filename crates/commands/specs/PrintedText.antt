@@ -1,0 +1,124 @@
+-- The text of replies, the lines of a world and of a check, and the lines of a program's faults.
+use Rattle.std.specs.Prelude.{ℕ, List, [], ◌∷◌, ◌++◌, length, sum, encode_utf8_all, Option, Some, None, codes}
+use Rattle.std.specs.List.{sum_by}
+use Rattle.text_lines.specs.Lines.{numbered}
+use Rattle.hex.specs.Hex.{encode_lower}
+use Rattle.sha2.specs.Sha256.{sha256}
+use Rattle.snapshot_codec.specs.Spelling.{world_spelling}
+use Rattle.world_plain.specs.World.{WorldRecord}
+use Rattle.model_check.specs.declared.fault.CheckFault.{CheckFault}
+use Rattle.model_lang.specs.Tree.{ProgramTree}
+use Rattle.model_lang.specs.declared.fault.Bound.{Bound}
+use Rattle.model_lang.specs.declared.fault.Bound.TheVariants as bound
+use Rattle.model_check.specs.declared.fault.CheckFault.TheVariants.{Twice, NoName, NoClass, NoField, Count, NoRoot, WantOfMemory}
+use Rattle.wire_frames.specs.declared.start.Base.{Base}
+use Rattle.reflector_core.specs.declared.request.Reply.{Reply}
+use Rattle.reflector_core.specs.declared.request.Reply.TheVariants.{Joined, Stamped, Again, Ticked, Left, Kept, Batch, Refused}
+use Rattle.reflector_core.specs.declared.request.Refusal.{Refusal}
+use Rattle.reflector_core.specs.declared.request.Refusal.TheVariants.{Stale, TooLong, Differs, Gap, LogFull, TimeEnd, ViewsFull, BadView, Ahead, Older, NoSuchSeq}
+
+-- what a base adds to the line of a Join
+abbrev pub base_part : Option Base → List ℕ
+base_part None = []
+base_part (Some base) = numbered (codes " base") (base.time ∷ [])
+
+-- what a tick adds to the line of a Batch
+abbrev pub tick_part : Option ℕ → List ℕ
+tick_part None = codes " more"
+tick_part (Some time) = numbered (codes " tick") (time ∷ [])
+
+-- what a refusal says, and the value that it carries
+abbrev pub refusal_part : Refusal → List ℕ
+refusal_part (Stale current) = numbered (codes " stale") (current ∷ [])
+refusal_part (TooLong len) = numbered (codes " too-long") (len ∷ [])
+refusal_part (Differs seq) = numbered (codes " differs") (seq ∷ [])
+refusal_part (Gap expected) = numbered (codes " gap") (expected ∷ [])
+refusal_part (LogFull entries bytes) = numbered (codes " log-full") (entries ∷ bytes ∷ [])
+refusal_part (TimeEnd horizon) = numbered (codes " time-end") (horizon ∷ [])
+refusal_part (ViewsFull here) = numbered (codes " views-full") (here ∷ [])
+refusal_part BadView = codes " bad-view"
+refusal_part (Ahead horizon) = numbered (codes " ahead") (horizon ∷ [])
+refusal_part (Older kept) = numbered (codes " older") (kept ∷ [])
+refusal_part (NoSuchSeq len) = numbered (codes " no-such-seq") (len ∷ [])
+
+-- what a reply says: one row for each
+abbrev pub said_of : Reply → List ℕ
+said_of (Joined seq time last from base) = numbered (codes "joined") (seq ∷ time ∷ last ∷ from ∷ []) ++ base_part base
+said_of (Stamped seq time) = numbered (codes "stamped") (seq ∷ time ∷ [])
+said_of (Again seq time) = numbered (codes "again") (seq ∷ time ∷ [])
+said_of (Ticked time) = numbered (codes "ticked") (time ∷ [])
+said_of (Left seq time) = numbered (codes "left") (seq ∷ time ∷ [])
+said_of Kept = codes "kept"
+said_of (Batch entries tick) = numbered (codes "batch") (length entries ∷ []) ++ tick_part tick
+said_of (Refused refusal) = codes "refused" ++ refusal_part refusal
+
+-- the line of a reply
+abbrev pub reply_line : Reply → List ℕ
+reply_line reply = said_of reply ++ codes "\n"
+
+-- the lines of replies
+abbrev pub text_of : List Reply → List ℕ
+text_of [] = []
+text_of (reply ∷ replies) = reply_line reply ++ text_of replies
+
+-- the numbers of a world
+abbrev pub counts_part : WorldRecord → List ℕ
+counts_part w =
+    numbered (codes "time") (w.time ∷ [])
+    ++ numbered (codes " objects") (length w.objects ∷ [])
+    ++ numbered (codes " pending") (length w.pending ∷ [])
+    ++ numbered (codes " subscriptions") (length w.subscriptions ∷ [])
+
+-- how often messages were ended by faults of any kind
+abbrev pub faults_part : WorldRecord → List ℕ
+faults_part w = numbered (codes " faults") (sum w.faults ∷ [])
+
+abbrev pub digest_part : List ℕ → List ℕ
+digest_part digest = codes " digest " ++ encode_lower digest
+
+-- the line of a world with the digest of its snapshot
+abbrev pub digested_line : WorldRecord → List ℕ → List ℕ
+digested_line w digest = counts_part w ++ faults_part w ++ digest_part digest ++ codes "\n"
+
+-- the line of a world: its numbers, and the digest of its snapshot
+abbrev pub world_line : WorldRecord → List ℕ
+world_line w = digested_line w (sha256 (world_spelling w))
+
+-- how many methods all classes have together
+abbrev pub method_count : ProgramTree → ℕ
+method_count tree = sum_by (λ c. length c.methods) tree
+
+-- the line of a program without faults: the numbers of its classes and of its methods
+abbrev pub counts_line : ProgramTree → List ℕ
+counts_line tree = numbered (codes "classes") (length tree ∷ []) ++ numbered (codes " methods") (method_count tree ∷ []) ++ codes "\n"
+
+-- the text is no program from this place on
+abbrev pub syntax_line : ℕ → List ℕ
+syntax_line at = numbered (codes "syntax") (at ∷ []) ++ codes "\n"
+
+abbrev pub bound_word : Bound → List ℕ
+bound_word bound.Bytes = codes "too-large bytes"
+bound_word bound.Brackets = codes "too-large brackets"
+bound_word bound.Operators = codes "too-large operators"
+bound_word bound.Classes = codes "too-large classes"
+bound_word bound.Fields = codes "too-large fields"
+bound_word bound.Methods = codes "too-large methods"
+bound_word bound.Parameters = codes "too-large parameters"
+
+-- the text passes this bound, with this count
+abbrev pub too_large_line : Bound → ℕ → List ℕ
+too_large_line what count = numbered (bound_word what) (count ∷ []) ++ codes "\n"
+
+-- a word and a name
+abbrev pub named_line : List ℕ → List ℕ → List ℕ
+named_line word name = word ++ encode_utf8_all name ++ codes "\n"
+
+-- the line of a fault that a check finds: what it is, and the name at which it stands
+abbrev pub check_line : CheckFault → List ℕ
+check_line (Twice name) = named_line (codes "twice ") name
+check_line (NoName name) = named_line (codes "no-name ") name
+check_line (NoClass name) = named_line (codes "no-class ") name
+check_line (NoField name) = named_line (codes "no-field ") name
+check_line (Count name) = named_line (codes "count ") name
+check_line NoRoot = codes "no-root\n"
+check_line WantOfMemory = []

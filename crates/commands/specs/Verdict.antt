@@ -1,0 +1,285 @@
+-- What comes of a command: the steps that it does, one after the other, and how it is closed.
+use Rattle.std.specs.Prelude.{◌≡◌, ◌≢◌, ◌⊎◌, ℕ, ◌≤◌, ◌<◌, nat_lt, if◌then◌else◌, List, [], ◌∷◌, ◌++◌, length, Option, Some, None}
+use Rattle.tea_base.specs.Legal.{IsLegal}
+use Rattle.tea_base.specs.declared.entry.Entry.{Entry}
+use Rattle.session_log.specs.Spelling.{log_spelling}
+use Rattle.reflector_core.specs.declared.request.Request.{Request}
+use Rattle.reflector_core.specs.Play.{first_session, after_all, replies_from, TellsItsEvents}
+use Rattle.model_lang.specs.Program.{IsProgram, IsRead, Reading, a_program, no_program, too_large, IsReading}
+use Rattle.model_lang.specs.Tree.{ProgramTree}
+use Rattle.model_check.specs.declared.fault.CheckFault.{CheckFault}
+use Rattle.model_check.specs.Faults.{first_fault}
+use Rattle.model_check.specs.Methods.{field_counts}
+use Rattle.byte_fields.specs.Fields.{text_field}
+use Rattle.sha2.specs.Sha256.{sha256}
+use Rattle.tea_base.specs.Limits.{most_snapshot, time_limit}
+use Rattle.world_plain.specs.Valid.{Valid}
+use Rattle.world_plain.specs.World.{WorldRecord}
+use Rattle.world.specs.Worlds.{Follows, replay, replay_on}
+use Rattle.snapshot_codec.specs.Answer.{IsSnapshot}
+use Rattle.snapshot_codec.specs.Spelling.{world_spelling}
+use Rattle.commands.specs.declared.outcome.Input.{Input}
+use Rattle.commands.specs.declared.outcome.Input.TheVariants as input
+use Rattle.commands.specs.declared.outcome.Refusal.{Refusal}
+use Rattle.commands.specs.declared.outcome.Refusal.TheVariants as refusal
+use Rattle.commands.specs.declared.outcome.Put.{Put}
+use Rattle.commands.specs.declared.words.ReplayRequest.{ReplayRequest}
+use Rattle.commands.specs.declared.words.Command.{Command}
+use Rattle.commands.specs.declared.words.Command.TheVariants.{Stamp, Check, Replay}
+use Rattle.commands.specs.Script.{script_of}
+use Rattle.commands.specs.PrintedText.{text_of, counts_line, world_line, syntax_line, too_large_line, check_line}
+
+-- a file that a command reads: which of its inputs, its name, and the most bytes that it may have
+pub record Ask : Type 0 where
+  pub input : Input
+  pub name : List ℕ
+  pub limit : ℕ
+
+-- a step of a command, with what it was told: a row for each kind
+pub data Step : Type 0 where
+  -- a file is read: its bytes, or none where it is above its limit
+  Loads : Ask → Option (List ℕ) → Step
+  -- bytes are put under a name
+  Puts : List ℕ → List ℕ → Step
+  -- a piece of text is printed
+  Prints : List ℕ → Step
+
+-- how a command is closed, behind all its steps
+pub data Closing : Type 0 where
+  -- all went well
+  Fine : Closing
+  -- it is refused
+  ByRefusal : Refusal → Closing
+  -- memory is wanted
+  ByWant : Closing
+  -- the net failed
+  ByNetFault : Closing
+  -- the reflector refused, with a code and the value that comes with it
+  ByReflector : ℕ → ℕ → Closing
+  -- the reflector ended the connection
+  ByEnd : Closing
+  -- the reflector broke the rules
+  ByPeer : Closing
+
+-- what comes of a command: its steps, and how it is closed behind them
+pub record Verdict : Type 0 where
+  pub steps : List Step
+  pub closing : Closing
+
+-- these steps, and all went well
+abbrev pub fine : List Step → Verdict
+fine steps = record { steps = steps; closing = Fine }
+
+-- closed so before any step
+abbrev pub at_once : Closing → Verdict
+at_once closing = record { steps = []; closing = closing }
+
+-- this step, and then all of that verdict
+abbrev pub before : Step → Verdict → Verdict
+before step rest = record { steps = step ∷ rest.steps; closing = rest.closing }
+
+-- files are put in order, and then a text is printed
+abbrev pub steps_of : List Put → List ℕ → List Step
+steps_of [] text = Prints text ∷ []
+steps_of (put ∷ puts) text = Puts put.name put.bytes ∷ steps_of puts text
+
+-- these bytes, under the name that was given, if one was
+abbrev pub optional_put : Option (List ℕ) → List ℕ → List Put
+optional_put None bytes = []
+optional_put (Some name) bytes = record { name = name; bytes = bytes } ∷ []
+
+-- which verdicts may come
+abbrev pub Coming : Type 1
+Coming = Verdict → Type 0
+
+-- this one
+abbrev pub Only : Verdict → Coming
+Only verdict came = came ≡ verdict
+
+-- want of memory is free: it may come in place of all that follows
+abbrev pub Free : Coming → Coming
+Free next verdict = Only (at_once ByWant) verdict ⊎ next verdict
+
+-- a step is done, and then this comes
+abbrev pub Then : Step → Coming → Coming
+Then step next verdict = (rest : Verdict) × (verdict ≡ before step rest) × next rest
+
+-- what comes of the bytes of a file, or of one above its limit
+abbrev pub OfGiven : Input → Option (List ℕ) → (List ℕ → Coming) → Coming
+OfGiven at None next = Only (at_once (ByRefusal (refusal.Input at)))
+OfGiven at (Some bytes) next = next bytes
+
+-- a file is read, and then this comes of its bytes
+abbrev pub OfFile : Ask → (List ℕ → Coming) → Coming
+OfFile ask next verdict = (given : Option (List ℕ)) × Then (Loads ask given) (Free (OfGiven ask.input given next)) verdict
+
+-- ---- stamp
+
+-- a first session replies to the requests, and the spelling of its log after them is put
+abbrev pub stamp_verdict : Option (List ℕ) → List Request → Verdict
+stamp_verdict log requests =
+    fine (steps_of (optional_put log (log_spelling (after_all first_session requests).log)) (text_of (replies_from first_session requests)))
+
+abbrev pub OfScript : Option (List ℕ) → Option (List Request) → Coming
+OfScript log None = Only (at_once (ByRefusal (refusal.Input input.Script)))
+OfScript log (Some requests) = Only (stamp_verdict log requests)
+
+abbrev pub ask_script : List ℕ → Ask
+ask_script name = record { input = input.Script; name = name; limit = 16777216 }
+
+-- ---- programs
+
+-- the line of a check's first fault
+abbrev pub IsLineOf : Option CheckFault → List ℕ → Type 0
+IsLineOf None line = ⊥
+IsLineOf (Some fault) line = line ≡ check_line fault
+
+-- the line of a text with so many bytes that is refused; where it is no program it tells a place in it, or its end
+abbrev pub IsRefusedBy : Reading → ℕ → List ℕ → Type 0
+IsRefusedBy (a_program tree) bytes line = IsLineOf (first_fault tree) line
+IsRefusedBy no_program bytes line = (at : ℕ) × (at ≤ bytes) × (line ≡ syntax_line at)
+IsRefusedBy (too_large what count) bytes line = line ≡ too_large_line what count
+
+-- these bytes are refused as a program, and this is the line of it
+pub record IsRefused (bytes line : List ℕ) : Type 0 where
+  pub reading : Reading
+  pub is_reading : IsReading bytes reading
+  pub refused : IsRefusedBy reading (length bytes) line
+
+-- these bytes are a program without faults
+pub record IsFaultless (bytes : List ℕ) (tree : ProgramTree) : Type 0 where
+  pub read : IsRead bytes tree
+  pub sound : first_fault tree ≡ None
+
+-- what comes of a program's bytes
+abbrev pub OfProgram : (ProgramTree → Coming) → List ℕ → Coming
+OfProgram next bytes verdict =
+    ((tree : ProgramTree) × IsFaultless bytes tree × next tree verdict)
+    ⊎ ((line : List ℕ) × IsRefused bytes line × Only (at_once (ByRefusal (refusal.Program line))) verdict)
+
+abbrev pub ask_program : List ℕ → Ask
+ask_program name = record { input = input.Program; name = name; limit = 65536 }
+
+-- a program without faults is counted
+abbrev pub count_verdict : ProgramTree → Verdict
+count_verdict tree = fine (steps_of [] (counts_line tree))
+
+-- ---- replay
+
+-- the id of the session of this name and this program's text
+abbrev pub session_of : List ℕ → List ℕ → List ℕ
+session_of name text = sha256 (text_field name ++ text)
+
+-- a world is told by its line, and its snapshot is put
+abbrev pub world_verdict : Option (List ℕ) → WorldRecord → Verdict
+world_verdict name w = fine (steps_of (optional_put name (world_spelling w)) (world_line w))
+
+-- a world that is taken up goes on over the entries behind its time, if the time that is asked for is not below it
+abbrev pub resumed_verdict : ReplayRequest → ProgramTree → List Entry → WorldRecord → Verdict
+resumed_verdict request tree log w =
+    if nat_lt request.time w.time then at_once (ByRefusal (refusal.Input input.Time))
+    else world_verdict request.snapshot (replay_on tree w log request.time).world
+
+-- the bytes are the snapshot of a world that is valid for the program and of the session of this id, or of none
+abbrev pub OfSnapshot : ReplayRequest → ProgramTree → List ℕ → List Entry → List ℕ → Coming
+OfSnapshot request tree id log bytes verdict =
+    ((w : WorldRecord) × IsSnapshot (field_counts tree) id bytes w × Only (resumed_verdict request tree log w) verdict)
+    ⊎ (((w : WorldRecord) → ¬ IsSnapshot (field_counts tree) id bytes w) × Only (at_once (ByRefusal (refusal.Input input.Snapshot))) verdict)
+
+abbrev pub ask_snapshot : List ℕ → Ask
+ask_snapshot name = record { input = input.Snapshot; name = name; limit = most_snapshot }
+
+-- a replay begins with the first world of the session, or with that of a snapshot
+abbrev pub Starts : Option (List ℕ) → ReplayRequest → ProgramTree → List ℕ → List Entry → Coming
+Starts None request tree id log = Only (world_verdict request.snapshot (replay tree id log request.time).world)
+Starts (Some from) request tree id log = OfFile (ask_snapshot from) (OfSnapshot request tree id log)
+
+-- the bytes are the spelling of a legal log, or of none
+abbrev pub OfLog : (List Entry → Coming) → List ℕ → Coming
+OfLog next bytes verdict =
+    ((log : List Entry) × IsLegal log × (bytes ≡ log_spelling log) × next log verdict)
+    ⊎ (((log : List Entry) → IsLegal log → bytes ≢ log_spelling log) × Only (at_once (ByRefusal (refusal.Input input.Log))) verdict)
+
+abbrev pub ask_log : List ℕ → Ask
+ask_log name = record { input = input.Log; name = name; limit = 134217728 }
+
+-- once the program was read, the log is, and then the replay begins
+abbrev pub OfTree : ReplayRequest → List ℕ → ProgramTree → Coming
+OfTree request id tree = OfFile (ask_log request.log) (OfLog (Starts request.from request tree id))
+
+-- ---- the commands
+
+-- what comes of a command: a row for each
+abbrev pub OfCommand : Command → Coming
+OfCommand (Stamp script log) = OfFile (ask_script script) (λ bytes. OfScript log (script_of bytes))
+OfCommand (Check program) = OfFile (ask_program program) (OfProgram (λ tree. Only (count_verdict tree)))
+OfCommand (Replay request) =
+    OfFile (ask_program request.program) (λ bytes. OfProgram (OfTree request (session_of request.name bytes)) bytes)
+
+-- what comes of words: those that break their rules are refused
+abbrev pub OfWords : Option Command → Coming
+OfWords None = Only (at_once (ByRefusal refusal.Usage))
+OfWords (Some command) = OfCommand command
+
+-- what comes of a run
+abbrev pub Comes : Option Command → Coming
+Comes command = Free (OfWords command)
+
+-- ---- laws
+
+-- The log that a script leaves tells the events that were answered Stamped.
+abbrev pub LogsTellTheirEvents : Type 0
+LogsTellTheirEvents =
+    (bytes : List ℕ) (requests : List Request) → script_of bytes ≡ Some requests
+    → TellsItsEvents requests (replies_from first_session requests) (after_all first_session requests).log
+
+-- a snapshot of a world that follows the log leads to what the log leads to from its beginning
+abbrev pub SnapshotsAgree : Type 0
+SnapshotsAgree =
+    (request : ReplayRequest) (tree : ProgramTree) (log : List Entry) (w : WorldRecord)
+    → IsProgram tree → Valid (field_counts tree) w → IsLegal log → w.time ≤ request.time → request.time < time_limit → Follows tree w log
+    → resumed_verdict request tree log w ≡ world_verdict request.snapshot (replay tree w.id log request.time).world
+
+-- it tells a place in a text that is no program
+abbrev pub TellsPlace : Closing → Type 0
+TellsPlace closing = (at : ℕ) × (closing ≡ ByRefusal (refusal.Program (syntax_line at)))
+
+-- two closings are the same, or one is by want of memory, or both tell a place in a text that is no program
+abbrev pub AreClosedAlike : Closing → Closing → Type 0
+AreClosedAlike closing other =
+    (closing ≡ other) ⊎ ((closing ≡ ByWant) ⊎ ((other ≡ ByWant) ⊎ (TellsPlace closing × TellsPlace other)))
+
+-- two steps are the same, and what follows is alike if they were told the same
+abbrev pub AreDoneAlike : Step → Step → Type 0 → Type 0
+AreDoneAlike (Loads ask given) (Loads other told) alike = (ask ≡ other) × (given ≡ told → alike)
+AreDoneAlike step other alike = (step ≡ other) × alike
+
+-- The steps are the same, one after the other, as long as they were told the same. Want of memory may stand in place of what follows.
+abbrev pub AreAlike : List Step → Closing → List Step → Closing → Type 0
+AreAlike [] closing [] last = AreClosedAlike closing last
+AreAlike [] closing (other ∷ others) last = closing ≡ ByWant
+AreAlike (step ∷ steps) closing [] last = last ≡ ByWant
+AreAlike (step ∷ steps) closing (other ∷ others) last = AreDoneAlike step other (AreAlike steps closing others last)
+
+-- all verdicts that come are alike
+abbrev pub IsOneVerdict : Coming → Type 0
+IsOneVerdict coming = (verdict other : Verdict) → coming verdict → coming other → AreAlike verdict.steps verdict.closing other.steps other.closing
+
+-- so a command is a function of what its steps are told
+abbrev pub IsFunction : Type 0
+IsFunction = (command : Option Command) → IsOneVerdict (Comes command)
+
+-- each file gave what is told of it
+abbrev pub AreGiven : (Ask → Option (List ℕ)) → List Step → Type 0
+AreGiven told [] = Unit {0}
+AreGiven told (Loads ask given ∷ steps) = (given ≡ told ask) × AreGiven told steps
+AreGiven told (Puts name bytes ∷ steps) = AreGiven told steps
+AreGiven told (Prints text ∷ steps) = AreGiven told steps
+
+-- of what comes where the files give this, each verdict is closed by want of memory
+abbrev pub IsOnlyWant : (Ask → Option (List ℕ)) → Coming → Type 0
+IsOnlyWant told coming = (verdict : Verdict) → coming verdict → AreGiven told verdict.steps → verdict.closing ≡ ByWant
+
+-- that is so of no command, whatever its files give: some other verdict comes
+abbrev pub SomeVerdictComes : Type 0
+SomeVerdictComes = (command : Option Command) (told : Ask → Option (List ℕ)) → ¬ IsOnlyWant told (Comes command)

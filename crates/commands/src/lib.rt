@@ -1,0 +1,25 @@
+//! The commands as functions: from the bytes of the files that a command reads to what it puts and prints, or to its one
+//! refusal. No file and no output is touched here.
+//!
+//! [`read_command`] reads the words of a command. [`Next::of_command`] begins its work, and [`Waiting::hand`] goes on with the
+//! bytes of each file that it waits for, until it is refused, or gives what it puts and prints.
+#![tactic(auto)]
+
+mod check;
+mod laws;
+mod outcome;
+mod program;
+mod recording;
+mod script;
+mod stamp;
+mod text;
+mod words;
+mod work;
+mod world_run;
+mod world_text;
+
+pub use laws::{logs_tell_their_events, one_verdict, snapshots_agree, some_verdict};
+pub use outcome::{Input, Outcome, Put, Puts, Refusal};
+pub use recording::{LogWait, Recording, SnapshotWait};
+pub use words::{Command, ReplayRequest, read_command};
+pub use work::{Next, Waiting};

@@ -1,0 +1,55 @@
+//! The command `stamp`: a script's requests to a first session, its replies, and its log.
+ghost use Rattle.std.specs.Prelude.{◌≡◌, ◌<◌, IfOk};
+ghost use Rattle.session_log.specs.Spelling.{log_spelling};
+ghost use Rattle.commands.specs.Script.{script_of};
+ghost use Rattle.commands.specs.Verdict.{Free, OfScript, optional_put};
+ghost use Rattle.commands.specs.Work.{IsBoundedNext, Leads, reads_left};
+
+use crate::outcome::{Input, Outcome, Puts, Refusal, optional_put};
+use crate::script::read_script;
+use crate::text::text;
+use crate::work::Next;
+use reflector_core::{Session, play};
+use session_log::encode;
+use std::alloc::Global;
+use tea_base::{Blob, Text, WantOfMemory};
+
+/// A session's log, where a file for it is given.
+fn log_files(alloc: Global, name: Option<Text>, session: &Session) -> Result<Puts, WantOfMemory>
+    ensures { IfOk result (λ files. files ≡ optional_put name (log_spelling session.now.plain.log)) }
+{
+    if name.is_none() {
+        return Ok(Puts::new(alloc));
+    }
+    optional_put(alloc, name, encode(session.log())?)
+}
+
+/// What comes of a script.
+fn answer_script(alloc: Global, log: Option<Text>, script: &[u8]) -> Result<Next, WantOfMemory>
+    ensures leads { IfOk result (λ step. Leads step (OfScript log (script_of script.now))) }
+    ensures bounded { IfOk result IsBoundedNext }
+    ensures fewer { IfOk result (λ step. reads_left step < 3) }
+{
+    let Some(requests) = read_script(alloc, script)? else {
+        return Ok(Next::Refuses(Refusal::Input(Input::Script)));
+    };
+    let (session, replies) = play(alloc, requests.as_slice())?;
+    let text = text(alloc, replies.as_slice())?;
+    let files = log_files(alloc, log, &session)?;
+    Ok(Next::Gives(Outcome {
+        files,
+        text: Blob::from_vec(text.into_bytes()),
+    }))
+}
+
+/// `stamp SCRIPT [--log FILE]`, once its script was read.
+pub(crate) fn stamp(alloc: Global, log: Option<Text>, script: &[u8]) -> Next
+    ensures leads { Leads result (Free (OfScript log (script_of script.now))) }
+    ensures bounded { IsBoundedNext result }
+    ensures fewer { reads_left result < 3 }
+{
+    match answer_script(alloc, log, script) {
+        Ok(next) => next,
+        Err(WantOfMemory) => Next::WantOfMemory,
+    }
+}

@@ -1,0 +1,107 @@
+//! From replies to the text that tells them.
+ghost use Rattle.std.specs.Prelude.{◌≡◌, ◌++◌, string_bytes, codes, IfOk};
+ghost use Rattle.commands.specs.PrintedText.{base_part, tick_part, refusal_part, reply_line, text_of};
+
+use reflector_core::{Base, Refusal, Reply};
+use std::alloc::Global;
+use tea_base::WantOfMemory;
+use text_lines::numbered;
+
+/// What a base adds to the line of a Join.
+fn base_part(alloc: Global, base: &Option<Base>) -> Result<String, WantOfMemory>
+    ensures { IfOk result (λ text. string_bytes text ≡ base_part base.now) }
+{
+    match base {
+        None => Ok(String::new(alloc)),
+        Some(base) => numbered(alloc, " base", &[base.time]),
+    }
+}
+
+/// What a tick adds to the line of a Batch.
+fn tick_part(alloc: Global, tick: Option<u64>) -> Result<String, WantOfMemory>
+    ensures { IfOk result (λ text. string_bytes text ≡ tick_part tick) }
+{
+    match tick {
+        None => numbered(alloc, " more", &[]),
+        Some(time) => numbered(alloc, " tick", &[time]),
+    }
+}
+
+/// What a refusal says, and the value that it carries.
+fn refusal_part(alloc: Global, refusal: Refusal) -> Result<String, WantOfMemory>
+    ensures { IfOk result (λ text. string_bytes text ≡ refusal_part refusal) }
+{
+    match refusal {
+        Refusal::Stale { current } => numbered(alloc, " stale", &[u64::from(current)]),
+        Refusal::TooLong { len } => numbered(alloc, " too-long", &[u64::from(len)]),
+        Refusal::Differs { seq } => numbered(alloc, " differs", &[u64::from(seq)]),
+        Refusal::Gap { expected } => numbered(alloc, " gap", &[u64::from(expected)]),
+        Refusal::LogFull { entries, bytes } => {
+            numbered(alloc, " log-full", &[u64::from(entries), bytes])
+        }
+        Refusal::TimeEnd { horizon } => numbered(alloc, " time-end", &[horizon]),
+        Refusal::ViewsFull { here } => numbered(alloc, " views-full", &[u64::from(here)]),
+        Refusal::BadView => numbered(alloc, " bad-view", &[]),
+        Refusal::Ahead { horizon } => numbered(alloc, " ahead", &[horizon]),
+        Refusal::Older { kept } => numbered(alloc, " older", &[kept]),
+        Refusal::NoSuchSeq { len } => numbered(alloc, " no-such-seq", &[u64::from(len)]),
+    }
+}
+
+/// Two pieces of text in a line.
+fn line_of_parts(mut front: String, back: &str) -> Result<String, WantOfMemory>
+    ensures { IfOk result (λ line. string_bytes line ≡ string_bytes front ++ back.now ++ codes "\n") }
+{
+    front.push_str(back)?;
+    front.push_str("\n")?;
+    Ok(front)
+}
+
+/// The line of a reply.
+fn line(alloc: Global, reply: &Reply) -> Result<String, WantOfMemory>
+    ensures { IfOk result (λ line. string_bytes line ≡ reply_line reply.now) }
+{
+    match reply {
+        Reply::Joined {
+            seq,
+            time,
+            last,
+            from,
+            base,
+        } => {
+            let numbers = [u64::from(*seq), *time, u64::from(*last), u64::from(*from)];
+            let front = numbered(alloc, "joined", &numbers)?;
+            line_of_parts(front, base_part(alloc, base)?.as_str())
+        }
+        Reply::Stamped { seq, time } => {
+            line_of_parts(numbered(alloc, "stamped", &[u64::from(*seq), *time])?, "")
+        }
+        Reply::Again { seq, time } => {
+            line_of_parts(numbered(alloc, "again", &[u64::from(*seq), *time])?, "")
+        }
+        Reply::Ticked { time } => line_of_parts(numbered(alloc, "ticked", &[*time])?, ""),
+        Reply::Left { seq, time } => {
+            line_of_parts(numbered(alloc, "left", &[u64::from(*seq), *time])?, "")
+        }
+        Reply::Kept => line_of_parts(numbered(alloc, "kept", &[])?, ""),
+        Reply::Batch { entries, tick } => {
+            let front = numbered(alloc, "batch", &[entries.len() as u64])?;
+            line_of_parts(front, tick_part(alloc, *tick)?.as_str())
+        }
+        Reply::Refused(refusal) => {
+            let front = numbered(alloc, "refused", &[])?;
+            line_of_parts(front, refusal_part(alloc, *refusal)?.as_str())
+        }
+    }
+}
+
+/// The lines of the replies, one after the other.
+pub fn text(alloc: Global, replies: &[Reply]) -> Result<String, WantOfMemory>
+    ensures { IfOk result (λ text. string_bytes text ≡ text_of replies.now) }
+{
+    let mut text = String::new(alloc);
+    for reply in replies {
+        text.push_str(line(alloc, reply)?.as_str())?;
+    }
+    Ok(text)
+}

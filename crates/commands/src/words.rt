@@ -1,0 +1,281 @@
+//! The words of the command line, read by their rules.
+ghost use Rattle.std.specs.Prelude.{◌≡◌, ◌<◌, ℕ, [], ◌∷◌, true, None, IfOk, IfSome, IfNone, MatchBool, IsTrue, ◌↔◌, nat_lt};
+ghost use Rattle.std.specs.List.{list_all};
+ghost use Rattle.std.specs.Str.{bytes_eq};
+ghost use Rattle.text_lines.specs.Lines.{is_empty};
+ghost use Rattle.commands.specs.CommandWords.{command_of, command_named, stamp_of, check_of, replay_of, replay_words, all_parts, is_option, setting_value, without, IsFirstOf, IsWithinBounds, HasNone};
+
+use crate::script::time_in;
+use std::alloc::Global;
+use tea_base::{List, Text, WantOfMemory, Words};
+
+/// The most bytes of UTF-8 that the name of a session has.
+const MOST_NAME: usize = 255;
+
+/// A command with its words.
+#[derive(Drop)]
+pub enum Command {
+    /// `stamp SCRIPT [--log FILE]`
+    Stamp { script: Text, log: Option<Text> },
+    /// `check PROGRAM`
+    Check { program: Text },
+    /// `replay PROGRAM NAME LOG TIME [--from SNAP] [--snapshot FILE]`
+    Replay(ReplayRequest),
+}
+
+/// What a replay is asked for.
+#[derive(Drop)]
+pub struct ReplayRequest {
+    pub program: Text,
+    /// The name of the session, of at most 255 bytes.
+    pub name: Text,
+    pub log: Text,
+    /// Microseconds of TeaTime, below 2^53.
+    pub time: u64,
+    /// The snapshot from which it begins.
+    pub from: Option<Text>,
+    /// Where the snapshot of the world is put.
+    pub snapshot: Option<Text>,
+}
+
+/// An option and its value.
+#[derive(Drop)]
+pub struct Setting {
+    pub option: Text,
+    pub value: Text,
+}
+
+/// The words after a command.
+#[derive(Drop)]
+pub struct Parts {
+    pub positionals: Words,
+    pub settings: List<Setting>,
+}
+
+/// What was read so far, and an option that waits for its value.
+#[derive(Drop)]
+struct Reader {
+    parts: Parts,
+    awaiting: Option<Text>,
+}
+
+impl Reader {
+    ghost use Rattle.text_lines.specs.Lines.{Word};
+    ghost use Rattle.commands.specs.CommandWords.{read_on};
+
+    /// Reads one word more, or says that it breaks the rules.
+    fn take(&mut self, word: &Text) -> Result<bool, WantOfMemory>
+        ensures { IfOk result (λ follows. MatchBool follows
+            ((rest : List Word) → read_on self.new rest ≡ read_on self.old (word.now ∷ rest))
+            ((rest : List Word) → read_on self.old (word.now ∷ rest) ≡ None)) }
+    {
+        if is_empty(word) {
+            return Ok(false);
+        }
+        let is_option = is_option(word);
+        let word = word.clone()?;
+        match self.awaiting.take() {
+            Some(_) if is_option => return Ok(false),
+            Some(option) => {
+                let setting = Setting {
+                    option,
+                    value: word,
+                };
+                self.parts.settings.push(setting)?;
+            }
+            None if is_option => self.awaiting = Some(word),
+            None => self.parts.positionals.push(word)?,
+        }
+        Ok(true)
+    }
+}
+
+/// Whether a word has no character.
+fn is_empty(word: &Text) -> bool
+    ensures { result ≡ is_empty word.now }
+{
+    word.bytes().is_empty()
+}
+
+/// Whether a word begins with `-`.
+fn is_option(word: &Text) -> bool
+    ensures { result ≡ is_option word.now }
+{
+    begins_with_dash(word.bytes())
+}
+
+fn begins_with_dash(bytes: &[u8]) -> bool
+    ensures { result ≡ is_option bytes.now }
+{
+    match bytes {
+        [] => false,
+        [first, ..] => *first == b'-',
+    }
+}
+
+/// Whether a word is this one of ASCII.
+fn is_word(word: &Text, name: &str) -> bool
+    requires { list_all (λ byte. nat_lt byte 128) name.now ≡ true }
+    ensures { result ≡ bytes_eq word.now name.now }
+{
+    word.as_str() == name
+}
+
+/// The parts of the words after a command, where they follow the rules.
+fn read_parts(alloc: Global, words: &[Text]) -> Result<Option<Parts>, WantOfMemory>
+    ensures { IfOk result (λ read. read ≡ all_parts words.now) }
+{
+    let mut reader = Reader {
+        parts: Parts {
+            positionals: Words::new(alloc),
+            settings: List::new(alloc),
+        },
+        awaiting: None,
+    };
+    for word in words {
+        let follows = reader.take(word)?;
+        if !follows {
+            return Ok(None);
+        }
+    }
+    let Reader { parts, awaiting } = reader;
+    match awaiting {
+        Some(_) => Ok(None),
+        None => Ok(Some(parts)),
+    }
+}
+
+/// Where the first setting of an option stands.
+fn place_of(settings: &[Setting], option: &str) -> Option<usize>
+    requires { list_all (λ byte. nat_lt byte 128) option.now ≡ true }
+    ensures found { IfSome result (IsFirstOf option.now settings.now) }
+    ensures none { IfNone result (HasNone option.now settings.now) }
+{
+    for (place, setting) in settings.iter().enumerate() {
+        if is_word(&setting.option, option) {
+            return Some(place);
+        }
+    }
+    None
+}
+
+/// Takes out the first setting of an option.
+fn take_setting(settings: &mut Vec<Setting>, option: &str) -> Option<Text>
+    requires { list_all (λ byte. nat_lt byte 128) option.now ≡ true }
+    ensures value { result ≡ setting_value option.now settings.old.items }
+    ensures rest { settings.new.items ≡ without option.now settings.old.items }
+{
+    let place = place_of(settings, option)?;
+    let Setting { option: _, value } = settings.remove(place);
+    Some(value)
+}
+
+/// `stamp SCRIPT [--log FILE]`
+fn stamp(parts: Parts) -> Option<Command>
+    ensures read { result ≡ stamp_of parts }
+    ensures bounds { IfSome result IsWithinBounds }
+{
+    let Parts {
+        positionals,
+        settings,
+    } = parts;
+    let mut positionals = positionals.into_vec();
+    let mut settings = settings.into_vec();
+    let log = take_setting(&mut settings, "--log");
+    let script = positionals.pop()?;
+    if positionals.is_empty() && settings.is_empty() {
+        Some(Command::Stamp { script, log })
+    } else {
+        None
+    }
+}
+
+/// `check PROGRAM`
+fn check(parts: Parts) -> Option<Command>
+    ensures read { result ≡ check_of parts }
+    ensures bounds { IfSome result IsWithinBounds }
+{
+    let Parts {
+        positionals,
+        settings,
+    } = parts;
+    let mut positionals = positionals.into_vec();
+    let program = positionals.pop()?;
+    if positionals.is_empty() && settings.is_empty() {
+        Some(Command::Check { program })
+    } else {
+        None
+    }
+}
+
+/// `replay PROGRAM NAME LOG TIME [--from SNAP] [--snapshot FILE]`
+fn replay(parts: Parts) -> Option<Command>
+    ensures read { result ≡ replay_of parts }
+    ensures bounds { IfSome result IsWithinBounds }
+{
+    let Parts {
+        positionals,
+        settings,
+    } = parts;
+    let mut settings = settings.into_vec();
+    let from = take_setting(&mut settings, "--from");
+    let snapshot = take_setting(&mut settings, "--snapshot");
+    if !settings.is_empty() {
+        return None;
+    }
+    replay_words(positionals, from, snapshot)
+}
+
+/// The replay that four positionals and the values of the options ask for.
+fn replay_words(positionals: Words, from: Option<Text>, snapshot: Option<Text>) -> Option<Command>
+    ensures read { result ≡ replay_words positionals from snapshot }
+    ensures bounds { IfSome result IsWithinBounds }
+{
+    let mut positionals = positionals.into_vec();
+    let time = positionals.pop()?;
+    let log = positionals.pop()?;
+    let name = positionals.pop()?;
+    let program = positionals.pop()?;
+    if !positionals.is_empty() || name.bytes().len() > MOST_NAME {
+        return None;
+    }
+    let time = time_in(time.as_str())?;
+    Some(Command::Replay(ReplayRequest {
+        program,
+        name,
+        log,
+        time,
+        from,
+        snapshot,
+    }))
+}
+
+/// The command of this name, where the words after it follow its rules.
+fn command_named(name: &Text, parts: Parts) -> Option<Command>
+    ensures read { result ≡ command_named name.now parts }
+    ensures bounds { IfSome result IsWithinBounds }
+{
+    if is_word(name, "stamp") {
+        stamp(parts)
+    } else if is_word(name, "check") {
+        check(parts)
+    } else if is_word(name, "replay") {
+        replay(parts)
+    } else {
+        None
+    }
+}
+
+/// The command that the words ask for, where they follow the rules.
+pub fn read_command(alloc: Global, words: &Words) -> Result<Option<Command>, WantOfMemory>
+    ensures read { IfOk result (λ read. read ≡ command_of words.now) }
+    ensures bounds { IfOk result (λ read. IfSome read IsWithinBounds) }
+{
+    let [name, words @ ..] = words.as_slice() else {
+        return Ok(None);
+    };
+    match read_parts(alloc, words)? {
+        Some(parts) => Ok(command_named(name, parts)),
+        None => Ok(None),
+    }
+}

@@ -1,0 +1,53 @@
+use Rattle.std.proofs.Common.{ℕ, Option, Some, sym, subst}
+use Rattle.model_value.specs.Plain.{PlainValue}
+use Rattle.model_value.specs.View.{plain, plain_values}
+use Rattle.world_plain.specs.Valid.{object_at}
+use Rattle.model_lang.specs.TreeView.{program_tree}
+use Rattle.model_check.specs.Methods.{FindsMethod}
+use Rattle.model_eval.specs.Running.{Outcome}
+use Rattle.model_lang.specs.Tree.{Name}
+use Rattle.model_eval.specs.Answer.{Answers, HasInit, running, starts_by}
+use Rattle.model_eval.proofs.InitLaws.{without-init, with-init}
+use Rattle.model_eval.proofs.Published.{answered-alone, published-gives, published-stops}
+use Rattle.model_eval.proofs.Standing.{started}
+use Rattle.model_eval.proofs.Fields.{class_of-is}
+use Rattle.model_eval.proofs.here.+evaluate.Goals as goal
+
+pub Starter::start-returns-in-Some-method : goal.Starter::start-returns-in-Some-method
+Starter::start-returns-in-Some-method t c =
+    let tree = program_tree c.args.self.now.program.now in
+    let r = running c.args.state.now c.args.budget.now in
+    let found = class_of-is (object_at r.world.objects c.args.object) c.in-Some.class (sym c.in-Some.ensures) in
+    let finds = subst (λ (class : ℕ). FindsMethod (Some c.in-Some-method.solved) tree class c.args.method.now) (sym found.2) c.in-Some-method.ensures in
+    let same = started tree c.args.self.now.room c.args.object c.args.method.now (plain_values c.args.args) r found.0 c.in-Some-method.solved found.1 finds in
+    rw same at c.perform.ensures
+
+pub Here::answer_builtin-returns-in_default : goal.Here::answer_builtin-returns-in_default
+Here::answer_builtin-returns-in_default t c =
+    let here = c.args.self.now in
+    let same = answered-alone (starts_by here.starter) c.args.builtin here.object (plain_values c.args.args.now) (running c.args.state.now c.args.budget.now) c.in_default.not-Publish in
+    subst (λ (meant : Outcome PlainValue). Answers c.answer.result c.answer.new.state c.answer.new.budget meant) (sym same) c.answer.ensures
+
+pub Starter::initialise-returns-in-None : goal.Starter::initialise-returns-in-None
+Starter::initialise-returns-in-None t c = λ k e.
+    let r = running c.args.state.now c.args.budget.now in
+    without-init (starts_by c.args.self.now) k (plain c.args.options) c.args.id r (subst (λ (found : Option Name). HasInit found k) c.in-None.is (c.in_ok-init_of.ensures k e))
+
+pub Starter::initialise-returns-in-Some : goal.Starter::initialise-returns-in-Some
+Starter::initialise-returns-in-Some t c = λ k e.
+    let r = running c.args.state.now c.args.budget.now in
+    let has = subst (λ (found : Option Name). HasInit found k) c.in-Some.is (c.in_ok-init_of.ensures k e) in
+    let same = with-init (starts_by c.args.self.now) k (plain c.args.options) c.args.id r c.in-Some.init has.0 has.1 in
+    subst (λ (meant : Outcome PlainValue). Answers c.start_init.result c.start_init.new.state c.start_init.new.budget meant) (sym same) c.start_init.ensures
+
+pub Starter::publish_event-returns-in_err-tell : goal.Starter::publish_event-returns-in_err-tell
+Starter::publish_event-returns-in_err-tell t c =
+    let event = c.args.event.now in
+    published-stops c.from_residual-in_err-tell.result c.in_err-tell.field-0.0 c.tell.new.state c.tell.new.budget (starts_by c.args.self.now) event.scope.now event.name.now (plain event.value.now)
+    (running c.args.state.now c.args.budget.now) (running c.announce.new.state c.args.budget.now) c.from_residual-in_err-tell.ensures.1 (c.in_ok-announce.ensures c.args.budget.now) c.in_err-tell.ensures
+
+pub Starter::publish_event-returns : goal.Starter::publish_event-returns
+Starter::publish_event-returns t c =
+    let event = c.args.event.now in
+    published-gives (starts_by c.args.self.now) event.scope.now event.name.now (plain event.value.now) (running c.args.state.now c.args.budget.now) (running c.announce.new.state c.args.budget.now)
+    (running c.tell.new.state c.tell.new.budget) (c.in_ok-announce.ensures c.args.budget.now) c.in_ok-tell.ensures

@@ -1,0 +1,19 @@
+//! What runs a method, from outside: a call, or an event of which models are told.
+use model_value::{Value, Values};
+use tea_base::Text;
+
+/// A method to start on an object, and its arguments.
+#[derive(Drop)]
+pub struct Call<'a> {
+    pub object: u32,
+    pub method: &'a Text,
+    pub args: Values,
+}
+
+/// An event of which models are told: its scope, its name there, and the value that their methods start with.
+#[derive(Clone, Copy)]
+pub struct Event<'a> {
+    pub scope: &'a Text,
+    pub name: &'a Text,
+    pub value: &'a Value,
+}

@@ -1,6 +1,0 @@
-use Rattle.std.proofs.Common.{◌≡◌, map, take}
-use Rattle.model_value.specs.Messages.{plain_message}
-use Rattle.model_value.proofs.copies.copy_messages.Given as goal
-
-abbrev pub invariant-loop-message : goal.invariant-loop-message
-invariant-loop-message l = map plain_message l.copies.items ≡ map plain_message (take l.message-index l.messages)

@@ -1,0 +1,4 @@
+pub mod WorldTests
+pub mod OwnWorlds
+pub mod Bases
+pub mod Replays

@@ -1,0 +1,12 @@
+use Rattle.std.proofs.Common.{rules, ◌∙◌, ap, subst}
+use Rattle.std.specs.Arc.{arc_value}
+use Rattle.replica.specs.SessionWorlds.{SessionWorldView, IsSoundWorld}
+use Rattle.replica.proofs.OwnWorlds.{sound-seen, broken-time}
+use Rattle.replica.proofs.session_world.SessionWorld.time.Goals as goal
+
+pub returns-then-broken-clause-time : goal.returns-then-broken-clause-time
+returns-then-broken-clause-time c =
+    broken-time (arc_value c.self.inside.program) c.self.inside.id.0 c.self.inside.world c.self.invariant (search rules) ∙ ap (λ (w : SessionWorldView). w.world.time) c.self.view_is
+
+pub returns-clause-sound : goal.returns-clause-sound
+returns-clause-sound c = subst IsSoundWorld c.self.view_is (sound-seen (arc_value c.self.inside.program) c.self.inside.id.0 c.self.inside.world c.self.invariant c.broken.ensures.sound)

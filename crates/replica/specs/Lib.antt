@@ -1,0 +1,4 @@
+pub mod RealWorlds
+pub mod SessionWorlds
+pub mod View
+pub mod Parts

@@ -1,0 +1,68 @@
+-- What contracts see of a replica.
+use Rattle.std.specs.Prelude.{◌≡◌, ◌<◌, ℕ, true, false, List, []}
+use Rattle.tea_base.specs.Limits.{time_limit}
+use Rattle.model_lang.specs.declared.tree.Class.{Class}
+use Rattle.model_lang.specs.Program.{IsProgram}
+use Rattle.model_lang.specs.TreeView.{program_tree}
+use Rattle.world_plain.specs.Messages.{PlainOutgoing}
+use Rattle.world_plain.specs.World.{WorldRecord}
+use Rattle.world.specs.declared.fault.WorldFault.{WorldFault}
+use Rattle.world.specs.declared.fault.WorldFault.TheVariants as fault
+use Rattle.wire_frames.specs.declared.frame.ServerFrame.{ServerFrame}
+use Rattle.wire_frames.specs.declared.frame.ServerFrame.TheVariants.{Sync, Recv, Tick, Done, Snapped, Refused, Alive}
+use Rattle.replica_plain.specs.declared.fault.ReplicaFault.{ReplicaFault}
+use Rattle.replica_plain.specs.declared.fault.ReplicaFault.TheVariants as cause
+use Rattle.replica_plain.specs.Worlds.{Worlds}
+use Rattle.replica_plain.specs.PlainReplica.{PlainReplica, AreCounted, founded}
+use Rattle.replica.specs.RealWorlds.{worlds}
+use Rattle.replica.specs.SessionWorlds.{SessionWorldView}
+
+-- the replica of a view, and of which program and session its world is
+pub record ReplicaView : Type 0 where
+  pub program : List Class
+  pub id : List ℕ
+  pub plain : PlainReplica WorldRecord PlainOutgoing
+
+-- the worlds of its program and its session
+abbrev pub worlds_of : ReplicaView → Worlds WorldRecord PlainOutgoing
+worlds_of r = worlds (program_tree r.program) r.id
+
+-- another replica of the same program and session
+abbrev pub with_plain : ReplicaView → PlainReplica WorldRecord PlainOutgoing → ReplicaView
+with_plain r plain = record r { plain = plain }
+
+-- of the same program and session
+abbrev pub KeepsSession : ReplicaView → ReplicaView → Type 0
+KeepsSession old new = new ≡ with_plain old new.plain
+
+-- the world and what its models published, as the rows of a plain replica name them
+abbrev pub world_part : ReplicaView → SessionWorldView
+world_part r = record { program = r.program; id = r.id; world = r.plain.world; out = r.plain.out; broken = r.plain.broken }
+
+-- What is so of every replica: its program is one; where it is not broken its world is a valid one of the program and the session, and
+-- where it is nothing is published; and how its numbers stand.
+pub record IsSoundReplica (r : ReplicaView) : Type 0 where
+  pub program : IsProgram (program_tree r.program)
+  pub valid : r.plain.broken ≡ false → (worlds_of r).valid r.plain.world ≡ true
+  pub quiet : r.plain.broken ≡ true → r.plain.out ≡ []
+  pub numbers : AreCounted r.plain
+
+-- a view that has the first world of a session, has seen nothing and has not joined
+abbrev pub founded_replica : List Class → List ℕ → ℕ → ReplicaView
+founded_replica program id view = record { program = program; id = id; plain = founded (worlds (program_tree program) id) view }
+
+-- the time of an entry or a tick is one of TeaTime
+abbrev pub IsTimely : ServerFrame → Type 0
+IsTimely (Sync joined last from base) = Unit {0}
+IsTimely (Recv entry) = entry.time < time_limit
+IsTimely (Tick t) = t < time_limit
+IsTimely (Done number seq time) = Unit {0}
+IsTimely (Snapped time) = Unit {0}
+IsTimely (Refused about code kept more) = Unit {0}
+IsTimely Alive = Unit {0}
+
+-- what a replica says of a fault of its world
+abbrev pub cause_of : WorldFault → ReplicaFault
+cause_of fault.Broken = cause.Broken
+cause_of (fault.Back time) = cause.Back time
+cause_of fault.WantOfMemory = cause.WantOfMemory

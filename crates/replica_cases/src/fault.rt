@@ -1,0 +1,39 @@
+//! Why a case came to nothing.
+use hex::FromHexError;
+use std::alloc::{AllocError, AllocFailed};
+use tea_base::WantOfMemory;
+
+/// Why a case came to nothing.
+#[derive(Clone, Copy)]
+pub(crate) enum CaseFault {
+    /// The line is no case.
+    NoCase,
+    WantOfMemory,
+}
+
+impl From<FromHexError> for CaseFault {
+    fn from(fault: FromHexError) -> Self {
+        match fault {
+            FromHexError::OutOfMemory => CaseFault::WantOfMemory,
+            _ => CaseFault::NoCase,
+        }
+    }
+}
+
+impl From<WantOfMemory> for CaseFault {
+    fn from(_error: WantOfMemory) -> Self {
+        CaseFault::WantOfMemory
+    }
+}
+
+impl From<AllocError> for CaseFault {
+    fn from(_error: AllocError) -> Self {
+        CaseFault::WantOfMemory
+    }
+}
+
+impl<T: Drop> From<AllocFailed<T>> for CaseFault {
+    fn from(_error: AllocFailed<T>) -> Self {
+        CaseFault::WantOfMemory
+    }
+}

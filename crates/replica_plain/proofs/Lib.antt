@@ -1,0 +1,6 @@
+pub mod WorldSteps
+pub mod FrameSteps
+pub mod SyncSteps
+pub mod Numbers
+pub mod Unsent
+pub mod Counters

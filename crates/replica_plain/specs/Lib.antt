@@ -1,0 +1,5 @@
+pub mod Worlds
+pub mod PlainReplica
+pub mod Taking
+pub mod Calls
+pub mod Following

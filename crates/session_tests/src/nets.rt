@@ -1,0 +1,82 @@
+//! A net in memory and one that is not there, by the trait that programs call.
+ghost use Rattle.std.specs.Prelude.{All, IfOk};
+ghost use Rattle.tea_io.specs.MemNet.{IsNew};
+
+use std::alloc::Global;
+use std::test::Fail;
+use tea_base::{Blob, Numbers, Text, WantOfMemory};
+use tea_io::{Blobs, Heard, Link, MemLink, MemLinks, MemNet, Net, NetCall, NetFault, NoNet};
+
+fn listen<N: Net>(net: &mut N, address: &Text) -> Result<(), NetFault> {
+    net.listen(address)
+}
+
+/// Hears once of the next link, and gives it back.
+fn accept<N: Net>(net: &mut N) -> Result<Heard, NetFault> {
+    let mut link = net.accept()?;
+    let heard = link.recv();
+    net.back(link);
+    Ok(heard)
+}
+
+/// The same of a link to an address.
+fn connect<N: Net>(net: &mut N, address: &Text) -> Result<Heard, NetFault> {
+    let mut link = net.connect(address)?;
+    let heard = link.recv();
+    net.back(link);
+    Ok(heard)
+}
+
+/// A link with one frame to come.
+fn one_frame(alloc: Global, frame: &[u8]) -> Result<MemLink, WantOfMemory>
+    ensures { IfOk result IsNew }
+{
+    let mut frames = Blobs::new(alloc);
+    frames.push(Blob::copy(alloc, frame)?)?;
+    let none = Numbers::new(alloc);
+    Ok(MemLink::new(alloc, frames, none, Numbers::new(alloc)))
+}
+
+fn two_links(alloc: Global) -> Result<MemLinks, WantOfMemory>
+    ensures { IfOk result (All IsNew) }
+{
+    let one = one_frame(alloc, b"one")?;
+    let two = one_frame(alloc, b"two")?;
+    let mut links = MemLinks::new(alloc);
+    links.push(one)?;
+    links.push(two)?;
+    Ok(links)
+}
+
+#[test]
+fn a_net_gives_its_links_in_order(rt: HostRuntime) -> Result<(), Fail> {
+    let alloc = rt.alloc();
+    let fail = Numbers::from_vec(vec![in alloc; 2, 4]?);
+    let mut net = MemNet::new(alloc, two_links(alloc)?, fail);
+    let address = Text::copy(alloc, "here")?;
+    listen(&mut net, &address)?;
+    assert_eq!(rt; listen(&mut net, &address), Err(NetFault::Failed));
+    let first = accept(&mut net)?;
+    assert!(rt; matches!(&first, Heard::Frame(frame) if frame.is_bytes(b"one")));
+    assert!(rt; matches!(connect(&mut net, &address), Err(NetFault::Failed)));
+    let second = connect(&mut net, &address)?;
+    assert!(rt; matches!(&second, Heard::Frame(frame) if frame.is_bytes(b"two")));
+    assert!(rt; matches!(accept(&mut net), Err(NetFault::Failed)));
+    assert_eq!(rt; net.over().len(), 2);
+    assert!(rt; matches!(net.over().get(1), Some(link) if link.heard().len() == 1));
+    assert_eq!(rt; net.asked().len(), 6);
+    assert!(rt; matches!(net.asked().get(2), Some(NetCall::Accept)));
+    assert!(rt; matches!(net.asked().get(3), Some(NetCall::Connect(to)) if to.as_str() == "here"));
+    Ok(())
+}
+
+#[test]
+fn no_net_fails_at_each_call(rt: HostRuntime) -> Result<(), Fail> {
+    let address = Text::copy(rt.alloc(), "here")?;
+    let mut net = NoNet::new();
+    assert_eq!(rt; listen(&mut net, &address), Err(NetFault::Failed));
+    assert!(rt; matches!(accept(&mut net), Err(NetFault::Failed)));
+    assert!(rt; matches!(connect(&mut net, &address), Err(NetFault::Failed)));
+    assert_eq!(rt; net.faults(), 3);
+    Ok(())
+}

@@ -1,0 +1,64 @@
+-- What a link says, what it was sent, and why.
+use Rattle.std.specs.Prelude.{◌≡◌, ℕ, ⊤, ◌≤◌, ◌⊎◌, List, [], ◌∷◌, Option, Result, Ok, Err, IsErrOf}
+use Rattle.tea_io.specs.Told.{grown, Gives, HasNoMore, Rose}
+use Rattle.tea_io.specs.declared.link.Heard.{Heard}
+use Rattle.tea_io.specs.declared.link.Heard.TheVariants.{Frame, Quiet, End, Failed, WantOfMemory}
+use Rattle.tea_io.specs.declared.link.LinkFault.{LinkFault}
+use Rattle.tea_io.specs.declared.link.LinkFault.TheVariants as fault
+
+-- how often a link failed, was quiet, and said that it has ended
+pub record Counts : Type 0 where
+  pub faults : ℕ
+  pub quiets : ℕ
+  pub ends : ℕ
+
+-- those of a link that is new
+abbrev pub no_counts : Counts
+no_counts = record { faults = 0; quiets = 0; ends = 0 }
+
+-- those of a link that does nothing but fail
+abbrev pub only_faults : ℕ → Counts
+only_faults faults = record { faults = faults; quiets = 0; ends = 0 }
+
+-- what a receive adds to what was heard: want of memory is not noted
+abbrev pub noted : Heard → List Heard
+noted (Frame bytes) = Frame bytes ∷ []
+noted Quiet = Quiet ∷ []
+noted End = End ∷ []
+noted Failed = Failed ∷ []
+noted WantOfMemory = []
+
+-- a frame is the first of those to come, an end comes where none is left, and nothing else takes one
+abbrev pub Takes : Option (List (List ℕ)) → Option (List (List ℕ)) → Heard → Type 0
+Takes before now (Frame bytes) = Gives before now bytes
+Takes before now Quiet = now ≡ before
+Takes before now End = HasNoMore before × (now ≡ before)
+Takes before now Failed = now ≡ before
+Takes before now WantOfMemory = now ≡ before
+
+-- no count falls
+pub record NoneFalls (before now : Counts) : Type 0 where
+  pub faults : before.faults ≤ now.faults
+  pub quiets : before.quiets ≤ now.quiets
+  pub ends : before.ends ≤ now.ends
+
+-- the count that rises with what is heard
+abbrev pub Counted : Counts → Counts → Heard → Type 0
+Counted before now (Frame bytes) = ⊤
+Counted before now Quiet = Rose before.quiets now.quiets
+Counted before now End = Rose before.ends now.ends
+Counted before now Failed = Rose before.faults now.faults
+Counted before now WantOfMemory = ⊤
+
+-- a frame was sent; where the call failed it was sent whole or not at all; for want of memory it
+-- was not
+abbrev pub Sends
+    : Option (List (List ℕ)) → Option (List (List ℕ)) → List ℕ → Result (Unit {0}) LinkFault
+    → Type 0
+Sends before now frame (Ok done) = now ≡ grown before (frame ∷ [])
+Sends before now frame (Err fault.Failed) = (now ≡ before) ⊎ (now ≡ grown before (frame ∷ []))
+Sends before now frame (Err fault.WantOfMemory) = now ≡ before
+
+-- `Failed` comes only where the count of faults rose
+abbrev pub SendCause : Counts → Counts → Result (Unit {0}) LinkFault → Type 0
+SendCause before now result = IsErrOf result fault.Failed → Rose before.faults now.faults

@@ -1,0 +1,34 @@
+-- The object of a number is one of the objects, and has that number.
+use Rattle.std.proofs.Common.{◌≡◌, ℕ, Bool, true, false, List, [], ◌∷◌, Option, Some, refl, sym, ap, subst, ◌∙◌}
+use Rattle.std.specs.Prelude.{nat_eq}
+use Rattle.std.proofs.lemmas.Bool.{eqb-true}
+use Rattle.world_plain.specs.World.{ObjectRecord}
+use Rattle.world_plain.specs.Valid.{object_at, if_same, ObjectFits, ObjectsFit}
+
+id-if_same :
+    (same : Bool) (first : ObjectRecord) (other : Option ObjectRecord) (id : ℕ) (o : ObjectRecord)
+    → nat_eq first.id id ≡ same
+    → (other ≡ Some o → o.id ≡ id)
+    → if_same same first other ≡ Some o
+    → o.id ≡ id
+id-if_same true first other id o test later e =
+    let found : first ≡ o = cc in ap (λ (x : ObjectRecord). x.id) (sym found) ∙ eqb-true first.id id test
+id-if_same false first other id o test later e = later e
+
+pub object_at-id : (os : List ObjectRecord) (id : ℕ) (o : ObjectRecord) → object_at os id ≡ Some o → o.id ≡ id
+object_at-id [] id o e = cc
+object_at-id (first ∷ os) id o e = id-if_same (nat_eq first.id id) first (object_at os id) id o refl (object_at-id os id o) e
+
+fits-if_same :
+    (counts : List ℕ) (next : ℕ) (same : Bool) (first : ObjectRecord) (other : Option ObjectRecord) (o : ObjectRecord)
+    → ObjectFits counts next first
+    → (other ≡ Some o → ObjectFits counts next o)
+    → if_same same first other ≡ Some o
+    → ObjectFits counts next o
+fits-if_same counts next true first other o fit later e = let found : first ≡ o = cc in subst (ObjectFits counts next) found fit
+fits-if_same counts next false first other o fit later e = later e
+
+pub ObjectsFit-at : (counts : List ℕ) (next : ℕ) (os : List ObjectRecord) (id : ℕ) (o : ObjectRecord) → ObjectsFit counts next os → object_at os id ≡ Some o → ObjectFits counts next o
+ObjectsFit-at counts next [] id o fit e = cc
+ObjectsFit-at counts next (first ∷ os) id o fit e =
+    fits-if_same counts next (nat_eq first.id id) first (object_at os id) o fit.0 (ObjectsFit-at counts next os id o fit.1) e
