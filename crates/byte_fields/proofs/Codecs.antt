@@ -9,13 +9,13 @@ use Rattle.std.proofs.lemmas.List.Concat.{flat_map-cons}
 use Rattle.std.proofs.lemmas.Nat.{be_bytes_2, be_bytes_4, be_bytes_8, from_be_bytes-to_be_bytes_2, from_be_bytes-to_be_bytes_4, from_be_bytes-to_be_bytes_8}
 use Rattle.std.proofs.lemmas.Slice.Eq.{bytes_eq-Decides}
 use Rattle.std.proofs.lemmas.Str.{chars-encodes, encodes-chars, scalars-chars, is_utf8-from_IsUtf8, IsUtf8-from_is_utf8}
-use Rattle.byte_fields.specs.Fields.{Reader, ◌>>=◌, byte_at, bytes_at, number_at, paired_at, headed_at, mark_at, marked_at, made_at, tested_at, nothing_at, never_at, FitsBlob, blob, blob_at, text_field, text_at, list_of, items_at, list_at, whole}
+use Rattle.byte_fields.specs.Fields.{Decoder, ◌>>=◌, byte_at, bytes_at, number_at, paired_at, headed_at, mark_at, marked_at, made_at, tested_at, nothing_at, never_at, FitsBlob, blob, blob_at, text_field, text_at, list_of, items_at, list_at, whole}
 
 abbrev pub IsBytes : List ℕ → Type 0
 IsBytes bytes = (i : ℕ) → get_or bytes i 0 < 256
 
 -- what was read is spelled so, and has a spelling; what has a spelling is read from it, whatever follows
-pub record Codec (A : Type 0) (spell : A → List ℕ) (Fits : A → Type 0) (read : Reader A) : Type 0 where
+pub record Codec (A : Type 0) (spell : A → List ℕ) (Fits : A → Type 0) (read : Decoder A) : Type 0 where
   pub takes : (bytes : List ℕ) (x : A) (rest : List ℕ) → IsBytes bytes → read bytes ≡ Some (x, rest) → (bytes ≡ spell x ++ rest) × Fits x
   pub again : (x : A) (rest : List ℕ) → Fits x → read (spell x ++ rest) ≡ Some (x, rest)
 
@@ -134,14 +134,14 @@ byte_codec = record { takes = byte_takes; again = λ x rest lt. refl }
 -- ---- codecs from codecs
 
 -- the same spelling and the same values, said otherwise
-pub said_codec : {A : Type 0} {s : A → List ℕ} {F : A → Type 0} {r : Reader A} (t : A → List ℕ) (G : A → Type 0) → ((x : A) → F x → t x ≡ s x) → ((x : A) → F x → G x) → ((x : A) → G x → F x) → Codec A s F r → Codec A t G r
+pub said_codec : {A : Type 0} {s : A → List ℕ} {F : A → Type 0} {r : Decoder A} (t : A → List ℕ) (G : A → Type 0) → ((x : A) → F x → t x ≡ s x) → ((x : A) → F x → G x) → ((x : A) → G x → F x) → Codec A s F r → Codec A t G r
 said_codec t G same to from codec = record {
   takes = λ bytes x rest fits e. let u = codec.takes bytes x rest fits e in (rw (same x u.1) (u.0), to x u.1);
   again = λ x rest fits. rw (same x (from x fits)) (codec.again x rest (from x fits));
 }
 
 -- one, and behind it another
-pub paired_codec : {A B : Type 0} {sa : A → List ℕ} {Fa : A → Type 0} {ra : Reader A} {sb : B → List ℕ} {Fb : B → Type 0} {rb : Reader B}
+pub paired_codec : {A B : Type 0} {sa : A → List ℕ} {Fa : A → Type 0} {ra : Decoder A} {sb : B → List ℕ} {Fb : B → Type 0} {rb : Decoder B}
     → Codec A sa Fa ra → Codec B sb Fb rb → Codec (A × B) (λ p. sa p.0 ++ sb p.1) (λ p. Fa p.0 × Fb p.1) (paired_at ra rb)
 paired_codec {A = A} {B = B} {sa = sa} {Fa = Fa} {ra = ra} {sb = sb} {Fb = Fb} {rb = rb} first second = record {
   takes = λ bytes p rest fits e.
@@ -158,7 +158,7 @@ paired_codec {A = A} {B = B} {sa = sa} {Fa = Fa} {ra = ra} {sb = sb} {Fb = Fb} {
 }
 
 -- the value made of what is read: a record of its parts, or a variant with them
-pub made_codec : {A B : Type 0} {sa : A → List ℕ} {Fa : A → Type 0} {ra : Reader A} (make : A → B) (s : B → List ℕ) (G : B → Type 0)
+pub made_codec : {A B : Type 0} {sa : A → List ℕ} {Fa : A → Type 0} {ra : Decoder A} (make : A → B) (s : B → List ℕ) (G : B → Type 0)
     → Codec A sa Fa ra → ((y : B) → G y → (x : A) × (y ≡ make x) × Fa x) → ((x : A) → Fa x → G (make x)) → ((x : A) → Fa x → s (make x) ≡ sa x) → Codec B s G (made_at make ra)
 made_codec {A = A} {B = B} {sa = sa} {Fa = Fa} {ra = ra} make s G codec out into same = record {
   takes = λ bytes y rest fits e.
@@ -174,7 +174,7 @@ made_codec {A = A} {B = B} {sa = sa} {Fa = Fa} {ra = ra} make s G codec out into
 }
 
 -- only what passes a test
-pub tested_codec : {A : Type 0} {s : A → List ℕ} {F : A → Type 0} {r : Reader A} (test : A → Bool) → Codec A s F r → Codec A s (λ x. F x × (test x ≡ true)) (tested_at test r)
+pub tested_codec : {A : Type 0} {s : A → List ℕ} {F : A → Type 0} {r : Decoder A} (test : A → Bool) → Codec A s F r → Codec A s (λ x. F x × (test x ≡ true)) (tested_at test r)
 tested_codec {A = A} {s = s} {F = F} {r = r} test codec = record {
   takes = λ bytes x rest fits e.
       let a = bind_some (r bytes) (λ y. cond (test y.0) (Some y) None) (x, rest) e in
@@ -200,12 +200,12 @@ pub never_codec : {A : Type 0} (s : A → List ℕ) (F : A → Type 0) → ((x :
 never_codec s F none = record { takes = λ bytes x rest fits e. absurd cc; again = λ x rest fits. absurd (none x fits) }
 
 -- one reader where a test holds, another where it does not
-pub chosen_codec : {A : Type 0} {s : A → List ℕ} {F : A → Type 0} {there here : Reader A} (b : Bool) → (b ≡ true → Codec A s F there) → (b ≡ false → Codec A s F here) → Codec A s F (λ bytes. cond b (there bytes) (here bytes))
+pub chosen_codec : {A : Type 0} {s : A → List ℕ} {F : A → Type 0} {there here : Decoder A} (b : Bool) → (b ≡ true → Codec A s F there) → (b ≡ false → Codec A s F here) → Codec A s F (λ bytes. cond b (there bytes) (here bytes))
 chosen_codec true there here = there refl
 chosen_codec false there here = here refl
 
 -- a field that says how the rest is read
-pub headed_codec : {H A : Type 0} {sh : H → List ℕ} {Fh : H → Type 0} {rh : Reader H} (head : A → H) (s : A → List ℕ) (F : A → Type 0) (r : H → Reader A)
+pub headed_codec : {H A : Type 0} {sh : H → List ℕ} {Fh : H → Type 0} {rh : Decoder H} (head : A → H) (s : A → List ℕ) (F : A → Type 0) (r : H → Decoder A)
     → Codec H sh Fh rh → ((h : H) → Fh h → Codec A s (λ x. (head x ≡ h) × F x) (r h))
     → Codec A (λ x. sh (head x) ++ s x) (λ x. Fh (head x) × F x) (headed_at rh r)
 headed_codec {H = H} {A = A} {sh = sh} {Fh = Fh} {rh = rh} head s F r first codec = record {
@@ -233,7 +233,7 @@ bare_codec {A = A} head body F tag value is none fits only =
     (nothing_codec value)
 
 -- one more tag, and else those after it
-pub tagged_codec : {A : Type 0} {there here : Reader A} (head : A → ℕ) (s : A → List ℕ) (F : A → Type 0) (tag n : ℕ) → Codec A s (λ x. (head x ≡ n) × F x) there → (eqb tag n ≡ false → Codec A s (λ x. (head x ≡ tag) × F x) here)
+pub tagged_codec : {A : Type 0} {there here : Decoder A} (head : A → ℕ) (s : A → List ℕ) (F : A → Type 0) (tag n : ℕ) → Codec A s (λ x. (head x ≡ n) × F x) there → (eqb tag n ≡ false → Codec A s (λ x. (head x ≡ tag) × F x) here)
     → Codec A s (λ x. (head x ≡ tag) × F x) (λ bytes. cond (eqb tag n) (there bytes) (here bytes))
 tagged_codec {A = A} {there = there} head s F tag n this others =
     chosen_codec (eqb tag n) (λ h. subst (λ (t : ℕ). Codec A s (λ x. (head x ≡ t) × F x) there) (sym (eqb-true tag n h)) this) others
@@ -256,7 +256,7 @@ mark_again mark rest =
     rw (bytes_again (length mark) mark rest refl, is) refl
 
 -- behind a mark that is always the same
-pub marked_codec : {A : Type 0} {s : A → List ℕ} {F : A → Type 0} {r : Reader A} (mark : List ℕ) → Codec A s F r → Codec A (λ x. mark ++ s x) F (marked_at mark r)
+pub marked_codec : {A : Type 0} {s : A → List ℕ} {F : A → Type 0} {r : Decoder A} (mark : List ℕ) → Codec A s F r → Codec A (λ x. mark ++ s x) F (marked_at mark r)
 marked_codec {s = s} {r = r} mark codec = record {
   takes = λ bytes x rest fits e.
       let a = bind_some (mark_at mark bytes) r (x, rest) e in
@@ -312,7 +312,7 @@ record Follows {A : Type 0} (s : A → List ℕ) (F : List A → A → Type 0) (
   pub spelled : bytes ≡ flat_map s more ++ rest
   pub fits : EachFits F before more
 
-items_takes : {A : Type 0} (s : A → List ℕ) (F : List A → A → Type 0) (r : List A → Reader A) → ((before : List A) → Codec A s (F before) (r before)) → (before : List A) (count : ℕ) (bytes : List ℕ) (p : List A × List ℕ) → IsBytes bytes → items_at r before count bytes ≡ Some p
+items_takes : {A : Type 0} (s : A → List ℕ) (F : List A → A → Type 0) (r : List A → Decoder A) → ((before : List A) → Codec A s (F before) (r before)) → (before : List A) (count : ℕ) (bytes : List ℕ) (p : List A × List ℕ) → IsBytes bytes → items_at r before count bytes ≡ Some p
     → (more : List A) × Follows s F before count bytes p.0 p.1 more
 unfolding items_at
 items_takes {A = A} s F r codec before zero bytes p fits e =
@@ -332,7 +332,7 @@ items_takes {A = A} s F r codec before (suc count) bytes p fits e =
       },
     )
 
-items_again : {A : Type 0} (s : A → List ℕ) (F : List A → A → Type 0) (r : List A → Reader A) → ((before : List A) → Codec A s (F before) (r before)) → (before more : List A) (rest : List ℕ) → EachFits F before more
+items_again : {A : Type 0} (s : A → List ℕ) (F : List A → A → Type 0) (r : List A → Decoder A) → ((before : List A) → Codec A s (F before) (r before)) → (before more : List A) (rest : List ℕ) → EachFits F before more
     → items_at r before (length more) (flat_map s more ++ rest) ≡ Some (before ++ more, rest)
 unfolding items_at
 items_again {A = A} s F r codec before [] rest fits = ap (λ (xs : List A). Some (xs, rest)) (sym (append-nil before))
@@ -343,7 +343,7 @@ items_again {A = A} s F r codec before (x ∷ more) rest fits =
     ap (items_at r before (suc (length more))) regrouped ∙ rw ((codec before).again x (flat_map s more ++ rest) fits.0, others) refl
 
 -- so many items, each read by all before it
-pub items_codec : {A : Type 0} (s : A → List ℕ) (F : List A → A → Type 0) (r : List A → Reader A) → ((before : List A) → Codec A s (F before) (r before)) → (count : ℕ)
+pub items_codec : {A : Type 0} (s : A → List ℕ) (F : List A → A → Type 0) (r : List A → Decoder A) → ((before : List A) → Codec A s (F before) (r before)) → (count : ℕ)
     → Codec (List A) (flat_map s) (λ xs. (length xs ≡ count) × EachFits F [] xs) (items_at r [] count)
 items_codec {A = A} s F r codec count = record {
   takes = λ bytes xs rest fits e.
@@ -353,14 +353,14 @@ items_codec {A = A} s F r codec count = record {
   again = λ xs rest fits. rw (← (fits.0)) (items_again s F r codec [] xs rest fits.1);
 }
 
-pub list_codec : {A : Type 0} (s : A → List ℕ) (F : List A → A → Type 0) (r : List A → Reader A) → ((before : List A) → Codec A s (F before) (r before))
+pub list_codec : {A : Type 0} (s : A → List ℕ) (F : List A → A → Type 0) (r : List A → Decoder A) → ((before : List A) → Codec A s (F before) (r before))
     → Codec (List A) (list_of s) (λ xs. (length xs < 2 ^ 32) × EachFits F [] xs) (list_at r)
 list_codec s F r codec = headed_codec length (flat_map s) (EachFits F []) (items_at r []) (number_codec w32 (2 ^ 32) wide32) (λ n _. items_codec s F r codec n)
 
 -- ---- all of the bytes
 
 -- what was read is spelled so
-pub whole_takes : {A : Type 0} {s : A → List ℕ} {F : A → Type 0} {r : Reader A} → Codec A s F r → (bytes : List ℕ) (x : A) → IsBytes bytes → whole r bytes ≡ Some x → (bytes ≡ s x) × F x
+pub whole_takes : {A : Type 0} {s : A → List ℕ} {F : A → Type 0} {r : Decoder A} → Codec A s F r → (bytes : List ℕ) (x : A) → IsBytes bytes → whole r bytes ≡ Some x → (bytes ≡ s x) × F x
 whole_takes {A = A} {s = s} {F = F} {r = r} codec bytes x fits e =
     let a = bind_some (r bytes) (λ p. cond (eqb (length p.1) 0) (Some p.0) None) x e in
     let g = passed_some (eqb (length a.0.1) 0) a.0.0 x a.2 in
@@ -370,13 +370,13 @@ whole_takes {A = A} {s = s} {F = F} {r = r} codec bytes x fits e =
     subst family g.1 (t.0 ∙ ap (λ (rest : List ℕ). s a.0.0 ++ rest) end ∙ append-nil (s a.0.0), t.1)
 
 -- what is spelled so is read
-pub whole_again : {A : Type 0} {s : A → List ℕ} {F : A → Type 0} {r : Reader A} → Codec A s F r → (x : A) → F x → whole r (s x) ≡ Some x
+pub whole_again : {A : Type 0} {s : A → List ℕ} {F : A → Type 0} {r : Decoder A} → Codec A s F r → (x : A) → F x → whole r (s x) ≡ Some x
 whole_again {s = s} {r = r} codec x fits =
     let read : r (s x) ≡ Some (x, []) = ap r (sym (append-nil (s x))) ∙ codec.again x [] fits in
     rw read refl
 
 -- where nothing was read, no value has this spelling
-pub whole_none : {A : Type 0} {s : A → List ℕ} {F : A → Type 0} {r : Reader A} → Codec A s F r → (bytes : List ℕ) → whole r bytes ≡ None → (x : A) → F x → bytes ≡ s x → ⊥
+pub whole_none : {A : Type 0} {s : A → List ℕ} {F : A → Type 0} {r : Decoder A} → Codec A s F r → (bytes : List ℕ) → whole r bytes ≡ None → (x : A) → F x → bytes ≡ s x → ⊥
 whole_none {s = s} {r = r} codec bytes none x fits e =
     let read = whole_again codec x fits in
     let other : whole r (s x) ≡ None = ap (whole r) (sym e) ∙ none in

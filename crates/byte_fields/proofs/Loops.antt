@@ -1,9 +1,9 @@
 -- Reading items one after the other, as a loop does.
 use Rattle.std.proofs.Common.{◌≡◌, ℕ, suc, ◌-◌, ◌+◌, ◌≤◌, ◌<◌, List, [], ◌∷◌, ◌++◌, Option, Some, None, sym, ◌∙◌, refl, arith}
-use Rattle.byte_fields.specs.Fields.{Reader, items_at}
+use Rattle.byte_fields.specs.Fields.{Decoder, items_at}
 
 -- one more item was read
-pub goes_on : {A : Type 0} (r : List A → Reader A) (before : List A) (count i : ℕ) (bytes : List ℕ) (x : A) (rest : List ℕ) (total : Option (List A × List ℕ)) → i < count → r before bytes ≡ Some (x, rest)
+pub goes_on : {A : Type 0} (r : List A → Decoder A) (before : List A) (count i : ℕ) (bytes : List ℕ) (x : A) (rest : List ℕ) (total : Option (List A × List ℕ)) → i < count → r before bytes ≡ Some (x, rest)
     → items_at r before (count - i) bytes ≡ total → items_at r (before ++ x ∷ []) (count - (i + 1)) rest ≡ total
 unfolding items_at
 goes_on r before count i bytes x rest total lt read so_far =
@@ -12,7 +12,7 @@ goes_on r before count i bytes x rest total lt read so_far =
     sym one ∙ so_far
 
 -- no more item was read
-pub ends : {A : Type 0} (r : List A → Reader A) (before : List A) (count i : ℕ) (bytes : List ℕ) (total : Option (List A × List ℕ)) → i < count → r before bytes ≡ None
+pub ends : {A : Type 0} (r : List A → Decoder A) (before : List A) (count i : ℕ) (bytes : List ℕ) (total : Option (List A × List ℕ)) → i < count → r before bytes ≡ None
     → items_at r before (count - i) bytes ≡ total → total ≡ None
 unfolding items_at
 ends r before count i bytes total lt read so_far =
@@ -21,7 +21,7 @@ ends r before count i bytes total lt read so_far =
     sym so_far ∙ one
 
 -- all were read
-pub is_done : {A : Type 0} (r : List A → Reader A) (before : List A) (count i : ℕ) (bytes : List ℕ) (total : Option (List A × List ℕ)) → count ≤ i
+pub is_done : {A : Type 0} (r : List A → Decoder A) (before : List A) (count i : ℕ) (bytes : List ℕ) (total : Option (List A × List ℕ)) → count ≤ i
     → items_at r before (count - i) bytes ≡ total → total ≡ Some (before, bytes)
 unfolding items_at
 is_done r before count i bytes total le so_far =

@@ -6,7 +6,7 @@ use Rattle.std.specs.Option.{option_map}
 use Rattle.std.specs.Prelude.{nat_le, ◌&&◌, if◌then◌else◌, option_and_then}
 use Rattle.std.specs.Str.{bytes_eq, is_utf8}
 use Rattle.std.specs.Str.Lines.{lines}
-use Rattle.text_lines.specs.Lines.{Word, in_range, spelled_by, words_of}
+use Rattle.text_lines.specs.Lines.{LineWord, in_range, spelled_by, words_of}
 use Rattle.wire_frames.specs.declared.start.Want.{Want}
 use Rattle.reflector_core.specs.declared.request.Request.{Request}
 use Rattle.reflector_core.specs.declared.request.Request.TheVariants.{Join, Send, Tick, Leave, Offer, Pull}
@@ -29,7 +29,7 @@ small_found : (found : Option ℕ) (n : ℕ) → option_and_then (in_range 0 429
 small_found None n is = absurd cc
 small_found (Some m) n is = small_if m n (nat_le 0 m && nat_le m 4294967295) refl is
 
-small : (word : Word) → AreSmall (small_of word)
+small : (word : LineWord) → AreSmall (small_of word)
 small word n is = small_found (spelled_by word) n is
 
 -- ---- a request of each kind
@@ -50,7 +50,7 @@ join_with-bounded (Some view) None want small = none_read
 join_with-bounded (Some view) (Some now) None small = none_read
 join_with-bounded (Some view) (Some now) (Some want) small = one_read (Join view now want) (small view refl)
 
-join_of-bounded : (words : List Word) → AreRequests (join_of words)
+join_of-bounded : (words : List LineWord) → AreRequests (join_of words)
 join_of-bounded [] = none_read
 join_of-bounded (view ∷ []) = none_read
 join_of-bounded (view ∷ now ∷ want) = join_with-bounded (small_of view) (large_of now) (want_of want) (small view)
@@ -63,7 +63,7 @@ send_with-bounded (Some view) (Some joined) (Some number) None payload small = n
 send_with-bounded (Some view) (Some joined) (Some number) (Some now) None small = none_read
 send_with-bounded (Some view) (Some joined) (Some number) (Some now) (Some payload) small = one_read (Send view joined number payload now) (small view refl)
 
-send_of-bounded : (words : List Word) → AreRequests (send_of words)
+send_of-bounded : (words : List LineWord) → AreRequests (send_of words)
 send_of-bounded [] = none_read
 send_of-bounded (a ∷ []) = none_read
 send_of-bounded (a ∷ b ∷ []) = none_read
@@ -77,7 +77,7 @@ tick_with-bounded : (now : Option ℕ) → AreRequests (option_map Tick now)
 tick_with-bounded None = none_read
 tick_with-bounded (Some now) = one_read (Tick now) tt
 
-tick_of-bounded : (words : List Word) → AreRequests (tick_of words)
+tick_of-bounded : (words : List LineWord) → AreRequests (tick_of words)
 tick_of-bounded [] = none_read
 tick_of-bounded (now ∷ []) = tick_with-bounded (large_of now)
 tick_of-bounded (a ∷ b ∷ more) = none_read
@@ -88,7 +88,7 @@ leave_with-bounded (Some view) None now small = none_read
 leave_with-bounded (Some view) (Some joined) None small = none_read
 leave_with-bounded (Some view) (Some joined) (Some now) small = one_read (Leave view joined now) (small view refl)
 
-leave_of-bounded : (words : List Word) → AreRequests (leave_of words)
+leave_of-bounded : (words : List LineWord) → AreRequests (leave_of words)
 leave_of-bounded [] = none_read
 leave_of-bounded (a ∷ []) = none_read
 leave_of-bounded (a ∷ b ∷ []) = none_read
@@ -102,7 +102,7 @@ offer_with-bounded (Some view) (Some joined) None snapshot small = none_read
 offer_with-bounded (Some view) (Some joined) (Some time) None small = none_read
 offer_with-bounded (Some view) (Some joined) (Some time) (Some snapshot) small = one_read (Offer view joined time snapshot) (small view refl)
 
-offer_of-bounded : (words : List Word) → AreRequests (offer_of words)
+offer_of-bounded : (words : List LineWord) → AreRequests (offer_of words)
 offer_of-bounded [] = none_read
 offer_of-bounded (a ∷ []) = none_read
 offer_of-bounded (a ∷ b ∷ []) = none_read
@@ -115,7 +115,7 @@ pull_with-bounded None limit = none_read
 pull_with-bounded (Some after) None = none_read
 pull_with-bounded (Some after) (Some limit) = one_read (Pull after limit) tt
 
-pull_of-bounded : (words : List Word) → AreRequests (pull_of words)
+pull_of-bounded : (words : List LineWord) → AreRequests (pull_of words)
 pull_of-bounded [] = none_read
 pull_of-bounded (a ∷ []) = none_read
 pull_of-bounded (after ∷ limit ∷ []) = pull_with-bounded (small_of after) (small_of limit)
@@ -127,7 +127,7 @@ read_if : (b : Bool) (one other : Option Request) → AreRequests one → AreReq
 read_if true one other bounded others = bounded
 read_if false one other bounded others = others
 
-request_of-bounded : (words : List Word) → AreRequests (request_of words)
+request_of-bounded : (words : List LineWord) → AreRequests (request_of words)
 request_of-bounded [] = none_read
 request_of-bounded (name ∷ fields) =
     read_if (bytes_eq name (codes "join")) _ _ (join_of-bounded fields)

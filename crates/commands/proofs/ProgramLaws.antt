@@ -6,7 +6,7 @@ use Rattle.model_lang.specs.declared.fault.LangFault.TheVariants as lang
 use Rattle.model_lang.specs.declared.tree.Class.{Class}
 use Rattle.model_lang.specs.Program.{IsRead, a_program, no_program, too_large}
 use Rattle.model_lang.specs.Tree.{ProgramTree}
-use Rattle.model_check.specs.Answer.{Refuses}
+use Rattle.model_check.specs.Answer.{IsFirstFault}
 use Rattle.model_check.specs.Faults.{faults_of_program, first_fault}
 use Rattle.model_check.specs.declared.fault.CheckFault.{CheckFault}
 use Rattle.commands.specs.declared.program.ProgramFault.{ProgramFault}
@@ -25,6 +25,6 @@ line_found None fault is = absurd cc
 line_found (Some found) fault is = let same : fault ≡ found = cc in rw same refl
 
 -- a program with a fault
-pub refused_unsound : (bytes : List ℕ) (tree : ProgramTree) (found : CheckFault) (fault : ProgramFault) → IsRead bytes tree → Refuses found (faults_of_program tree) → IsUnsound found fault → ProgramEnd (Err fault) bytes
+pub refused_unsound : (bytes : List ℕ) (tree : ProgramTree) (found : CheckFault) (fault : ProgramFault) → IsRead bytes tree → IsFirstFault found (faults_of_program tree) → IsUnsound found fault → ProgramEnd (Err fault) bytes
 refused_unsound bytes tree found fault read refused (some, is) =
     rw is (record { reading = a_program tree; is_reading = read; refused = line_found (first_fault tree) found (refused some) })

@@ -2,7 +2,7 @@
 use Rattle.std.specs.Prelude.{ℕ, ⊤, ◌≤◌, Bool, false, ◌≡◌, ◌==◌, ◌<◌, ◌||◌, if◌then◌else◌, nat_le, length, slice_index_or, remove, encode_utf8_all, List, [], ◌∷◌, ◌++◌, Option, Some, None, option_map, option_and_then, codes}
 use Rattle.std.specs.Str.{bytes_eq}
 use Rattle.tea_base.specs.Limits.{time_limit}
-use Rattle.text_lines.specs.Lines.{Word, is_empty}
+use Rattle.text_lines.specs.Lines.{LineWord, is_empty}
 use Rattle.commands.specs.Script.{time_of}
 use Rattle.commands.specs.declared.words.Parts.{Parts}
 use Rattle.commands.specs.declared.words.Reader.{Reader}
@@ -12,7 +12,7 @@ use Rattle.commands.specs.declared.words.Command.{Command}
 use Rattle.commands.specs.declared.words.Command.TheVariants.{Stamp, Check, Replay}
 
 -- the word begins with `-`
-abbrev pub is_option : Word → Bool
+abbrev pub is_option : LineWord → Bool
 is_option [] = false
 is_option (first ∷ rest) = first == 45
 
@@ -21,15 +21,15 @@ abbrev pub with_parts : Parts → Option Parts → Option Parts
 with_parts front None = None
 with_parts front (Some parts) = Some (record { positionals = front.positionals ++ parts.positionals; settings = front.settings ++ parts.settings })
 
-abbrev pub positional : Word → Parts
+abbrev pub positional : LineWord → Parts
 positional word = record { positionals = word ∷ []; settings = [] }
 
-abbrev pub setting : Word → Word → Parts
+abbrev pub setting : LineWord → LineWord → Parts
 setting option value = record { positionals = []; settings = record { option = option; value = value } ∷ [] }
 
 -- the parts of these words, after an option that waits for its value, or none that does: a word that begins with `-` is
 -- an option, the word after it, which does not, is its value, the others are the positionals in order, and none is empty
-abbrev pub parts_from : Option Word → List Word → Option Parts
+abbrev pub parts_from : Option LineWord → List LineWord → Option Parts
 parts_from None [] = Some (record { positionals = []; settings = [] })
 parts_from None (word ∷ words) =
     if is_empty word then None
@@ -40,25 +40,25 @@ parts_from (Some option) (word ∷ words) =
     if is_empty word || is_option word then None
     else with_parts (setting option word) (parts_from None words)
 
-abbrev pub all_parts : List Word → Option Parts
+abbrev pub all_parts : List LineWord → Option Parts
 all_parts words = parts_from None words
 
 -- a setting of this option
-abbrev pub is_of : Word → Setting → Bool
+abbrev pub is_of : LineWord → Setting → Bool
 is_of option found = bytes_eq found.option option
 
 -- the value of the first setting of an option
-abbrev pub setting_value : Word → List Setting → Option Word
+abbrev pub setting_value : LineWord → List Setting → Option LineWord
 setting_value option [] = None
 setting_value option (found ∷ settings) = if is_of option found then Some found.value else setting_value option settings
 
 -- the settings without the first one of an option
-abbrev pub without : Word → List Setting → List Setting
+abbrev pub without : LineWord → List Setting → List Setting
 without option [] = []
 without option (found ∷ settings) = if is_of option found then settings else found ∷ without option settings
 
 -- `stamp` has one positional, and no setting is left once `--log` is taken out
-abbrev pub stamp_with : List Word → Option Word → List Setting → Option Command
+abbrev pub stamp_with : List LineWord → Option LineWord → List Setting → Option Command
 stamp_with (script ∷ []) log [] = Some (Stamp script log)
 stamp_with positionals log settings = None
 
@@ -67,7 +67,7 @@ abbrev pub stamp_of : Parts → Option Command
 stamp_of parts = stamp_with parts.positionals (setting_value (codes "--log") parts.settings) (without (codes "--log") parts.settings)
 
 -- `check` has one positional, and no setting
-abbrev pub check_with : List Word → List Setting → Option Command
+abbrev pub check_with : List LineWord → List Setting → Option Command
 check_with (program ∷ []) [] = Some (Check program)
 check_with positionals settings = None
 
@@ -79,20 +79,20 @@ check_of parts = check_with parts.positionals parts.settings
 abbrev pub most_name : ℕ
 most_name = 255
 
-abbrev pub replay_to : Word → Word → Word → Option Word → Option Word → ℕ → Command
+abbrev pub replay_to : LineWord → LineWord → LineWord → Option LineWord → Option LineWord → ℕ → Command
 replay_to program name log from snapshot time =
     Replay (record { program = program; name = name; log = log; time = time; from = from; snapshot = snapshot })
 
-abbrev pub replay_named : Word → Word → Word → Option Word → Option Word → Option ℕ → Option Command
+abbrev pub replay_named : LineWord → LineWord → LineWord → Option LineWord → Option LineWord → Option ℕ → Option Command
 replay_named program name log from snapshot time =
     if nat_le (length (encode_utf8_all name)) most_name then option_map (replay_to program name log from snapshot) time else None
 
 -- `replay` has four positionals, and no setting is left once `--from` and `--snapshot` are taken out
-abbrev pub replay_words : List Word → Option Word → Option Word → Option Command
+abbrev pub replay_words : List LineWord → Option LineWord → Option LineWord → Option Command
 replay_words (program ∷ name ∷ log ∷ time ∷ []) from snapshot = replay_named program name log from snapshot (time_of (encode_utf8_all time))
 replay_words positionals from snapshot = None
 
-abbrev pub replay_with : List Setting → List Word → Option Word → Option Word → Option Command
+abbrev pub replay_with : List Setting → List LineWord → Option LineWord → Option LineWord → Option Command
 replay_with [] positionals from snapshot = replay_words positionals from snapshot
 replay_with settings positionals from snapshot = None
 
@@ -103,7 +103,7 @@ replay_of parts =
     replay_with (without (codes "--snapshot") others) parts.positionals (setting_value (codes "--from") parts.settings) (setting_value (codes "--snapshot") others)
 
 -- what the words after the command's name make: one row for each command
-abbrev pub command_named : Word → Parts → Option Command
+abbrev pub command_named : LineWord → Parts → Option Command
 command_named name parts =
     if bytes_eq name (codes "stamp") then stamp_of parts
     else if bytes_eq name (codes "check") then check_of parts
@@ -111,7 +111,7 @@ command_named name parts =
     else None
 
 -- the command that the words ask for, where they follow the rules
-abbrev pub command_of : List Word → Option Command
+abbrev pub command_of : List LineWord → Option Command
 command_of [] = None
 command_of (name ∷ words) = option_and_then (command_named name) (all_parts words)
 
@@ -125,16 +125,16 @@ IsWithinBounds (Check program) = ⊤
 IsWithinBounds (Replay request) = IsBounded request
 
 -- what a reader makes of these words, after those that it has read
-abbrev pub read_on : Reader → List Word → Option Parts
+abbrev pub read_on : Reader → List LineWord → Option Parts
 read_on reader words = with_parts reader.parts (parts_from reader.awaiting words)
 
 -- the first setting of an option stands at this place
-pub record IsFirstOf (option : Word) (settings : List Setting) (place : ℕ) : Type 0 where
+pub record IsFirstOf (option : LineWord) (settings : List Setting) (place : ℕ) : Type 0 where
   pub within : place < length settings
   pub value : (default : Setting) → setting_value option settings ≡ Some (slice_index_or settings place default).value
   pub others : without option settings ≡ remove settings place
 
 -- there is no setting of an option
-pub record HasNone (option : Word) (settings : List Setting) : Type 0 where
+pub record HasNone (option : LineWord) (settings : List Setting) : Type 0 where
   pub value : setting_value option settings ≡ None
   pub others : without option settings ≡ settings

@@ -6,40 +6,40 @@ use Rattle.std.specs.Str.{bytes_eq, is_utf8}
 use Rattle.std.specs.Str.Lines.{lines}
 use Rattle.hex.specs.Hex.{decode_of}
 use Rattle.tea_base.specs.Limits.{time_limit}
-use Rattle.text_lines.specs.Lines.{Word, is_empty, words_of, number_of_word}
+use Rattle.text_lines.specs.Lines.{LineWord, is_empty, words_of, number_of_word}
 use Rattle.wire_frames.specs.declared.start.Want.{Want}
 use Rattle.wire_frames.specs.declared.start.Want.TheVariants.{Fresh, Whole, After}
 use Rattle.reflector_core.specs.declared.request.Request.{Request}
 use Rattle.reflector_core.specs.declared.request.Request.TheVariants.{Join, Send, Tick, Leave, Offer, Pull}
 
 -- a number of 32 bits, one of 64 bits, and a TeaTime
-abbrev pub small_of : Word → Option ℕ
+abbrev pub small_of : LineWord → Option ℕ
 small_of word = number_of_word 0 4294967295 word
 
-abbrev pub large_of : Word → Option ℕ
+abbrev pub large_of : LineWord → Option ℕ
 large_of word = number_of_word 0 18446744073709551615 word
 
-abbrev pub time_of : Word → Option ℕ
+abbrev pub time_of : LineWord → Option ℕ
 time_of word = number_of_word 0 (time_limit - 1) word
 
 -- an even number of hexadecimal digits of either case, at least two; `-` is no bytes
-abbrev pub hex_of : Word → Option (List ℕ)
+abbrev pub hex_of : LineWord → Option (List ℕ)
 hex_of word =
     if bytes_eq word (codes "-") then Some []
     else if is_empty word then None
     else result_ok (decode_of word)
 
-abbrev pub plain_want_of : Word → Option Want
+abbrev pub plain_want_of : LineWord → Option Want
 plain_want_of word =
     if bytes_eq word (codes "fresh") then Some Fresh
     else if bytes_eq word (codes "whole") then Some Whole
     else None
 
-abbrev pub want_after_of : Word → Word → Option Want
+abbrev pub want_after_of : LineWord → LineWord → Option Want
 want_after_of word time = if bytes_eq word (codes "after") then option_map After (time_of time) else None
 
 -- `[fresh | whole | after T]`, fresh where left out
-abbrev pub want_of : List Word → Option Want
+abbrev pub want_of : List LineWord → Option Want
 want_of [] = Some Fresh
 want_of (word ∷ []) = plain_want_of word
 want_of (word ∷ time ∷ []) = want_after_of word time
@@ -50,7 +50,7 @@ join_with (Some view) (Some now) (Some want) = Some (Join view now want)
 join_with view now want = None
 
 -- `VIEW NOW [fresh | whole | after T]`
-abbrev pub join_of : List Word → Option Request
+abbrev pub join_of : List LineWord → Option Request
 join_of (view ∷ now ∷ want) = join_with (small_of view) (large_of now) (want_of want)
 join_of words = None
 
@@ -59,12 +59,12 @@ send_with (Some view) (Some joined) (Some number) (Some now) (Some payload) = So
 send_with view joined number now payload = None
 
 -- `VIEW JOINED NUMBER NOW HEX`
-abbrev pub send_of : List Word → Option Request
+abbrev pub send_of : List LineWord → Option Request
 send_of (view ∷ joined ∷ number ∷ now ∷ payload ∷ []) = send_with (small_of view) (small_of joined) (small_of number) (large_of now) (hex_of payload)
 send_of words = None
 
 -- `NOW`
-abbrev pub tick_of : List Word → Option Request
+abbrev pub tick_of : List LineWord → Option Request
 tick_of (now ∷ []) = option_map Tick (large_of now)
 tick_of words = None
 
@@ -73,7 +73,7 @@ leave_with (Some view) (Some joined) (Some now) = Some (Leave view joined now)
 leave_with view joined now = None
 
 -- `VIEW JOINED NOW`
-abbrev pub leave_of : List Word → Option Request
+abbrev pub leave_of : List LineWord → Option Request
 leave_of (view ∷ joined ∷ now ∷ []) = leave_with (small_of view) (small_of joined) (large_of now)
 leave_of words = None
 
@@ -82,7 +82,7 @@ offer_with (Some view) (Some joined) (Some time) (Some snapshot) = Some (Offer v
 offer_with view joined time snapshot = None
 
 -- `VIEW JOINED TIME HEX`
-abbrev pub offer_of : List Word → Option Request
+abbrev pub offer_of : List LineWord → Option Request
 offer_of (view ∷ joined ∷ time ∷ snapshot ∷ []) = offer_with (small_of view) (small_of joined) (time_of time) (hex_of snapshot)
 offer_of words = None
 
@@ -91,12 +91,12 @@ pull_with (Some after) (Some limit) = Some (Pull after limit)
 pull_with after limit = None
 
 -- `AFTER LIMIT`
-abbrev pub pull_of : List Word → Option Request
+abbrev pub pull_of : List LineWord → Option Request
 pull_of (after ∷ limit ∷ []) = pull_with (small_of after) (small_of limit)
 pull_of words = None
 
 -- the request of a line's words: one row for each kind of line
-abbrev pub request_of : List Word → Option Request
+abbrev pub request_of : List LineWord → Option Request
 request_of [] = None
 request_of (name ∷ fields) =
     if bytes_eq name (codes "join") then join_of fields

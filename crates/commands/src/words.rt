@@ -60,14 +60,14 @@ struct Reader {
 }
 
 impl Reader {
-    ghost use Rattle.text_lines.specs.Lines.{Word};
+    ghost use Rattle.text_lines.specs.Lines.{LineWord};
     ghost use Rattle.commands.specs.CommandWords.{read_on};
 
     /// Reads one word more, or says that it breaks the rules.
     fn take(&mut self, word: &Text) -> Result<bool, WantOfMemory>
         ensures { IfOk result (λ follows. MatchBool follows
-            ((rest : List Word) → read_on self.new rest ≡ read_on self.old (word.now ∷ rest))
-            ((rest : List Word) → read_on self.old (word.now ∷ rest) ≡ None)) }
+            ((rest : List LineWord) → read_on self.new rest ≡ read_on self.old (word.now ∷ rest))
+            ((rest : List LineWord) → read_on self.old (word.now ∷ rest) ≡ None)) }
     {
         if is_empty(word) {
             return Ok(false);

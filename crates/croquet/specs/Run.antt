@@ -1,7 +1,7 @@
 -- What a run does to the outside: all that its verdict gives, or this up to one place, and then the line of its fault.
 use Rattle.std.specs.Prelude.{◌≡◌, ◌≢◌, ◌⊎◌, ℕ, ⊤, ◌≤◌, ◌<◌, List, [], ◌∷◌, ◌++◌, length, Option, Some, None, codes}
 use Rattle.std.specs.Fmt.{decimal}
-use Rattle.tea_io.specs.Files.{Content, Untold, Absent, Known, MayBe, Holds}
+use Rattle.tea_io.specs.Files.{Content, Untold, Absent, Present, MayBe, Holds}
 use Rattle.tea_io.specs.Sink.{GrowsWithin}
 use Rattle.tea_io.specs.Told.{grown, Rose}
 use Rattle.tea_io.specs.declared.files.FileCall.{FileCall}
@@ -81,7 +81,7 @@ AreKept old new = (name : List ℕ) → new name ≡ old name
 abbrev pub IsLonger : Content → ℕ → Type 0
 IsLonger Untold limit = ⊤
 IsLonger Absent limit = ⊥
-IsLonger (Known bytes) limit = limit < length bytes
+IsLonger (Present bytes) limit = limit < length bytes
 
 -- what a read that went well gives: bytes that may stand there, within the limit, or that they are above it
 abbrev pub MayGive : Came → Content → ℕ → Option (List ℕ) → Type 0

@@ -1,7 +1,7 @@
 //! A command over files that a case writes out.
 use crate::fault::CaseFault;
 use crate::run::{Faults, Given, NONE, Run};
-use crate::spelling::{lines_of, told};
+use crate::spelling::{lines_of, outcome_text};
 use hex::FromHexError;
 use std::alloc::Global;
 use tea_base::{Blob, WantOfMemory};
@@ -83,7 +83,7 @@ impl Command {
 /// What a command comes to: what it prints, its status, and ` f=` with the bytes of the file `f`, if it is there.
 pub(crate) fn outcome(alloc: Global, case: &str) -> Result<String, CaseFault> {
     let run = Command::read(alloc, case)?.run()?;
-    let mut told = told(alloc, &run)?;
+    let mut told = outcome_text(alloc, &run)?;
     if let Some(file) = run.file(alloc, "f")? {
         put_file(alloc, &mut told, &file)?;
     }

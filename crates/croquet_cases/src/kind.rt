@@ -3,7 +3,7 @@ use crate::command;
 use crate::fault::CaseFault;
 use crate::run::{Given, NONE};
 use crate::session::{Session, log_of, stamp};
-use crate::spelling::told;
+use crate::spelling::outcome_text;
 use case_lines::CaseKind;
 use std::alloc::Global;
 use tea_base::WantOfMemory;
@@ -46,7 +46,7 @@ impl CaseKind for CommandCases {
 
 fn outcome(alloc: Global, kind: CommandCases, case: &[u8]) -> Result<String, CaseFault> {
     match kind {
-        CommandCases::Scripts => Ok(told(alloc, &stamp(alloc, case)?)?),
+        CommandCases::Scripts => Ok(outcome_text(alloc, &stamp(alloc, case)?)?),
         CommandCases::Logs => Ok(hex::encode(alloc, log_of(alloc, case)?.bytes())?),
         CommandCases::Programs => check(alloc, case),
         CommandCases::Worlds => world(alloc, text_of(case)?),
@@ -69,14 +69,14 @@ fn check(alloc: Global, program: &[u8]) -> Result<String, CaseFault> {
     let mut given = Given::new(alloc);
     given.add_words("check p")?;
     given.add_file("p", program)?;
-    Ok(told(alloc, &given.run(NONE)?)?)
+    Ok(outcome_text(alloc, &given.run(NONE)?)?)
 }
 
 fn world(alloc: Global, case: &str) -> Result<String, CaseFault> {
     let (name, case) = first_word(case)?;
     let (time, recorded) = first_word(case)?;
     let session = Session::read(alloc, name, recorded)?;
-    Ok(told(alloc, &session.replay(alloc, time)?)?)
+    Ok(outcome_text(alloc, &session.replay(alloc, time)?)?)
 }
 
 fn snapshot(alloc: Global, case: &str) -> Result<String, CaseFault> {
@@ -93,7 +93,7 @@ fn resumed(alloc: Global, case: &str) -> Result<String, CaseFault> {
     let session = Session::read(alloc, name, recorded)?;
     let from = session.snapshot(alloc, first)?;
     let run = session.resume(alloc, time, from.bytes())?;
-    let mut told = told(alloc, &run)?;
+    let mut told = outcome_text(alloc, &run)?;
     if let Some(file) = run.file(alloc, "f")? {
         let is_same = file.is_bytes(session.snapshot(alloc, time)?.bytes());
         told.push_str(if is_same { " same" } else { " differs" })?;

@@ -1,7 +1,7 @@
 //! Sessions that a script makes, and the worlds of their logs.
 use crate::fault::CaseFault;
 use crate::run::{Given, NONE, Run};
-use crate::spelling::{lines_of, told};
+use crate::spelling::{lines_of, outcome_text};
 use std::alloc::Global;
 use tea_base::{Blob, WantOfMemory};
 
@@ -24,7 +24,7 @@ fn written(alloc: Global, run: &Run, name: &str) -> Result<Blob, CaseFault> {
     match run.file(alloc, name)? {
         Some(bytes) => Ok(bytes),
         None => Err(CaseFault::Refused {
-            told: told(alloc, run)?,
+            told: outcome_text(alloc, run)?,
         }),
     }
 }

@@ -25,7 +25,7 @@ pub(crate) fn lines_of(alloc: Global, case: &[u8]) -> Result<Vec<u8>, WantOfMemo
 }
 
 /// What a run printed, its lines divided by ` / `, and its status in square brackets if it is not 0.
-pub(crate) fn told(alloc: Global, run: &Run) -> Result<String, WantOfMemory> {
+pub(crate) fn outcome_text(alloc: Global, run: &Run) -> Result<String, WantOfMemory> {
     let text = String::from_utf8_lossy(alloc, run.text.bytes())?;
     let mut told = String::new(alloc);
     for line in text.as_str().lines() {

@@ -27,7 +27,7 @@ use tea_base::WantOfMemory;
 
 /// What cases are of.
 #[derive(Clone, Copy)]
-enum Kind {
+enum LanguageCases {
     Evaluate,
     Run,
     Canonical,
@@ -35,29 +35,29 @@ enum Kind {
     Payload,
 }
 
-impl CaseKind for Kind {
+impl CaseKind for LanguageCases {
     fn of_word(word: &str) -> Option<Self> {
         match word {
-            "evaluate" => Some(Kind::Evaluate),
-            "run" => Some(Kind::Run),
-            "canonical" => Some(Kind::Canonical),
-            "decode" => Some(Kind::Decode),
-            "payload" => Some(Kind::Payload),
+            "evaluate" => Some(LanguageCases::Evaluate),
+            "run" => Some(LanguageCases::Run),
+            "canonical" => Some(LanguageCases::Canonical),
+            "decode" => Some(LanguageCases::Decode),
+            "payload" => Some(LanguageCases::Payload),
             _ => None,
         }
     }
 
     fn outcome(&self, alloc: Global, case: &[u8]) -> Result<String, WantOfMemory> {
         match self {
-            Kind::Evaluate => evaluation::evaluated(alloc, case),
-            Kind::Run => evaluation::played(alloc, case),
-            Kind::Canonical => canonical::canonical(alloc, case),
-            Kind::Decode => bytes::decoded(alloc, case),
-            Kind::Payload => bytes::payload_read(alloc, case),
+            LanguageCases::Evaluate => evaluation::evaluated(alloc, case),
+            LanguageCases::Run => evaluation::played(alloc, case),
+            LanguageCases::Canonical => canonical::canonical(alloc, case),
+            LanguageCases::Decode => bytes::decoded(alloc, case),
+            LanguageCases::Payload => bytes::payload_read(alloc, case),
         }
     }
 }
 
 fn main(rt: HostRuntime) -> io::Result<()> {
-    print_files::<Kind, HostRuntime>(&rt)
+    print_files::<LanguageCases, HostRuntime>(&rt)
 }

@@ -1,6 +1,6 @@
 //! Why a program gave no value.
 use model_check::CheckFault;
-use model_eval::{Fault, Stop};
+use model_eval::{EvalStop, Fault};
 use model_lang::LangFault;
 use std::alloc::AllocError;
 use tea_base::WantOfMemory;
@@ -32,11 +32,11 @@ impl From<CheckFault> for Stopped {
     }
 }
 
-impl From<Stop> for Stopped {
-    fn from(stop: Stop) -> Self {
+impl From<EvalStop> for Stopped {
+    fn from(stop: EvalStop) -> Self {
         match stop {
-            Stop::Fault(fault) => Stopped::Fault(fault),
-            Stop::WantOfMemory => Stopped::WantOfMemory,
+            EvalStop::Fault(fault) => Stopped::Fault(fault),
+            EvalStop::WantOfMemory => Stopped::WantOfMemory,
         }
     }
 }

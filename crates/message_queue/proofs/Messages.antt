@@ -12,7 +12,7 @@ use Rattle.model_value.specs.declared.value.Value.{Value}
 use Rattle.model_value.specs.Plain.{values_weight}
 use Rattle.world_plain.specs.World.{message_weight, total_weight}
 use Rattle.model_value.specs.View.{plain, plain_values}
-use Rattle.message_queue.specs.Queue.{IsQueue, IsLightMessage, AreLightMessages, inserted}
+use Rattle.message_queue.specs.Queue.{IsQueue, IsLightMessage, AreLightMessages, insert_in_order}
 use Rattle.message_queue.specs.View.{messages_seen}
 use Rattle.message_queue.proofs.Filtered.{IsQueue-filtered}
 use Rattle.message_queue.proofs.Order.{IsQueue-inserted}
@@ -39,7 +39,7 @@ pub ruleset by_place = (map-append, append_assoc)
 
 pub with_one : (ms new : List PlainMessage) (m : PlainMessage) (next more : ℕ)
     → IsQueue (record { messages = ms; next = next })
-    → new ≡ inserted m ms
+    → new ≡ insert_in_order m ms
     → IsUnused m.number ms
     → m.number < more
     → next ≤ more

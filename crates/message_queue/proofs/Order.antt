@@ -7,7 +7,8 @@ use Rattle.world_plain.specs.World.{total_weight}
 use Rattle.world_plain.specs.Messages.{PlainMessage}
 use Rattle.model_value.specs.Plain.{AllInBounds, TextFits}
 use Rattle.world_plain.specs.Valid.{Precedes, PrecedesAll, AreInOrder, IsUnused, NumbersDiffer, most_parameters, most_pending}
-use Rattle.message_queue.specs.Queue.{QueueRecord, IsQueue, precedes, inserted, IsLightMessage, AreLightMessages, NumbersBelow}
+use Rattle.message_queue.specs.Queue.{QueueRecord, IsQueue, insert_in_order, IsLightMessage, AreLightMessages, NumbersBelow}
+use Rattle.world_plain.specs.ValidTest.{is_due_before}
 
 -- what holds in each branch, by its test, holds of a test
 pub if_either : {A : Type 0} (P : A → Type 0) (b : Bool) (x y : A) → (b ≡ true → P x) → (b ≡ false → P y) → P (if b then x else y)
@@ -17,11 +18,11 @@ if_either P false x y h g = g refl
 -- what is true of a message before such as it is true of, of those behind the first, and of the first before others
 pub inserted-all : (Q : List PlainMessage → Type 0) (m : PlainMessage) → ((ns : List PlainMessage) → Q ns → Q (m ∷ ns))
     → ((n : PlainMessage) (ns : List PlainMessage) → Q (n ∷ ns) → Q ns)
-    → ((n : PlainMessage) (ns os : List PlainMessage) → Q (n ∷ ns) → Q os → Q (n ∷ os)) → (ns : List PlainMessage) → Q ns → Q (inserted m ns)
+    → ((n : PlainMessage) (ns os : List PlainMessage) → Q (n ∷ ns) → Q os → Q (n ∷ os)) → (ns : List PlainMessage) → Q ns → Q (insert_in_order m ns)
 inserted-all Q m first rest more [] h = first [] h
 inserted-all Q m first rest more (n ∷ ns) h =
-    if_either Q (precedes m n) (m ∷ n ∷ ns) (n ∷ inserted m ns) (λ _. first (n ∷ ns) h)
-    (λ _. more n ns (inserted m ns) h (inserted-all Q m first rest more ns (rest n ns h)))
+    if_either Q (is_due_before m n) (m ∷ n ∷ ns) (n ∷ insert_in_order m ns) (λ _. first (n ∷ ns) h)
+    (λ _. more n ns (insert_in_order m ns) h (inserted-all Q m first rest more ns (rest n ns h)))
 
 -- ---- the order
 
@@ -31,7 +32,7 @@ precedes-tells false true true m n f g h e = inr (g refl, h refl)
 precedes-tells false true false m n f g h e = absurd cc
 precedes-tells false false d m n f g h e = absurd cc
 
-precedes-true : (m n : PlainMessage) → precedes m n ≡ true → Precedes m n
+precedes-true : (m n : PlainMessage) → is_due_before m n ≡ true → Precedes m n
 precedes-true m n e = precedes-tells (nat_lt m.time n.time) (nat_eq m.time n.time) (nat_lt m.number n.number) m n (ltb-true m.time n.time) (eqb-true m.time n.time) (ltb-true m.number n.number) e
 
 follows-tells : (b c d : Bool) (m n : PlainMessage) → (b ≡ false → n.time ≤ m.time) → (c ≡ false → ¬ (m.time ≡ n.time)) → (c ≡ true → m.time ≡ n.time) → (d ≡ false → n.number ≤ m.number) → ¬ (m.number ≡ n.number) → (b || c && d) ≡ false → Precedes n m
@@ -40,7 +41,7 @@ follows-tells false true true m n f g k h u e = absurd cc
 follows-tells false true false m n f g k h u e = let at : m.time ≡ n.time = k refl in let above : n.number ≤ m.number = h refl in inr (sym at, omega (arith, u))
 follows-tells false false d m n f g k h u e = let behind : n.time ≤ m.time = f refl in let apart : ¬ (m.time ≡ n.time) = g refl in inl (omega (arith, apart))
 
-precedes-false : (m n : PlainMessage) → ¬ (m.number ≡ n.number) → precedes m n ≡ false → Precedes n m
+precedes-false : (m n : PlainMessage) → ¬ (m.number ≡ n.number) → is_due_before m n ≡ false → Precedes n m
 precedes-false m n u e =
     follows-tells (nat_lt m.time n.time) (nat_eq m.time n.time) (nat_lt m.number n.number) m n (ltb-false m.time n.time) (eqb-false m.time n.time) (eqb-true m.time n.time) (ltb-false m.number n.number) u e
 
@@ -54,27 +55,27 @@ PrecedesAll-trans : (l m : PlainMessage) (ns : List PlainMessage) → Precedes l
 PrecedesAll-trans l m [] h g = tt
 PrecedesAll-trans l m (n ∷ ns) h g = (Precedes-trans l m n h g.0, PrecedesAll-trans l m ns h g.1)
 
-pub PrecedesAll-inserted : (l m : PlainMessage) (ns : List PlainMessage) → Precedes l m → PrecedesAll l ns → PrecedesAll l (inserted m ns)
+pub PrecedesAll-inserted : (l m : PlainMessage) (ns : List PlainMessage) → Precedes l m → PrecedesAll l ns → PrecedesAll l (insert_in_order m ns)
 PrecedesAll-inserted l m ns h = inserted-all (PrecedesAll l) m (λ ns g. (h, g)) (λ n ns g. g.1) (λ n ns os g f. (g.0, f)) ns
 
-pub AreInOrder-inserted : (m : PlainMessage) (ns : List PlainMessage) → IsUnused m.number ns → AreInOrder ns → AreInOrder (inserted m ns)
+pub AreInOrder-inserted : (m : PlainMessage) (ns : List PlainMessage) → IsUnused m.number ns → AreInOrder ns → AreInOrder (insert_in_order m ns)
 AreInOrder-inserted m [] u h = (tt, tt)
 AreInOrder-inserted m (n ∷ ns) u h =
-    if_either AreInOrder (precedes m n) (m ∷ n ∷ ns) (n ∷ inserted m ns)
+    if_either AreInOrder (is_due_before m n) (m ∷ n ∷ ns) (n ∷ insert_in_order m ns)
     (λ e. let first : Precedes m n = precedes-true m n e in ((first, PrecedesAll-trans m n ns first h.0), h))
     (λ e. (PrecedesAll-inserted n m ns (precedes-false m n u.0 e) h.0, AreInOrder-inserted m ns u.1 h.1))
 
 -- ---- the numbers
 
-pub IsUnused-inserted : (k : ℕ) (m : PlainMessage) (ns : List PlainMessage) → ¬ (k ≡ m.number) → IsUnused k ns → IsUnused k (inserted m ns)
+pub IsUnused-inserted : (k : ℕ) (m : PlainMessage) (ns : List PlainMessage) → ¬ (k ≡ m.number) → IsUnused k ns → IsUnused k (insert_in_order m ns)
 IsUnused-inserted k m ns h = inserted-all (IsUnused k) m (λ ns g. (h, g)) (λ n ns g. g.1) (λ n ns os g f. (g.0, f)) ns
 
-pub NumbersDiffer-inserted : (m : PlainMessage) (ns : List PlainMessage) → IsUnused m.number ns → NumbersDiffer ns → NumbersDiffer (inserted m ns)
+pub NumbersDiffer-inserted : (m : PlainMessage) (ns : List PlainMessage) → IsUnused m.number ns → NumbersDiffer ns → NumbersDiffer (insert_in_order m ns)
 NumbersDiffer-inserted m [] u h = (tt, tt)
 NumbersDiffer-inserted m (n ∷ ns) u h =
-    if_either NumbersDiffer (precedes m n) (m ∷ n ∷ ns) (n ∷ inserted m ns) (λ _. (u, h)) (λ _. (IsUnused-inserted n.number m ns (λ e. u.0 (sym e)) h.0, NumbersDiffer-inserted m ns u.1 h.1))
+    if_either NumbersDiffer (is_due_before m n) (m ∷ n ∷ ns) (n ∷ insert_in_order m ns) (λ _. (u, h)) (λ _. (IsUnused-inserted n.number m ns (λ e. u.0 (sym e)) h.0, NumbersDiffer-inserted m ns u.1 h.1))
 
-pub NumbersBelow-inserted : (next : ℕ) (m : PlainMessage) (ns : List PlainMessage) → m.number < next → NumbersBelow next ns → NumbersBelow next (inserted m ns)
+pub NumbersBelow-inserted : (next : ℕ) (m : PlainMessage) (ns : List PlainMessage) → m.number < next → NumbersBelow next ns → NumbersBelow next (insert_in_order m ns)
 NumbersBelow-inserted next m ns h = inserted-all (NumbersBelow next) m (λ ns g. (h, g)) (λ n ns g. g.1) (λ n ns os g f. (g.0, f)) ns
 
 pub NumbersBelow-later : (next more : ℕ) (ms : List PlainMessage) → NumbersBelow next ms → next ≤ more → NumbersBelow more ms
@@ -88,17 +89,17 @@ next-unused next (m ∷ ms) h = ((λ e. absurd (omega (arith, h.0, e))), next-un
 
 -- ---- counts and weights
 
-pub length-inserted : (m : PlainMessage) (ns : List PlainMessage) → length (inserted m ns) ≡ length ns + 1
+pub length-inserted : (m : PlainMessage) (ns : List PlainMessage) → length (insert_in_order m ns) ≡ length ns + 1
 length-inserted m [] = refl
 length-inserted m (n ∷ ns) =
-    if_either (λ l. length l ≡ length (n ∷ ns) + 1) (precedes m n) (m ∷ n ∷ ns) (n ∷ inserted m ns) (λ _. omega arith) (λ _. omega (arith, length-inserted m ns))
+    if_either (λ l. length l ≡ length (n ∷ ns) + 1) (is_due_before m n) (m ∷ n ∷ ns) (n ∷ insert_in_order m ns) (λ _. omega arith) (λ _. omega (arith, length-inserted m ns))
 
-pub total-inserted : (weighs : PlainMessage → ℕ) (m : PlainMessage) (ns : List PlainMessage) → total_weight weighs (inserted m ns) ≡ weighs m + total_weight weighs ns
+pub total-inserted : (weighs : PlainMessage → ℕ) (m : PlainMessage) (ns : List PlainMessage) → total_weight weighs (insert_in_order m ns) ≡ weighs m + total_weight weighs ns
 total-inserted weighs m [] = refl
 total-inserted weighs m (n ∷ ns) =
-    if_either (λ l. total_weight weighs l ≡ weighs m + total_weight weighs (n ∷ ns)) (precedes m n) (m ∷ n ∷ ns) (n ∷ inserted m ns) (λ _. refl) (λ _. omega (arith, total-inserted weighs m ns))
+    if_either (λ l. total_weight weighs l ≡ weighs m + total_weight weighs (n ∷ ns)) (is_due_before m n) (m ∷ n ∷ ns) (n ∷ insert_in_order m ns) (λ _. refl) (λ _. omega (arith, total-inserted weighs m ns))
 
-pub AllLight-inserted : (m : PlainMessage) (ns : List PlainMessage) → IsLightMessage m → AreLightMessages ns → AreLightMessages (inserted m ns)
+pub AllLight-inserted : (m : PlainMessage) (ns : List PlainMessage) → IsLightMessage m → AreLightMessages ns → AreLightMessages (insert_in_order m ns)
 AllLight-inserted m ns h = inserted-all AreLightMessages m (λ ns g. (h, g)) (λ n ns g. g.1) (λ n ns os g f. (g.0, f)) ns
 
 values_bound : (vs : List PlainValue) → AllInBounds vs → values_weight vs ≤ length vs * 4096
@@ -113,7 +114,7 @@ IsLight-fits m name few bounds = omega (arith, name, few, values_bound m.args bo
 
 -- a message more of a number that no other has, below the next one from then on
 pub IsQueue-inserted : (m : PlainMessage) (q : QueueRecord) (next : ℕ) → IsQueue q → IsUnused m.number q.messages → m.number < next → q.next ≤ next
-    → length q.messages < most_pending → IsLightMessage m → IsQueue (record { messages = inserted m q.messages; next = next })
+    → length q.messages < most_pending → IsLightMessage m → IsQueue (record { messages = insert_in_order m q.messages; next = next })
 IsQueue-inserted m q next h unused below later few light = record {
   order = AreInOrder-inserted m q.messages unused h.order;
   differ = NumbersDiffer-inserted m q.messages unused h.differ;

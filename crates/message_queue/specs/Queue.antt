@@ -6,6 +6,7 @@ use Rattle.std.specs.Coded.{Coded, code_by, coded×, coded_ℕ, coded_list}
 use Rattle.model_value.specs.Plain.{PlainValue}
 use Rattle.world_plain.specs.Messages.{PlainMessage, coded_message}
 use Rattle.world_plain.specs.Valid.{AreInOrder, NumbersDiffer, most_pending}
+use Rattle.world_plain.specs.ValidTest.{is_due_before}
 use Rattle.world_plain.specs.World.{message_weight, most_world_weight}
 use Rattle.world_plain.specs.declared.refusal.StoreRefusal.{StoreRefusal}
 use Rattle.world_plain.specs.declared.refusal.StoreRefusal.TheVariants.{Full, Spent, WantOfMemory}
@@ -52,25 +53,22 @@ pub record IsQueue (q : QueueRecord) : Type 0 where
 abbrev pub empty_queue : ℕ → QueueRecord
 empty_queue next = record { messages = []; next = next }
 
-abbrev pub precedes : PlainMessage → PlainMessage → Bool
-precedes m n = nat_lt m.time n.time || (nat_eq m.time n.time && nat_lt m.number n.number)
-
 -- in its place by time and number
-abbrev pub inserted : PlainMessage → List PlainMessage → List PlainMessage
-inserted m [] = m ∷ []
-inserted m (n ∷ ns) = if precedes m n then m ∷ n ∷ ns else n ∷ inserted m ns
+abbrev pub insert_in_order : PlainMessage → List PlainMessage → List PlainMessage
+insert_in_order m [] = m ∷ []
+insert_in_order m (n ∷ ns) = if is_due_before m n then m ∷ n ∷ ns else n ∷ insert_in_order m ns
 
 -- a message more
 abbrev pub queue_with : PlainMessage → QueueRecord → QueueRecord
-queue_with m q = record q { messages = inserted m q.messages }
+queue_with m q = record q { messages = insert_in_order m q.messages }
 
 -- a call of an object's method, which gets the next number
 abbrev pub new_message : ℕ → ℕ → List ℕ → List PlainValue → QueueRecord → PlainMessage
 new_message time object method args q = record { time = time; number = q.next; object = object; method = method; args = args }
 
-abbrev pub pushed : ℕ → ℕ → List ℕ → List PlainValue → QueueRecord → QueueRecord
-pushed time object method args q =
-    record { messages = inserted (new_message time object method args q) q.messages; next = q.next + 1 }
+abbrev pub queue_after_push : ℕ → ℕ → List ℕ → List PlainValue → QueueRecord → QueueRecord
+queue_after_push time object method args q =
+    record { messages = insert_in_order (new_message time object method args q) q.messages; next = q.next + 1 }
 
 -- the time and the number of the first message, if there is one
 abbrev pub least_of : List PlainMessage → Option (ℕ × ℕ)
@@ -104,7 +102,7 @@ QueueHasRoom q = (length q.messages < most_pending) × (q.next < last_message_nu
 -- what a push answers, and what it makes of the queue
 abbrev pub Pushes : Result ℕ StoreRefusal → ℕ → ℕ → List ℕ → List PlainValue → QueueRecord → QueueRecord → Type 0
 Pushes (Ok number) time object method args old new =
-    QueueHasRoom old × (number ≡ old.next) × (new ≡ pushed time object method args old)
+    QueueHasRoom old × (number ≡ old.next) × (new ≡ queue_after_push time object method args old)
 Pushes (Err (Full count)) time object method args old new = IsFullQueue old × (count ≡ length old.messages) × (new ≡ old)
 Pushes (Err Spent) time object method args old new =
     (length old.messages < most_pending) × (old.next ≡ last_message_number) × (new ≡ old)

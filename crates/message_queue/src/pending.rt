@@ -6,7 +6,8 @@ ghost use Rattle.model_value.specs.View.{plain_values};
 ghost use Rattle.world_plain.specs.Valid.{most_pending};
 ghost use Rattle.model_value.specs.Plain.{values_weight as weight_of_values, text_weight as weight_of_text};
 ghost use Rattle.world_plain.specs.World.{message_weight, total_weight, most_world_weight};
-ghost use Rattle.message_queue.specs.Queue.{AreLightMessages, IsLightMessage, calls, inserted, precedes as is_before};
+ghost use Rattle.message_queue.specs.Queue.{AreLightMessages, IsLightMessage, calls, insert_in_order};
+ghost use Rattle.world_plain.specs.ValidTest.{is_due_before as is_before};
 ghost use Rattle.message_queue.specs.View.{messages_seen};
 
 use model_value::{Value, weight};
@@ -23,7 +24,7 @@ fn precedes(one: &Message, other: &Message) -> bool
 /// Puts a message in its place. Without memory the messages stay as they were.
 #[tactic(auto, using(crate::proofs::Messages::by_place))]
 pub fn insert(messages: &mut Vec<Message>, message: Message) -> Result<(), WantOfMemory>
-    ensures ok { OnOk result (messages_seen messages.new.items ≡ inserted (plain_message message) (messages_seen messages.old.items)) }
+    ensures ok { OnOk result (messages_seen messages.new.items ≡ insert_in_order (plain_message message) (messages_seen messages.old.items)) }
     ensures err { OnErr result (messages.new.items ≡ messages.old.items) }
 {
     let place = place_for(messages, &message);
@@ -36,7 +37,7 @@ pub fn insert(messages: &mut Vec<Message>, message: Message) -> Result<(), WantO
 fn place_for(messages: &[Message], message: &Message) -> usize
     ensures bound { result ≤ length messages.now }
     ensures place { let m = plain_message message.now in
-        inserted m (messages_seen messages.now) ≡ messages_seen (take result messages.now) ++ m ∷ messages_seen (drop result messages.now) }
+        insert_in_order m (messages_seen messages.now) ≡ messages_seen (take result messages.now) ++ m ∷ messages_seen (drop result messages.now) }
 {
     for i in 0..messages.len() {
         if precedes(message, &messages[i]) {

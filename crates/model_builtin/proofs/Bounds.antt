@@ -10,20 +10,20 @@ use Rattle.model_value.specs.declared.value.Value.{Value}
 use Rattle.model_value.proofs.ValueCodec.{InBounds-is_in_bounds}
 use Rattle.model_value.proofs.Spellings.{length-le_weight, encode_utf8_all-le_weight}
 use Rattle.model_builtin.specs.declared.builtin.Pure.{Pure}
-use Rattle.model_builtin.specs.Builtins.{BuiltinReply, value, bad_kind, bad_index, too_large, sized, builtin_gives, applied}
+use Rattle.model_builtin.specs.Builtins.{BuiltinReply, value, bad_kind, bad_index, too_large, reply_in_bounds, builtin_gives, apply}
 
 if_value : (b : Bool) (v w : PlainValue) → cond b (value v) too_large ≡ value w → (b ≡ true) × (v ≡ w)
 if_value true v w e = (refl, cc)
 if_value false v w e = absurd cc
 
-sized-in_bounds : (reply : BuiltinReply) (v : PlainValue) → sized reply ≡ value v → InBounds v
+sized-in_bounds : (reply : BuiltinReply) (v : PlainValue) → reply_in_bounds reply ≡ value v → InBounds v
 sized-in_bounds (value w) v e = let is = if_value (is_in_bounds w) w v e in subst InBounds is.1 (InBounds-is_in_bounds w is.0)
 sized-in_bounds bad_kind v e = absurd cc
 sized-in_bounds bad_index v e = absurd cc
 sized-in_bounds too_large v e = absurd cc
 
 -- what a builtin gives is in bounds
-pub applied-in_bounds : (f : Pure) (args : List PlainValue) (v : PlainValue) → applied f args ≡ value v → InBounds v
+pub applied-in_bounds : (f : Pure) (args : List PlainValue) (v : PlainValue) → apply f args ≡ value v → InBounds v
 applied-in_bounds f args v e = sized-in_bounds (builtin_gives f args) v e
 
 -- a text in bounds has fewer than 2^16 characters, and a list fewer than 2^12 items

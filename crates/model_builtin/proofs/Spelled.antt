@@ -11,7 +11,7 @@ use Rattle.std.proofs.lemmas.Str.Parse.{digit_at}
 use Rattle.std.proofs.lemmas.Bool.{ltb-true, lt-ltb}
 use Rattle.std.proofs.lemmas.Bool.Decides.{nat_tests}
 use Rattle.std.proofs.lemmas.Slice.Eq.{bytes_eq-Decides}
-use Rattle.model_builtin.specs.Builtins.{in_64_bits, if_spelled, decimal_read}
+use Rattle.model_builtin.specs.Builtins.{in_64_bits, if_spelled, read_decimal}
 
 -- ---- numbers of 64 bits
 
@@ -42,7 +42,7 @@ spelled_only m n characters e =
     (ap in_64_bits (sym found.1) ∙ parts.0, ap signed_decimal (sym found.1) ∙ spelled)
 
 -- what is read is spelled so
-pub number_of-spelled : (characters : List ℕ) (n : ℤ) → decimal_read characters ≡ Some n → IsTrue (in_64_bits n) × (signed_decimal n ≡ characters)
+pub number_of-spelled : (characters : List ℕ) (n : ℤ) → read_decimal characters ≡ Some n → IsTrue (in_64_bits n) × (signed_decimal n ≡ characters)
 number_of-spelled characters n e = spelled_only (signed_digits_value 10 characters) n characters e
 
 -- digits that no sign stands before
@@ -69,21 +69,21 @@ passed true false n e f = absurd cc
 passed false b n e f = absurd cc
 
 -- each number is read from its spelling
-pub number_of-again : (n : ℤ) → IsTrue (in_64_bits n) → decimal_read (signed_decimal n) ≡ Some n
+pub number_of-again : (n : ℤ) → IsTrue (in_64_bits n) → read_decimal (signed_decimal n) ≡ Some n
 number_of-again n fits =
     ap (λ (m : ℤ). if_spelled m (signed_decimal n)) (signed_digits_value-signed_decimal n fits)
     ∙ passed (in_64_bits n) (bytes_eq (signed_decimal n) (signed_decimal n)) n fits ((bytes_eq-Decides (signed_decimal n) (signed_decimal n)).1 refl)
 
-pub number_of-is : (characters : List ℕ) (n : ℤ) → IsTrue (in_64_bits n) → signed_decimal n ≡ characters → decimal_read characters ≡ Some n
-number_of-is characters n fits e = ap decimal_read (sym e) ∙ number_of-again n fits
+pub number_of-is : (characters : List ℕ) (n : ℤ) → IsTrue (in_64_bits n) → signed_decimal n ≡ characters → read_decimal characters ≡ Some n
+number_of-is characters n fits e = ap read_decimal (sym e) ∙ number_of-again n fits
 
-none_of : (characters : List ℕ) (found : Option ℤ) → decimal_read characters ≡ found → ((n : ℤ) → IsTrue (in_64_bits n) → signed_decimal n ≡ characters → ⊥) → found ≡ None
+none_of : (characters : List ℕ) (found : Option ℤ) → read_decimal characters ≡ found → ((n : ℤ) → IsTrue (in_64_bits n) → signed_decimal n ≡ characters → ⊥) → found ≡ None
 none_of characters None e never = refl
 none_of characters (Some n) e never = let is = number_of-spelled characters n e in absurd (never n is.0 is.1)
 
 -- where no number is spelled so, none is read
-pub number_of-none : (characters : List ℕ) → ((n : ℤ) → IsTrue (in_64_bits n) → signed_decimal n ≡ characters → ⊥) → decimal_read characters ≡ None
-number_of-none characters never = none_of characters (decimal_read characters) refl never
+pub number_of-none : (characters : List ℕ) → ((n : ℤ) → IsTrue (in_64_bits n) → signed_decimal n ≡ characters → ⊥) → read_decimal characters ≡ None
+number_of-none characters never = none_of characters (read_decimal characters) refl never
 
 -- ---- what `parse` reads
 

@@ -37,9 +37,9 @@ part_between xs (pos i) (negsuc _) = None
 part_between xs (negsuc _) j = None
 
 -- the value made of a part, if there is one
-abbrev pub found : {A : Type 0} → (A → PlainValue) → Option A → BuiltinReply
-found make (Some x) = value (make x)
-found make None = bad_index
+abbrev pub part_reply : {A : Type 0} → (A → PlainValue) → Option A → BuiltinReply
+part_reply make (Some x) = value (make x)
+part_reply make None = bad_index
 
 -- ---- numbers
 
@@ -51,8 +51,8 @@ abbrev pub if_spelled : ℤ → List ℕ → Option ℤ
 if_spelled n characters = if in_64_bits n && bytes_eq (signed_decimal n) characters then Some n else None
 
 -- the number that a sign and digits write, where it is itself spelled so: without other zeros or signs
-abbrev pub decimal_read : List ℕ → Option ℤ
-decimal_read characters = if_spelled (signed_digits_value 10 characters) characters
+abbrev pub read_decimal : List ℕ → Option ℤ
+read_decimal characters = if_spelled (signed_digits_value 10 characters) characters
 
 abbrev pub int_or_nil : Option ℤ → PlainValue
 int_or_nil (Some n) = int n
@@ -66,8 +66,8 @@ sign_of Greater = pos 1
 
 -- ---- rows
 
-abbrev pub listed : List PlainValue → PlainValue
-listed items = list (plains_of items)
+abbrev pub list_value : List PlainValue → PlainValue
+list_value items = list (plains_of items)
 
 abbrev pub length_of : PlainValue → BuiltinReply
 length_of (text characters) = value (int (pos (length characters)))
@@ -83,21 +83,21 @@ text_of_value (text characters) = value (text characters)
 text_of_value _ = bad_kind
 
 abbrev pub read_number : PlainValue → BuiltinReply
-read_number (text characters) = value (int_or_nil (decimal_read characters))
+read_number (text characters) = value (int_or_nil (read_decimal characters))
 read_number _ = bad_kind
 
 abbrev pub at : PlainValue → PlainValue → BuiltinReply
-at (text characters) (int i) = found (λ c. text (c ∷ [])) (item_at characters i)
-at (list items) (int i) = found (λ x. x) (item_at (items_of items) i)
+at (text characters) (int i) = part_reply (λ c. text (c ∷ [])) (item_at characters i)
+at (list items) (int i) = part_reply (λ x. x) (item_at (items_of items) i)
 at _ _ = bad_kind
 
 abbrev pub push : PlainValue → PlainValue → BuiltinReply
-push (list items) x = value (listed (items_of items ++ x ∷ []))
+push (list items) x = value (list_value (items_of items ++ x ∷ []))
 push _ x = bad_kind
 
 abbrev pub concat : PlainValue → PlainValue → BuiltinReply
 concat (text a) (text b) = value (text (a ++ b))
-concat (list a) (list b) = value (listed (items_of a ++ items_of b))
+concat (list a) (list b) = value (list_value (items_of a ++ items_of b))
 concat _ _ = bad_kind
 
 -- numbers by value, texts by the numbers of their characters
@@ -107,12 +107,12 @@ compare (text a) (text b) = value (int (sign_of (slice_cmp nat_cmp a b)))
 compare _ _ = bad_kind
 
 abbrev pub put : PlainValue → PlainValue → PlainValue → BuiltinReply
-put (list items) (int i) x = found listed (with_item (items_of items) i x)
+put (list items) (int i) x = part_reply list_value (with_item (items_of items) i x)
 put _ _ x = bad_kind
 
 abbrev pub slice : PlainValue → PlainValue → PlainValue → BuiltinReply
-slice (text characters) (int i) (int j) = found text (part_between characters i j)
-slice (list items) (int i) (int j) = found listed (part_between (items_of items) i j)
+slice (text characters) (int i) (int j) = part_reply text (part_between characters i j)
+slice (list items) (int i) (int j) = part_reply list_value (part_between (items_of items) i j)
 slice _ _ _ = bad_kind
 
 -- ---- all builtins
@@ -136,11 +136,11 @@ of_three row.Slice = slice
 of_three _ = λ x y z. bad_kind
 
 -- only a value in bounds
-abbrev pub sized : BuiltinReply → BuiltinReply
-sized (value v) = if is_in_bounds v then value v else too_large
-sized bad_kind = bad_kind
-sized bad_index = bad_index
-sized too_large = too_large
+abbrev pub reply_in_bounds : BuiltinReply → BuiltinReply
+reply_in_bounds (value v) = if is_in_bounds v then value v else too_large
+reply_in_bounds bad_kind = bad_kind
+reply_in_bounds bad_index = bad_index
+reply_in_bounds too_large = too_large
 
 abbrev pub builtin_gives : Pure → List PlainValue → BuiltinReply
 builtin_gives f (x ∷ []) = of_one f x
@@ -149,5 +149,5 @@ builtin_gives f (x ∷ y ∷ z ∷ []) = of_three f x y z
 builtin_gives f _ = bad_kind
 
 -- what a builtin gives of its arguments
-abbrev pub applied : Pure → List PlainValue → BuiltinReply
-applied f args = sized (builtin_gives f args)
+abbrev pub apply : Pure → List PlainValue → BuiltinReply
+apply f args = reply_in_bounds (builtin_gives f args)

@@ -1,7 +1,7 @@
 //! The builtins, by their names and arguments.
 ghost use Rattle.model_value.specs.View.{plain, plain_values};
 ghost use Rattle.model_builtin.specs.Answer.{Applies};
-ghost use Rattle.model_builtin.specs.Builtins.{BuiltinReply, value, applied, builtin_gives, of_one, of_two, of_three, sized};
+ghost use Rattle.model_builtin.specs.Builtins.{BuiltinReply, value, apply, builtin_gives, of_one, of_two, of_three, reply_in_bounds};
 
 use crate::fault::BuiltinStop;
 use crate::numbers::{compare, read_number, text};
@@ -43,7 +43,7 @@ pub enum Pure {
 /// arguments. Then `BadIndex`, where a place is not below the length, or where the two places of `Slice` do not rise from 0
 /// to the length. Then `Size`, where the value is not in bounds.
 pub fn apply(alloc: Global, f: Pure, args: &Values) -> Result<Value, BuiltinStop>
-    ensures { Applies result (applied f (plain_values args.now)) }
+    ensures { Applies result (apply f (plain_values args.now)) }
 {
     let value = give(alloc, f, args.as_slice())?;
     if !in_bounds(&value) {

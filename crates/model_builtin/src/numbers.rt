@@ -3,7 +3,7 @@ ghost use Rattle.std.specs.Prelude.{◌≡◌, IfOk, codes};
 ghost use Rattle.std.specs.Fmt.{signed_decimal};
 ghost use Rattle.model_value.specs.View.{plain};
 ghost use Rattle.model_builtin.specs.Answer.{Applies};
-ghost use Rattle.model_builtin.specs.Builtins.{value, text_of_value, read_number as read_number_of, int_or_nil, decimal_read, sign_of, compare as compare_of};
+ghost use Rattle.model_builtin.specs.Builtins.{value, text_of_value, read_number as read_number_of, int_or_nil, read_decimal, sign_of, compare as compare_of};
 
 use crate::fault::BuiltinStop;
 use crate::texts::characters;
@@ -44,7 +44,7 @@ pub fn read_number(alloc: Global, x: &Value) -> Result<Value, BuiltinStop>
 }
 
 fn number_or_nil(alloc: Global, text: &Text) -> Result<Value, BuiltinStop>
-    ensures { Applies result (value (int_or_nil (decimal_read text.now))) }
+    ensures { Applies result (value (int_or_nil (read_decimal text.now))) }
 {
     let Ok(number) = characters(text).parse::<i64>() else {
         return Ok(Value::Nil);

@@ -3,7 +3,7 @@ ghost use Rattle.std.specs.Prelude.{◌≡◌, ℕ, pos, negsuc, [], ◌∷◌, 
 ghost use Rattle.model_value.specs.Plain.{int, text as text_tree};
 ghost use Rattle.model_value.specs.View.{plain, plain_values};
 ghost use Rattle.model_builtin.specs.Answer.{Applies};
-ghost use Rattle.model_builtin.specs.Builtins.{value, found, item_at, with_item, part_between, listed, length_of, at as at_of, push as push_of, concat as concat_of, put as put_of, slice as slice_of};
+ghost use Rattle.model_builtin.specs.Builtins.{value, part_reply, item_at, with_item, part_between, list_value, length_of, at as at_of, push as push_of, concat as concat_of, put as put_of, slice as slice_of};
 
 use crate::fault::BuiltinStop;
 use crate::texts::{characters, copy_part, count, join};
@@ -44,7 +44,7 @@ pub fn at(alloc: Global, x: &Value, place: &Value) -> Result<Value, BuiltinStop>
 }
 
 fn character_at(alloc: Global, text: &Text, place: i64) -> Result<Value, BuiltinStop>
-    ensures { Applies result (found (λ c. text_tree (c ∷ [])) (item_at text.now place)) }
+    ensures { Applies result (part_reply (λ c. text_tree (c ∷ [])) (item_at text.now place)) }
 {
     let length = count(characters(text));
     match natural(place) {
@@ -54,7 +54,7 @@ fn character_at(alloc: Global, text: &Text, place: i64) -> Result<Value, Builtin
 }
 
 fn item_at(alloc: Global, items: &[Value], place: i64) -> Result<Value, BuiltinStop>
-    ensures { Applies result (found (λ x. x) (item_at (plain_values items.now) place)) }
+    ensures { Applies result (part_reply (λ x. x) (item_at (plain_values items.now) place)) }
 {
     match natural(place) {
         Some(i) if i < items.len() => Ok(copy(alloc, &items[i])?),
@@ -73,7 +73,7 @@ pub fn put(alloc: Global, x: &Value, place: &Value, item: &Value) -> Result<Valu
 }
 
 fn put_item(alloc: Global, items: &[Value], place: i64, item: &Value) -> Result<Value, BuiltinStop>
-    ensures { Applies result (found listed (with_item (plain_values items.now) place (plain item.now))) }
+    ensures { Applies result (part_reply list_value (with_item (plain_values items.now) place (plain item.now))) }
 {
     match natural(place) {
         Some(i) if i < items.len() => {
@@ -111,7 +111,7 @@ pub fn slice(alloc: Global, x: &Value, from: &Value, to: &Value) -> Result<Value
 }
 
 fn text_part(alloc: Global, text: &Text, from: i64, to: i64) -> Result<Value, BuiltinStop>
-    ensures { Applies result (found text_tree (part_between text.now from to)) }
+    ensures { Applies result (part_reply text_tree (part_between text.now from to)) }
 {
     match (natural(from), natural(to)) {
         (Some(i), Some(j)) if i <= j && j <= count(characters(text)) => {
@@ -122,7 +122,7 @@ fn text_part(alloc: Global, text: &Text, from: i64, to: i64) -> Result<Value, Bu
 }
 
 fn list_part(alloc: Global, items: &[Value], from: i64, to: i64) -> Result<Value, BuiltinStop>
-    ensures { Applies result (found listed (part_between (plain_values items.now) from to)) }
+    ensures { Applies result (part_reply list_value (part_between (plain_values items.now) from to)) }
 {
     match (natural(from), natural(to)) {
         (Some(i), Some(j)) if i <= j && j <= items.len() => {
@@ -144,13 +144,13 @@ pub fn concat(alloc: Global, x: &Value, y: &Value) -> Result<Value, BuiltinStop>
 }
 
 fn join_lists(alloc: Global, first: &[Value], second: &[Value]) -> Result<Value, BuiltinStop>
-    ensures { Applies result (value (listed (plain_values first.now ++ plain_values second.now))) }
+    ensures { Applies result (value (list_value (plain_values first.now ++ plain_values second.now))) }
 {
-    Ok(Value::List(joined(alloc, first, second)?))
+    Ok(Value::List(copy_both(alloc, first, second)?))
 }
 
 /// The same values in memory of their own, the second ones behind the first.
-fn joined(alloc: Global, first: &[Value], second: &[Value]) -> Result<Vec<Value>, WantOfMemory>
+fn copy_both(alloc: Global, first: &[Value], second: &[Value]) -> Result<Vec<Value>, WantOfMemory>
     ensures { IfOk result (λ both. plain_values both.items ≡ plain_values first.now ++ plain_values second.now) }
 {
     let mut both = copy_all(alloc, first)?;

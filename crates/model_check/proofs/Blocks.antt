@@ -8,7 +8,7 @@ use Rattle.model_lang.specs.declared.tree.Stmt.{Stmt}
 use Rattle.model_check.specs.declared.fault.CheckFault.{CheckFault}
 use Rattle.model_check.specs.declared.solved.SolvedStmt.{SolvedStmt}
 use Rattle.model_check.specs.SolvedView.{solved_statement, solved_statements}
-use Rattle.model_check.specs.Answer.{Refuses}
+use Rattle.model_check.specs.Answer.{IsFirstFault}
 use Rattle.model_check.specs.Faults.{first_of, faults_of_names, faults_of_statement, faults_of_statements, faults_of_method}
 use Rattle.model_check.specs.Scopes.{scope_behind, slots_of_statement, slots_of_statements}
 use Rattle.model_check.specs.SolvedTree.{SolvedStatement, SolvedStatements, SolvedMethod, solved_statements_of}
@@ -46,7 +46,7 @@ block_goes classes fields before all taken scope next most next_most done s t re
 pub block_ends : (classes fields before : List Name) (all : Statements) (taken : ℕ) (scope : List Name) (most : ℕ) (done : List SolvedStatement) → IsUpTo classes fields before all taken scope most done no_statements → length scope ≤ most → (first_of (faults_of_statements classes fields before all) ≡ None) × (solved_statements_of done ≡ solve_statements classes fields before all) × (most ≡ max taken (slots_of_statements before all))
 block_ends classes fields before all taken scope most done h within = (sym h.faults, sym (solved_ahead-all done) ∙ h.solved, omega (arith, h.slots))
 
-pub block_refused : (classes fields before : List Name) (all : Statements) (taken : ℕ) (scope : List Name) (most : ℕ) (done : List SolvedStatement) (s : Statement) (rest : Statements) (f : CheckFault) → IsUpTo classes fields before all taken scope most done (statement s rest) → Refuses f (faults_of_statement classes fields scope s) → Refuses f (faults_of_statements classes fields before all)
+pub block_refused : (classes fields before : List Name) (all : Statements) (taken : ℕ) (scope : List Name) (most : ℕ) (done : List SolvedStatement) (s : Statement) (rest : Statements) (f : CheckFault) → IsUpTo classes fields before all taken scope most done (statement s rest) → IsFirstFault f (faults_of_statement classes fields scope s) → IsFirstFault f (faults_of_statements classes fields before all)
 block_refused classes fields before all taken scope most done s rest f h refused =
     λ other. sym h.faults ∙ first_before f (faults_of_statement classes fields scope s) (faults_of_statements classes fields (scope_behind scope s) rest) (refused other)
 
@@ -68,7 +68,7 @@ list_ends classes fields before ss taken scope most held i past h within =
     let none : statement_trees (drop i ss) ≡ no_statements = at_drop_all statement_trees ss i past in
     block_ends classes fields before (statement_trees ss) taken scope most (map solved_statement held) (subst (λ (rest : Statements). IsUpTo classes fields before (statement_trees ss) taken scope most (map solved_statement held) rest) none h) within
 
-pub list_refused : (classes fields before : List Name) (ss : List Stmt) (taken : ℕ) (scope : List Name) (most : ℕ) (held : List SolvedStmt) (i : ℕ) (s : Stmt) (f : CheckFault) → i < length ss → s ≡ get_or ss i s → IsUpTo classes fields before (statement_trees ss) taken scope most (map solved_statement held) (statement_trees (drop i ss)) → Refuses f (faults_of_statement classes fields scope (statement_tree s)) → Refuses f (faults_of_statements classes fields before (statement_trees ss))
+pub list_refused : (classes fields before : List Name) (ss : List Stmt) (taken : ℕ) (scope : List Name) (most : ℕ) (held : List SolvedStmt) (i : ℕ) (s : Stmt) (f : CheckFault) → i < length ss → s ≡ get_or ss i s → IsUpTo classes fields before (statement_trees ss) taken scope most (map solved_statement held) (statement_trees (drop i ss)) → IsFirstFault f (faults_of_statement classes fields scope (statement_tree s)) → IsFirstFault f (faults_of_statements classes fields before (statement_trees ss))
 list_refused classes fields before ss taken scope most held i s f here is h refused =
     let rest = statement_trees (drop (i + 1) ss) in
     let at = subst (λ (rest : Statements). IsUpTo classes fields before (statement_trees ss) taken scope most (map solved_statement held) rest) (next_of ss i s here is) h in

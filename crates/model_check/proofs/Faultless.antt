@@ -8,7 +8,7 @@ use Rattle.model_check.specs.declared.fault.CheckFault.TheVariants.{NoName, NoCl
 use Rattle.model_check.specs.Scopes.{scope_behind}
 use Rattle.model_check.specs.Faults.{first_of, faults_of_name, faults_of_names, faults_of_field, faults_of_local, faults_of_creation, faults_of_builtin, faults_of_expression, faults_of_expressions, faults_of_statement, faults_of_statements, faults_of_else, faults_of_method, faults_of_methods, faults_of_class, faults_of_classes}
 use Rattle.model_check.specs.Solving.{solve_expression, solve_expressions, solve_statement, solve_statements, solve_else, solve_method, solve_methods}
-use Rattle.model_check.specs.Stands.{Stands, StandForAll, StandsForStatement, StandForBlock, StandsForElse, StandsForMethod, StandForMethods, StandForClasses}
+use Rattle.model_check.specs.Resolution.{Resolves, ResolvesAll, ResolvesStatement, ResolvesBlock, ResolvesElse, ResolvesMethod, ResolvesMethods, ResolvesClasses}
 use Rattle.model_check.proofs.Places.{placed, builtin_placed}
 
 pub none-left : (a b : List CheckFault) → first_of (a ++ b) ≡ None → first_of a ≡ None
@@ -20,7 +20,7 @@ none-right [] b e = e
 none-right (f ∷ a) b e = absurd (none-some f (sym e))
 
 mutual
-  solved-expression : (classes fields scope : List Name) (e : Expression) → first_of (faults_of_expression classes fields scope e) ≡ None → Stands classes fields scope e (solve_expression classes fields scope e)
+  solved-expression : (classes fields scope : List Name) (e : Expression) → first_of (faults_of_expression classes fields scope e) ≡ None → Resolves classes fields scope e (solve_expression classes fields scope e)
   solved-expression classes fields scope nil h = tt
   solved-expression classes fields scope (bool b) h = refl
   solved-expression classes fields scope (int n) h = refl
@@ -57,7 +57,7 @@ mutual
       let rest = faults_of_expression classes fields scope options in
       (placed classes x (NoClass x) (none-left name rest h), solved-expression classes fields scope options (none-right name rest h))
 
-  solved-expressions : (classes fields scope : List Name) (es : Expressions) → first_of (faults_of_expressions classes fields scope es) ≡ None → StandForAll classes fields scope es (solve_expressions classes fields scope es)
+  solved-expressions : (classes fields scope : List Name) (es : Expressions) → first_of (faults_of_expressions classes fields scope es) ≡ None → ResolvesAll classes fields scope es (solve_expressions classes fields scope es)
   solved-expressions classes fields scope no_expressions h = tt
   solved-expressions classes fields scope (expression e es) h =
       let first = faults_of_expression classes fields scope e in
@@ -65,7 +65,7 @@ mutual
       (solved-expression classes fields scope e (none-left first rest h), solved-expressions classes fields scope es (none-right first rest h))
 
 mutual
-  solved-statement : (classes fields scope : List Name) (s : Statement) → first_of (faults_of_statement classes fields scope s) ≡ None → StandsForStatement classes fields scope s (solve_statement classes fields scope s)
+  solved-statement : (classes fields scope : List Name) (s : Statement) → first_of (faults_of_statement classes fields scope s) ≡ None → ResolvesStatement classes fields scope s (solve_statement classes fields scope s)
   solved-statement classes fields scope (declare x e) h = (refl, solved-expression classes fields scope e (none-right (faults_of_name scope x) (faults_of_expression classes fields scope e) h))
   solved-statement classes fields scope (assign x e) h =
       let name = faults_of_local scope x in
@@ -91,21 +91,21 @@ mutual
   solved-statement classes fields scope (give e) h = solved-expression classes fields scope e h
   solved-statement classes fields scope (do_ e) h = solved-expression classes fields scope e h
 
-  solved-block : (classes fields scope : List Name) (ss : Statements) → first_of (faults_of_statements classes fields scope ss) ≡ None → StandForBlock classes fields scope ss (solve_statements classes fields scope ss)
+  solved-block : (classes fields scope : List Name) (ss : Statements) → first_of (faults_of_statements classes fields scope ss) ≡ None → ResolvesBlock classes fields scope ss (solve_statements classes fields scope ss)
   solved-block classes fields scope no_statements h = tt
   solved-block classes fields scope (statement s ss) h =
       let first = faults_of_statement classes fields scope s in
       let rest = faults_of_statements classes fields (scope_behind scope s) ss in
       (solved-statement classes fields scope s (none-left first rest h), solved-block classes fields (scope_behind scope s) ss (none-right first rest h))
 
-  solved-else : (classes fields scope : List Name) (other : Otherwise) → first_of (faults_of_else classes fields scope other) ≡ None → StandsForElse classes fields scope other (solve_else classes fields scope other)
+  solved-else : (classes fields scope : List Name) (other : Otherwise) → first_of (faults_of_else classes fields scope other) ≡ None → ResolvesElse classes fields scope other (solve_else classes fields scope other)
   solved-else classes fields scope no_else h = tt
   solved-else classes fields scope (else_block block) h = solved-block classes fields scope block h
 
-solved-method : (classes fields : List Name) (m : MethodTree) → first_of (faults_of_method classes fields m) ≡ None → StandsForMethod classes fields m (solve_method classes fields m)
+solved-method : (classes fields : List Name) (m : MethodTree) → first_of (faults_of_method classes fields m) ≡ None → ResolvesMethod classes fields m (solve_method classes fields m)
 solved-method classes fields m h = (refl, refl, solved-block classes fields m.params m.body (none-right (faults_of_names [] m.params) (faults_of_statements classes fields m.params m.body) h))
 
-solved-methods : (classes fields seen : List Name) (ms : List MethodTree) → first_of (faults_of_methods classes fields seen ms) ≡ None → StandForMethods classes fields ms (map (solve_method classes fields) ms)
+solved-methods : (classes fields seen : List Name) (ms : List MethodTree) → first_of (faults_of_methods classes fields seen ms) ≡ None → ResolvesMethods classes fields ms (map (solve_method classes fields) ms)
 solved-methods classes fields seen [] h = tt
 solved-methods classes fields seen (m ∷ ms) h =
     let first = faults_of_name seen m.name in
@@ -115,7 +115,7 @@ solved-methods classes fields seen (m ∷ ms) h =
       solved-methods classes fields (seen ++ m.name ∷ []) ms (none-right (first ++ second) third h),
     )
 
-pub solved-classes : (classes seen : List Name) (cs : ProgramTree) → first_of (faults_of_classes classes seen cs) ≡ None → StandForClasses classes cs (map (solve_methods classes) cs)
+pub solved-classes : (classes seen : List Name) (cs : ProgramTree) → first_of (faults_of_classes classes seen cs) ≡ None → ResolvesClasses classes cs (map (solve_methods classes) cs)
 solved-classes classes seen [] h = tt
 solved-classes classes seen (c ∷ cs) h =
     let first = faults_of_name seen c.name in

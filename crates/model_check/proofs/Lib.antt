@@ -5,5 +5,5 @@ pub mod Words
 pub mod Scopes
 pub mod Blocks
 pub mod Faultless
-pub mod Standing
+pub mod Resolving
 pub mod Programs

@@ -11,7 +11,7 @@ use Rattle.model_check.specs.declared.fault.CheckFault.TheVariants.{NoName, Coun
 use Rattle.model_check.specs.Builtins.{arguments_of, builtin_named}
 use Rattle.model_check.specs.Faults.{is_among, missing_from, faults_of_count, faults_of_builtin, first_of}
 use Rattle.model_check.specs.Solving.{place_of, builtin_of}
-use Rattle.model_check.specs.Stands.{IsPlace}
+use Rattle.model_check.specs.Resolution.{IsPlace}
 
 among_front : (is_here among : Bool) (n : ℕ) (place : Option ℕ) → among ≡ is_some place → (is_here || among) ≡ is_some (cond is_here (Some n) place)
 among_front true among n place e = refl

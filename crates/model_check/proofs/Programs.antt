@@ -10,12 +10,12 @@ use Rattle.model_lang.specs.Bounds.{most_members, MethodsFit, ClassesFit, Progra
 use Rattle.model_lang.specs.declared.tree.Class.{Class}
 use Rattle.model_check.specs.declared.fault.CheckFault.{CheckFault}
 use Rattle.model_check.specs.declared.fault.CheckFault.TheVariants.{NoRoot}
-use Rattle.model_check.specs.Answer.{Refuses}
+use Rattle.model_check.specs.Answer.{IsFirstFault}
 use Rattle.model_check.specs.Faults.{class_names, is_among, missing_from, first_of, faults_of_classes, faults_of_program}
 use Rattle.model_check.specs.Methods.{IsChecked, IsClass}
 use Rattle.model_check.specs.SolvedTree.{SolvedMethod}
 use Rattle.model_check.specs.Solving.{solve_methods, solve_program, HaveFewParameters, AreSolvable}
-use Rattle.model_check.specs.Stands.{StandForProgram}
+use Rattle.model_check.specs.Resolution.{ResolvesProgram}
 use Rattle.model_check.proofs.Faultless.{solved-classes}
 use Rattle.model_check.proofs.First.{first_behind, refuses_before, refuses_behind}
 use Rattle.model_check.proofs.Trees.{map-names}
@@ -45,22 +45,22 @@ checked-program cs root solved h e none is =
     record {
       faultless = first_behind (faults_of_classes (class_names tree) [] tree) (missing_from (class_names tree) root_name NoRoot) own ∙ rooted;
       root_is = is;
-      stands = subst (λ (found : List (List SolvedMethod)). StandForProgram tree found) (sym made) (solved-classes (class_names tree) [] tree own);
+      stands = subst (λ (found : List (List SolvedMethod)). ResolvesProgram tree found) (sym made) (solved-classes (class_names tree) [] tree own);
     }
 
 -- a fault of a class comes first
-pub classes_refused : (cs : List Class) (f : CheckFault) → Refuses f (faults_of_classes (map (λ c. c.name) cs) [] (map class_tree cs)) → Refuses f (faults_of_program (map class_tree cs))
+pub classes_refused : (cs : List Class) (f : CheckFault) → IsFirstFault f (faults_of_classes (map (λ c. c.name) cs) [] (map class_tree cs)) → IsFirstFault f (faults_of_program (map class_tree cs))
 classes_refused cs f h =
     let tree = map class_tree cs in
     let names : map (λ (c : Class). c.name) cs ≡ class_names tree = sym (map-names cs) in
-    refuses_before f (faults_of_classes (class_names tree) [] tree) (missing_from (class_names tree) root_name NoRoot) (subst (λ (ns : List Name). Refuses f (faults_of_classes ns [] tree)) names h)
+    refuses_before f (faults_of_classes (class_names tree) [] tree) (missing_from (class_names tree) root_name NoRoot) (subst (λ (ns : List Name). IsFirstFault f (faults_of_classes ns [] tree)) names h)
 
 -- that no class is named Root comes last
-pub root_refused : (cs : List Class) (f : CheckFault) → first_of (faults_of_classes (map (λ c. c.name) cs) [] (map class_tree cs)) ≡ None → Refuses f (missing_from (map (λ c. c.name) cs) root_name NoRoot) → Refuses f (faults_of_program (map class_tree cs))
+pub root_refused : (cs : List Class) (f : CheckFault) → first_of (faults_of_classes (map (λ c. c.name) cs) [] (map class_tree cs)) ≡ None → IsFirstFault f (missing_from (map (λ c. c.name) cs) root_name NoRoot) → IsFirstFault f (faults_of_program (map class_tree cs))
 root_refused cs f none h =
     let tree = map class_tree cs in
     let names : map (λ (c : Class). c.name) cs ≡ class_names tree = sym (map-names cs) in
-    refuses_behind f (faults_of_classes (class_names tree) [] tree) (missing_from (class_names tree) root_name NoRoot) (subst (λ (ns : List Name). first_of (faults_of_classes ns [] tree) ≡ None) names none) (subst (λ (ns : List Name). Refuses f (missing_from ns root_name NoRoot)) names h)
+    refuses_behind f (faults_of_classes (class_names tree) [] tree) (missing_from (class_names tree) root_name NoRoot) (subst (λ (ns : List Name). first_of (faults_of_classes ns [] tree) ≡ None) names none) (subst (λ (ns : List Name). IsFirstFault f (missing_from ns root_name NoRoot)) names h)
 
 -- ---- the class Root
 

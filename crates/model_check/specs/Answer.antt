@@ -7,13 +7,13 @@ use Rattle.model_check.specs.declared.fault.CheckFault.TheVariants.{WantOfMemory
 use Rattle.model_check.specs.Faults.{first_of, faults_of_program}
 
 -- it is the first of these faults, unless memory ran out
-abbrev pub Refuses : CheckFault → List CheckFault → Type 0
-Refuses fault faults = fault ≢ WantOfMemory → first_of faults ≡ Some fault
+abbrev pub IsFirstFault : CheckFault → List CheckFault → Type 0
+IsFirstFault fault faults = fault ≢ WantOfMemory → first_of faults ≡ Some fault
 
 -- what was wanted, where there is no fault
 abbrev pub Solves : {A : Type 0} → Result A CheckFault → List CheckFault → (A → Type 0) → Type 0
 Solves (Ok a) faults wanted = (first_of faults ≡ None) × wanted a
-Solves (Err fault) faults wanted = Refuses fault faults
+Solves (Err fault) faults wanted = IsFirstFault fault faults
 
 -- the program itself, or its first fault
 abbrev pub Checks : Result (List Class) CheckFault → List Class → Type 0

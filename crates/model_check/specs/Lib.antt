@@ -3,7 +3,7 @@ pub mod Scopes
 pub mod Faults
 pub mod SolvedTree
 pub mod SolvedView
-pub mod Stands
+pub mod Resolution
 pub mod Answer
 pub mod Solving
 pub mod Methods

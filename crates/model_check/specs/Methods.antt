@@ -5,7 +5,7 @@ use Rattle.model_lang.specs.Tree.{Name, MethodTree, ClassTree, ProgramTree, root
 use Rattle.model_check.specs.Faults.{class_names, first_fault}
 use Rattle.model_check.specs.SolvedTree.{SolvedMethod}
 use Rattle.model_check.specs.SolvedView.{solved_method}
-use Rattle.model_check.specs.Stands.{StandsForMethod, StandForProgram}
+use Rattle.model_check.specs.Resolution.{ResolvesMethod, ResolvesProgram}
 use Rattle.model_check.specs.declared.solved.Solved.{Solved}
 
 -- how many fields a class has. Classes are numbered from 0, in the order of the text
@@ -31,10 +31,10 @@ IsClass tree n x = (c : ClassTree) × (slice_get tree n ≡ Some c) × (c.name �
 pub record IsChecked (tree : ProgramTree) (root : ℕ) (solved : List (List SolvedMethod)) : Type 0 where
   pub faultless : first_fault tree ≡ None
   pub root_is : IsClass tree root root_name
-  pub stands : StandForProgram tree solved
+  pub stands : ResolvesProgram tree solved
 
 -- there is none where there is no such class, and where it has no such method
 abbrev pub FindsMethod : Option (Bor Solved) → ProgramTree → ℕ → Name → Type 0
 FindsMethod None tree n x = method_of tree n x ≡ None
 FindsMethod (Some s) tree n x =
-    (c : ClassTree) × (m : MethodTree) × (slice_get tree n ≡ Some c) × (method_of tree n x ≡ Some m) × StandsForMethod (class_names tree) c.fields m (solved_method s.now)
+    (c : ClassTree) × (m : MethodTree) × (slice_get tree n ≡ Some c) × (method_of tree n x ≡ Some m) × ResolvesMethod (class_names tree) c.fields m (solved_method s.now)

@@ -9,7 +9,7 @@ use Rattle.world_plain.specs.declared.message.Subscription.{Subscription}
 use Rattle.world_plain.specs.declared.world.Known.{Known}
 use Rattle.model_eval.specs.declared.fault.Fault.{Fault}
 use Rattle.model_eval.specs.declared.fault.Fault.TheVariants.{Fuel, Size}
-use Rattle.model_eval.specs.Running.{Running, Outcome, Gives, Faults, and_then, entering, spending, bounded, weighed, PureOutcome, value, fails, replying, deciding}
+use Rattle.model_eval.specs.Running.{Running, Outcome, Gives, Faults, and_then, enter, spend, give_in_bounds, give_by_weight, PureOutcome, value, fails, give_pure, decide}
 use Rattle.model_eval.specs.Kept.{count_due, now_due, Kept, CarriesIf}
 use Rattle.model_eval.proofs.Pending.{if_either}
 use Rattle.model_eval.proofs.ValueBounds.{Replies, fits-true}
@@ -105,33 +105,33 @@ module _ (counts : List ℕ) where
   carries-test H P r b x y h g = if_either (CarriesIf H counts P r) b x y h g
 
   pub carries-entering : {A : Type 0} (H : Type 0) (P : A → Type 0) (r : Running) (next : Running → Outcome A)
-      → (H → Valid counts r.world) → CarriesIf H counts P (record r { fuel = r.fuel - 1 }) (next (record r { fuel = r.fuel - 1 })) → CarriesIf H counts P r (entering r next)
+      → (H → Valid counts r.world) → CarriesIf H counts P (record r { fuel = r.fuel - 1 }) (next (record r { fuel = r.fuel - 1 })) → CarriesIf H counts P r (enter r next)
   carries-entering H P r next v h =
       carries-test H P r (nat_eq r.fuel 0) (Faults Fuel r) (next (record r { fuel = r.fuel - 1 })) (λ _. (kept-refl r, v))
       (λ _. carries-after H H P r (record r { fuel = r.fuel - 1 }) (next (record r { fuel = r.fuel - 1 })) (kept-fuel r (r.fuel - 1) (omega arith)) (λ x. x) h)
 
   pub carries-deciding : {A : Type 0} (H : Type 0) (P : A → Type 0) (r : Running) (o : Option Bool) (next : Bool → Running → Outcome A)
-      → (H → Valid counts r.world) → ((b : Bool) → CarriesIf H counts P r (next b r)) → CarriesIf H counts P r (deciding o next r)
+      → (H → Valid counts r.world) → ((b : Bool) → CarriesIf H counts P r (next b r)) → CarriesIf H counts P r (decide o next r)
   carries-deciding H P r (Some b) next v h = h b
   carries-deciding H P r None next v h = (kept-refl r, v)
 
   pub carries-replying : (H : Type 0) (P : PlainValue → Type 0) (r : Running) (reply : PureOutcome)
-      → (H → Valid counts r.world) → Replies P reply → CarriesIf H counts P r (replying reply r)
+      → (H → Valid counts r.world) → Replies P reply → CarriesIf H counts P r (give_pure reply r)
   carries-replying H P r (value a) v h = (kept-refl r, λ x. (v x, h))
   carries-replying H P r (fails f) v h = (kept-refl r, v)
 
   -- a value that takes steps
-  pub carries-spending : (H : Type 0) (P : PlainValue → Type 0) (r : Running) (steps : ℕ) (a : PlainValue) → (H → Valid counts r.world) → (H → P a) → CarriesIf H counts P r (spending steps r (Gives a))
+  pub carries-spending : (H : Type 0) (P : PlainValue → Type 0) (r : Running) (steps : ℕ) (a : PlainValue) → (H → Valid counts r.world) → (H → P a) → CarriesIf H counts P r (spend steps r (Gives a))
   carries-spending H P r steps a v h =
       carries-test H P r (nat_le steps r.fuel) (Gives a (record r { fuel = r.fuel - steps })) (Faults Fuel r)
       (λ _. (kept-fuel r (r.fuel - steps) (omega arith), λ x. (v x, h x))) (λ _. (kept-refl r, v))
 
-  pub carries-bounded : (H : Type 0) (r : Running) (a : PlainValue) → (H → Valid counts r.world) → CarriesIf H counts InBounds r (bounded a r)
+  pub carries-bounded : (H : Type 0) (r : Running) (a : PlainValue) → (H → Valid counts r.world) → CarriesIf H counts InBounds r (give_in_bounds a r)
   carries-bounded H r a v = carries-test H InBounds r (is_in_bounds a) (Gives a r) (Faults Size r) (λ e. (kept-refl r, λ x. (v x, fits-true a e))) (λ _. (kept-refl r, v))
 
-  pub carries-weighed : (H : Type 0) (r : Running) (a : PlainValue) → (H → Valid counts r.world) → CarriesIf H counts InBounds r (weighed a r)
+  pub carries-weighed : (H : Type 0) (r : Running) (a : PlainValue) → (H → Valid counts r.world) → CarriesIf H counts InBounds r (give_by_weight a r)
   carries-weighed H r a v =
-      carries-test H InBounds r (is_in_bounds a) (spending (weight a) r (Gives a)) (Faults Size r)
+      carries-test H InBounds r (is_in_bounds a) (spend (weight a) r (Gives a)) (Faults Size r)
       (λ e. carries-spending H InBounds r (weight a) a v (λ _. fits-true a e)) (λ _. (kept-refl r, v))
 
 -- ---- what an outcome that carries tells

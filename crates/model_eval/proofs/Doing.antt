@@ -16,17 +16,17 @@ use Rattle.model_lang.specs.Names.{IsShortName}
 use Rattle.model_check.specs.declared.builtin.Builtin.{Builtin}
 use Rattle.model_check.specs.declared.builtin.Builtin.TheVariants as builtin
 use Rattle.model_builtin.specs.declared.builtin.Pure.{Pure}
-use Rattle.model_builtin.specs.Builtins.{applied}
+use Rattle.model_builtin.specs.Builtins.{apply}
 use Rattle.model_builtin.specs.Builtins as without_world
 use Rattle.model_eval.specs.declared.fault.Fault.TheVariants.{BadIndex, NoObject, Instant, Full}
-use Rattle.model_eval.specs.Running.{Running, with_world, Outcome, Gives, Faults, bounded}
-use Rattle.model_eval.specs.Objects.{got, with_fields, with_objects, if_light, put_fields, new_object, has_room_for, with_object, made, without_object, is_held, destroyed, known_by, with_known, made_known}
-use Rattle.model_eval.specs.Futures.{ahead, has_room, with_message, sent, sent_to, send}
-use Rattle.model_eval.specs.Builtins.{drawn, pure_of, takes_steps, builtin_outcome, pure_answered, on_none, on_int, on_text, on_texts, on_ref, answered_alone}
-use Rattle.model_eval.specs.Publishing.{has_room_to, with_subscription, added, subscription, subscribed, unsubscribed, uncalled, cancelled, views_counted, views_told}
+use Rattle.model_eval.specs.Running.{Running, with_world, Outcome, Gives, Faults, give_in_bounds}
+use Rattle.model_eval.specs.Objects.{get_named, with_fields, with_objects, if_light, put_fields, new_object, has_room_for, with_object, make_object, without_object, is_held, destroy, known_by, with_known, make_known}
+use Rattle.model_eval.specs.Futures.{ahead, has_room, with_message, send_at, send_to, send}
+use Rattle.model_eval.specs.Builtins.{draw, pure_of, takes_steps, builtin_outcome, pure_outcome, on_none, on_int, on_text, on_texts, on_ref, run_builtin_alone}
+use Rattle.model_eval.specs.Publishing.{has_room_to, with_subscription, add_subscription, subscription, subscribe, unsubscribe, messages_without_calls, cancel, count_views, tell_views}
 use Rattle.pubsub.specs.Topics.{is_subscribed, without_subscription}
 use Rattle.world_plain.specs.ValidTest.{same_subscription}
-use Rattle.message_queue.specs.Queue.{inserted, calls}
+use Rattle.message_queue.specs.Queue.{insert_in_order, calls}
 use Rattle.model_eval.specs.Kept.{Kept, CarriesIf}
 use Rattle.model_eval.proofs.FieldBounds.{nil-in_bounds, value_named-in_bounds, object_at-fits}
 use Rattle.model_eval.proofs.Pending.{short-fits, ahead-is, due-later}
@@ -48,7 +48,7 @@ module _ (counts : List ℕ) (H : Type 0) where
   -- ---- fields
 
   pub got-carries : (o : Option ObjectRecord) (id : ℕ) (x : Name) (names : List Name) (r : Running)
-      → (H → Valid counts r.world) → object_at r.world.objects id ≡ o → CarriesIf H counts InBounds r (got o x names r)
+      → (H → Valid counts r.world) → object_at r.world.objects id ≡ o → CarriesIf H counts InBounds r (get_named o x names r)
   got-carries None id x names r v e = (kept-refl r, v)
   got-carries (Some o) id x names r v e =
       (kept-refl r, λ h. (v h, value_named-in_bounds x names o.fields (object_at-fits counts r.world.next_object r.world.objects id o (v h).objects.fit e).2))
@@ -74,7 +74,7 @@ module _ (counts : List ℕ) (H : Type 0) where
 
   sent-carries : (object : ℕ) (x : Name) (args : List PlainValue) (ahead : Option ℕ) (r : Running)
       → (H → Valid counts r.world) → (H → AllInBounds args × (length args ≤ most_parameters)) → IsShortName x → IsHeld r.world.objects object
-      → ((time : ℕ) → ahead ≡ Some time → (r.world.time ≤ time) × (time < time_limit)) → CarriesIf H counts InBounds r (sent object x args ahead r)
+      → ((time : ℕ) → ahead ≡ Some time → (r.world.time ≤ time) × (time < time_limit)) → CarriesIf H counts InBounds r (send_at object x args ahead r)
   sent-carries object x args None r v fit short held within = (kept-refl r, v)
   sent-carries object x args (Some time) r v fit short held within =
       let w : WorldRecord = r.world in
@@ -84,7 +84,7 @@ module _ (counts : List ℕ) (H : Type 0) where
       (λ _. (kept-refl r, v))
       (λ apart. carries-test counts H InBounds r (has_room w m) (Gives nil (with_message r m)) (Faults Full r)
       (λ room. (
-        kept-changed r r.fuel w.next_object (w.next_number + 1) w.random w.objects w.known w.subscriptions (inserted m w.pending) (omega arith) (omega arith) (omega arith)
+        kept-changed r r.fuel w.next_object (w.next_number + 1) w.random w.objects w.known w.subscriptions (insert_in_order m w.pending) (omega arith) (omega arith) (omega arith)
             (λ most. omega (arith, due-later w.time m w.pending (to_come time w.time w.turns apart bounds.0 most))),
         λ h. (valid-message counts m r refl (bounds.0, bounds.1, omega arith, held, short-fits x short, (fit h).1, (fit h).0) room (v h), nil-in_bounds),
       ))
@@ -92,7 +92,7 @@ module _ (counts : List ℕ) (H : Type 0) where
 
   sent_to-carries : (o : Option ObjectRecord) (object : ℕ) (delay : ℤ) (x : Name) (args : List PlainValue) (r : Running)
       → (H → Valid counts r.world) → (H → AllInBounds args × (length args ≤ most_parameters)) → IsShortName x → object_at r.world.objects object ≡ o
-      → CarriesIf H counts InBounds r (sent_to o object delay x args r)
+      → CarriesIf H counts InBounds r (send_to o object delay x args r)
   sent_to-carries None object delay x args r v fit short e = (kept-refl r, v)
   sent_to-carries (Some o) object delay x args r v fit short e = sent-carries object x args (ahead r.world.time delay) r v fit short (o, e) (ahead-is r.world.time delay)
 
@@ -103,7 +103,7 @@ module _ (counts : List ℕ) (H : Type 0) where
 
   -- ---- objects
 
-  pub made-carries : (class fields : ℕ) (r : Running) → (H → Valid counts r.world) → slice_get counts class ≡ Some fields → CarriesIf H counts (λ _. ⊤) r (made class fields r)
+  pub made-carries : (class fields : ℕ) (r : Running) → (H → Valid counts r.world) → slice_get counts class ≡ Some fields → CarriesIf H counts (λ _. ⊤) r (make_object class fields r)
   made-carries class fields r v known =
       let w : WorldRecord = r.world in
       let o : ObjectRecord = new_object class fields w in
@@ -114,7 +114,7 @@ module _ (counts : List ℕ) (H : Type 0) where
       ))
       (λ _. (kept-refl r, v))
 
-  destroyed-carries : (id : ℕ) (r : Running) → (H → Valid counts r.world) → CarriesIf H counts InBounds r (destroyed id r)
+  destroyed-carries : (id : ℕ) (r : Running) → (H → Valid counts r.world) → CarriesIf H counts InBounds r (destroy id r)
   destroyed-carries id r v =
       let w : WorldRecord = r.world in
       let left : WorldRecord = without_object id w in
@@ -126,7 +126,7 @@ module _ (counts : List ℕ) (H : Type 0) where
       ))
       (λ _. (kept-refl r, v))
 
-  made_known-carries : (x : Name) (object : ℕ) (r : Running) → (H → Valid counts r.world) → (H → InBounds (text x)) → CarriesIf H counts InBounds r (made_known object x r)
+  made_known-carries : (x : Name) (object : ℕ) (r : Running) → (H → Valid counts r.world) → (H → InBounds (text x)) → CarriesIf H counts InBounds r (make_known object x r)
   made_known-carries x object r v fit =
       let w : WorldRecord = r.world in
       let changed : Running = with_world r (record w { known = with_known x object w.known }) in
@@ -138,7 +138,7 @@ module _ (counts : List ℕ) (H : Type 0) where
 
   -- ---- builtins
 
-  drawn-carries : (n : ℤ) (r : Running) → (H → Valid counts r.world) → CarriesIf H counts InBounds r (drawn n r)
+  drawn-carries : (n : ℤ) (r : Running) → (H → Valid counts r.world) → CarriesIf H counts InBounds r (draw n r)
   drawn-carries (pos n) r v =
       let w : WorldRecord = r.world in
       let random : ℕ = state_after w.random in
@@ -158,9 +158,9 @@ module _ (counts : List ℕ) (H : Type 0) where
   given-carries costs without_world.bad_index r v h = (kept-refl r, v)
   given-carries costs without_world.too_large r v h = (kept-refl r, v)
 
-  pure_answered-carries : (f : Option Pure) (args : List PlainValue) (r : Running) → (H → Valid counts r.world) → CarriesIf H counts InBounds r (pure_answered f args r)
+  pure_answered-carries : (f : Option Pure) (args : List PlainValue) (r : Running) → (H → Valid counts r.world) → CarriesIf H counts InBounds r (pure_outcome f args r)
   pure_answered-carries None args r v = (kept-refl r, v)
-  pure_answered-carries (Some f) args r v = given-carries (takes_steps f) (applied f args) r v (applied-in_bounds f args)
+  pure_answered-carries (Some f) args r v = given-carries (takes_steps f) (apply f args) r v (applied-in_bounds f args)
 
   on_none-carries : (f : Running → Outcome PlainValue) (args : List PlainValue) (r : Running)
       → (H → Valid counts r.world) → CarriesIf H counts InBounds r (f r) → CarriesIf H counts InBounds r (on_none f args r)
@@ -188,7 +188,7 @@ module _ (counts : List ℕ) (H : Type 0) where
   on_texts-carries f (text x ∷ text y ∷ text z ∷ []) r v fit h = h x y z (λ g. ((fit g).0.0, (fit g).1.0.0, (fit g).1.1.0.0))
   on_texts-carries f _ r v fit h = (kept-refl r, v)
 
-  added-carries : (s : Subscription) (r : Running) → (H → Valid counts r.world) → (H → SubscriptionFits r.world.objects s) → CarriesIf H counts InBounds r (added s r)
+  added-carries : (s : Subscription) (r : Running) → (H → Valid counts r.world) → (H → SubscriptionFits r.world.objects s) → CarriesIf H counts InBounds r (add_subscription s r)
   added-carries s r v fits =
       let w : WorldRecord = r.world in
       carries-test counts H InBounds r (is_subscribed s w.subscriptions) (Gives nil r) (if has_room_to w s then Gives nil (with_world r (with_subscription s w)) else Faults Full r)
@@ -201,14 +201,14 @@ module _ (counts : List ℕ) (H : Type 0) where
       (λ _. (kept-refl r, v)))
 
   subscribed-carries : (object : ℕ) (scope event x : Name) (r : Running) → (H → Valid counts r.world) → (H → TextFits scope × TextFits event × TextFits x)
-      → CarriesIf H counts InBounds r (subscribed object scope event x r)
+      → CarriesIf H counts InBounds r (subscribe object scope event x r)
   subscribed-carries object scope event x r v fit =
       let w : WorldRecord = r.world in
-      carries-test counts H InBounds r (is_held object w) (added (subscription object scope event x) r) (Faults NoObject r)
+      carries-test counts H InBounds r (is_held object w) (add_subscription (subscription object scope event x) r) (Faults NoObject r)
       (λ held. added-carries (subscription object scope event x) r v (λ h. ((fit h).0, (fit h).1, (fit h).2, found-held (object_at w.objects object) held)))
       (λ _. (kept-refl r, v))
 
-  unsubscribed-carries : (object : ℕ) (scope event x : Name) (r : Running) → (H → Valid counts r.world) → CarriesIf H counts InBounds r (unsubscribed object scope event x r)
+  unsubscribed-carries : (object : ℕ) (scope event x : Name) (r : Running) → (H → Valid counts r.world) → CarriesIf H counts InBounds r (unsubscribe object scope event x r)
   unsubscribed-carries object scope event x r v =
       let w : WorldRecord = r.world in
       let s : Subscription = subscription object scope event x in
@@ -220,10 +220,10 @@ module _ (counts : List ℕ) (H : Type 0) where
       ))
       (λ _. (kept-refl r, v))
 
-  cancelled-carries : (object : ℕ) (x : Name) (r : Running) → (H → Valid counts r.world) → CarriesIf H counts InBounds r (cancelled object x r)
+  cancelled-carries : (object : ℕ) (x : Name) (r : Running) → (H → Valid counts r.world) → CarriesIf H counts InBounds r (cancel object x r)
   cancelled-carries object x r v =
       let w : WorldRecord = r.world in
-      let left : List PlainMessage = uncalled object x w.pending in
+      let left : List PlainMessage = messages_without_calls object x w.pending in
       let n : ℤ = pos (length w.pending - length left) in
       carries-test counts H InBounds r (is_held object w) (Gives (int n) (with_world r (record w { pending = left }))) (Faults NoObject r)
       (λ _. (
@@ -233,27 +233,27 @@ module _ (counts : List ℕ) (H : Type 0) where
       ))
       (λ _. (kept-refl r, v))
 
-  pub answered_alone-carries : (f : Builtin) (object : ℕ) (args : List PlainValue) (r : Running) → (H → Valid counts r.world) → (H → AllInBounds args) → CarriesIf H counts InBounds r (answered_alone f object args r)
+  pub answered_alone-carries : (f : Builtin) (object : ℕ) (args : List PlainValue) (r : Running) → (H → Valid counts r.world) → (H → AllInBounds args) → CarriesIf H counts InBounds r (run_builtin_alone f object args r)
   answered_alone-carries builtin.Now object args r valid fit =
       on_none-carries (λ r. Gives (int (pos (r.world.time / 1000))) r) args r valid (kept-refl r, λ h. (valid h, int-in_bounds (pos (r.world.time / 1000))))
-  answered_alone-carries builtin.Random object args r valid fit = on_int-carries drawn args r valid (λ n. drawn-carries n r valid)
+  answered_alone-carries builtin.Random object args r valid fit = on_int-carries draw args r valid (λ n. drawn-carries n r valid)
   answered_alone-carries builtin.SessionId object args r valid fit =
-      on_none-carries (λ r. bounded (text (encode_lower r.world.id)) r) args r valid (carries-bounded counts H r (text (encode_lower r.world.id)) valid)
+      on_none-carries (λ r. give_in_bounds (text (encode_lower r.world.id)) r) args r valid (carries-bounded counts H r (text (encode_lower r.world.id)) valid)
   answered_alone-carries builtin.Known object args r valid fit =
       on_text-carries (λ x r. Gives (known_by x r.world.known) r) args r valid fit (λ x _. (kept-refl r, λ h. (valid h, known_by-in_bounds x r.world.known)))
   answered_alone-carries builtin.BeKnown object args r valid fit =
-      on_text-carries (made_known object) args r valid fit (λ x bound. made_known-carries x object r valid bound)
+      on_text-carries (make_known object) args r valid fit (λ x bound. made_known-carries x object r valid bound)
   answered_alone-carries builtin.Exists object args r valid fit =
       on_ref-carries (λ id r. Gives (bool (is_held id r.world)) r) args r valid (λ id. (kept-refl r, λ h. (valid h, bool-in_bounds (is_held id r.world))))
-  answered_alone-carries builtin.Destroy object args r valid fit = on_ref-carries destroyed args r valid (λ id. destroyed-carries id r valid)
+  answered_alone-carries builtin.Destroy object args r valid fit = on_ref-carries destroy args r valid (λ id. destroyed-carries id r valid)
   answered_alone-carries builtin.ViewCount object args r valid fit =
-      on_none-carries views_counted args r valid (kept-refl r, λ h. (valid h, int-in_bounds (pos (length r.world.views))))
+      on_none-carries count_views args r valid (kept-refl r, λ h. (valid h, int-in_bounds (pos (length r.world.views))))
   answered_alone-carries builtin.Views object args r valid fit =
-      on_none-carries views_told args r valid (carries-weighed counts H r (list (plains_of (map (λ view. int (pos view)) r.world.views))) valid)
+      on_none-carries tell_views args r valid (carries-weighed counts H r (list (plains_of (map (λ view. int (pos view)) r.world.views))) valid)
   answered_alone-carries builtin.Subscribe object args r valid fit =
-      on_texts-carries (subscribed object) args r valid fit (λ scope event x fits. subscribed-carries object scope event x r valid fits)
+      on_texts-carries (subscribe object) args r valid fit (λ scope event x fits. subscribed-carries object scope event x r valid fits)
   answered_alone-carries builtin.Unsubscribe object args r valid fit =
-      on_texts-carries (unsubscribed object) args r valid fit (λ scope event x _. unsubscribed-carries object scope event x r valid)
+      on_texts-carries (unsubscribe object) args r valid fit (λ scope event x _. unsubscribed-carries object scope event x r valid)
   answered_alone-carries builtin.Cancel object args r valid fit =
-      on_text-carries (cancelled object) args r valid fit (λ x _. cancelled-carries object x r valid)
+      on_text-carries (cancel object) args r valid fit (λ x _. cancelled-carries object x r valid)
   answered_alone-carries f object args r valid fit = pure_answered-carries (pure_of f) args r valid

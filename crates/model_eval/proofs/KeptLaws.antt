@@ -16,17 +16,17 @@ use Rattle.model_lang.specs.Names.{HasShortNames, AllHaveShortNames, NamesAreSho
 use Rattle.model_check.specs.Builtins.{builtin_named}
 use Rattle.model_check.specs.Methods.{field_counts, method_named}
 use Rattle.model_eval.specs.declared.fault.Fault.TheVariants.{Arity, Depth}
-use Rattle.model_eval.specs.Running.{Running, Outcome, Gives, Faults, and_then, entering, weighed, replying, truth, deciding}
-use Rattle.model_eval.specs.Operators.{operated, truly, operating, unary_operated}
-use Rattle.model_eval.specs.Objects.{with_named, made, is_held}
+use Rattle.model_eval.specs.Running.{Running, Outcome, Gives, Faults, and_then, enter, give_by_weight, give_pure, truth, decide}
+use Rattle.model_eval.specs.Operators.{apply_binary, truly, binary_outcome, apply_unary}
+use Rattle.model_eval.specs.Objects.{with_named, make_object, is_held}
 use Rattle.model_eval.specs.Futures.{send}
-use Rattle.model_eval.specs.Builtins.{on_event, answered, answered_by}
-use Rattle.model_eval.specs.Publishing.{handled_by, run_handlers, tell_handlers, with_outgoing, published}
+use Rattle.model_eval.specs.Builtins.{on_event, run_builtin, run_if_builtin}
+use Rattle.model_eval.specs.Publishing.{handle, run_handlers, tell_handlers, with_outgoing, publish}
 use Rattle.pubsub.specs.Topics.{handlers_of}
 use Rattle.pubsub.specs.declared.handler.Handler.{Handler}
 use Rattle.model_check.specs.declared.builtin.Builtin.{Builtin}
 use Rattle.model_check.specs.declared.builtin.Builtin.TheVariants as builtin_name
-use Rattle.model_eval.specs.Meaning.{Here, Local, locals_of, Flow, next, returned, follow, leave_block, value_of, set_named, Evaluate, Execute, Start, evaluated, in_turn, block, otherwise, looped, called_on, init, run_init, created, created_by, number_of_class, expression_row, statement_row, performed, starts_in, starts_on, starting, evaluate, execute, starts}
+use Rattle.model_eval.specs.Meaning.{Here, Local, locals_of, Flow, next, return_with, follow, leave_block, method_result, put_field, Evaluate, Execute, Start, evaluate_all, in_turn, block, otherwise, loop_turns, call_on, init, run_init, create_object, create_if_class, number_of_class, expression_row, statement_row, perform, starts_in, starts_on, start_by, evaluate, execute, starts}
 use Rattle.model_eval.specs.Kept.{Anything, CarriesIf, Carries}
 use Rattle.model_eval.proofs.FieldBounds.{nil-in_bounds, with_named-in_bounds, length-with_named}
 use Rattle.model_eval.proofs.Pending.{if_either}
@@ -59,30 +59,30 @@ Begins counts start = (object : ℕ) (x : Name) (args : List PlainValue) (r : Ru
 module _ (counts : List ℕ) (ev : Evaluate) (keeps : Evaluates counts ev) where
   evaluated-carries : (H : Type 0) (here : Here) (es : Expressions) (locals : List Local) (values : List PlainValue) (r : Running)
       → (H → Ready counts locals r) → (H → AllInBounds values) → AllFewArguments es → AllHaveShortNames es
-      → CarriesIf H counts (AreMany (length values + how_many es)) r (evaluated ev here es locals values r)
+      → CarriesIf H counts (AreMany (length values + how_many es)) r (evaluate_all ev here es locals values r)
   evaluated-carries H here no_expressions locals values r ready fit few short = (kept-refl r, λ x. ((ready x).0, (fit x, omega arith)))
   evaluated-carries H here (expression e es) locals values r ready fit few short =
-      carries-next counts H (Ready counts locals r) InBounds (AreMany (length values + how_many (expression e es))) r (ev here e locals r) (λ a. evaluated ev here es locals (values ++ a ∷ []))
+      carries-next counts H (Ready counts locals r) InBounds (AreMany (length values + how_many (expression e es))) r (ev here e locals r) (λ a. evaluate_all ev here es locals (values ++ a ∷ []))
       ready (keeps here e locals r few.0 short.0)
       (λ a s. carries-more counts (H × Valid counts s.world × InBounds a) (AreMany (length (values ++ a ∷ []) + how_many es)) (AreMany (length values + how_many (expression e es))) s
-      (evaluated ev here es locals (values ++ a ∷ []) s) (λ vs many. (many.0, omega (arith, length_push values a, many.1)))
+      (evaluate_all ev here es locals (values ++ a ∷ []) s) (λ vs many. (many.0, omega (arith, length_push values a, many.1)))
       (evaluated-carries (H × Valid counts s.world × InBounds a) here es locals (values ++ a ∷ []) s (λ x. (x.1, (ready x.0).1)) (λ x. AllInBounds-push values a (fit x.0) x.2) few.1 short.1))
 
   -- a part, which is a truth
   truly-carries : (H : Type 0) (here : Here) (e : Expression) (locals : List Local) (r : Running)
       → (H → Ready counts locals r) → FewArguments e → HasShortNames e → CarriesIf H counts InBounds r (truly (ev here e locals) r)
   truly-carries H here e locals r ready few short =
-      carries-next counts H (Ready counts locals r) InBounds InBounds r (ev here e locals r) (λ w. deciding (truth w) (λ b. Gives (bool b))) ready (keeps here e locals r few short)
+      carries-next counts H (Ready counts locals r) InBounds InBounds r (ev here e locals r) (λ w. decide (truth w) (λ b. Gives (bool b))) ready (keeps here e locals r few short)
       (λ w s. carries-deciding counts (H × Valid counts s.world × InBounds w) InBounds s (truth w) (λ b. Gives (bool b)) (λ x. x.1) (λ b. (kept-refl s, λ x. (x.1, bool-in_bounds b))))
 
   both-carries : (H : Type 0) (here : Here) (o : BinaryOp) (v : PlainValue) (e : Expression) (locals : List Local) (r : Running)
-      → (H → Ready counts locals r) → FewArguments e → HasShortNames e → CarriesIf H counts InBounds r (and_then (ev here e locals r) (λ w. replying (operated o v w)))
+      → (H → Ready counts locals r) → FewArguments e → HasShortNames e → CarriesIf H counts InBounds r (and_then (ev here e locals r) (λ w. give_pure (apply_binary o v w)))
   both-carries H here o v e locals r ready few short =
-      carries-next counts H (Ready counts locals r) InBounds InBounds r (ev here e locals r) (λ w. replying (operated o v w)) ready (keeps here e locals r few short)
-      (λ w s. carries-replying counts (H × Valid counts s.world × InBounds w) InBounds s (operated o v w) (λ x. x.1) (operated-in_bounds o v w))
+      carries-next counts H (Ready counts locals r) InBounds InBounds r (ev here e locals r) (λ w. give_pure (apply_binary o v w)) ready (keeps here e locals r few short)
+      (λ w s. carries-replying counts (H × Valid counts s.world × InBounds w) InBounds s (apply_binary o v w) (λ x. x.1) (operated-in_bounds o v w))
 
   operating-carries : (H : Type 0) (here : Here) (o : BinaryOp) (v : PlainValue) (e : Expression) (locals : List Local) (r : Running)
-      → (H → Ready counts locals r) → FewArguments e → HasShortNames e → CarriesIf H counts InBounds r (operating o v (ev here e locals) r)
+      → (H → Ready counts locals r) → FewArguments e → HasShortNames e → CarriesIf H counts InBounds r (binary_outcome o v (ev here e locals) r)
   operating-carries H here op.Or v e locals r ready few short =
       carries-deciding counts H InBounds r (truth v) (λ b r1. if b then Gives (bool true) r1 else truly (ev here e locals) r1) (λ x. (ready x).0)
       (λ b. carries-test counts H InBounds r b (Gives (bool true) r) (truly (ev here e locals) r) (λ _. (kept-refl r, λ x. ((ready x).0, bool-in_bounds true))) (λ _. truly-carries H here e locals r ready few short))
@@ -93,7 +93,7 @@ module _ (counts : List ℕ) (ev : Evaluate) (keeps : Evaluates counts ev) where
 
 module _ (program : ProgramTree) (ev : Evaluate) (start : Start) (keeps : Evaluates (field_counts program) ev) (begins : Begins (field_counts program) start) where
   called_on-carries : (H : Type 0) (o : PlainValue) (x : Name) (args : List PlainValue) (r : Running)
-      → (H → Valid (field_counts program) r.world) → (H → AllInBounds args) → CarriesIf H (field_counts program) InBounds r (called_on start o x args r)
+      → (H → Valid (field_counts program) r.world) → (H → AllInBounds args) → CarriesIf H (field_counts program) InBounds r (call_on start o x args r)
   called_on-carries H (ref object) x args r valid fit =
       carries-if (field_counts program) H (Valid (field_counts program) r.world × AllInBounds args) InBounds r (start object x args r) (λ y. (valid y, fit y)) (begins object x args r)
   called_on-carries H _ x args r valid fit = (kept-refl r, valid)
@@ -108,10 +108,10 @@ module _ (program : ProgramTree) (ev : Evaluate) (start : Start) (keeps : Evalua
 
   -- handlers, each of which starts with the value
   handled_by-carries : (H : Type 0) (v : PlainValue) (h : Handler) (r : Running)
-      → (H → Valid (field_counts program) r.world) → (H → InBounds v) → CarriesIf H (field_counts program) Anything r (handled_by start v h r)
+      → (H → Valid (field_counts program) r.world) → (H → InBounds v) → CarriesIf H (field_counts program) Anything r (handle start v h r)
   handled_by-carries H v h r valid fit =
       let r1 : Running = record r { fuel = r.fuel - 1 } in
-      carries-test (field_counts program) H Anything r (is_held h.object r.world) (entering r (λ s. and_then (start h.object h.method (v ∷ []) s) (λ _. Gives tt))) (Gives tt r)
+      carries-test (field_counts program) H Anything r (is_held h.object r.world) (enter r (λ s. and_then (start h.object h.method (v ∷ []) s) (λ _. Gives tt))) (Gives tt r)
       (λ _. carries-entering (field_counts program) H Anything r (λ s. and_then (start h.object h.method (v ∷ []) s) (λ _. Gives tt)) valid
       (carries-next (field_counts program) H (Valid (field_counts program) r1.world × AllInBounds (v ∷ [])) InBounds Anything r1 (start h.object h.method (v ∷ []) r1) (λ _. Gives tt)
       (λ x. (valid x, (fit x, tt))) (begins h.object h.method (v ∷ []) r1) (λ _ s. (kept-refl s, λ x. (x.1, tt)))))
@@ -121,42 +121,42 @@ module _ (program : ProgramTree) (ev : Evaluate) (start : Start) (keeps : Evalua
       → (H → Valid (field_counts program) r.world) → (H → InBounds v) → CarriesIf H (field_counts program) Anything r (run_handlers start v hs r)
   handled-carries H v [] r valid fit = (kept-refl r, λ x. (valid x, tt))
   handled-carries H v (h ∷ hs) r valid fit =
-      carries-then (field_counts program) H Anything Anything r (handled_by start v h r) (λ _. run_handlers start v hs) (handled_by-carries H v h r valid fit)
+      carries-then (field_counts program) H Anything Anything r (handle start v h r) (λ _. run_handlers start v hs) (handled_by-carries H v h r valid fit)
       (λ u s. handled-carries (H × Valid (field_counts program) s.world × Anything u) v hs s (λ x. x.1) (λ x. fit x.0))
 
   published-carries : (H : Type 0) (scope event : Name) (v : PlainValue) (r : Running)
-      → (H → Valid (field_counts program) r.world) → (H → InBounds v) → CarriesIf H (field_counts program) InBounds r (published start scope event v r)
+      → (H → Valid (field_counts program) r.world) → (H → InBounds v) → CarriesIf H (field_counts program) InBounds r (publish start scope event v r)
   published-carries H scope event v r valid fit =
       let s : Running = with_outgoing scope event v r in
-      carries-after (field_counts program) H H InBounds r s (published start scope event v r) (kept-published r (record { time = r.world.time; scope = scope; event = event; value = v } ∷ [])) (λ x. x)
+      carries-after (field_counts program) H H InBounds r s (publish start scope event v r) (kept-published r (record { time = r.world.time; scope = scope; event = event; value = v } ∷ [])) (λ x. x)
       (carries-then (field_counts program) H Anything InBounds s (tell_handlers start scope event v s) (λ _. Gives nil)
       (handled-carries H v (handlers_of scope event s.world.subscriptions) s valid fit) (λ _ t. (kept-refl t, λ x. (x.1, nil-in_bounds))))
 
   on_event-carries : (H : Type 0) (args : List PlainValue) (r : Running)
-      → (H → Valid (field_counts program) r.world) → (H → AllInBounds args) → CarriesIf H (field_counts program) InBounds r (on_event (published start) args r)
+      → (H → Valid (field_counts program) r.world) → (H → AllInBounds args) → CarriesIf H (field_counts program) InBounds r (on_event (publish start) args r)
   on_event-carries H (text scope ∷ text event ∷ v ∷ []) r valid fit = published-carries H scope event v r valid (λ x. (fit x).1.1.0)
   on_event-carries H _ r valid fit = (kept-refl r, valid)
 
   answered-carries : (H : Type 0) (f : Builtin) (object : ℕ) (args : List PlainValue) (r : Running)
-      → (H → Valid (field_counts program) r.world) → (H → AllInBounds args) → CarriesIf H (field_counts program) InBounds r (answered start f object args r)
+      → (H → Valid (field_counts program) r.world) → (H → AllInBounds args) → CarriesIf H (field_counts program) InBounds r (run_builtin start f object args r)
   answered-carries H builtin_name.Publish object args r valid fit = on_event-carries H args r valid fit
   answered-carries H f object args r valid fit = answered_alone-carries (field_counts program) H f object args r valid fit
 
   answered_by-carries : (H : Type 0) (f : Option Builtin) (object : ℕ) (args : List PlainValue) (r : Running)
-      → (H → Valid (field_counts program) r.world) → (H → AllInBounds args) → CarriesIf H (field_counts program) InBounds r (answered_by start f object args r)
+      → (H → Valid (field_counts program) r.world) → (H → AllInBounds args) → CarriesIf H (field_counts program) InBounds r (run_if_builtin start f object args r)
   answered_by-carries H None object args r valid fit = (kept-refl r, valid)
   answered_by-carries H (Some f) object args r valid fit = answered-carries H f object args r valid fit
 
   created-carries : (H : Type 0) (n : ℕ) (c : Option ClassTree) (v : PlainValue) (r : Running)
-      → (H → Valid (field_counts program) r.world) → (H → InBounds v) → slice_get program n ≡ c → CarriesIf H (field_counts program) InBounds r (created start n c v r)
+      → (H → Valid (field_counts program) r.world) → (H → InBounds v) → slice_get program n ≡ c → CarriesIf H (field_counts program) InBounds r (create_object start n c v r)
   created-carries H n None v r valid fit e = (kept-refl r, valid)
   created-carries H n (Some c) v r valid fit e =
-      carries-then (field_counts program) H Anything InBounds r (made n (length c.fields) r) (run_init start c v)
+      carries-then (field_counts program) H Anything InBounds r (make_object n (length c.fields) r) (run_init start c v)
       (made-carries (field_counts program) H n (length c.fields) r valid (get-mapped (λ c. length c.fields) program n c e))
       (λ id s. initialised-carries (H × Valid (field_counts program) s.world × Anything id) c v id s (λ x. x.1) (λ x. fit x.0))
 
   created_by-carries : (H : Type 0) (n : Option ℕ) (v : PlainValue) (r : Running)
-      → (H → Valid (field_counts program) r.world) → (H → InBounds v) → CarriesIf H (field_counts program) InBounds r (created_by program start n v r)
+      → (H → Valid (field_counts program) r.world) → (H → InBounds v) → CarriesIf H (field_counts program) InBounds r (create_if_class program start n v r)
   created_by-carries H None v r valid fit = (kept-refl r, valid)
   created_by-carries H (Some n) v r valid fit = created-carries H n (slice_get program n) v r valid fit refl
 
@@ -164,10 +164,10 @@ module _ (program : ProgramTree) (ev : Evaluate) (start : Start) (keeps : Evalua
   arguments-carry : (H : Type 0) (here : Here) (args : Expressions) (locals : List Local) (r : Running) (go : List PlainValue → Running → Outcome PlainValue)
       → (H → Ready (field_counts program) locals r) → AllFewArguments args → AllHaveShortNames args
       → ((vs : List PlainValue) (s : Running) → CarriesIf (H × Valid (field_counts program) s.world × AreMany (how_many args) vs) (field_counts program) InBounds s (go vs s))
-      → CarriesIf H (field_counts program) InBounds r (and_then (evaluated ev here args locals [] r) go)
+      → CarriesIf H (field_counts program) InBounds r (and_then (evaluate_all ev here args locals [] r) go)
   arguments-carry H here args locals r go ready few short later =
-      carries-then (field_counts program) H (AreMany (how_many args)) InBounds r (evaluated ev here args locals [] r) go
-      (carries-more (field_counts program) H (AreMany (0 + how_many args)) (AreMany (how_many args)) r (evaluated ev here args locals [] r) (λ vs many. (many.0, omega (arith, many.1)))
+      carries-then (field_counts program) H (AreMany (how_many args)) InBounds r (evaluate_all ev here args locals [] r) go
+      (carries-more (field_counts program) H (AreMany (0 + how_many args)) (AreMany (how_many args)) r (evaluate_all ev here args locals [] r) (λ vs many. (many.0, omega (arith, many.1)))
       (evaluated-carries (field_counts program) ev keeps H here args locals [] r ready (λ _. tt) few short)) later
 
   -- a part, and what is done with its value
@@ -199,24 +199,24 @@ module _ (program : ProgramTree) (ev : Evaluate) (start : Start) (keeps : Evalua
   expression-carries here (field x) locals r few short =
       got-carries (field_counts program) (Ready (field_counts program) locals r) (object_at r.world.objects here.object) here.object x here.class.fields r (λ y. y.0) refl
   expression-carries here (tree.list items) locals r few short =
-      arguments-carry (Ready (field_counts program) locals r) here items locals r (λ vs. weighed (list (plains_of vs))) (λ x. x) few short
+      arguments-carry (Ready (field_counts program) locals r) here items locals r (λ vs. give_by_weight (list (plains_of vs))) (λ x. x) few short
       (λ vs s. carries-weighed (field_counts program) _ s (list (plains_of vs)) (λ x. x.1))
   expression-carries here (unary o e) locals r few short =
-      part-carries (Ready (field_counts program) locals r) here e locals r (λ v. replying (unary_operated o v)) (λ x. x) few short
-      (λ v s. carries-replying (field_counts program) _ InBounds s (unary_operated o v) (λ x. x.1) (unary_operated-in_bounds o v))
+      part-carries (Ready (field_counts program) locals r) here e locals r (λ v. give_pure (apply_unary o v)) (λ x. x) few short
+      (λ v s. carries-replying (field_counts program) _ InBounds s (apply_unary o v) (λ x. x.1) (unary_operated-in_bounds o v))
   expression-carries here (binary o a b) locals r few short =
-      part-carries (Ready (field_counts program) locals r) here a locals r (λ v. operating o v (ev here b locals)) (λ x. x) few.0 short.0
+      part-carries (Ready (field_counts program) locals r) here a locals r (λ v. binary_outcome o v (ev here b locals)) (λ x. x) few.0 short.0
       (λ v s. operating-carries (field_counts program) ev keeps _ here o v b locals s (λ x. (x.1, x.0.1)) few.1 short.1)
   expression-carries here (builtin x args) locals r few short =
-      arguments-carry (Ready (field_counts program) locals r) here args locals r (answered_by start (builtin_named x) here.object) (λ y. y) few short.1
+      arguments-carry (Ready (field_counts program) locals r) here args locals r (run_if_builtin start (builtin_named x) here.object) (λ y. y) few short.1
       (λ vs s. answered_by-carries _ (builtin_named x) here.object vs s (λ y. y.1) (λ y. y.2.0))
   expression-carries here (call object x args) locals r few short =
       part-carries (Ready (field_counts program) locals r) here object locals r _ (λ y. y) few.0 short.0
-      (λ o s. arguments-carry (Ready (field_counts program) locals r × Valid (field_counts program) s.world × InBounds o) here args locals s (called_on start o x) (λ y. (y.1, y.0.1)) few.1.1 short.2
+      (λ o s. arguments-carry (Ready (field_counts program) locals r × Valid (field_counts program) s.world × InBounds o) here args locals s (call_on start o x) (λ y. (y.1, y.0.1)) few.1.1 short.2
       (λ vs t. called_on-carries _ o x vs t (λ y. y.1) (λ y. y.2.0)))
   expression-carries here (future object delay x args) locals r few short = future-carries (Ready (field_counts program) locals r) here object delay x args locals r (λ y. y) few short
   expression-carries here (create x options) locals r few short =
-      part-carries (Ready (field_counts program) locals r) here options locals r (created_by program start (number_of_class x program)) (λ y. y) few short.1
+      part-carries (Ready (field_counts program) locals r) here options locals r (create_if_class program start (number_of_class x program)) (λ y. y) few short.1
       (λ v s. created_by-carries _ (number_of_class x program) v s (λ y. y.1) (λ y. y.2))
 
 -- ---- statements
@@ -225,7 +225,7 @@ module _ (counts : List ℕ) where
   follow-carries : (H : Type 0) (go : List Local → Running → Outcome (Flow (List Local))) (flow : Flow (List Local)) (r : Running) → (H → Valid counts r.world) → (H → FlowFits flow)
       → ((locals : List Local) → CarriesIf (Ready counts locals r) counts FlowFits r (go locals r)) → CarriesIf H counts FlowFits r (follow go flow r)
   follow-carries H go (next locals) r valid fits keeps = carries-if counts H (Ready counts locals r) FlowFits r (go locals r) (λ x. (valid x, fits x)) (keeps locals)
-  follow-carries H go (returned v) r valid fits keeps = (kept-refl r, λ x. (valid x, fits x))
+  follow-carries H go (return_with v) r valid fits keeps = (kept-refl r, λ x. (valid x, fits x))
 
 module _ (counts : List ℕ) (ex : Execute) (keeps : Executes counts ex) where
   in_turn-carries : (here : Here) (ss : Statements) (locals : List Local) (r : Running) → AllHaveFewArguments ss → AllNamesAreShort ss
@@ -256,22 +256,22 @@ module _ (counts : List ℕ) (ev : Evaluate) (ex : Execute) (evaluates : Evaluat
 
   looped-carries : (turns : ℕ) (here : Here) (test : Expression) (body : Statements) (locals : List Local) (r : Running)
       → FewArguments test → HasShortNames test → AllHaveFewArguments body → AllNamesAreShort body
-      → CarriesIf (Ready counts locals r) counts FlowFits r (looped turns ev ex here test body locals r)
+      → CarriesIf (Ready counts locals r) counts FlowFits r (loop_turns turns ev ex here test body locals r)
   looped-carries zero here test body locals r few short fewer shorter = (kept-refl r, λ x. x.0)
   looped-carries (suc turns) here test body locals r few short fewer shorter =
       value-carries here test locals r _ few short
       (λ v s. carries-deciding counts (Ready counts locals r × Valid counts s.world × InBounds v) FlowFits s (truth v) _ (λ x. x.1)
-      (λ b. carries-test counts (Ready counts locals r × Valid counts s.world × InBounds v) FlowFits s b (and_then (block ex here body locals s) (follow (looped turns ev ex here test body))) (Gives (next locals) s)
-      (λ _. carries-next counts _ (Ready counts locals s) FlowFits FlowFits s (block ex here body locals s) (follow (looped turns ev ex here test body)) (λ x. (x.1, x.0.1))
+      (λ b. carries-test counts (Ready counts locals r × Valid counts s.world × InBounds v) FlowFits s b (and_then (block ex here body locals s) (follow (loop_turns turns ev ex here test body))) (Gives (next locals) s)
+      (λ _. carries-next counts _ (Ready counts locals s) FlowFits FlowFits s (block ex here body locals s) (follow (loop_turns turns ev ex here test body)) (λ x. (x.1, x.0.1))
       (block-carries counts ex executes here body locals s fewer shorter)
-      (λ flow t. follow-carries counts _ (looped turns ev ex here test body) flow t (λ x. x.1) (λ x. x.2) (λ ls. looped-carries turns here test body ls t few short fewer shorter)))
+      (λ flow t. follow-carries counts _ (loop_turns turns ev ex here test body) flow t (λ x. x.1) (λ x. x.2) (λ ls. looped-carries turns here test body ls t few short fewer shorter)))
       (λ _. (kept-refl s, λ x. (x.1, x.0.1)))))
 
   set_field-carries : (here : Here) (x : Name) (e : Expression) (locals : List Local) (r : Running) → FewArguments e → HasShortNames e
       → CarriesIf (Ready counts locals r) counts FlowFits r (statement_row ev ex here (set_field x e) locals r)
   set_field-carries here x e locals r few short =
       value-carries here e locals r _ few short
-      (λ a s. carries-then counts (Ready counts locals r × Valid counts s.world × InBounds a) Anything FlowFits s (set_named here x a s) (λ _. Gives (next locals))
+      (λ a s. carries-then counts (Ready counts locals r × Valid counts s.world × InBounds a) Anything FlowFits s (put_field here x a s) (λ _. Gives (next locals))
       (put-carries counts _ (object_at s.world.objects here.object) here.object (with_named x a here.class.fields) s (λ y. y.1) (length-with_named x a here.class.fields)
       (λ y vs. with_named-in_bounds x a here.class.fields vs y.2))
       (λ _ t. (kept-refl t, λ y. (y.1, y.0.0.1))))
@@ -316,14 +316,14 @@ method_fits x (n ∷ ms) m fit short =
 
 module _ (counts : List ℕ) (ex : Execute) (keeps : Executes counts ex) where
   performed-carries : (here : Here) (m : Option MethodTree) (args : List PlainValue) (r : Running)
-      → ((n : MethodTree) → m ≡ Some n → AllHaveFewArguments n.body × AllNamesAreShort n.body) → CarriesIf (Valid counts r.world × AllInBounds args) counts InBounds r (performed ex here m args r)
+      → ((n : MethodTree) → m ≡ Some n → AllHaveFewArguments n.body × AllNamesAreShort n.body) → CarriesIf (Valid counts r.world × AllInBounds args) counts InBounds r (perform ex here m args r)
   performed-carries here None args r fit = (kept-refl r, λ x. x.0)
   performed-carries here (Some m) args r fit =
       let fits : AllHaveFewArguments m.body × AllNamesAreShort m.body = fit m refl in
       let H : Type 0 = Valid counts r.world × AllInBounds args in
       let locals : List Local = locals_of m.params args in
-      carries-test counts H InBounds r (nat_eq (length args) (length m.params)) (and_then (in_turn ex here m.body locals r) (λ f. Gives (value_of f))) (Faults Arity r)
-      (λ _. carries-next counts H (Ready counts locals r) FlowFits InBounds r (in_turn ex here m.body locals r) (λ f. Gives (value_of f)) (λ x. (x.0, locals_of-fit m.params args x.1))
+      carries-test counts H InBounds r (nat_eq (length args) (length m.params)) (and_then (in_turn ex here m.body locals r) (λ f. Gives (method_result f))) (Faults Arity r)
+      (λ _. carries-next counts H (Ready counts locals r) FlowFits InBounds r (in_turn ex here m.body locals r) (λ f. Gives (method_result f)) (λ x. (x.0, locals_of-fit m.params args x.1))
       (in_turn-carries counts ex keeps here m.body locals r fits.0 fits.1) (λ f s. (kept-refl s, λ x. (x.1, value_of-fits f x.2))))
       (λ _. (kept-refl r, λ x. x.0))
 
@@ -339,7 +339,7 @@ module _ (counts : List ℕ) (ex : Execute) (keeps : Executes counts ex) where
   starts_on-carries program None object x args r fit short = (kept-refl r, λ y. y.0)
   starts_on-carries program (Some o) object x args r fit short = starts_in-carries (slice_get program o.class) object x args r (λ c. class_fits program o.class c fit short)
 
-  pub starting-begins : (program : ProgramTree) → ClassesFit program → ClassNamesAreShort program → Begins counts (starting program ex)
+  pub starting-begins : (program : ProgramTree) → ClassesFit program → ClassNamesAreShort program → Begins counts (start_by program ex)
   starting-begins program fit short object x args r = starts_on-carries program (object_at r.world.objects object) object x args r fit short
 
 -- ---- at every room
@@ -352,10 +352,10 @@ row-kept program zero fit short = (
 )
 row-kept program (suc room) fit short =
     let below : Evaluates (field_counts program) (evaluate program room) × Executes (field_counts program) (execute program room) = row-kept program room fit short in
-    let begins : Begins (field_counts program) (starting program (execute program room)) = starting-begins (field_counts program) (execute program room) below.1 program fit short in (
+    let begins : Begins (field_counts program) (start_by program (execute program room)) = starting-begins (field_counts program) (execute program room) below.1 program fit short in (
       λ here e locals r few brief.
-          carries-entering (field_counts program) (Ready (field_counts program) locals r) InBounds r (expression_row program (evaluate program room) (starting program (execute program room)) here e locals) (λ x. x.0)
-          (expression-carries program (evaluate program room) (starting program (execute program room)) below.0 begins here e locals (record r { fuel = r.fuel - 1 }) few brief),
+          carries-entering (field_counts program) (Ready (field_counts program) locals r) InBounds r (expression_row program (evaluate program room) (start_by program (execute program room)) here e locals) (λ x. x.0)
+          (expression-carries program (evaluate program room) (start_by program (execute program room)) below.0 begins here e locals (record r { fuel = r.fuel - 1 }) few brief),
       λ here s locals r few brief.
           carries-entering (field_counts program) (Ready (field_counts program) locals r) FlowFits r (statement_row (evaluate program room) (execute program room) here s locals) (λ x. x.0)
           (statement-carries (field_counts program) (evaluate program room) (execute program room) below.0 below.1 here s locals (record r { fuel = r.fuel - 1 }) few brief),

@@ -17,5 +17,5 @@ pub mod KnownPlaces
 pub mod Texts
 pub mod InitLaws
 pub mod Steps
-pub mod Standing
+pub mod Resolving
 pub mod Published

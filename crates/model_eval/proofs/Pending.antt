@@ -11,7 +11,8 @@ use Rattle.model_lang.specs.Tree.{Name}
 use Rattle.model_lang.specs.Names.{IsShortName}
 use Rattle.model_eval.specs.Kept.{count_due}
 pub use Rattle.message_queue.proofs.Order.{if_either, AreInOrder-inserted, NumbersDiffer-inserted, length-inserted, total-inserted}
-use Rattle.message_queue.specs.Queue.{precedes, inserted}
+use Rattle.message_queue.specs.Queue.{insert_in_order}
+use Rattle.world_plain.specs.ValidTest.{is_due_before}
 use Rattle.model_eval.specs.Futures.{ahead}
 use Rattle.model_eval.proofs.FieldBounds.{StillHeld}
 
@@ -22,10 +23,10 @@ next_number-unused time next os (n ∷ ns) h = let below : n.number < next = h.0
 
 -- ---- what fits
 
-pub MessagesFit-inserted : (time next : ℕ) (os : List ObjectRecord) (m : PlainMessage) (ns : List PlainMessage) → MessageFits time next os m → MessagesFit time next os ns → MessagesFit time next os (inserted m ns)
+pub MessagesFit-inserted : (time next : ℕ) (os : List ObjectRecord) (m : PlainMessage) (ns : List PlainMessage) → MessageFits time next os m → MessagesFit time next os ns → MessagesFit time next os (insert_in_order m ns)
 MessagesFit-inserted time next os m [] h g = (h, tt)
 MessagesFit-inserted time next os m (n ∷ ns) h g =
-    if_either (MessagesFit time next os) (precedes m n) (m ∷ n ∷ ns) (n ∷ inserted m ns) (λ _. (h, g)) (λ _. (g.0, MessagesFit-inserted time next os m ns h g.1))
+    if_either (MessagesFit time next os) (is_due_before m n) (m ∷ n ∷ ns) (n ∷ insert_in_order m ns) (λ _. (h, g)) (λ _. (g.0, MessagesFit-inserted time next os m ns h g.1))
 
 -- the same messages where more numbers are used, and the objects are still held
 pub MessagesFit-later : (time next later : ℕ) (os ps : List ObjectRecord) (ms : List PlainMessage) → next ≤ later → StillHeld os ps → MessagesFit time next os ms → MessagesFit time later ps ms
@@ -36,13 +37,13 @@ MessagesFit-later time next later os ps (m ∷ ms) n held h =
 
 -- ---- counts and weights
 
-pub due-inserted : (time : ℕ) (m : PlainMessage) (ns : List PlainMessage) → count_due time (inserted m ns) ≡ (if nat_le m.time time then 1 else 0) + count_due time ns
+pub due-inserted : (time : ℕ) (m : PlainMessage) (ns : List PlainMessage) → count_due time (insert_in_order m ns) ≡ (if nat_le m.time time then 1 else 0) + count_due time ns
 due-inserted time m [] = refl
 due-inserted time m (n ∷ ns) =
-    if_either (λ l. count_due time l ≡ (if nat_le m.time time then 1 else 0) + count_due time (n ∷ ns)) (precedes m n) (m ∷ n ∷ ns) (n ∷ inserted m ns) (λ _. refl) (λ _. omega (arith, due-inserted time m ns))
+    if_either (λ l. count_due time l ≡ (if nat_le m.time time then 1 else 0) + count_due time (n ∷ ns)) (is_due_before m n) (m ∷ n ∷ ns) (n ∷ insert_in_order m ns) (λ _. refl) (λ _. omega (arith, due-inserted time m ns))
 
 -- a message that is not due yet adds nothing to those that are
-pub due-later : (time : ℕ) (m : PlainMessage) (ns : List PlainMessage) → time < m.time → count_due time (inserted m ns) ≡ count_due time ns
+pub due-later : (time : ℕ) (m : PlainMessage) (ns : List PlainMessage) → time < m.time → count_due time (insert_in_order m ns) ≡ count_due time ns
 due-later time m ns h = due-inserted time m ns ∙ ap (λ b. (if b then 1 else 0) + count_due time ns) (lt-leb m.time time h) ∙ omega arith
 
 -- ---- names and times

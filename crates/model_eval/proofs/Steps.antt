@@ -5,29 +5,29 @@ use Rattle.std.proofs.lemmas.List.{map-append, take-map, length-map}
 use Rattle.model_value.specs.Plain.{PlainValue}
 use Rattle.model_lang.specs.Tree.{ProgramTree}
 use Rattle.model_check.specs.SolvedTree.{SolvedExpression, SolvedStatement, SolvedStatements}
-use Rattle.model_eval.specs.Running.{Running, Outcome, Gives, Faults, and_then, entering}
+use Rattle.model_eval.specs.Running.{Running, Outcome, Gives, Faults, and_then, enter}
 use Rattle.model_eval.specs.Meaning.{starts}
 use Rattle.model_eval.specs.declared.fault.Fault.TheVariants.{Fuel, Depth}
-use Rattle.model_eval.specs.Slots.{Evaluate, Execute, entered, evaluate, execute, expression_row, statement_row, looped, turned}
+use Rattle.model_eval.specs.Slots.{Evaluate, Execute, room_inside, evaluate, execute, expression_row, statement_row, loop_turns, after_test}
 
 then_if : {A B : Type 0} (b : Bool) (x y : Outcome A) (next : A → Running → Outcome B) → and_then (if b then x else y) next ≡ (if b then and_then x next else and_then y next)
 then_if true x y next = refl
 then_if false x y next = refl
 
-then-entering : {A B : Type 0} (r : Running) (f : Running → Outcome A) (next : A → Running → Outcome B) → and_then (entering r f) next ≡ entering r (λ r1. and_then (f r1) next)
+then-entering : {A B : Type 0} (r : Running) (f : Running → Outcome A) (next : A → Running → Outcome B) → and_then (enter r f) next ≡ enter r (λ r1. and_then (f r1) next)
 then-entering r f next = then_if (nat_eq r.fuel 0) (Faults Fuel r) (f (record r { fuel = r.fuel - 1 })) next
 
-pub evaluate-entered : (program : ProgramTree) (room object : ℕ) (e : SolvedExpression) (locals : List PlainValue) (r : Running) → evaluate program room object e locals r ≡ and_then (entered room r) (λ inside. expression_row program (evaluate program inside) (starts program inside) object e locals)
+pub evaluate-entered : (program : ProgramTree) (room object : ℕ) (e : SolvedExpression) (locals : List PlainValue) (r : Running) → evaluate program room object e locals r ≡ and_then (room_inside room r) (λ inside. expression_row program (evaluate program inside) (starts program inside) object e locals)
 evaluate-entered program zero object e locals r = sym (then-entering r (Faults Depth) (λ inside. expression_row program (evaluate program inside) (starts program inside) object e locals))
 evaluate-entered program (suc room) object e locals r = sym (then-entering r (Gives room) (λ inside. expression_row program (evaluate program inside) (starts program inside) object e locals))
 
-pub execute-entered : (program : ProgramTree) (room object : ℕ) (s : SolvedStatement) (locals : List PlainValue) (r : Running) → execute program room object s locals r ≡ and_then (entered room r) (λ inside. statement_row (evaluate program inside) (execute program inside) object s locals)
+pub execute-entered : (program : ProgramTree) (room object : ℕ) (s : SolvedStatement) (locals : List PlainValue) (r : Running) → execute program room object s locals r ≡ and_then (room_inside room r) (λ inside. statement_row (evaluate program inside) (execute program inside) object s locals)
 execute-entered program zero object s locals r = sym (then-entering r (Faults Depth) (λ inside. statement_row (evaluate program inside) (execute program inside) object s locals))
 execute-entered program (suc room) object s locals r = sym (then-entering r (Gives room) (λ inside. statement_row (evaluate program inside) (execute program inside) object s locals))
 
 pub ruleset by_room = (evaluate-entered, execute-entered)
 
-pub looped-turn : (turns i : ℕ) (ev : Evaluate) (ex : Execute) (object : ℕ) (test : SolvedExpression) (body : SolvedStatements) (locals : List PlainValue) (r : Running) → i < turns → looped (turns - i) ev ex object test body locals r ≡ and_then (ev object test locals r) (λ v. turned ex object body (looped (turns - (i + 1)) ev ex object test body) v locals)
+pub looped-turn : (turns i : ℕ) (ev : Evaluate) (ex : Execute) (object : ℕ) (test : SolvedExpression) (body : SolvedStatements) (locals : List PlainValue) (r : Running) → i < turns → loop_turns (turns - i) ev ex object test body locals r ≡ and_then (ev object test locals r) (λ v. after_test ex object body (loop_turns (turns - (i + 1)) ev ex object test body) v locals)
 looped-turn turns i ev ex object test body locals r h =
     let e : turns - i ≡ suc (turns - (i + 1)) = omega arith in
     rw e refl

@@ -12,7 +12,8 @@ use Rattle.world_plain.specs.declared.message.Subscription.{Subscription}
 use Rattle.world_plain.specs.declared.world.Known.{Known}
 use Rattle.model_lang.specs.Tree.{Name}
 use Rattle.model_eval.specs.Running.{Running}
-use Rattle.model_eval.specs.Objects.{with_fields, with_objects, new_object, has_room_for, with_object, last_id, without_object, with_known}
+use Rattle.model_eval.specs.Objects.{with_fields, with_objects, new_object, has_room_for, with_object, without_object, with_known}
+use Rattle.object_store.specs.Store.{last_object_id}
 use Rattle.model_eval.specs.Futures.{with_message, has_room}
 use Rattle.model_eval.specs.Publishing.{has_room_to, with_subscription}
 use Rattle.message_queue.specs.Queue.{last_message_number}
@@ -97,8 +98,8 @@ pub valid-object : (counts : List ℕ) (class fields : ℕ) (w : WorldRecord) �
 valid-object counts class fields w known room v =
     let os = w.objects in
     let o : ObjectRecord = new_object class fields w in
-    let parts = and_parts (nat_lt (length os) most_objects && nat_lt w.next_object last_id) (nat_le (world_weight w + object_weight o) most_world_weight) room in
-    let few : length os < most_objects = ltb-true (length os) most_objects (and_parts (nat_lt (length os) most_objects) (nat_lt w.next_object last_id) parts.0).0 in
+    let parts = and_parts (nat_lt (length os) most_objects && nat_lt w.next_object last_object_id) (nat_le (world_weight w + object_weight o) most_world_weight) room in
+    let few : length os < most_objects = ltb-true (length os) most_objects (and_parts (nat_lt (length os) most_objects) (nat_lt w.next_object last_object_id) parts.0).0 in
     let light : world_weight w + object_weight o ≤ most_world_weight = leb-true (world_weight w + object_weight o) most_world_weight parts.1 in
     let held : StillHeld os (os ++ o ∷ []) = appended-held os (o ∷ []) in
     let fits : ObjectFits counts (w.next_object + 1) o =

@@ -16,10 +16,10 @@ use Rattle.model_builtin.specs.Builtins.{in_64_bits}
 use Rattle.model_builtin.specs.Builtins as without_world
 use Rattle.model_builtin.specs.declared.builtin.Pure.{Pure}
 use Rattle.model_eval.specs.declared.fault.Fault.TheVariants.{Overflow, ZeroDivisor, Size}
-use Rattle.model_eval.specs.Running.{Running, Gives, Faults, bounded, PureOutcome, value, fails}
-use Rattle.model_eval.specs.Operators.{same, fitting, on_ints, compared, divided, operated, unary_operated}
+use Rattle.model_eval.specs.Running.{Running, Gives, Faults, give_in_bounds, PureOutcome, value, fails}
+use Rattle.model_eval.specs.Operators.{same, int_or_overflow, on_ints, compare_ints, divide, apply_binary, apply_unary}
 use Rattle.model_eval.specs.Objects.{known_by}
-use Rattle.model_eval.specs.Meaning.{Local, local_value, with_local, locals_of, Flow, next, returned, leave_block, value_of}
+use Rattle.model_eval.specs.Meaning.{Local, local_value, with_local, locals_of, Flow, next, return_with, leave_block, method_result}
 use Rattle.model_eval.proofs.FieldBounds.{if_both, nil-in_bounds}
 use Rattle.model_eval.proofs.Pending.{if_either, encoded-length}
 
@@ -56,7 +56,7 @@ pub digits-in_bounds : (id : List ℕ) → length id ≤ 32 → InBounds (text (
 digits-in_bounds id h = (omega (arith, encoded-length (encode_lower id), length-encode_with lower_digits id), omega arith)
 
 -- so that they are given, as each value in bounds is
-pub digits-given : (id : List ℕ) (r : Running) → length id ≤ 32 → bounded (text (encode_lower id)) r ≡ Gives (text (encode_lower id)) r
+pub digits-given : (id : List ℕ) (r : Running) → length id ≤ 32 → give_in_bounds (text (encode_lower id)) r ≡ Gives (text (encode_lower id)) r
 digits-given id r h = cond-true (is_in_bounds (text (encode_lower id))) (Gives (text (encode_lower id)) r) (Faults Size r) (in_bounds-fits (text (encode_lower id)) (digits-in_bounds id h))
 
 pub known_by-in_bounds : (x : Name) (ks : List Known) → InBounds (known_by x ks)
@@ -69,23 +69,23 @@ AllInBounds-push (w ∷ vs) v h g = (h.0, AllInBounds-push vs v h.1 g)
 
 -- ---- operators
 
-fitting-in_bounds : (n : ℤ) → Replies InBounds (fitting n)
+fitting-in_bounds : (n : ℤ) → Replies InBounds (int_or_overflow n)
 fitting-in_bounds n = if_both (Replies InBounds) (in_64_bits n) (value (int n)) (fails Overflow) (int-in_bounds n) tt
 
 on_ints-in_bounds : (f : ℤ → ℤ → PureOutcome) → ((m n : ℤ) → Replies InBounds (f m n)) → (v w : PlainValue) → Replies InBounds (on_ints f v w)
 on_ints-in_bounds f h (int m) (int n) = h m n
 on_ints-in_bounds f h _ _ = tt
 
-compared-in_bounds : (test : ℤ → ℤ → Bool) (v w : PlainValue) → Replies InBounds (compared test v w)
+compared-in_bounds : (test : ℤ → ℤ → Bool) (v w : PlainValue) → Replies InBounds (compare_ints test v w)
 compared-in_bounds test = on_ints-in_bounds (λ m n. value (bool (test m n))) (λ m n. bool-in_bounds (test m n))
 
-divided-in_bounds : (part : ℤ → ℤ → ℤ) (v w : PlainValue) → Replies InBounds (divided part v w)
+divided-in_bounds : (part : ℤ → ℤ → ℤ) (v w : PlainValue) → Replies InBounds (divide part v w)
 divided-in_bounds part =
     on_ints-in_bounds (λ m n. if int_eq n (pos 0) then fails ZeroDivisor else (if in_64_bits (int_div m n) then value (int (part m n)) else fails Overflow))
     (λ m n. if_both (Replies InBounds) (int_eq n (pos 0)) (fails ZeroDivisor) (if in_64_bits (int_div m n) then value (int (part m n)) else fails Overflow) tt
     (if_both (Replies InBounds) (in_64_bits (int_div m n)) (value (int (part m n))) (fails Overflow) (int-in_bounds (part m n)) tt))
 
-pub operated-in_bounds : (o : BinaryOp) (v w : PlainValue) → Replies InBounds (operated o v w)
+pub operated-in_bounds : (o : BinaryOp) (v w : PlainValue) → Replies InBounds (apply_binary o v w)
 operated-in_bounds op.Or v w = tt
 operated-in_bounds op.And v w = tt
 operated-in_bounds op.Same v w = bool-in_bounds (same v w)
@@ -94,13 +94,13 @@ operated-in_bounds op.Less v w = compared-in_bounds int_lt v w
 operated-in_bounds op.AtMost v w = compared-in_bounds int_le v w
 operated-in_bounds op.Greater v w = compared-in_bounds (λ m n. int_lt n m) v w
 operated-in_bounds op.AtLeast v w = compared-in_bounds (λ m n. int_le n m) v w
-operated-in_bounds op.Plus v w = on_ints-in_bounds (λ m n. fitting (m +ℤ n)) (λ m n. fitting-in_bounds (m +ℤ n)) v w
-operated-in_bounds op.Minus v w = on_ints-in_bounds (λ m n. fitting (m -ℤ n)) (λ m n. fitting-in_bounds (m -ℤ n)) v w
-operated-in_bounds op.Times v w = on_ints-in_bounds (λ m n. fitting (m *ℤ n)) (λ m n. fitting-in_bounds (m *ℤ n)) v w
+operated-in_bounds op.Plus v w = on_ints-in_bounds (λ m n. int_or_overflow (m +ℤ n)) (λ m n. fitting-in_bounds (m +ℤ n)) v w
+operated-in_bounds op.Minus v w = on_ints-in_bounds (λ m n. int_or_overflow (m -ℤ n)) (λ m n. fitting-in_bounds (m -ℤ n)) v w
+operated-in_bounds op.Times v w = on_ints-in_bounds (λ m n. int_or_overflow (m *ℤ n)) (λ m n. fitting-in_bounds (m *ℤ n)) v w
 operated-in_bounds op.Divide v w = divided-in_bounds int_div v w
 operated-in_bounds op.Rest v w = divided-in_bounds int_rem v w
 
-pub unary_operated-in_bounds : (o : UnaryOp) (v : PlainValue) → Replies InBounds (unary_operated o v)
+pub unary_operated-in_bounds : (o : UnaryOp) (v : PlainValue) → Replies InBounds (apply_unary o v)
 unary_operated-in_bounds unary_op.Minus (int n) = fitting-in_bounds (neg_ℤ n)
 unary_operated-in_bounds unary_op.Minus _ = tt
 unary_operated-in_bounds unary_op.Not (bool b) = bool-in_bounds (not b)
@@ -113,13 +113,13 @@ abbrev pub PureReplies : (PlainValue → Type 0) → without_world.BuiltinReply 
 PureReplies P (without_world.value v) = P v
 PureReplies P _ = Unit {0}
 
-sized-in_bounds : (reply : without_world.BuiltinReply) → PureReplies InBounds (without_world.sized reply)
+sized-in_bounds : (reply : without_world.BuiltinReply) → PureReplies InBounds (without_world.reply_in_bounds reply)
 sized-in_bounds (without_world.value v) = if_either (PureReplies InBounds) (is_in_bounds v) (without_world.value v) without_world.too_large (fits-true v) (λ _. tt)
 sized-in_bounds without_world.bad_kind = tt
 sized-in_bounds without_world.bad_index = tt
 sized-in_bounds without_world.too_large = tt
 
-pub applied-in_bounds : (f : Pure) (args : List PlainValue) → PureReplies InBounds (without_world.applied f args)
+pub applied-in_bounds : (f : Pure) (args : List PlainValue) → PureReplies InBounds (without_world.apply f args)
 applied-in_bounds f args = sized-in_bounds (without_world.builtin_gives f args)
 
 -- ---- locals
@@ -154,12 +154,12 @@ take-fit (suc n) (l ∷ ls) h = (h.0, take-fit n ls h.1)
 -- the locals behind a statement, or the value that a method ends with
 abbrev pub FlowFits : Flow (List Local) → Type 0
 FlowFits (next ls) = LocalsFit ls
-FlowFits (returned v) = InBounds v
+FlowFits (return_with v) = InBounds v
 
 pub behind-fits : (n : ℕ) (f : Flow (List Local)) → FlowFits f → FlowFits (leave_block n f)
 behind-fits n (next ls) h = take-fit n ls h
-behind-fits n (returned v) h = h
+behind-fits n (return_with v) h = h
 
-pub value_of-fits : (f : Flow (List Local)) → FlowFits f → InBounds (value_of f)
+pub value_of-fits : (f : Flow (List Local)) → FlowFits f → InBounds (method_result f)
 value_of-fits (next ls) h = nil-in_bounds
-value_of-fits (returned v) h = h
+value_of-fits (return_with v) h = h

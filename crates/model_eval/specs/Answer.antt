@@ -11,8 +11,8 @@ use Rattle.model_builtin.specs.declared.fault.BuiltinStop.TheVariants as builtin
 use Rattle.world_plain.specs.declared.refusal.StoreRefusal.{StoreRefusal}
 use Rattle.world_plain.specs.declared.refusal.StoreRefusal.TheVariants as refusal
 use Rattle.model_eval.specs.declared.fault.Fault.TheVariants.{BadKind, BadIndex, NoObject, Fuel, Size, Full}
-use Rattle.model_eval.specs.declared.fault.Stop.{Stop}
-use Rattle.model_eval.specs.declared.fault.Stop.TheVariants as stop
+use Rattle.model_eval.specs.declared.fault.EvalStop.{EvalStop}
+use Rattle.model_eval.specs.declared.fault.EvalStop.TheVariants as stop
 use Rattle.model_eval.specs.declared.evaluator.Flow.{Flow as Held}
 use Rattle.model_eval.specs.declared.evaluator.Flow.TheVariants as held
 use Rattle.model_eval.specs.declared.state.State.{State}
@@ -22,7 +22,7 @@ use Rattle.model_eval.specs.Operators.{on_ints}
 use Rattle.model_lang.specs.Tree.{Name, ClassTree}
 use Rattle.model_check.specs.Methods.{method_named}
 use Rattle.model_lang.specs.TreeView.{program_tree}
-use Rattle.model_eval.specs.Meaning.{Start, Flow, next, returned, init, starts}
+use Rattle.model_eval.specs.Meaning.{Start, Flow, next, return_with, init, starts}
 use Rattle.model_eval.specs.Slots.{Evaluate, Execute, evaluate, execute}
 use Rattle.model_eval.specs.declared.here.Starter.{Starter}
 
@@ -58,86 +58,86 @@ abbrev pub executes_by : Starter → Execute
 executes_by s = execute (program_tree s.program.now) s.room
 
 -- a fault of what needs no world
-abbrev pub stop_of : BuiltinStop → Stop
+abbrev pub stop_of : BuiltinStop → EvalStop
 stop_of builtin_stop.BadKind = stop.Fault BadKind
 stop_of builtin_stop.BadIndex = stop.Fault BadIndex
 stop_of builtin_stop.Size = stop.Fault Size
 stop_of builtin_stop.WantOfMemory = stop.WantOfMemory
 
 -- what a world holds no more of
-abbrev pub stop_of_refusal : StoreRefusal → Stop
+abbrev pub stop_of_refusal : StoreRefusal → EvalStop
 stop_of_refusal (refusal.Full count) = stop.Fault Full
 stop_of_refusal refusal.Spent = stop.Fault Full
 stop_of_refusal refusal.WantOfMemory = stop.WantOfMemory
 
 -- the answer, and what runs after it, are what was meant, unless memory ran out
-abbrev pub Answers : Result Value Stop → State → Budget → Outcome PlainValue → Type 0
+abbrev pub Answers : Result Value EvalStop → State → Budget → Outcome PlainValue → Type 0
 Answers (Ok v) state budget meant = meant ≡ Gives (plain v) (running state budget)
 Answers (Err (stop.Fault f)) state budget meant = meant ≡ Faults f (running state budget)
 Answers (Err stop.WantOfMemory) state budget meant = Unit {0}
 
 -- the same of a list of values
-abbrev pub AnswersAll : Result (List Value) Stop → State → Budget → Outcome (List PlainValue) → Type 0
+abbrev pub AnswersAll : Result (List Value) EvalStop → State → Budget → Outcome (List PlainValue) → Type 0
 AnswersAll (Ok vs) state budget meant = meant ≡ Gives (plain_values vs) (running state budget)
 AnswersAll (Err (stop.Fault f)) state budget meant = meant ≡ Faults f (running state budget)
 AnswersAll (Err stop.WantOfMemory) state budget meant = Unit {0}
 
 -- the same of what gives nothing
-abbrev pub Did : Result ⊤ Stop → State → Budget → Outcome ⊤ → Type 0
+abbrev pub Did : Result ⊤ EvalStop → State → Budget → Outcome ⊤ → Type 0
 Did (Ok u) state budget meant = meant ≡ Gives tt (running state budget)
 Did (Err (stop.Fault f)) state budget meant = meant ≡ Faults f (running state budget)
 Did (Err stop.WantOfMemory) state budget meant = Unit {0}
 
 -- the same of what gives a number
-abbrev pub Numbers : Result ℕ Stop → State → Budget → Outcome ℕ → Type 0
+abbrev pub Numbers : Result ℕ EvalStop → State → Budget → Outcome ℕ → Type 0
 Numbers (Ok n) state budget meant = meant ≡ Gives n (running state budget)
 Numbers (Err (stop.Fault f)) state budget meant = meant ≡ Faults f (running state budget)
 Numbers (Err stop.WantOfMemory) state budget meant = Unit {0}
 
 -- the same of statements: the next one follows, with these locals, or the method ends
-abbrev pub Flows : Result Held Stop → Vec Value Global → State → Budget → Outcome (Flow (List PlainValue)) → Type 0
+abbrev pub Flows : Result Held EvalStop → Vec Value Global → State → Budget → Outcome (Flow (List PlainValue)) → Type 0
 Flows (Ok held.Next) locals state budget meant = meant ≡ Gives (next (plain_values locals.items)) (running state budget)
-Flows (Ok (held.Return v)) locals state budget meant = meant ≡ Gives (returned (plain v)) (running state budget)
+Flows (Ok (held.Return v)) locals state budget meant = meant ≡ Gives (return_with (plain v)) (running state budget)
 Flows (Err (stop.Fault f)) locals state budget meant = meant ≡ Faults f (running state budget)
 Flows (Err stop.WantOfMemory) locals state budget meant = Unit {0}
 
 -- the same of what leaves the state alone, whichever that is
-abbrev pub Enters : Result ℕ Stop → Budget → (State → Outcome ℕ) → Type 0
+abbrev pub Enters : Result ℕ EvalStop → Budget → (State → Outcome ℕ) → Type 0
 Enters (Ok room) budget meant = (state : State) → meant state ≡ Gives room (running state budget)
 Enters (Err (stop.Fault f)) budget meant = (state : State) → meant state ≡ Faults f (running state budget)
 Enters (Err stop.WantOfMemory) budget meant = ⊥
 
 -- a step is taken, or there was none
-abbrev pub Steps : Result ⊤ Stop → Budget → Budget → Type 0
+abbrev pub Steps : Result ⊤ EvalStop → Budget → Budget → Type 0
 Steps (Ok u) old new = (nat_eq old.fuel 0 ≡ false) × (new ≡ record old { fuel = old.fuel - 1 })
 Steps (Err (stop.Fault f)) old new = (f ≡ Fuel) × (nat_eq old.fuel 0 ≡ true) × (new ≡ old)
 Steps (Err stop.WantOfMemory) old new = ⊥
 
 -- the same of what takes steps alone
-abbrev pub Spends : Result Value Stop → Budget → (State → Outcome PlainValue) → Type 0
+abbrev pub Spends : Result Value EvalStop → Budget → (State → Outcome PlainValue) → Type 0
 Spends (Ok v) budget meant = (state : State) → meant state ≡ Gives (plain v) (running state budget)
 Spends (Err (stop.Fault f)) budget meant = (state : State) → meant state ≡ Faults f (running state budget)
 Spends (Err stop.WantOfMemory) budget meant = Unit {0}
 
 -- the same of what changes nothing
-abbrev pub Replies : Result Value Stop → PureOutcome → Type 0
+abbrev pub Replies : Result Value EvalStop → PureOutcome → Type 0
 Replies (Ok v) meant = meant ≡ value (plain v)
 Replies (Err (stop.Fault f)) meant = meant ≡ fails f
 Replies (Err stop.WantOfMemory) meant = Unit {0}
 
 -- a field that is not there: the object has no such field, or it is gone
-abbrev pub IsAbsent : Result Value Stop → Option ObjectRecord → Type 0
+abbrev pub IsAbsent : Result Value EvalStop → Option ObjectRecord → Type 0
 IsAbsent (Ok v) found = (plain v ≡ nil) × (is_some found ≡ true)
 IsAbsent (Err (stop.Fault f)) found = (f ≡ NoObject) × (found ≡ None)
 IsAbsent (Err stop.WantOfMemory) found = ⊥
 
 -- two values are Ints, or what needs two Ints fails
-abbrev pub AreInts : Result (ℤ × ℤ) Stop → PlainValue → PlainValue → Type 0
+abbrev pub AreInts : Result (ℤ × ℤ) EvalStop → PlainValue → PlainValue → Type 0
 AreInts (Ok ints) v w = (v ≡ int ints.0) × (w ≡ int ints.1)
 AreInts (Err (stop.Fault f)) v w = (f ≡ BadKind) × ((row : ℤ → ℤ → PureOutcome) → on_ints row v w ≡ fails BadKind)
 AreInts (Err stop.WantOfMemory) v w = Unit {0}
 
-abbrev pub Decides : Result Bool Stop → Option Bool → Type 0
+abbrev pub Decides : Result Bool EvalStop → Option Bool → Type 0
 Decides (Ok b) meant = meant ≡ Some b
 Decides (Err (stop.Fault f)) meant = (meant ≡ None) × (f ≡ BadKind)
 Decides (Err stop.WantOfMemory) meant = Unit {0}

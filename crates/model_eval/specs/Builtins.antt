@@ -6,20 +6,20 @@ use Rattle.model_check.specs.declared.builtin.Builtin.{Builtin}
 use Rattle.model_check.specs.declared.builtin.Builtin.TheVariants as builtin
 use Rattle.model_builtin.specs.declared.builtin.Pure.{Pure}
 use Rattle.model_builtin.specs.declared.builtin.Pure.TheVariants as pure
-use Rattle.model_builtin.specs.Builtins.{applied}
+use Rattle.model_builtin.specs.Builtins.{apply}
 use Rattle.model_builtin.specs.Builtins as without_world
 use Rattle.seeded_random.specs.Draw.{word_of, state_after, number_below}
 use Rattle.model_eval.specs.declared.fault.Fault.TheVariants.{BadKind, BadIndex, Size}
-use Rattle.model_eval.specs.Running.{Running, with_world, Outcome, Gives, Faults, spending, bounded, Start}
-use Rattle.model_eval.specs.Objects.{is_held, destroyed, known_by, made_known}
-use Rattle.model_eval.specs.Publishing.{published, subscribed, unsubscribed, cancelled, views_counted, views_told}
+use Rattle.model_eval.specs.Running.{Running, with_world, Outcome, Gives, Faults, spend, give_in_bounds, Start}
+use Rattle.model_eval.specs.Objects.{is_held, destroy, known_by, make_known}
+use Rattle.model_eval.specs.Publishing.{publish, subscribe, unsubscribe, cancel, count_views, tell_views}
 
 -- a number below this one; a word is drawn from the world's source
-abbrev pub drawn : ℤ → Running → Outcome PlainValue
-drawn (pos n) r =
+abbrev pub draw : ℤ → Running → Outcome PlainValue
+draw (pos n) r =
     if nat_eq n 0 then Faults BadIndex r
     else Gives (int (pos (number_below n (word_of r.world.random)))) (with_world r (record (r.world) { random = state_after r.world.random }))
-drawn (negsuc n) r = Faults BadIndex r
+draw (negsuc n) r = Faults BadIndex r
 
 -- the builtins that need no world
 abbrev pub pure_of : Builtin → Option Pure
@@ -45,15 +45,15 @@ takes_steps _ = false
 
 -- what such a one gives
 abbrev pub builtin_outcome : Bool → without_world.BuiltinReply → Running → Outcome PlainValue
-builtin_outcome true (without_world.value v) r = spending (weight v) r (Gives v)
+builtin_outcome true (without_world.value v) r = spend (weight v) r (Gives v)
 builtin_outcome false (without_world.value v) r = Gives v r
 builtin_outcome costs without_world.bad_kind r = Faults BadKind r
 builtin_outcome costs without_world.bad_index r = Faults BadIndex r
 builtin_outcome costs without_world.too_large r = Faults Size r
 
-abbrev pub pure_answered : Option Pure → List PlainValue → Running → Outcome PlainValue
-pure_answered None args r = Faults BadKind r
-pure_answered (Some f) args r = builtin_outcome (takes_steps f) (applied f args) r
+abbrev pub pure_outcome : Option Pure → List PlainValue → Running → Outcome PlainValue
+pure_outcome None args r = Faults BadKind r
+pure_outcome (Some f) args r = builtin_outcome (takes_steps f) (apply f args) r
 
 -- the arguments that a builtin takes: none, one Int, one Text, three Texts, two Texts and a value, or one Ref
 abbrev pub on_none : (Running → Outcome PlainValue) → List PlainValue → Running → Outcome PlainValue
@@ -80,39 +80,39 @@ abbrev pub on_ref : (ℕ → Running → Outcome PlainValue) → List PlainValue
 on_ref f (ref id ∷ []) r = f id r
 on_ref f _ r = Faults BadKind r
 
-abbrev pub time_told : Running → Outcome PlainValue
-time_told r = Gives (int (pos (r.world.time / 1000))) r
+abbrev pub tell_time : Running → Outcome PlainValue
+tell_time r = Gives (int (pos (r.world.time / 1000))) r
 
-abbrev pub id_told : Running → Outcome PlainValue
-id_told r = bounded (text (encode_lower r.world.id)) r
+abbrev pub tell_id : Running → Outcome PlainValue
+tell_id r = give_in_bounds (text (encode_lower r.world.id)) r
 
-abbrev pub known_told : List ℕ → Running → Outcome PlainValue
-known_told x r = Gives (known_by x r.world.known) r
+abbrev pub tell_known : List ℕ → Running → Outcome PlainValue
+tell_known x r = Gives (known_by x r.world.known) r
 
-abbrev pub held_told : ℕ → Running → Outcome PlainValue
-held_told id r = Gives (bool (is_held id r.world)) r
+abbrev pub tell_held : ℕ → Running → Outcome PlainValue
+tell_held id r = Gives (bool (is_held id r.world)) r
 
 -- what a builtin answers that starts no method, where a method of this object calls it
-abbrev pub answered_alone : Builtin → ℕ → List PlainValue → Running → Outcome PlainValue
-answered_alone builtin.Now object = on_none time_told
-answered_alone builtin.Random object = on_int drawn
-answered_alone builtin.ViewCount object = on_none views_counted
-answered_alone builtin.Views object = on_none views_told
-answered_alone builtin.SessionId object = on_none id_told
-answered_alone builtin.Known object = on_text known_told
-answered_alone builtin.BeKnown object = on_text (made_known object)
-answered_alone builtin.Exists object = on_ref held_told
-answered_alone builtin.Destroy object = on_ref destroyed
-answered_alone builtin.Subscribe object = on_texts (subscribed object)
-answered_alone builtin.Unsubscribe object = on_texts (unsubscribed object)
-answered_alone builtin.Cancel object = on_text (cancelled object)
-answered_alone f object = pure_answered (pure_of f)
+abbrev pub run_builtin_alone : Builtin → ℕ → List PlainValue → Running → Outcome PlainValue
+run_builtin_alone builtin.Now object = on_none tell_time
+run_builtin_alone builtin.Random object = on_int draw
+run_builtin_alone builtin.ViewCount object = on_none count_views
+run_builtin_alone builtin.Views object = on_none tell_views
+run_builtin_alone builtin.SessionId object = on_none tell_id
+run_builtin_alone builtin.Known object = on_text tell_known
+run_builtin_alone builtin.BeKnown object = on_text (make_known object)
+run_builtin_alone builtin.Exists object = on_ref tell_held
+run_builtin_alone builtin.Destroy object = on_ref destroy
+run_builtin_alone builtin.Subscribe object = on_texts (subscribe object)
+run_builtin_alone builtin.Unsubscribe object = on_texts (unsubscribe object)
+run_builtin_alone builtin.Cancel object = on_text (cancel object)
+run_builtin_alone f object = pure_outcome (pure_of f)
 
 -- what a builtin answers; publishing alone starts methods
-abbrev pub answered : Start → Builtin → ℕ → List PlainValue → Running → Outcome PlainValue
-answered start builtin.Publish object = on_event (published start)
-answered start f object = answered_alone f object
+abbrev pub run_builtin : Start → Builtin → ℕ → List PlainValue → Running → Outcome PlainValue
+run_builtin start builtin.Publish object = on_event (publish start)
+run_builtin start f object = run_builtin_alone f object
 
-abbrev pub answered_by : Start → Option Builtin → ℕ → List PlainValue → Running → Outcome PlainValue
-answered_by start None object args r = Faults BadKind r
-answered_by start (Some f) object args r = answered start f object args r
+abbrev pub run_if_builtin : Start → Option Builtin → ℕ → List PlainValue → Running → Outcome PlainValue
+run_if_builtin start None object args r = Faults BadKind r
+run_if_builtin start (Some f) object args r = run_builtin start f object args r

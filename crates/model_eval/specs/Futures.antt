@@ -5,7 +5,7 @@ use Rattle.world_plain.specs.Messages.{PlainMessage}
 use Rattle.world_plain.specs.World.{ObjectRecord, WorldRecord, message_weight, world_weight, most_world_weight}
 use Rattle.world_plain.specs.Valid.{object_at, most_turns, most_pending}
 use Rattle.tea_base.specs.Limits.{time_limit}
-use Rattle.message_queue.specs.Queue.{inserted, last_message_number}
+use Rattle.message_queue.specs.Queue.{insert_in_order, last_message_number}
 use Rattle.model_lang.specs.Tree.{Name}
 use Rattle.model_eval.specs.declared.fault.Fault.TheVariants.{BadKind, NoObject, Instant, Time, Full}
 use Rattle.model_eval.specs.Running.{Running, with_world, Outcome, Gives, Faults}
@@ -19,20 +19,20 @@ abbrev pub has_room : WorldRecord → PlainMessage → Bool
 has_room w m = nat_lt (length w.pending) most_pending && nat_lt w.next_number last_message_number && nat_le (world_weight w + message_weight m) most_world_weight
 
 abbrev pub with_message : Running → PlainMessage → Running
-with_message r m = with_world r (record (r.world) { pending = inserted m r.world.pending; next_number = r.world.next_number + 1 })
+with_message r m = with_world r (record (r.world) { pending = insert_in_order m r.world.pending; next_number = r.world.next_number + 1 })
 
 -- the message has the world's next number
-abbrev pub sent : ℕ → Name → List PlainValue → Option ℕ → Running → Outcome PlainValue
-sent object x args None r = Faults Time r
-sent object x args (Some time) r =
+abbrev pub send_at : ℕ → Name → List PlainValue → Option ℕ → Running → Outcome PlainValue
+send_at object x args None r = Faults Time r
+send_at object x args (Some time) r =
     let m : PlainMessage = record { time = time; number = r.world.next_number; object = object; method = x; args = args } in
     if nat_eq time r.world.time && nat_eq r.world.turns most_turns then Faults Instant r else
     if has_room r.world m then Gives nil (with_message r m) else Faults Full r
 
-abbrev pub sent_to : Option ObjectRecord → ℕ → ℤ → Name → List PlainValue → Running → Outcome PlainValue
-sent_to None object delay x args r = Faults NoObject r
-sent_to (Some o) object delay x args r = sent object x args (ahead r.world.time delay) r
+abbrev pub send_to : Option ObjectRecord → ℕ → ℤ → Name → List PlainValue → Running → Outcome PlainValue
+send_to None object delay x args r = Faults NoObject r
+send_to (Some o) object delay x args r = send_at object x args (ahead r.world.time delay) r
 
 abbrev pub send : PlainValue → PlainValue → Name → List PlainValue → Running → Outcome PlainValue
-send (ref object) (int delay) x args r = sent_to (object_at r.world.objects object) object delay x args r
+send (ref object) (int delay) x args r = send_to (object_at r.world.objects object) object delay x args r
 send _ _ x args r = Faults BadKind r

@@ -12,11 +12,11 @@ use Rattle.model_check.specs.Faults.{class_names}
 use Rattle.model_check.specs.Methods.{method_named}
 use Rattle.model_eval.specs.declared.fault.Fault.TheVariants.{BadKind, NoObject, NoMethod, Arity, Fuel, Depth}
 pub use Rattle.model_eval.specs.Running.{Start}
-use Rattle.model_eval.specs.Running.{Running, Outcome, Gives, Faults, and_then, entering, bounded, weighed, replying, truth, deciding}
-use Rattle.model_eval.specs.Operators.{operating, unary_operated}
-use Rattle.model_eval.specs.Objects.{got, put_fields, with_named, made}
+use Rattle.model_eval.specs.Running.{Running, Outcome, Gives, Faults, and_then, enter, give_in_bounds, give_by_weight, give_pure, truth, decide}
+use Rattle.model_eval.specs.Operators.{binary_outcome, apply_unary}
+use Rattle.model_eval.specs.Objects.{get_named, put_fields, with_named, make_object}
 use Rattle.model_eval.specs.Futures.{send}
-use Rattle.model_eval.specs.Builtins.{answered_by}
+use Rattle.model_eval.specs.Builtins.{run_if_builtin}
 
 -- the class whose method runs, and the object on which it runs
 pub record Here : Type 0 where
@@ -48,29 +48,29 @@ locals_of _ _ = []
 -- behind a statement the next one follows, with these locals, or the method ends with a value
 pub data Flow (L : Type 0) : Type 0 where
   next : L → Flow L
-  returned : PlainValue → Flow L
+  return_with : PlainValue → Flow L
 
 abbrev pub follow : {L : Type 0} → (L → Running → Outcome (Flow L)) → Flow L → Running → Outcome (Flow L)
 follow go (next locals) r = go locals r
-follow go (returned v) r = Gives (returned v) r
+follow go (return_with v) r = Gives (return_with v) r
 
 -- the locals that were there before a block are those that are there behind it
 abbrev pub leave_block : {A : Type 0} → ℕ → Flow (List A) → Flow (List A)
 leave_block before (next locals) = next (take before locals)
-leave_block before (returned v) = returned v
+leave_block before (return_with v) = return_with v
 
 -- the value of a method is nil at the end of its body
-abbrev pub value_of : {L : Type 0} → Flow L → PlainValue
-value_of (next locals) = nil
-value_of (returned v) = v
+abbrev pub method_result : {L : Type 0} → Flow L → PlainValue
+method_result (next locals) = nil
+method_result (return_with v) = v
 
 -- ---- fields
 
 abbrev pub get_field : Here → Name → Running → Outcome PlainValue
-get_field here x r = got (object_at r.world.objects here.object) x here.class.fields r
+get_field here x r = get_named (object_at r.world.objects here.object) x here.class.fields r
 
-abbrev pub set_named : Here → Name → PlainValue → Running → Outcome ⊤
-set_named here x v r = put_fields (object_at r.world.objects here.object) here.object (with_named x v here.class.fields) r
+abbrev pub put_field : Here → Name → PlainValue → Running → Outcome ⊤
+put_field here x v r = put_fields (object_at r.world.objects here.object) here.object (with_named x v here.class.fields) r
 
 -- ---- the table
 
@@ -81,9 +81,9 @@ abbrev pub Execute : Type 0
 Execute = Here → Statement → List Local → Running → Outcome (Flow (List Local))
 
 -- a list of parts, left to right, behind the values so far
-abbrev pub evaluated : Evaluate → Here → Expressions → List Local → List PlainValue → Running → Outcome (List PlainValue)
-evaluated ev here no_expressions locals values r = Gives values r
-evaluated ev here (expression e es) locals values r = and_then (ev here e locals r) (λ v. evaluated ev here es locals (values ++ v ∷ []))
+abbrev pub evaluate_all : Evaluate → Here → Expressions → List Local → List PlainValue → Running → Outcome (List PlainValue)
+evaluate_all ev here no_expressions locals values r = Gives values r
+evaluate_all ev here (expression e es) locals values r = and_then (ev here e locals r) (λ v. evaluate_all ev here es locals (values ++ v ∷ []))
 
 -- one statement after another
 abbrev pub in_turn : Execute → Here → Statements → List Local → Running → Outcome (Flow (List Local))
@@ -98,21 +98,21 @@ otherwise ex here no_else locals r = Gives (next locals) r
 otherwise ex here (else_block ss) locals r = block ex here ss locals r
 
 -- The test, and while it is true the block. Each test takes a step of fuel, so more turns than steps are never made.
-abbrev pub looped : ℕ → Evaluate → Execute → Here → Expression → Statements → List Local → Running → Outcome (Flow (List Local))
-looped zero ev ex here test body locals r = Faults Fuel r
-looped (suc turns) ev ex here test body locals r =
-    and_then (ev here test locals r) (λ v. deciding (truth v) (λ b r1.
-    if b then and_then (block ex here body locals r1) (follow (looped turns ev ex here test body)) else Gives (next locals) r1))
+abbrev pub loop_turns : ℕ → Evaluate → Execute → Here → Expression → Statements → List Local → Running → Outcome (Flow (List Local))
+loop_turns zero ev ex here test body locals r = Faults Fuel r
+loop_turns (suc turns) ev ex here test body locals r =
+    and_then (ev here test locals r) (λ v. decide (truth v) (λ b r1.
+    if b then and_then (block ex here body locals r1) (follow (loop_turns turns ev ex here test body)) else Gives (next locals) r1))
 
 -- the same by the fuel that is left behind the block
 abbrev pub goes_round : Evaluate → Execute → Here → Expression → Statements → List Local → Running → Outcome (Flow (List Local))
 goes_round ev ex here test body locals r =
-    and_then (ev here test locals r) (λ v. deciding (truth v) (λ b r1.
-    if b then and_then (block ex here body locals r1) (follow (λ ls s. looped s.fuel ev ex here test body ls s)) else Gives (next locals) r1))
+    and_then (ev here test locals r) (λ v. decide (truth v) (λ b r1.
+    if b then and_then (block ex here body locals r1) (follow (λ ls s. loop_turns s.fuel ev ex here test body ls s)) else Gives (next locals) r1))
 
-abbrev pub called_on : Start → PlainValue → Name → List PlainValue → Running → Outcome PlainValue
-called_on start (ref object) x args r = start object x args r
-called_on start _ x args r = Faults BadKind r
+abbrev pub call_on : Start → PlainValue → Name → List PlainValue → Running → Outcome PlainValue
+call_on start (ref object) x args r = start object x args r
+call_on start _ x args r = Faults BadKind r
 
 abbrev pub init : Name
 init = codes "init"
@@ -123,13 +123,13 @@ run_init start c v id r =
     if is_some (method_named init c.methods) then and_then (start id init (v ∷ []) r) (λ _. Gives (ref id)) else Gives (ref id) r
 
 -- an object of the class of this number. A checked program has the class
-abbrev pub created : Start → ℕ → Option ClassTree → PlainValue → Running → Outcome PlainValue
-created start n None v r = Faults BadKind r
-created start n (Some c) v r = and_then (made n (length c.fields) r) (run_init start c v)
+abbrev pub create_object : Start → ℕ → Option ClassTree → PlainValue → Running → Outcome PlainValue
+create_object start n None v r = Faults BadKind r
+create_object start n (Some c) v r = and_then (make_object n (length c.fields) r) (run_init start c v)
 
-abbrev pub created_by : ProgramTree → Start → Option ℕ → PlainValue → Running → Outcome PlainValue
-created_by program start None v r = Faults BadKind r
-created_by program start (Some n) v r = created start n (slice_get program n) v r
+abbrev pub create_if_class : ProgramTree → Start → Option ℕ → PlainValue → Running → Outcome PlainValue
+create_if_class program start None v r = Faults BadKind r
+create_if_class program start (Some n) v r = create_object start n (slice_get program n) v r
 
 -- the number of a class
 abbrev pub number_of_class : Name → ProgramTree → Option ℕ
@@ -140,63 +140,63 @@ abbrev pub expression_row : ProgramTree → Evaluate → Start → Here → Expr
 expression_row program ev start here tree.nil locals r = Gives nil r
 expression_row program ev start here (tree.bool b) locals r = Gives (bool b) r
 expression_row program ev start here (tree.int n) locals r = Gives (int n) r
-expression_row program ev start here (tree.text s) locals r = bounded (text s) r
+expression_row program ev start here (tree.text s) locals r = give_in_bounds (text s) r
 expression_row program ev start here this locals r = Gives (ref here.object) r
 expression_row program ev start here (local x) locals r = Gives (local_value x locals) r
 expression_row program ev start here (field x) locals r = get_field here x r
-expression_row program ev start here (tree.list items) locals r = and_then (evaluated ev here items locals [] r) (λ vs. weighed (list (plains_of vs)))
-expression_row program ev start here (unary o e) locals r = and_then (ev here e locals r) (λ v. replying (unary_operated o v))
-expression_row program ev start here (binary o a b) locals r = and_then (ev here a locals r) (λ v. operating o v (ev here b locals))
-expression_row program ev start here (builtin x args) locals r = and_then (evaluated ev here args locals [] r) (answered_by start (builtin_named x) here.object)
+expression_row program ev start here (tree.list items) locals r = and_then (evaluate_all ev here items locals [] r) (λ vs. give_by_weight (list (plains_of vs)))
+expression_row program ev start here (unary o e) locals r = and_then (ev here e locals r) (λ v. give_pure (apply_unary o v))
+expression_row program ev start here (binary o a b) locals r = and_then (ev here a locals r) (λ v. binary_outcome o v (ev here b locals))
+expression_row program ev start here (builtin x args) locals r = and_then (evaluate_all ev here args locals [] r) (run_if_builtin start (builtin_named x) here.object)
 expression_row program ev start here (call object x args) locals r =
-    and_then (ev here object locals r) (λ o r1. and_then (evaluated ev here args locals [] r1) (called_on start o x))
+    and_then (ev here object locals r) (λ o r1. and_then (evaluate_all ev here args locals [] r1) (call_on start o x))
 expression_row program ev start here (future object delay x args) locals r =
-    and_then (ev here object locals r) (λ o r1. and_then (ev here delay locals r1) (λ d r2. and_then (evaluated ev here args locals [] r2) (send o d x)))
-expression_row program ev start here (create x options) locals r = and_then (ev here options locals r) (created_by program start (number_of_class x program))
+    and_then (ev here object locals r) (λ o r1. and_then (ev here delay locals r1) (λ d r2. and_then (evaluate_all ev here args locals [] r2) (send o d x)))
+expression_row program ev start here (create x options) locals r = and_then (ev here options locals r) (create_if_class program start (number_of_class x program))
 
 -- what a statement does
 abbrev pub statement_row : Evaluate → Execute → Here → Statement → List Local → Running → Outcome (Flow (List Local))
 statement_row ev ex here (declare x e) locals r = and_then (ev here e locals r) (λ v. Gives (next (locals ++ record { name = x; value = v } ∷ [])))
 statement_row ev ex here (assign x e) locals r = and_then (ev here e locals r) (λ v. Gives (next (with_local x v locals)))
-statement_row ev ex here (set_field x e) locals r = and_then (ev here e locals r) (λ v r1. and_then (set_named here x v r1) (λ _. Gives (next locals)))
+statement_row ev ex here (set_field x e) locals r = and_then (ev here e locals r) (λ v r1. and_then (put_field here x v r1) (λ _. Gives (next locals)))
 statement_row ev ex here (when test body other) locals r =
-    and_then (ev here test locals r) (λ v. deciding (truth v) (λ b r1. if b then block ex here body locals r1 else otherwise ex here other locals r1))
-statement_row ev ex here (while test body) locals r = looped r.fuel ev ex here test body locals r
-statement_row ev ex here (give e) locals r = and_then (ev here e locals r) (λ v. Gives (returned v))
+    and_then (ev here test locals r) (λ v. decide (truth v) (λ b r1. if b then block ex here body locals r1 else otherwise ex here other locals r1))
+statement_row ev ex here (while test body) locals r = loop_turns r.fuel ev ex here test body locals r
+statement_row ev ex here (give e) locals r = and_then (ev here e locals r) (λ v. Gives (return_with v))
 statement_row ev ex here (do_ e) locals r = and_then (ev here e locals r) (λ _. Gives (next locals))
 
 -- ---- methods
 
-abbrev pub performed : Execute → Here → Option MethodTree → List PlainValue → Running → Outcome PlainValue
-performed ex here None args r = Faults NoMethod r
-performed ex here (Some m) args r =
-    if nat_eq (length args) (length m.params) then and_then (in_turn ex here m.body (locals_of m.params args) r) (λ f. Gives (value_of f))
+abbrev pub perform : Execute → Here → Option MethodTree → List PlainValue → Running → Outcome PlainValue
+perform ex here None args r = Faults NoMethod r
+perform ex here (Some m) args r =
+    if nat_eq (length args) (length m.params) then and_then (in_turn ex here m.body (locals_of m.params args) r) (λ f. Gives (method_result f))
     else Faults Arity r
 
 abbrev pub starts_in : Execute → Option ClassTree → Start
 starts_in ex None object x args r = Faults NoMethod r
-starts_in ex (Some c) object x args r = performed ex (record { class = c; object = object }) (method_named x c.methods) args r
+starts_in ex (Some c) object x args r = perform ex (record { class = c; object = object }) (method_named x c.methods) args r
 
 abbrev pub starts_on : ProgramTree → Execute → Option ObjectRecord → Start
 starts_on program ex None object x args r = Faults NoObject r
 starts_on program ex (Some o) object x args r = starts_in ex (slice_get program o.class) object x args r
 
-abbrev pub starting : ProgramTree → Execute → Start
-starting program ex object x args r = starts_on program ex (object_at r.world.objects object) object x args r
+abbrev pub start_by : ProgramTree → Execute → Start
+start_by program ex object x args r = starts_on program ex (object_at r.world.objects object) object x args r
 
 -- What the forms mean where so many more may be open: entering one takes a step of fuel, and then room.
 abbrev mutual
   pub evaluate : ProgramTree → ℕ → Evaluate
-  evaluate program zero here e locals r = entering r (Faults Depth)
-  evaluate program (suc room) here e locals r = entering r (expression_row program (evaluate program room) (starting program (execute program room)) here e locals)
+  evaluate program zero here e locals r = enter r (Faults Depth)
+  evaluate program (suc room) here e locals r = enter r (expression_row program (evaluate program room) (start_by program (execute program room)) here e locals)
 
   pub execute : ProgramTree → ℕ → Execute
-  execute program zero here s locals r = entering r (Faults Depth)
-  execute program (suc room) here s locals r = entering r (statement_row (evaluate program room) (execute program room) here s locals)
+  execute program zero here s locals r = enter r (Faults Depth)
+  execute program (suc room) here s locals r = enter r (statement_row (evaluate program room) (execute program room) here s locals)
 
 -- a method starts on an object, where so many statements and expressions may be open
 abbrev pub starts : ProgramTree → ℕ → Start
-starts program room = starting program (execute program room)
+starts program room = start_by program (execute program room)
 
 -- the most statements and expressions that are open at a time
 abbrev pub most_open : ℕ

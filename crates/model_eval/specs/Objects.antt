@@ -6,6 +6,7 @@ use Rattle.model_value.specs.Plain.{PlainValue, nil, ref}
 use Rattle.world_plain.specs.World.{ObjectRecord, WorldRecord, object_weight, world_weight, most_world_weight}
 use Rattle.world_plain.specs.Valid.{object_at, most_objects}
 use Rattle.world_plain.specs.declared.world.Known.{Known}
+use Rattle.object_store.specs.Store.{last_object_id}
 use Rattle.model_lang.specs.Tree.{Name}
 use Rattle.model_eval.specs.declared.fault.Fault.TheVariants.{NoObject, Full}
 use Rattle.model_eval.specs.Running.{Running, with_world, Outcome, Gives, Faults}
@@ -22,9 +23,9 @@ abbrev pub with_named : Name → PlainValue → List Name → List PlainValue �
 with_named x new (y ∷ ys) (v ∷ vs) = if bytes_eq x y then new ∷ vs else v ∷ with_named x new ys vs
 with_named x new _ vs = vs
 
-abbrev pub got : Option ObjectRecord → Name → List Name → Running → Outcome PlainValue
-got None x names r = Faults NoObject r
-got (Some o) x names r = Gives (value_named x names o.fields) r
+abbrev pub get_named : Option ObjectRecord → Name → List Name → Running → Outcome PlainValue
+get_named None x names r = Faults NoObject r
+get_named (Some o) x names r = Gives (value_named x names o.fields) r
 
 -- the objects with other fields in the one of this number
 abbrev pub with_fields : ℕ → (List PlainValue → List PlainValue) → List ObjectRecord → List ObjectRecord
@@ -44,23 +45,19 @@ put_fields (Some o) id change r = if_light tt r (with_objects r (with_fields id 
 
 -- ---- making one
 
--- the id that no object gets
-abbrev pub last_id : ℕ
-last_id = 2 ^ 32 - 1
-
 -- an object of a class of this number, with so many fields
 abbrev pub new_object : ℕ → ℕ → WorldRecord → ObjectRecord
 new_object class fields w = record { id = w.next_object; class = class; fields = replicate fields nil }
 
 abbrev pub has_room_for : WorldRecord → ObjectRecord → Bool
-has_room_for w o = nat_lt (length w.objects) most_objects && nat_lt w.next_object last_id && nat_le (world_weight w + object_weight o) most_world_weight
+has_room_for w o = nat_lt (length w.objects) most_objects && nat_lt w.next_object last_object_id && nat_le (world_weight w + object_weight o) most_world_weight
 
 abbrev pub with_object : WorldRecord → ObjectRecord → WorldRecord
 with_object w o = record w { objects = w.objects ++ o ∷ []; next_object = w.next_object + 1 }
 
 -- the id of a new object, which is held from then on
-abbrev pub made : ℕ → ℕ → Running → Outcome ℕ
-made class fields r =
+abbrev pub make_object : ℕ → ℕ → Running → Outcome ℕ
+make_object class fields r =
     let o = new_object class fields r.world in
     if has_room_for r.world o then Gives o.id (with_world r (with_object r.world o)) else Faults Full r
 
@@ -78,8 +75,8 @@ without_object id w = record w {
 abbrev pub is_held : ℕ → WorldRecord → Bool
 is_held id w = is_some (object_at w.objects id)
 
-abbrev pub destroyed : ℕ → Running → Outcome PlainValue
-destroyed id r = if is_held id r.world then Gives nil (with_world r (without_object id r.world)) else Faults NoObject r
+abbrev pub destroy : ℕ → Running → Outcome PlainValue
+destroy id r = if is_held id r.world then Gives nil (with_world r (without_object id r.world)) else Faults NoObject r
 
 -- ---- known names
 
@@ -95,7 +92,7 @@ with_known x object (k ∷ ks) =
     if bytes_eq x k.name then record { name = x; object = object } ∷ ks
     else (if comes_before x k.name then record { name = x; object = object } ∷ k ∷ ks else k ∷ with_known x object ks)
 
-abbrev pub made_known : ℕ → Name → Running → Outcome PlainValue
-made_known object x r =
+abbrev pub make_known : ℕ → Name → Running → Outcome PlainValue
+make_known object x r =
     if is_held object r.world then if_light nil r (with_world r (record (r.world) { known = with_known x object r.world.known }))
     else Faults NoObject r

@@ -12,19 +12,19 @@ use Rattle.pubsub.specs.Topics.{is_subscribed, without_subscription, handlers_of
 use Rattle.message_queue.specs.Queue.{calls}
 use Rattle.model_lang.specs.Tree.{Name}
 use Rattle.model_eval.specs.declared.fault.Fault.TheVariants.{NoObject, Full}
-use Rattle.model_eval.specs.Running.{Running, with_world, Outcome, Gives, Faults, and_then, entering, weighed, Start}
+use Rattle.model_eval.specs.Running.{Running, with_world, Outcome, Gives, Faults, and_then, enter, give_by_weight, Start}
 use Rattle.model_eval.specs.Objects.{is_held}
 
 -- ---- publishing
 
 -- a handler takes a step, and its method starts with the value, unless its object is gone
-abbrev pub handled_by : Start → PlainValue → Handler → Running → Outcome ⊤
-handled_by start v h r =
-    if is_held h.object r.world then entering r (λ s. and_then (start h.object h.method (v ∷ []) s) (λ _. Gives tt)) else Gives tt r
+abbrev pub handle : Start → PlainValue → Handler → Running → Outcome ⊤
+handle start v h r =
+    if is_held h.object r.world then enter r (λ s. and_then (start h.object h.method (v ∷ []) s) (λ _. Gives tt)) else Gives tt r
 
 abbrev pub run_handlers : Start → PlainValue → List Handler → Running → Outcome ⊤
 run_handlers start v [] r = Gives tt r
-run_handlers start v (h ∷ hs) r = and_then (handled_by start v h r) (λ _. run_handlers start v hs)
+run_handlers start v (h ∷ hs) r = and_then (handle start v h r) (λ _. run_handlers start v hs)
 
 -- models are told of an event: its handlers are those that are subscribed now, each in turn
 abbrev pub tell_handlers : Start → Name → Name → PlainValue → Running → Outcome ⊤
@@ -35,8 +35,8 @@ abbrev pub with_outgoing : Name → Name → PlainValue → Running → Running
 with_outgoing scope event v r =
     record r { published = r.published ++ record { time = r.world.time; scope = scope; event = event; value = v } ∷ [] }
 
-abbrev pub published : Start → Name → Name → PlainValue → Running → Outcome PlainValue
-published start scope event v r = and_then (tell_handlers start scope event v (with_outgoing scope event v r)) (λ _. Gives nil)
+abbrev pub publish : Start → Name → Name → PlainValue → Running → Outcome PlainValue
+publish start scope event v r = and_then (tell_handlers start scope event v (with_outgoing scope event v r)) (λ _. Gives nil)
 
 -- ---- subscriptions
 
@@ -47,8 +47,8 @@ abbrev pub with_subscription : Subscription → WorldRecord → WorldRecord
 with_subscription s w = record w { subscriptions = w.subscriptions ++ s ∷ [] }
 
 -- nothing is done where an equal one is held
-abbrev pub added : Subscription → Running → Outcome PlainValue
-added s r =
+abbrev pub add_subscription : Subscription → Running → Outcome PlainValue
+add_subscription s r =
     if is_subscribed s r.world.subscriptions then Gives nil r
     else (if has_room_to r.world s then Gives nil (with_world r (with_subscription s r.world)) else Faults Full r)
 
@@ -56,12 +56,12 @@ added s r =
 abbrev pub subscription : ℕ → Name → Name → Name → Subscription
 subscription object scope event x = record { scope = scope; event = event; object = object; method = x }
 
-abbrev pub subscribed : ℕ → Name → Name → Name → Running → Outcome PlainValue
-subscribed object scope event x r =
-    if is_held object r.world then added (subscription object scope event x) r else Faults NoObject r
+abbrev pub subscribe : ℕ → Name → Name → Name → Running → Outcome PlainValue
+subscribe object scope event x r =
+    if is_held object r.world then add_subscription (subscription object scope event x) r else Faults NoObject r
 
-abbrev pub unsubscribed : ℕ → Name → Name → Name → Running → Outcome PlainValue
-unsubscribed object scope event x r =
+abbrev pub unsubscribe : ℕ → Name → Name → Name → Running → Outcome PlainValue
+unsubscribe object scope event x r =
     let w = r.world in
     if is_held object w then Gives nil (with_world r (record w { subscriptions = without_subscription (subscription object scope event x) w.subscriptions }))
     else Faults NoObject r
@@ -69,19 +69,19 @@ unsubscribed object scope event x r =
 -- ---- messages and views
 
 -- the messages but the calls of this method of this object
-abbrev pub uncalled : ℕ → Name → List PlainMessage → List PlainMessage
-uncalled object x = filter (λ m. not (calls object x m))
+abbrev pub messages_without_calls : ℕ → Name → List PlainMessage → List PlainMessage
+messages_without_calls object x = filter (λ m. not (calls object x m))
 
 -- how many were taken away is told
-abbrev pub cancelled : ℕ → Name → Running → Outcome PlainValue
-cancelled object x r =
+abbrev pub cancel : ℕ → Name → Running → Outcome PlainValue
+cancel object x r =
     let w = r.world in
-    let left = uncalled object x w.pending in
+    let left = messages_without_calls object x w.pending in
     if is_held object w then Gives (int (pos (length w.pending - length left))) (with_world r (record w { pending = left }))
     else Faults NoObject r
 
-abbrev pub views_counted : Running → Outcome PlainValue
-views_counted r = Gives (int (pos (length r.world.views))) r
+abbrev pub count_views : Running → Outcome PlainValue
+count_views r = Gives (int (pos (length r.world.views))) r
 
-abbrev pub views_told : Running → Outcome PlainValue
-views_told r = weighed (list (plains_of (map (λ view. int (pos view)) r.world.views))) r
+abbrev pub tell_views : Running → Outcome PlainValue
+tell_views r = give_by_weight (list (plains_of (map (λ view. int (pos view)) r.world.views))) r

@@ -25,31 +25,31 @@ and_then (Gives a r) next = next a r
 and_then (Faults f r) next = Faults f r
 
 -- entering a statement or an expression takes a step of fuel
-abbrev pub entering : {A : Type 0} → Running → (Running → Outcome A) → Outcome A
-entering r next = if nat_eq r.fuel 0 then Faults Fuel r else next (record r { fuel = r.fuel - 1 })
+abbrev pub enter : {A : Type 0} → Running → (Running → Outcome A) → Outcome A
+enter r next = if nat_eq r.fuel 0 then Faults Fuel r else next (record r { fuel = r.fuel - 1 })
 
 -- so many steps are taken, or none where fewer are left
-abbrev pub spending : {A : Type 0} → ℕ → Running → (Running → Outcome A) → Outcome A
-spending steps r next = if nat_le steps r.fuel then next (record r { fuel = r.fuel - steps }) else Faults Fuel r
+abbrev pub spend : {A : Type 0} → ℕ → Running → (Running → Outcome A) → Outcome A
+spend steps r next = if nat_le steps r.fuel then next (record r { fuel = r.fuel - steps }) else Faults Fuel r
 
 -- ---- values
 
 -- a value that is made, if it is in bounds
-abbrev pub bounded : PlainValue → Running → Outcome PlainValue
-bounded v r = if is_in_bounds v then Gives v r else Faults Size r
+abbrev pub give_in_bounds : PlainValue → Running → Outcome PlainValue
+give_in_bounds v r = if is_in_bounds v then Gives v r else Faults Size r
 
 -- the same of one that takes steps by its weight
-abbrev pub weighed : PlainValue → Running → Outcome PlainValue
-weighed v r = if is_in_bounds v then spending (weight v) r (Gives v) else Faults Size r
+abbrev pub give_by_weight : PlainValue → Running → Outcome PlainValue
+give_by_weight v r = if is_in_bounds v then spend (weight v) r (Gives v) else Faults Size r
 
 -- a value or a fault, of what changes nothing
 pub data PureOutcome : Type 0 where
   value : PlainValue → PureOutcome
   fails : Fault → PureOutcome
 
-abbrev pub replying : PureOutcome → Running → Outcome PlainValue
-replying (value v) r = Gives v r
-replying (fails f) r = Faults f r
+abbrev pub give_pure : PureOutcome → Running → Outcome PlainValue
+give_pure (value v) r = Gives v r
+give_pure (fails f) r = Faults f r
 
 -- ---- tests
 
@@ -57,9 +57,9 @@ abbrev pub truth : PlainValue → Option Bool
 truth (bool b) = Some b
 truth _ = None
 
-abbrev pub deciding : {A : Type 0} → Option Bool → (Bool → Running → Outcome A) → Running → Outcome A
-deciding (Some b) next r = next b r
-deciding None next r = Faults BadKind r
+abbrev pub decide : {A : Type 0} → Option Bool → (Bool → Running → Outcome A) → Running → Outcome A
+decide (Some b) next r = next b r
+decide None next r = Faults BadKind r
 
 -- ---- methods
 

@@ -9,19 +9,19 @@ use Rattle.model_lang.specs.Tree.{ProgramTree}
 use Rattle.model_check.specs.SolvedTree.{SolvedExpression, this, local, field, unary, binary, builtin, call, future, create, SolvedExpressions, no_expressions, expression, SolvedStatement, declare, assign, set_field, when, while, give, do_, SolvedStatements, no_statements, statement, SolvedOtherwise, no_else, else_block, SolvedMethod}
 use Rattle.model_check.specs.SolvedTree as solved
 use Rattle.model_eval.specs.declared.fault.Fault.TheVariants.{NoObject, Fuel, Depth, Arity}
-use Rattle.model_eval.specs.Running.{Running, Outcome, Gives, Faults, and_then, entering, bounded, weighed, PureOutcome, value, fails, replying, truth, deciding, Start}
-use Rattle.model_eval.specs.Operators.{operating, unary_operated}
+use Rattle.model_eval.specs.Running.{Running, Outcome, Gives, Faults, and_then, enter, give_in_bounds, give_by_weight, PureOutcome, value, fails, give_pure, truth, decide, Start}
+use Rattle.model_eval.specs.Operators.{binary_outcome, apply_unary}
 use Rattle.model_eval.specs.Objects.{put_fields}
 use Rattle.model_eval.specs.Futures.{send}
-use Rattle.model_eval.specs.Builtins.{answered}
-use Rattle.model_eval.specs.Meaning.{Flow, next, returned, follow, leave_block, value_of, called_on, created, starts}
+use Rattle.model_eval.specs.Builtins.{run_builtin}
+use Rattle.model_eval.specs.Meaning.{Flow, next, return_with, follow, leave_block, method_result, call_on, create_object, starts}
 
 abbrev pub slot_value : Option ObjectRecord → ℕ → PureOutcome
 slot_value None slot = fails NoObject
 slot_value (Some o) slot = value (slice_index_or o.fields slot nil)
 
 abbrev pub get_slot : ℕ → ℕ → Running → Outcome PlainValue
-get_slot object slot r = replying (slot_value (object_at r.world.objects object) slot) r
+get_slot object slot r = give_pure (slot_value (object_at r.world.objects object) slot) r
 
 abbrev pub set_slot : ℕ → ℕ → PlainValue → Running → Outcome ⊤
 set_slot object slot v r = put_fields (object_at r.world.objects object) object (λ fields. slice_set fields slot v) r
@@ -32,9 +32,9 @@ Evaluate = ℕ → SolvedExpression → List PlainValue → Running → Outcome 
 abbrev pub Execute : Type 0
 Execute = ℕ → SolvedStatement → List PlainValue → Running → Outcome (Flow (List PlainValue))
 
-abbrev pub evaluated : Evaluate → ℕ → SolvedExpressions → List PlainValue → List PlainValue → Running → Outcome (List PlainValue)
-evaluated ev object no_expressions locals values r = Gives values r
-evaluated ev object (expression e es) locals values r = and_then (ev object e locals r) (λ v. evaluated ev object es locals (values ++ v ∷ []))
+abbrev pub evaluate_all : Evaluate → ℕ → SolvedExpressions → List PlainValue → List PlainValue → Running → Outcome (List PlainValue)
+evaluate_all ev object no_expressions locals values r = Gives values r
+evaluate_all ev object (expression e es) locals values r = and_then (ev object e locals r) (λ v. evaluate_all ev object es locals (values ++ v ∷ []))
 
 abbrev pub in_turn : Execute → ℕ → SolvedStatements → List PlainValue → Running → Outcome (Flow (List PlainValue))
 in_turn ex object no_statements locals r = Gives (next locals) r
@@ -48,32 +48,32 @@ otherwise ex object no_else locals r = Gives (next locals) r
 otherwise ex object (else_block ss) locals r = block ex object ss locals r
 
 -- what follows a test of a loop: its block, and then the rest of the loop
-abbrev pub turned : Execute → ℕ → SolvedStatements → (List PlainValue → Running → Outcome (Flow (List PlainValue))) → PlainValue → List PlainValue → Running → Outcome (Flow (List PlainValue))
-turned ex object body again v locals =
-    deciding (truth v) (λ b r1. if b then and_then (block ex object body locals r1) (follow again) else Gives (next locals) r1)
+abbrev pub after_test : Execute → ℕ → SolvedStatements → (List PlainValue → Running → Outcome (Flow (List PlainValue))) → PlainValue → List PlainValue → Running → Outcome (Flow (List PlainValue))
+after_test ex object body again v locals =
+    decide (truth v) (λ b r1. if b then and_then (block ex object body locals r1) (follow again) else Gives (next locals) r1)
 
-abbrev pub looped : ℕ → Evaluate → Execute → ℕ → SolvedExpression → SolvedStatements → List PlainValue → Running → Outcome (Flow (List PlainValue))
-looped zero ev ex object test body locals r = Faults Fuel r
-looped (suc turns) ev ex object test body locals r =
-    and_then (ev object test locals r) (λ v. turned ex object body (looped turns ev ex object test body) v locals)
+abbrev pub loop_turns : ℕ → Evaluate → Execute → ℕ → SolvedExpression → SolvedStatements → List PlainValue → Running → Outcome (Flow (List PlainValue))
+loop_turns zero ev ex object test body locals r = Faults Fuel r
+loop_turns (suc turns) ev ex object test body locals r =
+    and_then (ev object test locals r) (λ v. after_test ex object body (loop_turns turns ev ex object test body) v locals)
 
 abbrev pub expression_row : ProgramTree → Evaluate → Start → ℕ → SolvedExpression → List PlainValue → Running → Outcome PlainValue
 expression_row program ev start object solved.nil locals r = Gives nil r
 expression_row program ev start object (solved.bool b) locals r = Gives (bool b) r
 expression_row program ev start object (solved.int n) locals r = Gives (int n) r
-expression_row program ev start object (solved.text s) locals r = bounded (text s) r
+expression_row program ev start object (solved.text s) locals r = give_in_bounds (text s) r
 expression_row program ev start object this locals r = Gives (ref object) r
 expression_row program ev start object (local slot) locals r = Gives (slice_index_or locals slot nil) r
 expression_row program ev start object (field slot) locals r = get_slot object slot r
-expression_row program ev start object (solved.list items) locals r = and_then (evaluated ev object items locals [] r) (λ vs. weighed (list (plains_of vs)))
-expression_row program ev start object (unary o e) locals r = and_then (ev object e locals r) (λ v. replying (unary_operated o v))
-expression_row program ev start object (binary o a b) locals r = and_then (ev object a locals r) (λ v. operating o v (ev object b locals))
-expression_row program ev start object (builtin f args) locals r = and_then (evaluated ev object args locals [] r) (answered start f object)
+expression_row program ev start object (solved.list items) locals r = and_then (evaluate_all ev object items locals [] r) (λ vs. give_by_weight (list (plains_of vs)))
+expression_row program ev start object (unary o e) locals r = and_then (ev object e locals r) (λ v. give_pure (apply_unary o v))
+expression_row program ev start object (binary o a b) locals r = and_then (ev object a locals r) (λ v. binary_outcome o v (ev object b locals))
+expression_row program ev start object (builtin f args) locals r = and_then (evaluate_all ev object args locals [] r) (run_builtin start f object)
 expression_row program ev start object (call target x args) locals r =
-    and_then (ev object target locals r) (λ o r1. and_then (evaluated ev object args locals [] r1) (called_on start o x))
+    and_then (ev object target locals r) (λ o r1. and_then (evaluate_all ev object args locals [] r1) (call_on start o x))
 expression_row program ev start object (future target delay x args) locals r =
-    and_then (ev object target locals r) (λ o r1. and_then (ev object delay locals r1) (λ d r2. and_then (evaluated ev object args locals [] r2) (send o d x)))
-expression_row program ev start object (create n options) locals r = and_then (ev object options locals r) (created start n (slice_get program n))
+    and_then (ev object target locals r) (λ o r1. and_then (ev object delay locals r1) (λ d r2. and_then (evaluate_all ev object args locals [] r2) (send o d x)))
+expression_row program ev start object (create n options) locals r = and_then (ev object options locals r) (create_object start n (slice_get program n))
 
 -- a `let` holds the slot behind those of the names in scope
 abbrev pub statement_row : Evaluate → Execute → ℕ → SolvedStatement → List PlainValue → Running → Outcome (Flow (List PlainValue))
@@ -81,27 +81,27 @@ statement_row ev ex object (declare slot e) locals r = and_then (ev object e loc
 statement_row ev ex object (assign slot e) locals r = and_then (ev object e locals r) (λ v. Gives (next (slice_set locals slot v)))
 statement_row ev ex object (set_field slot e) locals r = and_then (ev object e locals r) (λ v r1. and_then (set_slot object slot v r1) (λ _. Gives (next locals)))
 statement_row ev ex object (when test body other) locals r =
-    and_then (ev object test locals r) (λ v. deciding (truth v) (λ b r1. if b then block ex object body locals r1 else otherwise ex object other locals r1))
-statement_row ev ex object (while test body) locals r = looped r.fuel ev ex object test body locals r
-statement_row ev ex object (give e) locals r = and_then (ev object e locals r) (λ v. Gives (returned v))
+    and_then (ev object test locals r) (λ v. decide (truth v) (λ b r1. if b then block ex object body locals r1 else otherwise ex object other locals r1))
+statement_row ev ex object (while test body) locals r = loop_turns r.fuel ev ex object test body locals r
+statement_row ev ex object (give e) locals r = and_then (ev object e locals r) (λ v. Gives (return_with v))
 statement_row ev ex object (do_ e) locals r = and_then (ev object e locals r) (λ _. Gives (next locals))
 
 -- how many more may be open inside, where so many may be open
-abbrev pub entered : ℕ → Running → Outcome ℕ
-entered zero r = entering r (Faults Depth)
-entered (suc room) r = entering r (Gives room)
+abbrev pub room_inside : ℕ → Running → Outcome ℕ
+room_inside zero r = enter r (Faults Depth)
+room_inside (suc room) r = enter r (Gives room)
 
 -- a method is started by its name, whatever it is resolved to
 abbrev mutual
   pub evaluate : ProgramTree → ℕ → Evaluate
-  evaluate program zero object e locals r = entering r (Faults Depth)
-  evaluate program (suc room) object e locals r = entering r (expression_row program (evaluate program room) (starts program room) object e locals)
+  evaluate program zero object e locals r = enter r (Faults Depth)
+  evaluate program (suc room) object e locals r = enter r (expression_row program (evaluate program room) (starts program room) object e locals)
 
   pub execute : ProgramTree → ℕ → Execute
-  execute program zero object s locals r = entering r (Faults Depth)
-  execute program (suc room) object s locals r = entering r (statement_row (evaluate program room) (execute program room) object s locals)
+  execute program zero object s locals r = enter r (Faults Depth)
+  execute program (suc room) object s locals r = enter r (statement_row (evaluate program room) (execute program room) object s locals)
 
 -- the body of a method on an object
-abbrev pub performed : ProgramTree → ℕ → ℕ → SolvedMethod → List PlainValue → Running → Outcome PlainValue
-performed program room object m args r =
-    if nat_eq (length args) m.params then and_then (in_turn (execute program room) object m.body args r) (λ f. Gives (value_of f)) else Faults Arity r
+abbrev pub perform : ProgramTree → ℕ → ℕ → SolvedMethod → List PlainValue → Running → Outcome PlainValue
+perform program room object m args r =
+    if nat_eq (length args) m.params then and_then (in_turn (execute program room) object m.body args r) (λ f. Gives (method_result f)) else Faults Arity r

@@ -2,15 +2,15 @@
 ghost use Rattle.std.specs.Prelude.{◌≡◌, ◌∷◌, [], length, IfOk};
 ghost use Rattle.hex.specs.Hex.{encode_lower};
 ghost use Rattle.model_value.specs.View.{plain, plain_values};
-ghost use Rattle.model_eval.specs.Builtins.{answered_alone, pure_answered, pure_of as pure_builtin, takes_steps as is_dear, drawn, time_told, id_told, known_told, held_told, on_none, on_int, on_text, on_texts, on_ref};
-ghost use Rattle.model_eval.specs.Publishing.{cancelled, subscribed, unsubscribed, views_counted, views_told};
-ghost use Rattle.model_eval.specs.Objects.{made_known, destroyed};
+ghost use Rattle.model_eval.specs.Builtins.{run_builtin_alone, pure_outcome, pure_of as pure_builtin, takes_steps as is_dear, draw, tell_time, tell_id, tell_known, tell_held, on_none, on_int, on_text, on_texts, on_ref};
+ghost use Rattle.model_eval.specs.Publishing.{cancel, subscribe, unsubscribe, count_views, tell_views};
+ghost use Rattle.model_eval.specs.Objects.{make_known, destroy};
 ghost use Rattle.model_eval.specs.Answer.{Answers, Spends, running};
 ghost use Rattle.model_eval.specs.declared.state.State.{State};
 ghost use Rattle.model_eval.specs.declared.state.Budget.{Budget};
 
 use crate::events::{subscribe, unsubscribe, view_count, views};
-use crate::fault::{Fault, Stop};
+use crate::fault::{EvalStop, Fault};
 use crate::here::Here;
 use crate::known::{be_known, known_object};
 use crate::messages::cancel;
@@ -31,8 +31,8 @@ pub fn answer(
     args: &Values,
     state: &mut State,
     budget: &mut Budget,
-) -> Result<Value, Stop>
-    ensures { Answers result state.new budget.new (answered_alone builtin here.now.object (plain_values args.now) (running state.old budget.old)) }
+) -> Result<Value, EvalStop>
+    ensures { Answers result state.new budget.new (run_builtin_alone builtin here.now.object (plain_values args.now) (running state.old budget.old)) }
 {
     let alloc = here.starter.alloc;
     let object = here.object;
@@ -63,22 +63,22 @@ pub fn answer(
 }
 
 // The milliseconds since the session's founding.
-fn now(args: &[Value], state: &State) -> Result<Value, Stop>
-    ensures { (budget : Budget) → Answers result state.now budget (on_none time_told (plain_values args.now) (running state.now budget)) }
+fn now(args: &[Value], state: &State) -> Result<Value, EvalStop>
+    ensures { (budget : Budget) → Answers result state.now budget (on_none tell_time (plain_values args.now) (running state.now budget)) }
 {
     match args {
         [] => Ok(Value::Int((state.time / 1000).cast_signed())),
-        _ => Err(Stop::Fault(Fault::BadKind)),
+        _ => Err(EvalStop::Fault(Fault::BadKind)),
     }
 }
 
 // How many views are here.
-fn count_views(args: &[Value], state: &State) -> Result<Value, Stop>
-    ensures { (budget : Budget) → Answers result state.now budget (on_none views_counted (plain_values args.now) (running state.now budget)) }
+fn count_views(args: &[Value], state: &State) -> Result<Value, EvalStop>
+    ensures { (budget : Budget) → Answers result state.now budget (on_none count_views (plain_values args.now) (running state.now budget)) }
 {
     match args {
         [] => Ok(view_count(state.views.as_slice())),
-        _ => Err(Stop::Fault(Fault::BadKind)),
+        _ => Err(EvalStop::Fault(Fault::BadKind)),
     }
 }
 
@@ -88,39 +88,39 @@ fn tell_views(
     args: &[Value],
     state: &State,
     budget: &mut Budget,
-) -> Result<Value, Stop>
-    ensures { Answers result state.now budget.new (on_none views_told (plain_values args.now) (running state.now budget.old)) }
+) -> Result<Value, EvalStop>
+    ensures { Answers result state.now budget.new (on_none tell_views (plain_values args.now) (running state.now budget.old)) }
 {
     match args {
         [] => list_of(views(alloc, state.views.as_slice())?, budget),
-        _ => Err(Stop::Fault(Fault::BadKind)),
+        _ => Err(EvalStop::Fault(Fault::BadKind)),
     }
 }
 
-fn random(args: &[Value], state: &mut State) -> Result<Value, Stop>
-    ensures { (budget : Budget) → Answers result state.new budget (on_int drawn (plain_values args.now) (running state.old budget)) }
+fn random(args: &[Value], state: &mut State) -> Result<Value, EvalStop>
+    ensures { (budget : Budget) → Answers result state.new budget (on_int draw (plain_values args.now) (running state.old budget)) }
 {
     match args {
         [limit] => draw(limit, state),
-        _ => Err(Stop::Fault(Fault::BadKind)),
+        _ => Err(EvalStop::Fault(Fault::BadKind)),
     }
 }
 
-fn draw(limit: &Value, state: &mut State) -> Result<Value, Stop>
-    ensures { (budget : Budget) → Answers result state.new budget (on_int drawn (plain limit.now ∷ []) (running state.old budget)) }
+fn draw(limit: &Value, state: &mut State) -> Result<Value, EvalStop>
+    ensures { (budget : Budget) → Answers result state.new budget (on_int draw (plain limit.now ∷ []) (running state.old budget)) }
 {
     match limit {
         Value::Int(limit) => draw_below(*limit, state),
-        _ => Err(Stop::Fault(Fault::BadKind)),
+        _ => Err(EvalStop::Fault(Fault::BadKind)),
     }
 }
 
 // A number below this one, of the world's source.
-fn draw_below(limit: i64, state: &mut State) -> Result<Value, Stop>
-    ensures { (budget : Budget) → Answers result state.new budget (drawn limit (running state.old budget)) }
+fn draw_below(limit: i64, state: &mut State) -> Result<Value, EvalStop>
+    ensures { (budget : Budget) → Answers result state.new budget (draw limit (running state.old budget)) }
 {
     if limit < 1 {
-        return Err(Stop::Fault(Fault::BadIndex));
+        return Err(EvalStop::Fault(Fault::BadIndex));
     }
     let mut source = Source64::from_state(state.random);
     let number = source.below(limit.cast_unsigned());
@@ -128,17 +128,17 @@ fn draw_below(limit: i64, state: &mut State) -> Result<Value, Stop>
     Ok(Value::Int(number.cast_signed()))
 }
 
-fn session_id(alloc: Global, args: &[Value], state: &State) -> Result<Value, Stop>
-    ensures { (budget : Budget) → Answers result state.now budget (on_none id_told (plain_values args.now) (running state.now budget)) }
+fn session_id(alloc: Global, args: &[Value], state: &State) -> Result<Value, EvalStop>
+    ensures { (budget : Budget) → Answers result state.now budget (on_none tell_id (plain_values args.now) (running state.now budget)) }
 {
     match args {
         [] => spelled_id(alloc, state),
-        _ => Err(Stop::Fault(Fault::BadKind)),
+        _ => Err(EvalStop::Fault(Fault::BadKind)),
     }
 }
 
-fn spelled_id(alloc: Global, state: &State) -> Result<Value, Stop>
-    ensures { (budget : Budget) → Answers result state.now budget (id_told (running state.now budget)) }
+fn spelled_id(alloc: Global, state: &State) -> Result<Value, EvalStop>
+    ensures { (budget : Budget) → Answers result state.now budget (tell_id (running state.now budget)) }
 {
     Ok(Value::Text(session_text(alloc, &state.id)?))
 }
@@ -160,84 +160,94 @@ fn digits(alloc: Global, id: &[u8; 32]) -> Result<Text, WantOfMemory>
     Text::copy(alloc, digits.as_str())
 }
 
-fn known(args: &[Value], state: &State) -> Result<Value, Stop>
-    ensures { (budget : Budget) → Answers result state.now budget (on_text known_told (plain_values args.now) (running state.now budget)) }
+fn known(args: &[Value], state: &State) -> Result<Value, EvalStop>
+    ensures { (budget : Budget) → Answers result state.now budget (on_text tell_known (plain_values args.now) (running state.now budget)) }
 {
     match args {
         [name] => find_known(name, state),
-        _ => Err(Stop::Fault(Fault::BadKind)),
+        _ => Err(EvalStop::Fault(Fault::BadKind)),
     }
 }
 
-fn find_known(name: &Value, state: &State) -> Result<Value, Stop>
-    ensures { (budget : Budget) → Answers result state.now budget (on_text known_told (plain name.now ∷ []) (running state.now budget)) }
+fn find_known(name: &Value, state: &State) -> Result<Value, EvalStop>
+    ensures { (budget : Budget) → Answers result state.now budget (on_text tell_known (plain name.now ∷ []) (running state.now budget)) }
 {
     match name {
         Value::Text(name) => Ok(known_object(state.known.as_slice(), name)),
-        _ => Err(Stop::Fault(Fault::BadKind)),
+        _ => Err(EvalStop::Fault(Fault::BadKind)),
     }
 }
 
-fn make_known(alloc: Global, args: &[Value], object: u32, state: &mut State) -> Result<Value, Stop>
-    ensures { (budget : Budget) → Answers result state.new budget (on_text (made_known object) (plain_values args.now) (running state.old budget)) }
+fn make_known(
+    alloc: Global,
+    args: &[Value],
+    object: u32,
+    state: &mut State,
+) -> Result<Value, EvalStop>
+    ensures { (budget : Budget) → Answers result state.new budget (on_text (make_known object) (plain_values args.now) (running state.old budget)) }
 {
     match args {
         [name] => make_known_by(alloc, name, object, state),
-        _ => Err(Stop::Fault(Fault::BadKind)),
+        _ => Err(EvalStop::Fault(Fault::BadKind)),
     }
 }
 
-fn make_known_by(alloc: Global, name: &Value, object: u32, state: &mut State) -> Result<Value, Stop>
-    ensures { (budget : Budget) → Answers result state.new budget (on_text (made_known object) (plain name.now ∷ []) (running state.old budget)) }
+fn make_known_by(
+    alloc: Global,
+    name: &Value,
+    object: u32,
+    state: &mut State,
+) -> Result<Value, EvalStop>
+    ensures { (budget : Budget) → Answers result state.new budget (on_text (make_known object) (plain name.now ∷ []) (running state.old budget)) }
 {
     match name {
         Value::Text(name) => be_known(alloc, name, object, state),
-        _ => Err(Stop::Fault(Fault::BadKind)),
+        _ => Err(EvalStop::Fault(Fault::BadKind)),
     }
 }
 
-fn exists(args: &[Value], state: &State) -> Result<Value, Stop>
-    ensures { (budget : Budget) → Answers result state.now budget (on_ref held_told (plain_values args.now) (running state.now budget)) }
+fn exists(args: &[Value], state: &State) -> Result<Value, EvalStop>
+    ensures { (budget : Budget) → Answers result state.now budget (on_ref tell_held (plain_values args.now) (running state.now budget)) }
 {
     match args {
         [object] => is_there(object, state),
-        _ => Err(Stop::Fault(Fault::BadKind)),
+        _ => Err(EvalStop::Fault(Fault::BadKind)),
     }
 }
 
-fn is_there(object: &Value, state: &State) -> Result<Value, Stop>
-    ensures { (budget : Budget) → Answers result state.now budget (on_ref held_told (plain object.now ∷ []) (running state.now budget)) }
+fn is_there(object: &Value, state: &State) -> Result<Value, EvalStop>
+    ensures { (budget : Budget) → Answers result state.now budget (on_ref tell_held (plain object.now ∷ []) (running state.now budget)) }
 {
     match object {
         Value::Ref(id) => Ok(Value::Bool(is_held(state, *id))),
-        _ => Err(Stop::Fault(Fault::BadKind)),
+        _ => Err(EvalStop::Fault(Fault::BadKind)),
     }
 }
 
-fn take_away(alloc: Global, args: &[Value], state: &mut State) -> Result<Value, Stop>
-    ensures { (budget : Budget) → Answers result state.new budget (on_ref destroyed (plain_values args.now) (running state.old budget)) }
+fn take_away(alloc: Global, args: &[Value], state: &mut State) -> Result<Value, EvalStop>
+    ensures { (budget : Budget) → Answers result state.new budget (on_ref destroy (plain_values args.now) (running state.old budget)) }
 {
     match args {
         [object] => take_away_one(alloc, object, state),
-        _ => Err(Stop::Fault(Fault::BadKind)),
+        _ => Err(EvalStop::Fault(Fault::BadKind)),
     }
 }
 
-fn take_away_one(alloc: Global, object: &Value, state: &mut State) -> Result<Value, Stop>
-    ensures { (budget : Budget) → Answers result state.new budget (on_ref destroyed (plain object.now ∷ []) (running state.old budget)) }
+fn take_away_one(alloc: Global, object: &Value, state: &mut State) -> Result<Value, EvalStop>
+    ensures { (budget : Budget) → Answers result state.new budget (on_ref destroy (plain object.now ∷ []) (running state.old budget)) }
 {
     match object {
         Value::Ref(id) => destroy(alloc, state, *id),
-        _ => Err(Stop::Fault(Fault::BadKind)),
+        _ => Err(EvalStop::Fault(Fault::BadKind)),
     }
 }
 
-fn make_handler(args: &[Value], object: u32, state: &mut State) -> Result<Value, Stop>
-    ensures { (budget : Budget) → Answers result state.new budget (on_texts (subscribed object) (plain_values args.now) (running state.old budget)) }
+fn make_handler(args: &[Value], object: u32, state: &mut State) -> Result<Value, EvalStop>
+    ensures { (budget : Budget) → Answers result state.new budget (on_texts (subscribe object) (plain_values args.now) (running state.old budget)) }
 {
     match args {
         [scope, event, method] => make_handler_of(scope, event, method, object, state),
-        _ => Err(Stop::Fault(Fault::BadKind)),
+        _ => Err(EvalStop::Fault(Fault::BadKind)),
     }
 }
 
@@ -247,23 +257,23 @@ fn make_handler_of(
     method: &Value,
     object: u32,
     state: &mut State,
-) -> Result<Value, Stop>
-    ensures { (budget : Budget) → Answers result state.new budget (on_texts (subscribed object) (plain scope.now ∷ plain event.now ∷ plain method.now ∷ []) (running state.old budget)) }
+) -> Result<Value, EvalStop>
+    ensures { (budget : Budget) → Answers result state.new budget (on_texts (subscribe object) (plain scope.now ∷ plain event.now ∷ plain method.now ∷ []) (running state.old budget)) }
 {
     match (scope, event, method) {
         (Value::Text(scope), Value::Text(event), Value::Text(method)) => {
             subscribe(scope, event, method, object, state)
         }
-        _ => Err(Stop::Fault(Fault::BadKind)),
+        _ => Err(EvalStop::Fault(Fault::BadKind)),
     }
 }
 
-fn drop_handler(args: &[Value], object: u32, state: &mut State) -> Result<Value, Stop>
-    ensures { (budget : Budget) → Answers result state.new budget (on_texts (unsubscribed object) (plain_values args.now) (running state.old budget)) }
+fn drop_handler(args: &[Value], object: u32, state: &mut State) -> Result<Value, EvalStop>
+    ensures { (budget : Budget) → Answers result state.new budget (on_texts (unsubscribe object) (plain_values args.now) (running state.old budget)) }
 {
     match args {
         [scope, event, method] => drop_handler_of(scope, event, method, object, state),
-        _ => Err(Stop::Fault(Fault::BadKind)),
+        _ => Err(EvalStop::Fault(Fault::BadKind)),
     }
 }
 
@@ -273,32 +283,32 @@ fn drop_handler_of(
     method: &Value,
     object: u32,
     state: &mut State,
-) -> Result<Value, Stop>
-    ensures { (budget : Budget) → Answers result state.new budget (on_texts (unsubscribed object) (plain scope.now ∷ plain event.now ∷ plain method.now ∷ []) (running state.old budget)) }
+) -> Result<Value, EvalStop>
+    ensures { (budget : Budget) → Answers result state.new budget (on_texts (unsubscribe object) (plain scope.now ∷ plain event.now ∷ plain method.now ∷ []) (running state.old budget)) }
 {
     match (scope, event, method) {
         (Value::Text(scope), Value::Text(event), Value::Text(method)) => {
             unsubscribe(scope, event, method, object, state)
         }
-        _ => Err(Stop::Fault(Fault::BadKind)),
+        _ => Err(EvalStop::Fault(Fault::BadKind)),
     }
 }
 
-fn cancel_calls(args: &[Value], object: u32, state: &mut State) -> Result<Value, Stop>
-    ensures { (budget : Budget) → Answers result state.new budget (on_text (cancelled object) (plain_values args.now) (running state.old budget)) }
+fn cancel_calls(args: &[Value], object: u32, state: &mut State) -> Result<Value, EvalStop>
+    ensures { (budget : Budget) → Answers result state.new budget (on_text (cancel object) (plain_values args.now) (running state.old budget)) }
 {
     match args {
         [method] => cancel_calls_of(method, object, state),
-        _ => Err(Stop::Fault(Fault::BadKind)),
+        _ => Err(EvalStop::Fault(Fault::BadKind)),
     }
 }
 
-fn cancel_calls_of(method: &Value, object: u32, state: &mut State) -> Result<Value, Stop>
-    ensures { (budget : Budget) → Answers result state.new budget (on_text (cancelled object) (plain method.now ∷ []) (running state.old budget)) }
+fn cancel_calls_of(method: &Value, object: u32, state: &mut State) -> Result<Value, EvalStop>
+    ensures { (budget : Budget) → Answers result state.new budget (on_text (cancel object) (plain method.now ∷ []) (running state.old budget)) }
 {
     match method {
         Value::Text(method) => cancel(object, method, state),
-        _ => Err(Stop::Fault(Fault::BadKind)),
+        _ => Err(EvalStop::Fault(Fault::BadKind)),
     }
 }
 
@@ -325,11 +335,11 @@ fn answer_pure(
     builtin: Option<Pure>,
     args: &Values,
     budget: &mut Budget,
-) -> Result<Value, Stop>
-    ensures { Spends result budget.new (λ (state : State). pure_answered builtin (plain_values args.now) (running state budget.old)) }
+) -> Result<Value, EvalStop>
+    ensures { Spends result budget.new (λ (state : State). pure_outcome builtin (plain_values args.now) (running state budget.old)) }
 {
     let Some(builtin) = builtin else {
-        return Err(Stop::Fault(Fault::BadKind));
+        return Err(EvalStop::Fault(Fault::BadKind));
     };
     let value = apply(alloc, builtin, args)?;
     if takes_steps(builtin) {

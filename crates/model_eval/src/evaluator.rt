@@ -6,18 +6,18 @@ ghost use Rattle.model_check.specs.SolvedView.{solved_expression, solved_express
 ghost use Rattle.model_value.specs.Plain.{ref};
 ghost use Rattle.model_value.specs.View.{plain, plain_values};
 ghost use Rattle.model_eval.specs.Running.{and_then, Gives};
-ghost use Rattle.model_eval.specs.Operators.{operating, truly as truth_of_right};
-ghost use Rattle.model_eval.specs.Builtins.{answered, on_event};
-ghost use Rattle.model_eval.specs.Publishing.{run_handlers, handled_by, published, tell_handlers};
-ghost use Rattle.model_eval.specs.Meaning.{called_on, created, run_init};
-ghost use Rattle.model_eval.specs.Slots.{block as block_of, entered, evaluated, expression_row as row_of_expression, in_turn, looped, performed, statement_row as row_of_statement};
+ghost use Rattle.model_eval.specs.Operators.{binary_outcome, truly as truth_of_right};
+ghost use Rattle.model_eval.specs.Builtins.{run_builtin, on_event};
+ghost use Rattle.model_eval.specs.Publishing.{run_handlers, handle, publish, tell_handlers};
+ghost use Rattle.model_eval.specs.Meaning.{call_on, create_object, run_init};
+ghost use Rattle.model_eval.specs.Slots.{block as block_of, room_inside, evaluate_all, expression_row as row_of_expression, in_turn, loop_turns, perform, statement_row as row_of_statement};
 ghost use Rattle.model_eval.specs.Answer.{Answers, AnswersAll, Did, Enters, Flows, Steps, evaluates_by, executes_by, running, starts_by};
 ghost use Rattle.model_eval.specs.declared.state.State.{State};
 
 use crate::builtins::answer;
 use crate::calls::Event;
 use crate::events::announce;
-use crate::fault::{Fault, Stop};
+use crate::fault::{EvalStop, Fault};
 use crate::here::{Here, Starter};
 use crate::locals::{assign, declare, get_local};
 use crate::messages::send;
@@ -51,7 +51,7 @@ impl Here<'_> {
         locals: &[Value],
         state: &mut State,
         budget: &mut Budget,
-    ) -> Result<Value, Stop>
+    ) -> Result<Value, EvalStop>
         ensures { let here = self.now in
             Answers result state.new budget.new (evaluates_by here.starter here.object (solved_expression expr.now) (plain_values locals.now) (running state.old budget.old)) }
     {
@@ -67,7 +67,7 @@ impl Here<'_> {
         locals: &[Value],
         state: &mut State,
         budget: &mut Budget,
-    ) -> Result<Value, Stop>
+    ) -> Result<Value, EvalStop>
         ensures { let here = self.now in
             Answers result state.new budget.new (row_of_expression (program_tree here.starter.program.now) (evaluates_by here.starter) (starts_by here.starter) here.object (solved_expression expr.now) (plain_values locals.now) (running state.old budget.old)) }
     {
@@ -132,9 +132,9 @@ impl Here<'_> {
         locals: &[Value],
         state: &mut State,
         budget: &mut Budget,
-    ) -> Result<Value, Stop>
+    ) -> Result<Value, EvalStop>
         ensures { let here = self.now in let ev = evaluates_by here.starter here.object in
-            Answers result state.new budget.new (and_then (ev (solved_expression left.now) (plain_values locals.now) (running state.old budget.old)) (λ v. operating BinaryOp.Or v (ev (solved_expression right.now) (plain_values locals.now)))) }
+            Answers result state.new budget.new (and_then (ev (solved_expression left.now) (plain_values locals.now) (running state.old budget.old)) (λ v. binary_outcome BinaryOp.Or v (ev (solved_expression right.now) (plain_values locals.now)))) }
     {
         let value = self.evaluate(left, locals, state, budget)?;
         if truth(&value)? {
@@ -153,9 +153,9 @@ impl Here<'_> {
         locals: &[Value],
         state: &mut State,
         budget: &mut Budget,
-    ) -> Result<Value, Stop>
+    ) -> Result<Value, EvalStop>
         ensures { let here = self.now in let ev = evaluates_by here.starter here.object in
-            Answers result state.new budget.new (and_then (ev (solved_expression left.now) (plain_values locals.now) (running state.old budget.old)) (λ v. operating BinaryOp.And v (ev (solved_expression right.now) (plain_values locals.now)))) }
+            Answers result state.new budget.new (and_then (ev (solved_expression left.now) (plain_values locals.now) (running state.old budget.old)) (λ v. binary_outcome BinaryOp.And v (ev (solved_expression right.now) (plain_values locals.now)))) }
     {
         let value = self.evaluate(left, locals, state, budget)?;
         if truth(&value)? {
@@ -173,7 +173,7 @@ impl Here<'_> {
         locals: &[Value],
         state: &mut State,
         budget: &mut Budget,
-    ) -> Result<Value, Stop>
+    ) -> Result<Value, EvalStop>
         ensures { let here = self.now in
             Answers result state.new budget.new (truth_of_right (evaluates_by here.starter here.object (solved_expression right.now) (plain_values locals.now)) (running state.old budget.old)) }
     {
@@ -188,9 +188,9 @@ impl Here<'_> {
         locals: &[Value],
         state: &mut State,
         budget: &mut Budget,
-    ) -> Result<Values, Stop>
+    ) -> Result<Values, EvalStop>
         ensures { let here = self.now in
-            AnswersAll result state.new budget.new (evaluated (evaluates_by here.starter) here.object (solved_expressions exprs.now) (plain_values locals.now) [] (running state.old budget.old)) }
+            AnswersAll result state.new budget.new (evaluate_all (evaluates_by here.starter) here.object (solved_expressions exprs.now) (plain_values locals.now) [] (running state.old budget.old)) }
     {
         let mut values = List::new(self.starter.alloc);
         for expr in exprs {
@@ -208,9 +208,9 @@ impl Here<'_> {
         args: &Values,
         state: &mut State,
         budget: &mut Budget,
-    ) -> Result<Value, Stop>
+    ) -> Result<Value, EvalStop>
         ensures { let here = self.now in
-            Answers result state.new budget.new (answered (starts_by here.starter) builtin here.object (plain_values args.now) (running state.old budget.old)) }
+            Answers result state.new budget.new (run_builtin (starts_by here.starter) builtin here.object (plain_values args.now) (running state.old budget.old)) }
     {
         match builtin {
             Builtin::Publish => self.starter.publish(args.as_slice(), state, budget),
@@ -227,7 +227,7 @@ impl Here<'_> {
         locals: &mut Vec<Value>,
         state: &mut State,
         budget: &mut Budget,
-    ) -> Result<Flow, Stop>
+    ) -> Result<Flow, EvalStop>
         ensures { let here = self.now in
             Flows result locals.new state.new budget.new (executes_by here.starter here.object (solved_statement stmt.now) (plain_values locals.old.items) (running state.old budget.old)) }
     {
@@ -243,7 +243,7 @@ impl Here<'_> {
         locals: &mut Vec<Value>,
         state: &mut State,
         budget: &mut Budget,
-    ) -> Result<Flow, Stop>
+    ) -> Result<Flow, EvalStop>
         ensures { let here = self.now in
             Flows result locals.new state.new budget.new (row_of_statement (evaluates_by here.starter) (executes_by here.starter) here.object (solved_statement stmt.now) (plain_values locals.old.items) (running state.old budget.old)) }
     {
@@ -295,9 +295,9 @@ impl Here<'_> {
         locals: &mut Vec<Value>,
         state: &mut State,
         budget: &mut Budget,
-    ) -> Result<Flow, Stop>
+    ) -> Result<Flow, EvalStop>
         ensures { let here = self.now in
-            Flows result locals.new state.new budget.new (looped budget.old.fuel (evaluates_by here.starter) (executes_by here.starter) here.object (solved_expression test.now) (solved_statements body.now) (plain_values locals.old.items) (running state.old budget.old)) }
+            Flows result locals.new state.new budget.new (loop_turns budget.old.fuel (evaluates_by here.starter) (executes_by here.starter) here.object (solved_expression test.now) (solved_statements body.now) (plain_values locals.old.items) (running state.old budget.old)) }
     {
         let turns = budget.fuel;
         for _turn in 0..turns {
@@ -310,7 +310,7 @@ impl Here<'_> {
                 return Ok(Flow::Return(value));
             }
         }
-        Err(Stop::Fault(Fault::Fuel))
+        Err(EvalStop::Fault(Fault::Fuel))
     }
 
     // Behind a block the locals are those that were there before it.
@@ -322,7 +322,7 @@ impl Here<'_> {
         locals: &mut Vec<Value>,
         state: &mut State,
         budget: &mut Budget,
-    ) -> Result<Flow, Stop>
+    ) -> Result<Flow, EvalStop>
         ensures { let here = self.now in
             Flows result locals.new state.new budget.new (block_of (executes_by here.starter) here.object (solved_statements stmts.now) (plain_values locals.old.items) (running state.old budget.old)) }
     {
@@ -343,7 +343,7 @@ impl Here<'_> {
         locals: &mut Vec<Value>,
         state: &mut State,
         budget: &mut Budget,
-    ) -> Result<Flow, Stop>
+    ) -> Result<Flow, EvalStop>
         ensures { let here = self.now in
             Flows result locals.new state.new budget.new (in_turn (executes_by here.starter) here.object (solved_statements stmts.now) (plain_values locals.old.items) (running state.old budget.old)) }
     {
@@ -367,15 +367,15 @@ impl Starter<'_> {
         args: Values,
         state: &mut State,
         budget: &mut Budget,
-    ) -> Result<Value, Stop>
+    ) -> Result<Value, EvalStop>
         ensures { Answers result state.new budget.new (starts_by self.now object method.now (plain_values args) (running state.old budget.old)) }
     {
         let class = match state.objects.class(object) {
-            None => return Err(Stop::Fault(Fault::NoObject)),
+            None => return Err(EvalStop::Fault(Fault::NoObject)),
             Some(class) => class,
         };
         match self.program.method(class, method) {
-            None => Err(Stop::Fault(Fault::NoMethod)),
+            None => Err(EvalStop::Fault(Fault::NoMethod)),
             Some(solved) => self.perform(object, solved, args, state, budget),
         }
     }
@@ -389,11 +389,11 @@ impl Starter<'_> {
         args: Values,
         state: &mut State,
         budget: &mut Budget,
-    ) -> Result<Value, Stop>
-        ensures { Answers result state.new budget.new (performed (program_tree self.now.program.now) self.now.room object (solved_method method.now) (plain_values args) (running state.old budget.old)) }
+    ) -> Result<Value, EvalStop>
+        ensures { Answers result state.new budget.new (perform (program_tree self.now.program.now) self.now.room object (solved_method method.now) (plain_values args) (running state.old budget.old)) }
     {
         if args.len() != method.params as usize {
-            return Err(Stop::Fault(Fault::Arity));
+            return Err(EvalStop::Fault(Fault::Arity));
         }
         let here = Here {
             starter: *self,
@@ -414,12 +414,12 @@ impl Starter<'_> {
         args: Values,
         state: &mut State,
         budget: &mut Budget,
-    ) -> Result<Value, Stop>
-        ensures { Answers result state.new budget.new (called_on (starts_by self.now) (plain object.now) method.now (plain_values args) (running state.old budget.old)) }
+    ) -> Result<Value, EvalStop>
+        ensures { Answers result state.new budget.new (call_on (starts_by self.now) (plain object.now) method.now (plain_values args) (running state.old budget.old)) }
     {
         match object {
             Value::Ref(object) => self.start(*object, method, args, state, budget),
-            _ => Err(Stop::Fault(Fault::BadKind)),
+            _ => Err(EvalStop::Fault(Fault::BadKind)),
         }
     }
 
@@ -431,12 +431,12 @@ impl Starter<'_> {
         options: Value,
         state: &mut State,
         budget: &mut Budget,
-    ) -> Result<Value, Stop>
+    ) -> Result<Value, EvalStop>
         ensures { let tree = program_tree self.now.program.now in
-            Answers result state.new budget.new (created (starts_by self.now) class (slice_get tree class) (plain options) (running state.old budget.old)) }
+            Answers result state.new budget.new (create_object (starts_by self.now) class (slice_get tree class) (plain options) (running state.old budget.old)) }
     {
         let Some(fields) = self.program.fields(class) else {
-            return Err(Stop::Fault(Fault::BadKind));
+            return Err(EvalStop::Fault(Fault::BadKind));
         };
         let id = make(self.alloc, state, class, fields)?;
         self.initialise(class, id, options, state, budget)
@@ -451,7 +451,7 @@ impl Starter<'_> {
         options: Value,
         state: &mut State,
         budget: &mut Budget,
-    ) -> Result<Value, Stop>
+    ) -> Result<Value, EvalStop>
         ensures { let tree = program_tree self.now.program.now in (c : ClassTree) → slice_get tree class ≡ Some c →
             Answers result state.new budget.new (run_init (starts_by self.now) c (plain options) id (running state.old budget.old)) }
     {
@@ -470,7 +470,7 @@ impl Starter<'_> {
         options: Value,
         state: &mut State,
         budget: &mut Budget,
-    ) -> Result<Value, Stop>
+    ) -> Result<Value, EvalStop>
         ensures { Answers result state.new budget.new (and_then (starts_by self.now id init.now (plain options ∷ []) (running state.old budget.old)) (λ _. Gives (ref id))) }
     {
         let args = only(self.alloc, options)?;
@@ -479,12 +479,17 @@ impl Starter<'_> {
     }
 
     #[cycle(evaluate)]
-    fn publish(&self, args: &[Value], state: &mut State, budget: &mut Budget) -> Result<Value, Stop>
-        ensures { Answers result state.new budget.new (on_event (published (starts_by self.now)) (plain_values args.now) (running state.old budget.old)) }
+    fn publish(
+        &self,
+        args: &[Value],
+        state: &mut State,
+        budget: &mut Budget,
+    ) -> Result<Value, EvalStop>
+        ensures { Answers result state.new budget.new (on_event (publish (starts_by self.now)) (plain_values args.now) (running state.old budget.old)) }
     {
         match args {
             [scope, event, value] => self.publish_to(scope, event, value, state, budget),
-            _ => Err(Stop::Fault(Fault::BadKind)),
+            _ => Err(EvalStop::Fault(Fault::BadKind)),
         }
     }
 
@@ -496,15 +501,15 @@ impl Starter<'_> {
         value: &Value,
         state: &mut State,
         budget: &mut Budget,
-    ) -> Result<Value, Stop>
-        ensures { Answers result state.new budget.new (on_event (published (starts_by self.now)) (plain scope.now ∷ plain name.now ∷ plain value.now ∷ []) (running state.old budget.old)) }
+    ) -> Result<Value, EvalStop>
+        ensures { Answers result state.new budget.new (on_event (publish (starts_by self.now)) (plain scope.now ∷ plain name.now ∷ plain value.now ∷ []) (running state.old budget.old)) }
     {
         match (scope, name) {
             (Value::Text(scope), Value::Text(name)) => {
                 let event = Event { scope, name, value };
                 self.publish_event(&event, state, budget)
             }
-            _ => Err(Stop::Fault(Fault::BadKind)),
+            _ => Err(EvalStop::Fault(Fault::BadKind)),
         }
     }
 
@@ -515,8 +520,8 @@ impl Starter<'_> {
         event: &Event<'_>,
         state: &mut State,
         budget: &mut Budget,
-    ) -> Result<Value, Stop>
-        ensures { Answers result state.new budget.new (published (starts_by self.now) event.now.scope.now event.now.name.now (plain event.now.value.now) (running state.old budget.old)) }
+    ) -> Result<Value, EvalStop>
+        ensures { Answers result state.new budget.new (publish (starts_by self.now) event.now.scope.now event.now.name.now (plain event.now.value.now) (running state.old budget.old)) }
     {
         announce(self.alloc, event, state)?;
         self.tell(event, state, budget)?;
@@ -531,7 +536,7 @@ impl Starter<'_> {
         event: &Event<'_>,
         state: &mut State,
         budget: &mut Budget,
-    ) -> Result<(), Stop>
+    ) -> Result<(), EvalStop>
         ensures { Did result state.new budget.new (tell_handlers (starts_by self.now) event.now.scope.now event.now.name.now (plain event.now.value.now) (running state.old budget.old)) }
     {
         let handlers = state.topics.handlers(event.scope, event.name)?;
@@ -545,7 +550,7 @@ impl Starter<'_> {
         value: &Value,
         state: &mut State,
         budget: &mut Budget,
-    ) -> Result<(), Stop>
+    ) -> Result<(), EvalStop>
         ensures { Did result state.new budget.new (run_handlers (starts_by self.now) (plain value.now) handlers.now (running state.old budget.old)) }
     {
         for handler in handlers {
@@ -561,8 +566,8 @@ impl Starter<'_> {
         value: &Value,
         state: &mut State,
         budget: &mut Budget,
-    ) -> Result<(), Stop>
-        ensures { Did result state.new budget.new (handled_by (starts_by self.now) (plain value.now) handler.now (running state.old budget.old)) }
+    ) -> Result<(), EvalStop>
+        ensures { Did result state.new budget.new (handle (starts_by self.now) (plain value.now) handler.now (running state.old budget.old)) }
     {
         if !is_held(state, handler.object) {
             return Ok(());
@@ -575,23 +580,23 @@ impl Starter<'_> {
 }
 
 // Enters a statement or an expression, where so many may be open: takes a step, and answers how many more may be open.
-fn enter(room: u32, budget: &mut Budget) -> Result<u32, Stop>
-    ensures answers { Enters result budget.new (λ (state : State). entered room (running state budget.old)) }
+fn enter(room: u32, budget: &mut Budget) -> Result<u32, EvalStop>
+    ensures answers { Enters result budget.new (λ (state : State). room_inside room (running state budget.old)) }
     ensures less { IfOk result (λ inside. inside < room) }
 {
     take_step(budget)?;
     if room == 0 {
-        return Err(Stop::Fault(Fault::Depth));
+        return Err(EvalStop::Fault(Fault::Depth));
     }
     Ok(room - 1)
 }
 
 // Takes a step of fuel.
-fn take_step(budget: &mut Budget) -> Result<(), Stop>
+fn take_step(budget: &mut Budget) -> Result<(), EvalStop>
     ensures { Steps result budget.old budget.new }
 {
     if budget.fuel == 0 {
-        return Err(Stop::Fault(Fault::Fuel));
+        return Err(EvalStop::Fault(Fault::Fuel));
     }
     budget.fuel -= 1;
     Ok(())

@@ -4,11 +4,11 @@ ghost use Rattle.model_value.specs.Plain.{int};
 ghost use Rattle.model_value.specs.View.{plain, plain_values};
 ghost use Rattle.world_plain.specs.World.{subscription_weight, world_weight, most_world_weight};
 ghost use Rattle.model_eval.specs.declared.state.Budget.{Budget};
-ghost use Rattle.model_eval.specs.Publishing.{added, has_room_to, subscribed, subscription, unsubscribed, with_outgoing};
+ghost use Rattle.model_eval.specs.Publishing.{add_subscription, has_room_to, subscribe, subscription, unsubscribe, with_outgoing};
 ghost use Rattle.model_eval.specs.Answer.{Answers, running, world_of};
 
 use crate::calls::Event;
-use crate::fault::{Fault, Stop};
+use crate::fault::{EvalStop, Fault};
 use crate::objects::is_held;
 use crate::state::State;
 use model_value::{Value, Values, copy};
@@ -39,24 +39,24 @@ pub fn subscribe(
     method: &Text,
     object: u32,
     state: &mut State,
-) -> Result<Value, Stop>
-    ensures { (budget : Budget) → Answers result state.new budget (subscribed object scope.now event.now method.now (running state.old budget)) }
+) -> Result<Value, EvalStop>
+    ensures { (budget : Budget) → Answers result state.new budget (subscribe object scope.now event.now method.now (running state.old budget)) }
 {
     if !is_held(state, object) {
-        return Err(Stop::Fault(Fault::NoObject));
+        return Err(EvalStop::Fault(Fault::NoObject));
     }
     let new = subscription_of(scope, event, method, object)?;
     add(new, state)
 }
 
-fn add(new: Subscription, state: &mut State) -> Result<Value, Stop>
-    ensures { (budget : Budget) → Answers result state.new budget (added new (running state.old budget)) }
+fn add(new: Subscription, state: &mut State) -> Result<Value, EvalStop>
+    ensures { (budget : Budget) → Answers result state.new budget (add_subscription new (running state.old budget)) }
 {
     if state.topics.holds(&new) {
         return Ok(Value::Nil);
     }
     if !has_room(state, &new) {
-        return Err(Stop::Fault(Fault::Full));
+        return Err(EvalStop::Fault(Fault::Full));
     }
     state.topics.subscribe(new)?;
     Ok(Value::Nil)
@@ -80,11 +80,11 @@ pub fn unsubscribe(
     method: &Text,
     object: u32,
     state: &mut State,
-) -> Result<Value, Stop>
-    ensures { (budget : Budget) → Answers result state.new budget (unsubscribed object scope.now event.now method.now (running state.old budget)) }
+) -> Result<Value, EvalStop>
+    ensures { (budget : Budget) → Answers result state.new budget (unsubscribe object scope.now event.now method.now (running state.old budget)) }
 {
     if !is_held(state, object) {
-        return Err(Stop::Fault(Fault::NoObject));
+        return Err(EvalStop::Fault(Fault::NoObject));
     }
     let old = subscription_of(scope, event, method, object)?;
     state.topics.unsubscribe(&old);

@@ -39,48 +39,48 @@ pub enum Fault {
 
 /// Why a method stopped before its end.
 #[derive(Clone, Copy, Debug, PartialEq, Eq)]
-pub enum Stop {
+pub enum EvalStop {
     Fault(Fault),
     WantOfMemory,
 }
 
-impl From<WantOfMemory> for Stop {
+impl From<WantOfMemory> for EvalStop {
     ghost use Rattle.std.specs.Prelude.{◌≡◌};
-    ghost use Rattle.model_eval.specs.declared.fault.Stop.TheVariants.{WantOfMemory as NoMemory};
+    ghost use Rattle.model_eval.specs.declared.fault.EvalStop.TheVariants.{WantOfMemory as NoMemory};
 
     ghost from_gives = { λ _ r. r ≡ NoMemory };
 
-    fn from(_error: WantOfMemory) -> Stop {
-        Stop::WantOfMemory
+    fn from(_error: WantOfMemory) -> EvalStop {
+        EvalStop::WantOfMemory
     }
 }
 
-impl From<BuiltinStop> for Stop {
+impl From<BuiltinStop> for EvalStop {
     ghost use Rattle.std.specs.Prelude.{◌≡◌};
     ghost use Rattle.model_eval.specs.Answer.{stop_of};
 
     ghost from_gives = { λ stop r. r ≡ stop_of stop };
 
-    fn from(stop: BuiltinStop) -> Stop {
+    fn from(stop: BuiltinStop) -> EvalStop {
         match stop {
-            BuiltinStop::BadKind => Stop::Fault(Fault::BadKind),
-            BuiltinStop::BadIndex => Stop::Fault(Fault::BadIndex),
-            BuiltinStop::Size => Stop::Fault(Fault::Size),
-            BuiltinStop::WantOfMemory => Stop::WantOfMemory,
+            BuiltinStop::BadKind => EvalStop::Fault(Fault::BadKind),
+            BuiltinStop::BadIndex => EvalStop::Fault(Fault::BadIndex),
+            BuiltinStop::Size => EvalStop::Fault(Fault::Size),
+            BuiltinStop::WantOfMemory => EvalStop::WantOfMemory,
         }
     }
 }
 
-impl From<StoreRefusal> for Stop {
+impl From<StoreRefusal> for EvalStop {
     ghost use Rattle.std.specs.Prelude.{◌≡◌};
     ghost use Rattle.model_eval.specs.Answer.{stop_of_refusal};
 
     ghost from_gives = { λ refusal r. r ≡ stop_of_refusal refusal };
 
-    fn from(refusal: StoreRefusal) -> Stop {
+    fn from(refusal: StoreRefusal) -> EvalStop {
         match refusal {
-            StoreRefusal::Full { .. } | StoreRefusal::Spent => Stop::Fault(Fault::Full),
-            StoreRefusal::WantOfMemory => Stop::WantOfMemory,
+            StoreRefusal::Full { .. } | StoreRefusal::Spent => EvalStop::Fault(Fault::Full),
+            StoreRefusal::WantOfMemory => EvalStop::WantOfMemory,
         }
     }
 }

@@ -4,13 +4,13 @@ ghost use Rattle.model_value.specs.Plain.{nil};
 ghost use Rattle.model_value.specs.View.{plain};
 ghost use Rattle.world_plain.specs.World.{world_weight, known_weight, most_world_weight};
 ghost use Rattle.model_eval.specs.Running.{with_world};
-ghost use Rattle.model_eval.specs.Objects.{known_by, if_light, made_known};
+ghost use Rattle.model_eval.specs.Objects.{known_by, if_light, make_known};
 ghost use Rattle.tea_base.specs.Order.{comes_before as before};
 ghost use Rattle.model_eval.specs.Places.{IsKnownAt, IsPlaceFor};
 ghost use Rattle.model_eval.specs.Answer.{Answers, running, world_of};
 ghost use Rattle.model_eval.specs.declared.state.Budget.{Budget};
 
-use crate::fault::{Fault, Stop};
+use crate::fault::{EvalStop, Fault};
 use crate::objects::{is_held, take_items};
 use crate::state::State;
 use model_value::Value;
@@ -32,11 +32,16 @@ pub fn known_object(known: &[Known], name: &Text) -> Value
 
 /// Makes an object known by a name, in place of any other. Gives the fault NoObject where the object is gone, and Full, with
 /// the world as it was, where the world would become too heavy.
-pub fn be_known(alloc: Global, name: &Text, object: u32, state: &mut State) -> Result<Value, Stop>
-    ensures { (budget : Budget) → Answers result state.new budget (made_known object name.now (running state.old budget)) }
+pub fn be_known(
+    alloc: Global,
+    name: &Text,
+    object: u32,
+    state: &mut State,
+) -> Result<Value, EvalStop>
+    ensures { (budget : Budget) → Answers result state.new budget (make_known object name.now (running state.old budget)) }
 {
     if !is_held(state, object) {
-        return Err(Stop::Fault(Fault::NoObject));
+        return Err(EvalStop::Fault(Fault::NoObject));
     }
     let known = Known {
         name: name.try_clone()?,
@@ -71,13 +76,18 @@ fn place_for(known: &[Known], name: &Text) -> Place
 }
 
 // The name at this place is known already, so the world becomes no heavier.
-fn hand_over(alloc: Global, state: &mut State, place: usize, known: Known) -> Result<Value, Stop>
+fn hand_over(
+    alloc: Global,
+    state: &mut State,
+    place: usize,
+    known: Known,
+) -> Result<Value, EvalStop>
     requires { IsKnownAt place known.name state.old.known }
     ensures { (budget : Budget) → let r = running state.old budget in
         Answers result state.new budget (if_light nil r (with_world r (record (r.world) { known = slice_set r.world.known place known }))) }
 {
     if state.room().is_none() {
-        return Err(Stop::Fault(Fault::Full));
+        return Err(EvalStop::Fault(Fault::Full));
     }
     replace(alloc, &mut state.known, place, known);
     Ok(Value::Nil)
@@ -92,13 +102,13 @@ fn replace(alloc: Global, known: &mut KnownNames, place: usize, new: Known)
     *known = List::from_vec(all);
 }
 
-fn add(alloc: Global, state: &mut State, place: usize, known: Known) -> Result<Value, Stop>
+fn add(alloc: Global, state: &mut State, place: usize, known: Known) -> Result<Value, EvalStop>
     requires { place ≤ length state.old.known }
     ensures { (budget : Budget) → let r = running state.old budget in
         Answers result state.new budget (if_light nil r (with_world r (record (r.world) { known = insert r.world.known place known }))) }
 {
     if !has_room_for_name(state, &known) {
-        return Err(Stop::Fault(Fault::Full));
+        return Err(EvalStop::Fault(Fault::Full));
     }
     put_at(alloc, &mut state.known, place, known)?;
     Ok(Value::Nil)

@@ -10,7 +10,7 @@ ghost use Rattle.model_check.specs.Methods.{field_counts};
 ghost use Rattle.model_eval.specs.Running.{Running};
 ghost use Rattle.model_eval.specs.Publishing.{tell_handlers};
 ghost use Rattle.model_eval.specs.Kept.{Carries, Anything};
-ghost use Rattle.model_eval.specs.Meaning.{Here, Local, looped, goes_round, evaluate, execute, starts};
+ghost use Rattle.model_eval.specs.Meaning.{Here, Local, loop_turns, goes_round, evaluate, execute, starts};
 
 /// A method that ends, with a value or a fault, leaves a valid world valid, and its value is in bounds, where its arguments
 /// are. It leaves as they were the world's time, its turns, its counts of faults, its views and all else that `Kept` names.
@@ -28,5 +28,5 @@ pub fn telling_keeps()
 /// bounds that a text's loops keep.
 pub fn loops_end_by_fuel_alone()
     ensures { (program : ProgramTree) (room : ℕ) (here : Here) (test : Expression) (body : Statements) (locals : List Local) (r : Running) → IsProgram program → HasFewArguments (while test body) → NamesAreShort (while test body) →
-        looped r.fuel (evaluate program room) (execute program room) here test body locals r ≡ goes_round (evaluate program room) (execute program room) here test body locals r }
+        loop_turns r.fuel (evaluate program room) (execute program room) here test body locals r ≡ goes_round (evaluate program room) (execute program room) here test body locals r }
 {}

@@ -20,7 +20,7 @@ mod values;
 
 pub use builtins::session_text;
 pub use calls::{Call, Event};
-pub use fault::{Fault, Stop};
+pub use fault::{EvalStop, Fault};
 pub use laws::{loops_end_by_fuel_alone, method_keeps, telling_keeps};
 pub use method::{run_method, tell_models};
 pub use state::{Budget, State};

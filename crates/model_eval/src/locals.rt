@@ -5,13 +5,13 @@ ghost use Rattle.model_value.specs.View.{plain, plain_values};
 ghost use Rattle.model_eval.specs.Running.{value as reply_value};
 ghost use Rattle.model_eval.specs.Answer.{Replies};
 
-use crate::fault::Stop;
+use crate::fault::EvalStop;
 use model_value::{Value, copy};
 use std::alloc::Global;
 use tea_base::WantOfMemory;
 
 /// A copy of what a local holds.
-pub fn get_local(alloc: Global, locals: &[Value], slot: u32) -> Result<Value, Stop>
+pub fn get_local(alloc: Global, locals: &[Value], slot: u32) -> Result<Value, EvalStop>
     ensures { Replies result (reply_value (slice_index_or (plain_values locals.now) slot nil)) }
 {
     match locals.get(slot as usize) {

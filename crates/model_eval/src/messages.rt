@@ -5,11 +5,11 @@ ghost use Rattle.world_plain.specs.Valid.{object_at};
 ghost use Rattle.model_value.specs.Plain.{text_weight, values_weight};
 ghost use Rattle.world_plain.specs.World.{world_weight, most_world_weight};
 ghost use Rattle.model_eval.specs.declared.state.Budget.{Budget};
-ghost use Rattle.model_eval.specs.Futures.{ahead as ahead_of, send as sends, sent, sent_to};
-ghost use Rattle.model_eval.specs.Publishing.{cancelled};
+ghost use Rattle.model_eval.specs.Futures.{ahead as ahead_of, send as sends, send_at, send_to};
+ghost use Rattle.model_eval.specs.Publishing.{cancel};
 ghost use Rattle.model_eval.specs.Answer.{Answers, running, world_of};
 
-use crate::fault::{Fault, Stop};
+use crate::fault::{EvalStop, Fault};
 use crate::objects::is_held;
 use crate::state::State;
 use model_value::{Value, Values};
@@ -27,12 +27,12 @@ pub fn send(
     delay: &Value,
     method: &Text,
     args: Values,
-) -> Result<Value, Stop>
+) -> Result<Value, EvalStop>
     ensures { (budget : Budget) → Answers result state.new budget (sends (plain object.now) (plain delay.now) method.now (plain_values args) (running state.old budget)) }
 {
     match (object, delay) {
         (Value::Ref(object), Value::Int(delay)) => send_to(state, *object, *delay, method, args),
-        _ => Err(Stop::Fault(Fault::BadKind)),
+        _ => Err(EvalStop::Fault(Fault::BadKind)),
     }
 }
 
@@ -42,15 +42,15 @@ fn send_to(
     delay: i64,
     method: &Text,
     args: Values,
-) -> Result<Value, Stop>
+) -> Result<Value, EvalStop>
     ensures { (budget : Budget) → let r = running state.old budget in
-        Answers result state.new budget (sent_to (object_at r.world.objects object) object delay method.now (plain_values args) r) }
+        Answers result state.new budget (send_to (object_at r.world.objects object) object delay method.now (plain_values args) r) }
 {
     if !is_held(state, object) {
-        return Err(Stop::Fault(Fault::NoObject));
+        return Err(EvalStop::Fault(Fault::NoObject));
     }
     match ahead(state.time, delay) {
-        None => Err(Stop::Fault(Fault::Time)),
+        None => Err(EvalStop::Fault(Fault::Time)),
         Some(time) => send_at(state, time, object, method, args),
     }
 }
@@ -61,14 +61,14 @@ fn send_at(
     object: u32,
     method: &Text,
     args: Values,
-) -> Result<Value, Stop>
-    ensures { (budget : Budget) → Answers result state.new budget (sent object method.now (plain_values args) (Some time) (running state.old budget)) }
+) -> Result<Value, EvalStop>
+    ensures { (budget : Budget) → Answers result state.new budget (send_at object method.now (plain_values args) (Some time) (running state.old budget)) }
 {
     if time == state.time && state.turns == MOST_TURNS {
-        return Err(Stop::Fault(Fault::Instant));
+        return Err(EvalStop::Fault(Fault::Instant));
     }
     if !has_room(state, method, &args) {
-        return Err(Stop::Fault(Fault::Full));
+        return Err(EvalStop::Fault(Fault::Full));
     }
     let method = method.try_clone()?;
     state.pending.push(time, object, method, args)?;
@@ -96,11 +96,11 @@ fn has_room(state: &State, method: &Text, args: &Values) -> bool
 
 /// Takes away the messages to come that call a method of an object, and tells how many there were. Gives the fault NoObject where
 /// the object is gone. Takes no memory.
-pub fn cancel(object: u32, method: &Text, state: &mut State) -> Result<Value, Stop>
-    ensures { (budget : Budget) → Answers result state.new budget (cancelled object method.now (running state.old budget)) }
+pub fn cancel(object: u32, method: &Text, state: &mut State) -> Result<Value, EvalStop>
+    ensures { (budget : Budget) → Answers result state.new budget (cancel object method.now (running state.old budget)) }
 {
     if !is_held(state, object) {
-        return Err(Stop::Fault(Fault::NoObject));
+        return Err(EvalStop::Fault(Fault::NoObject));
     }
     let count = state.pending.cancel(object, method);
     Ok(Value::Int(i64::from(count)))

@@ -7,7 +7,7 @@ ghost use Rattle.model_eval.specs.Publishing.{tell_handlers};
 ghost use Rattle.model_eval.specs.Answer.{Answers, Did, running};
 
 use crate::calls::{Call, Event};
-use crate::fault::Stop;
+use crate::fault::EvalStop;
 use crate::here::Starter;
 use crate::state::{Budget, State};
 use model_check::Checked;
@@ -28,7 +28,7 @@ pub fn run_method(
     call: Call<'_>,
     state: &mut State,
     budget: &mut Budget,
-) -> Result<Value, Stop>
+) -> Result<Value, EvalStop>
     ensures answers { let c = call.entry in
         Answers result state.new budget.new (starts (program_tree program.now) budget.old.room c.object c.method.now (plain_values c.args) (running state.old budget.old)) }
     ensures room { budget.new.room ≡ budget.old.room }
@@ -62,7 +62,7 @@ pub fn tell_models(
     event: &Event<'_>,
     state: &mut State,
     budget: &mut Budget,
-) -> Result<(), Stop>
+) -> Result<(), EvalStop>
     ensures tells { let e = event.now in
         Did result state.new budget.new (tell_handlers (starts (program_tree program.now) budget.old.room) e.scope.now e.name.now (plain e.value.now) (running state.old budget.old)) }
     ensures room { budget.new.room ≡ budget.old.room }

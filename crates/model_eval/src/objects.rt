@@ -7,12 +7,12 @@ ghost use Rattle.world_plain.specs.Valid.{object_at};
 ghost use Rattle.model_value.specs.Plain.{values_weight};
 ghost use Rattle.world_plain.specs.World.{world_weight, most_world_weight};
 ghost use Rattle.model_eval.specs.declared.state.Budget.{Budget};
-ghost use Rattle.model_eval.specs.Objects.{destroyed, is_held as held, made, with_fields, without_object};
+ghost use Rattle.model_eval.specs.Objects.{destroy, is_held as held, make_object, with_fields, without_object};
 ghost use Rattle.model_eval.specs.Slots.{slot_value, set_slot as slot_set};
 ghost use Rattle.model_eval.specs.Running.{with_world};
 ghost use Rattle.model_eval.specs.Answer.{Answers, Did, IsAbsent, Numbers, Replies, running, world_of};
 
-use crate::fault::{Fault, Stop};
+use crate::fault::{EvalStop, Fault};
 use crate::state::State;
 use model_value::{Value, Values, copy, weight};
 use std::alloc::Global;
@@ -21,7 +21,7 @@ use tea_base::{List, WantOfMemory};
 use world_plain::{KnownNames, MOST_WORLD_WEIGHT, object_fits, value_fits};
 
 /// A copy of what an object's field holds. Gives the fault NoObject where the object is gone.
-pub fn get_slot(alloc: Global, state: &State, object: u32, slot: u32) -> Result<Value, Stop>
+pub fn get_slot(alloc: Global, state: &State, object: u32, slot: u32) -> Result<Value, EvalStop>
     ensures { Replies result (slot_value (object_at state.now.objects.objects object) slot) }
 {
     match state.objects.field(object, slot) {
@@ -31,26 +31,26 @@ pub fn get_slot(alloc: Global, state: &State, object: u32, slot: u32) -> Result<
 }
 
 /// What a field that is not there holds: nothing, or the object is gone.
-fn absent(state: &State, object: u32) -> Result<Value, Stop>
+fn absent(state: &State, object: u32) -> Result<Value, EvalStop>
     ensures { IsAbsent result (object_at state.now.objects.objects object) }
 {
     if state.objects.holds(object) {
         Ok(Value::Nil)
     } else {
-        Err(Stop::Fault(Fault::NoObject))
+        Err(EvalStop::Fault(Fault::NoObject))
     }
 }
 
 /// Puts a value into an object's field. Gives the fault NoObject where the object is gone, and Full, with the world as
 /// it was, where the world would become too heavy.
-pub fn set_slot(state: &mut State, object: u32, slot: u32, value: Value) -> Result<(), Stop>
+pub fn set_slot(state: &mut State, object: u32, slot: u32, value: Value) -> Result<(), EvalStop>
     ensures { (budget : Budget) → Did result state.new budget (slot_set object slot (plain value) (running state.old budget)) }
 {
     if !state.objects.holds(object) {
-        return Err(Stop::Fault(Fault::NoObject));
+        return Err(EvalStop::Fault(Fault::NoObject));
     }
     if !has_room_for_value(state, object, slot, &value) {
-        return Err(Stop::Fault(Fault::Full));
+        return Err(EvalStop::Fault(Fault::Full));
     }
     if state.objects.field(object, slot).is_none() {
         return Ok(());
@@ -82,12 +82,12 @@ pub fn is_held(state: &State, id: u32) -> bool
 
 /// Makes an object of a class, with so many fields, all nil, and answers its id. Gives the fault Full, with the world as it was,
 /// where 4,096 objects are held, ids are spent, or the world would become too heavy.
-pub fn make(alloc: Global, state: &mut State, class: u16, fields: u32) -> Result<u32, Stop>
-    ensures { (budget : Budget) → Numbers result state.new budget (made class fields (running state.old budget)) }
+pub fn make(alloc: Global, state: &mut State, class: u16, fields: u32) -> Result<u32, EvalStop>
+    ensures { (budget : Budget) → Numbers result state.new budget (make_object class fields (running state.old budget)) }
 {
     let fields = nils(alloc, fields)?;
     if !has_room(state, &fields) {
-        return Err(Stop::Fault(Fault::Full));
+        return Err(EvalStop::Fault(Fault::Full));
     }
     Ok(state.objects.create(class, fields)?)
 }
@@ -114,11 +114,11 @@ fn nils(alloc: Global, count: u32) -> Result<Values, WantOfMemory>
 
 /// Takes away an object, its subscriptions, its pending messages and the names by which it is known. Gives the fault NoObject
 /// where it is gone. Takes no memory.
-pub fn destroy(alloc: Global, state: &mut State, id: u32) -> Result<Value, Stop>
-    ensures { (budget : Budget) → Answers result state.new budget (destroyed id (running state.old budget)) }
+pub fn destroy(alloc: Global, state: &mut State, id: u32) -> Result<Value, EvalStop>
+    ensures { (budget : Budget) → Answers result state.new budget (destroy id (running state.old budget)) }
 {
     if !is_held(state, id) {
-        return Err(Stop::Fault(Fault::NoObject));
+        return Err(EvalStop::Fault(Fault::NoObject));
     }
     take_away(alloc, state, id);
     Ok(Value::Nil)

@@ -3,27 +3,27 @@ ghost use Rattle.std.specs.Prelude.{◌≡◌, MatchOption, Ok, Err, ◌≢◌, 
 ghost use Rattle.model_value.specs.Plain.{int};
 ghost use Rattle.model_value.specs.View.{plain};
 ghost use Rattle.model_eval.specs.Running.{truth as truth_of};
-ghost use Rattle.model_eval.specs.Operators.{operated, unary_operated, same as are_same};
+ghost use Rattle.model_eval.specs.Operators.{apply_binary, apply_unary, same as are_same};
 ghost use Rattle.model_eval.specs.Answer.{AreInts, Decides, Replies};
 
-use crate::fault::{Fault, Stop};
+use crate::fault::{EvalStop, Fault};
 use model_lang::{BinaryOp, UnaryOp};
 use model_value::{Value, same};
 
 /// What an operator gives of one value.
-pub fn operate_on_one(op: UnaryOp, value: &Value) -> Result<Value, Stop>
-    ensures { Replies result (unary_operated op (plain value.now)) }
+pub fn operate_on_one(op: UnaryOp, value: &Value) -> Result<Value, EvalStop>
+    ensures { Replies result (apply_unary op (plain value.now)) }
 {
     match (op, value) {
-        (UnaryOp::Minus, Value::Int(number)) => fitting(number.checked_neg()),
+        (UnaryOp::Minus, Value::Int(number)) => int_or_overflow(number.checked_neg()),
         (UnaryOp::Not, Value::Bool(truth)) => Ok(Value::Bool(!*truth)),
-        _ => Err(Stop::Fault(Fault::BadKind)),
+        _ => Err(EvalStop::Fault(Fault::BadKind)),
     }
 }
 
 /// What an operator gives of two values; `||` and `&&`, which may leave their right side alone, stand apart.
-pub fn operate(op: BinaryOp, left: &Value, right: &Value) -> Result<Value, Stop>
-    ensures { Replies result (operated op (plain left.now) (plain right.now)) }
+pub fn operate(op: BinaryOp, left: &Value, right: &Value) -> Result<Value, EvalStop>
+    ensures { Replies result (apply_binary op (plain left.now) (plain right.now)) }
 {
     match op {
         BinaryOp::Same => Ok(Value::Bool(are_equal(left, right))),
@@ -41,70 +41,70 @@ fn are_equal(left: &Value, right: &Value) -> bool
     same(left, right)
 }
 
-fn ints(left: &Value, right: &Value) -> Result<(i64, i64), Stop>
+fn ints(left: &Value, right: &Value) -> Result<(i64, i64), EvalStop>
     ensures { AreInts result (plain left.now) (plain right.now) }
 {
     match (left, right) {
         (Value::Int(left), Value::Int(right)) => Ok((*left, *right)),
-        _ => Err(Stop::Fault(Fault::BadKind)),
+        _ => Err(EvalStop::Fault(Fault::BadKind)),
     }
 }
 
-fn operate_on_ints(op: BinaryOp, left: i64, right: i64) -> Result<Value, Stop>
-    ensures { Replies result (operated op (int left) (int right)) }
+fn operate_on_ints(op: BinaryOp, left: i64, right: i64) -> Result<Value, EvalStop>
+    ensures { Replies result (apply_binary op (int left) (int right)) }
 {
     match op {
-        BinaryOp::Or | BinaryOp::And => Err(Stop::Fault(Fault::BadKind)),
+        BinaryOp::Or | BinaryOp::And => Err(EvalStop::Fault(Fault::BadKind)),
         BinaryOp::Same => Ok(Value::Bool(left == right)),
         BinaryOp::Differs => Ok(Value::Bool(left != right)),
         BinaryOp::Less => Ok(Value::Bool(left < right)),
         BinaryOp::AtMost => Ok(Value::Bool(left <= right)),
         BinaryOp::Greater => Ok(Value::Bool(left > right)),
         BinaryOp::AtLeast => Ok(Value::Bool(left >= right)),
-        BinaryOp::Plus => fitting(left.checked_add(right)),
-        BinaryOp::Minus => fitting(left.checked_sub(right)),
-        BinaryOp::Times => fitting(left.checked_mul(right)),
+        BinaryOp::Plus => int_or_overflow(left.checked_add(right)),
+        BinaryOp::Minus => int_or_overflow(left.checked_sub(right)),
+        BinaryOp::Times => int_or_overflow(left.checked_mul(right)),
         BinaryOp::Divide => quotient(left, right),
         BinaryOp::Rest => rest(left, right),
     }
 }
 
 // The quotient, cut towards zero.
-fn quotient(left: i64, right: i64) -> Result<Value, Stop>
-    ensures { Replies result (operated BinaryOp.Divide (int left) (int right)) }
+fn quotient(left: i64, right: i64) -> Result<Value, EvalStop>
+    ensures { Replies result (apply_binary BinaryOp.Divide (int left) (int right)) }
 {
     if right == 0 {
-        return Err(Stop::Fault(Fault::ZeroDivisor));
+        return Err(EvalStop::Fault(Fault::ZeroDivisor));
     }
-    fitting(left.checked_div(right))
+    int_or_overflow(left.checked_div(right))
 }
 
 // The remainder, with the sign of the left number. Where the quotient does not fit there is none.
-fn rest(left: i64, right: i64) -> Result<Value, Stop>
-    ensures { Replies result (operated BinaryOp.Rest (int left) (int right)) }
+fn rest(left: i64, right: i64) -> Result<Value, EvalStop>
+    ensures { Replies result (apply_binary BinaryOp.Rest (int left) (int right)) }
 {
     if right == 0 {
-        return Err(Stop::Fault(Fault::ZeroDivisor));
+        return Err(EvalStop::Fault(Fault::ZeroDivisor));
     }
-    fitting(left.checked_rem(right))
+    int_or_overflow(left.checked_rem(right))
 }
 
 /// Which way a test decides.
-pub fn truth(value: &Value) -> Result<bool, Stop>
+pub fn truth(value: &Value) -> Result<bool, EvalStop>
     ensures { Decides result (truth_of (plain value.now)) }
 {
     match value {
         Value::Bool(flag) => Ok(*flag),
-        _ => Err(Stop::Fault(Fault::BadKind)),
+        _ => Err(EvalStop::Fault(Fault::BadKind)),
     }
 }
 
 // A number that fits, or the fault.
-fn fitting(number: Option<i64>) -> Result<Value, Stop>
-    ensures { MatchOption number (result ≡ Err (Stop.Fault Fault.Overflow)) (λ n. result ≡ Ok (Value.Int n)) }
+fn int_or_overflow(number: Option<i64>) -> Result<Value, EvalStop>
+    ensures { MatchOption number (result ≡ Err (EvalStop.Fault Fault.Overflow)) (λ n. result ≡ Ok (Value.Int n)) }
 {
     match number {
         Some(number) => Ok(Value::Int(number)),
-        None => Err(Stop::Fault(Fault::Overflow)),
+        None => Err(EvalStop::Fault(Fault::Overflow)),
     }
 }

@@ -2,48 +2,48 @@
 ghost use Rattle.std.specs.Prelude.{◌≡◌, ◌∷◌, [], IfOk, ◌<◌, ◌^◌};
 ghost use Rattle.model_value.specs.Plain.{text as text_value, list, weight as weight_of};
 ghost use Rattle.model_value.specs.View.{plain, plain_values, plains_of};
-ghost use Rattle.model_eval.specs.Running.{bounded, weighed, spending, Gives};
+ghost use Rattle.model_eval.specs.Running.{give_in_bounds, give_by_weight, spend, Gives};
 ghost use Rattle.model_eval.specs.Answer.{Answers, Spends, running};
 ghost use Rattle.model_eval.specs.declared.state.State.{State};
 ghost use Rattle.model_eval.specs.declared.state.Budget.{Budget};
 
-use crate::fault::{Fault, Stop};
+use crate::fault::{EvalStop, Fault};
 use crate::state::Budget;
 use model_value::{Value, Values, in_bounds, weight};
 use std::alloc::Global;
 use tea_base::{List, Text, WantOfMemory};
 
 /// The value of a text literal. Gives the fault Size where it is not in bounds.
-pub fn literal(text: &Text) -> Result<Value, Stop>
-    ensures { (state : State) (budget : Budget) → Answers result state budget (bounded (text_value text.now) (running state budget)) }
+pub fn literal(text: &Text) -> Result<Value, EvalStop>
+    ensures { (state : State) (budget : Budget) → Answers result state budget (give_in_bounds (text_value text.now) (running state budget)) }
 {
     let value = Value::Text(text.try_clone()?);
     if in_bounds(&value) {
         Ok(value)
     } else {
-        Err(Stop::Fault(Fault::Size))
+        Err(EvalStop::Fault(Fault::Size))
     }
 }
 
 /// A list of values. Gives the fault Size where it is not in bounds, and takes steps by its weight.
-pub fn list_of(values: Values, budget: &mut Budget) -> Result<Value, Stop>
-    ensures { Spends result budget.new (λ (state : State). weighed (list (plains_of (plain_values values))) (running state budget.old)) }
+pub fn list_of(values: Values, budget: &mut Budget) -> Result<Value, EvalStop>
+    ensures { Spends result budget.new (λ (state : State). give_by_weight (list (plains_of (plain_values values))) (running state budget.old)) }
 {
     let value = Value::List(values.into_vec());
     if !in_bounds(&value) {
-        return Err(Stop::Fault(Fault::Size));
+        return Err(EvalStop::Fault(Fault::Size));
     }
     weigh(value, budget)
 }
 
 /// A value that takes steps by its weight. Gives the fault Fuel, and takes none, where fewer are left.
-pub fn weigh(value: Value, budget: &mut Budget) -> Result<Value, Stop>
+pub fn weigh(value: Value, budget: &mut Budget) -> Result<Value, EvalStop>
     requires { weight_of (plain value) < 2 ^ 32 }
-    ensures { Spends result budget.new (λ (state : State). spending (weight_of (plain value)) (running state budget.old) (Gives (plain value))) }
+    ensures { Spends result budget.new (λ (state : State). spend (weight_of (plain value)) (running state budget.old) (Gives (plain value))) }
 {
     let steps = weight(&value);
     if budget.fuel < steps {
-        return Err(Stop::Fault(Fault::Fuel));
+        return Err(EvalStop::Fault(Fault::Fuel));
     }
     budget.fuel -= steps;
     Ok(value)

@@ -4,7 +4,7 @@ use Rattle.std.proofs.lemmas.Bool.Decides.{nat_tests}
 use Rattle.model_lang.specs.declared.fault.Bound.{Bound}
 use Rattle.model_lang.specs.declared.fault.Bound.TheVariants as bound
 use Rattle.model_lang.specs.Tree.{Expression, nil, bool, int, text, this, local, field, list, unary, binary, builtin, call, future, create, Expressions, no_expressions, expression, Statement, declare, assign, set_field, when, while, give, do_, Statements, no_statements, statement, Otherwise, no_else, else_block, MethodTree, ClassTree, ProgramTree}
-use Rattle.model_lang.specs.Bounds.{most_members, most_arguments, how_many, FewArguments, AllFewArguments, HasFewArguments, AllHaveFewArguments, ElseHasFewArguments, MethodsFit, ClassesFit, ProgramFits, above, first_found, many_arguments, all_many_arguments, many_in_statement, many_in_block, many_in_else, many_in_methods, many_parameters, many_fields, many_methods, or_else, passed}
+use Rattle.model_lang.specs.Bounds.{most_members, most_arguments, how_many, FewArguments, AllFewArguments, HasFewArguments, AllHaveFewArguments, ElseHasFewArguments, MethodsFit, ClassesFit, ProgramFits, above, first_found, many_arguments, all_many_arguments, many_in_statement, many_in_block, many_in_else, many_in_methods, many_parameters, many_fields, many_methods, or_else, first_excess}
 
 -- ---- counts
 
@@ -100,7 +100,7 @@ classes_fit (c ∷ cs) fields methods args =
     let a = neither (many_in_methods c.methods) (many_parameters cs) args in
     ((low most_members (length c.fields) f.0, low most_members (length c.methods) m.0, methods_fit c.methods a.0), classes_fit cs f.1 m.1 a.1)
 
-pub program-fits : (tree : ProgramTree) → passed tree ≡ None → ProgramFits tree
+pub program-fits : (tree : ProgramTree) → first_excess tree ≡ None → ProgramFits tree
 program-fits tree h =
     let arguments = or_else bound.Parameters (many_parameters tree) None in
     let methods = or_else bound.Methods (many_methods tree) arguments in

@@ -9,21 +9,21 @@ use Rattle.model_tokens.specs.declared.token.Word.TheVariants as w
 use Rattle.model_tokens.specs.declared.token.Symbol.{Symbol}
 use Rattle.model_tokens.specs.declared.token.Symbol.TheVariants as s
 use Rattle.model_lang.specs.Tree.{Name}
-use Rattle.model_lang.specs.Reader.{Read, reading, behind, either_way, on_found, word_number, symbol_number, only_where, after_word, after_symbol, name_at, class_name_at}
+use Rattle.model_lang.specs.Reader.{ParseResult, on_read, on_rest, either_way, on_found, word_number, symbol_number, only_where, after_word, after_symbol, name_at, class_name_at}
 
 -- ---- what gave something had parts that did
 
-abbrev pub Parts : {A B : Type 0} → Read A → (A → List Token → Option B) → B → Type 0
+abbrev pub Parts : {A B : Type 0} → ParseResult A → (A → List Token → Option B) → B → Type 0
 Parts {A} o next y = (p : A × List Token) × (o ≡ Some p) × (next p.0 p.1 ≡ Some y)
 
-pub parts : {A B : Type 0} (o : Read A) (next : A → List Token → Option B) (y : B) → reading o next ≡ Some y → Parts o next y
+pub parts : {A B : Type 0} (o : ParseResult A) (next : A → List Token → Option B) (y : B) → on_read o next ≡ Some y → Parts o next y
 parts None next y h = cc
 parts (Some p) next y h = (p, refl, h)
 
 abbrev pub Behind : {B : Type 0} → Option (List Token) → (List Token → Option B) → B → Type 0
 Behind o next y = (ts : List Token) × (o ≡ Some ts) × (next ts ≡ Some y)
 
-pub behind_parts : {B : Type 0} (o : Option (List Token)) (next : List Token → Option B) (y : B) → behind o next ≡ Some y → Behind o next y
+pub behind_parts : {B : Type 0} (o : Option (List Token)) (next : List Token → Option B) (y : B) → on_rest o next ≡ Some y → Behind o next y
 behind_parts None next y h = cc
 behind_parts (Some ts) next y h = (ts, refl, h)
 
@@ -122,17 +122,17 @@ class_name_front (token.ClassName x ∷ ts) p h =
 class_name_front _ p h = cc
 
 -- a token that was asked for was at the front
-pub word_then : {B : Type 0} (x : Word) (ts : List Token) (next : List Token → Option B) (y : B) → behind (after_word x ts) next ≡ Some y → (rest : List Token) × (word x ∷ rest ≡ ts) × (next rest ≡ Some y)
+pub word_then : {B : Type 0} (x : Word) (ts : List Token) (next : List Token → Option B) (y : B) → on_rest (after_word x ts) next ≡ Some y → (rest : List Token) × (word x ∷ rest ≡ ts) × (next rest ≡ Some y)
 word_then x ts next y h =
     let q = behind_parts (after_word x ts) next y h in
     (q.0, sym (word_front x ts q.0 q.1), q.2)
 
-pub symbol_then : {B : Type 0} (x : Symbol) (ts : List Token) (next : List Token → Option B) (y : B) → behind (after_symbol x ts) next ≡ Some y → (rest : List Token) × (symbol x ∷ rest ≡ ts) × (next rest ≡ Some y)
+pub symbol_then : {B : Type 0} (x : Symbol) (ts : List Token) (next : List Token → Option B) (y : B) → on_rest (after_symbol x ts) next ≡ Some y → (rest : List Token) × (symbol x ∷ rest ≡ ts) × (next rest ≡ Some y)
 symbol_then x ts next y h =
     let q = behind_parts (after_symbol x ts) next y h in
     (q.0, sym (symbol_front x ts q.0 q.1), q.2)
 
-pub name_then : {B : Type 0} (ts : List Token) (next : Name → List Token → Option B) (y : B) → reading (name_at ts) next ≡ Some y → (x : Name) × (rest : List Token) × (name x ∷ rest ≡ ts) × (next x rest ≡ Some y)
+pub name_then : {B : Type 0} (ts : List Token) (next : Name → List Token → Option B) (y : B) → on_read (name_at ts) next ≡ Some y → (x : Name) × (rest : List Token) × (name x ∷ rest ≡ ts) × (next x rest ≡ Some y)
 name_then ts next y h =
     let q = parts (name_at ts) next y h in
     (q.0.0, q.0.1, sym (name_front ts q.0 q.1), q.2)
@@ -160,9 +160,9 @@ pub both_spelled : (xs ys rest r ts : List Token) → xs ++ r ≡ ts → ys ++ r
 both_spelled xs ys rest r ts p q = append_assoc xs ys rest ∙ ap (λ r. xs ++ r) q ∙ p
 
 -- something was found at the front, or the other way was gone
-abbrev pub FoundOr : {A B : Type 0} → Read A → (A → List Token → B) → B → B → Type 0
+abbrev pub FoundOr : {A B : Type 0} → ParseResult A → (A → List Token → B) → B → B → Type 0
 FoundOr {A} o next other y = ((p : A × List Token) × (o ≡ Some p) × (next p.0 p.1 ≡ y)) ⊎ ((o ≡ None) × (other ≡ y))
 
-pub found_or : {A B : Type 0} (o : Read A) (next : A → List Token → B) (other y : B) → on_found o next other ≡ y → FoundOr o next other y
+pub found_or : {A B : Type 0} (o : ParseResult A) (next : A → List Token → B) (other y : B) → on_found o next other ≡ y → FoundOr o next other y
 found_or None next other y h = inr (refl, h)
 found_or (Some p) next other y h = inl (p, refl, h)

@@ -12,7 +12,7 @@ use Rattle.model_lang.specs.declared.tree.UnaryOp.TheVariants as sign
 use Rattle.model_lang.specs.declared.tree.BinaryOp.{BinaryOp}
 use Rattle.model_lang.specs.declared.tree.BinaryOp.TheVariants as op
 use Rattle.model_lang.specs.Grammar.{operator_line, left_of, sign_symbol, op_symbol}
-use Rattle.model_lang.specs.Reader.{reading, behind, either_way, only_where, symbol_number, after_symbol, name_at, field_at, unary_of_symbol, operator_of, with_rest, sign_at, of_line, operator_at}
+use Rattle.model_lang.specs.Reader.{on_read, on_rest, either_way, only_where, symbol_number, after_symbol, name_at, field_at, unary_of_symbol, operator_of, with_rest, sign_at, of_line, operator_at}
 
 abbrev pub line_if : Option BinaryOp → ℕ
 line_if None = 7
@@ -63,7 +63,7 @@ no_round k _ h = refl
 
 pub no_field : (k : ℕ) (ts : List Token) → k < front_line ts → field_at ts ≡ None
 no_field k ts h =
-    ap (λ o. behind o (λ ts. reading (name_at ts) (λ x ts. either_way (after_symbol s.OpenRound ts) (λ rest. None) (Some (x, ts))))) (no_dot k ts h)
+    ap (λ o. on_rest o (λ ts. on_read (name_at ts) (λ x ts. either_way (after_symbol s.OpenRound ts) (λ rest. None) (Some (x, ts))))) (no_dot k ts h)
 
 -- ---- operators and signs, and the symbols that they are spelled by
 

@@ -13,8 +13,8 @@ use Rattle.model_lang.specs.declared.tree.UnaryOp.TheVariants as sign
 use Rattle.model_lang.specs.declared.tree.BinaryOp.{BinaryOp}
 use Rattle.model_lang.specs.declared.tree.BinaryOp.TheVariants as op
 use Rattle.model_lang.specs.Tree.{Expression, expressions_of, expression}
-use Rattle.model_lang.specs.Grammar.{Phrase, a_number, a_text, a_nil, a_bool, a_this, a_field, a_local, a_builtin, a_create, a_list, brackets, a_call, a_future, signed, joined, Phrases, no_phrases, phrase, in_round, in_square, sign_symbol, op_symbol, truth_word, spelled, spelled_args, spelled_more, tree_of, trees_of}
-use Rattle.model_lang.specs.Reader.{behind, only_where, word_number, symbol_number, after_word, after_symbol, assigned_at, set_at}
+use Rattle.model_lang.specs.Grammar.{Phrase, a_number, a_text, a_nil, a_bool, a_this, a_field, a_local, a_builtin, a_create, a_list, brackets, a_call, a_future, a_unary, a_binary, Phrases, no_phrases, phrase, in_round, in_square, sign_symbol, op_symbol, truth_word, phrase_spelling, args_spelling, more_spelling, tree_of, trees_of}
+use Rattle.model_lang.specs.Reader.{on_rest, only_where, word_number, symbol_number, after_word, after_symbol, assign_head, set_at}
 
 -- ---- the trees of arguments, as a list
 
@@ -28,12 +28,12 @@ list_of-trees (phrase a more) = ap (expression (tree_of a)) (list_of-trees more)
 
 -- ---- how many tokens there are
 
-pub phrase_long : (p : Phrase) → 1 ≤ length (spelled p)
+pub phrase_long : (p : Phrase) → 1 ≤ length (phrase_spelling p)
 phrase_long (a_bool b) = omega arith
-phrase_long (a_call object x args) = omega (arith, length-append (spelled object) (symbol s.Dot ∷ name x ∷ in_round (spelled_args args)))
+phrase_long (a_call object x args) = omega (arith, length-append (phrase_spelling object) (symbol s.Dot ∷ name x ∷ in_round (args_spelling args)))
 phrase_long (a_future object delay x args) =
-    omega (arith, length-append (spelled object) (symbol s.Dot ∷ word w.Future ∷ (in_round (spelled delay) ++ symbol s.Dot ∷ name x ∷ in_round (spelled_args args))))
-phrase_long (joined o a b) = omega (arith, length-append (spelled a) (symbol (op_symbol o) ∷ spelled b))
+    omega (arith, length-append (phrase_spelling object) (symbol s.Dot ∷ word w.Future ∷ (in_round (phrase_spelling delay) ++ symbol s.Dot ∷ name x ∷ in_round (args_spelling args))))
+phrase_long (a_binary o a b) = omega (arith, length-append (phrase_spelling a) (symbol (op_symbol o) ∷ phrase_spelling b))
 phrase_long _ = omega arith
 
 -- ---- which tokens stand in an expression
@@ -99,7 +99,7 @@ bool_inside true = tt
 bool_inside false = tt
 
 mutual
-  pub phrase_tokens : (p : Phrase) → AllInside (spelled p)
+  pub phrase_tokens : (p : Phrase) → AllInside (phrase_spelling p)
   phrase_tokens (a_number n) = (tt, tt)
   phrase_tokens (a_text t) = (tt, tt)
   phrase_tokens a_nil = (tt, tt)
@@ -107,26 +107,26 @@ mutual
   phrase_tokens a_this = (tt, tt)
   phrase_tokens (a_field x) = (tt, (tt, (tt, tt)))
   phrase_tokens (a_local x) = (tt, tt)
-  phrase_tokens (a_builtin x args) = (tt, inside_round (spelled_args args) (args_tokens args))
+  phrase_tokens (a_builtin x args) = (tt, inside_round (args_spelling args) (args_tokens args))
   phrase_tokens (a_create x options) =
-      (tt, inside_round (class_name x ∷ symbol s.Comma ∷ spelled options) (tt, (tt, phrase_tokens options)))
-  phrase_tokens (a_list items) = inside_square (spelled_args items) (args_tokens items)
-  phrase_tokens (brackets a) = inside_round (spelled a) (phrase_tokens a)
+      (tt, inside_round (class_name x ∷ symbol s.Comma ∷ phrase_spelling options) (tt, (tt, phrase_tokens options)))
+  phrase_tokens (a_list items) = inside_square (args_spelling items) (args_tokens items)
+  phrase_tokens (brackets a) = inside_round (phrase_spelling a) (phrase_tokens a)
   phrase_tokens (a_call object x args) =
-      inside-append (spelled object) (symbol s.Dot ∷ name x ∷ in_round (spelled_args args)) (phrase_tokens object) (tt, (tt, inside_round (spelled_args args) (args_tokens args)))
+      inside-append (phrase_spelling object) (symbol s.Dot ∷ name x ∷ in_round (args_spelling args)) (phrase_tokens object) (tt, (tt, inside_round (args_spelling args) (args_tokens args)))
   phrase_tokens (a_future object delay x args) =
-      inside-append (spelled object) (symbol s.Dot ∷ word w.Future ∷ (in_round (spelled delay) ++ symbol s.Dot ∷ name x ∷ in_round (spelled_args args))) (phrase_tokens object)
-      (tt, (tt, inside-append (in_round (spelled delay)) (symbol s.Dot ∷ name x ∷ in_round (spelled_args args)) (inside_round (spelled delay) (phrase_tokens delay)) (tt, (tt, inside_round (spelled_args args) (args_tokens args)))))
-  phrase_tokens (signed o a) = (sign_inside o, phrase_tokens a)
-  phrase_tokens (joined o a b) = inside-append (spelled a) (symbol (op_symbol o) ∷ spelled b) (phrase_tokens a) (operator_inside o, phrase_tokens b)
+      inside-append (phrase_spelling object) (symbol s.Dot ∷ word w.Future ∷ (in_round (phrase_spelling delay) ++ symbol s.Dot ∷ name x ∷ in_round (args_spelling args))) (phrase_tokens object)
+      (tt, (tt, inside-append (in_round (phrase_spelling delay)) (symbol s.Dot ∷ name x ∷ in_round (args_spelling args)) (inside_round (phrase_spelling delay) (phrase_tokens delay)) (tt, (tt, inside_round (args_spelling args) (args_tokens args)))))
+  phrase_tokens (a_unary o a) = (sign_inside o, phrase_tokens a)
+  phrase_tokens (a_binary o a b) = inside-append (phrase_spelling a) (symbol (op_symbol o) ∷ phrase_spelling b) (phrase_tokens a) (operator_inside o, phrase_tokens b)
 
-  args_tokens : (es : Phrases) → AllInside (spelled_args es)
+  args_tokens : (es : Phrases) → AllInside (args_spelling es)
   args_tokens no_phrases = tt
-  args_tokens (phrase a more) = inside-append (spelled a) (spelled_more more) (phrase_tokens a) (more_tokens more)
+  args_tokens (phrase a more) = inside-append (phrase_spelling a) (more_spelling more) (phrase_tokens a) (more_tokens more)
 
-  more_tokens : (es : Phrases) → AllInside (spelled_more es)
+  more_tokens : (es : Phrases) → AllInside (more_spelling es)
   more_tokens no_phrases = tt
-  more_tokens (phrase a more) = (tt, inside-append (spelled a) (spelled_more more) (phrase_tokens a) (more_tokens more))
+  more_tokens (phrase a more) = (tt, inside-append (phrase_spelling a) (more_spelling more) (phrase_tokens a) (more_tokens more))
 
 -- ---- what an expression does not begin with
 
@@ -147,8 +147,8 @@ inside_no_word x h (token.Word y ∷ xs) rest all long =
 inside_no_word x h (_ ∷ xs) rest all long = refl
 
 -- a word below `this` in the order of words
-pub phrase_no_word : (x : Word) → word_number x < 7 → (p : Phrase) (rest : List Token) → after_word x (spelled p ++ rest) ≡ None
-phrase_no_word x h p rest = inside_no_word x h (spelled p) rest (phrase_tokens p) (phrase_long p)
+pub phrase_no_word : (x : Word) → word_number x < 7 → (p : Phrase) (rest : List Token) → after_word x (phrase_spelling p ++ rest) ≡ None
+phrase_no_word x h p rest = inside_no_word x h (phrase_spelling p) rest (phrase_tokens p) (phrase_long p)
 
 no_brace_inside : (x : Symbol) → SymbolInside x → nat_eq (symbol_number x) 1 ≡ false
 no_brace_inside s.OpenBrace h = absurd h
@@ -163,8 +163,8 @@ inside_no_brace (token.Symbol x ∷ xs) rest all long = ap (λ b. only_where b (
 inside_no_brace (_ ∷ xs) rest all long = refl
 
 -- the brace that ends a block
-pub phrase_no_brace : (p : Phrase) (rest : List Token) → after_symbol s.CloseBrace (spelled p ++ rest) ≡ None
-phrase_no_brace p rest = inside_no_brace (spelled p) rest (phrase_tokens p) (phrase_long p)
+pub phrase_no_brace : (p : Phrase) (rest : List Token) → after_symbol s.CloseBrace (phrase_spelling p ++ rest) ≡ None
+phrase_no_brace p rest = inside_no_brace (phrase_spelling p) rest (phrase_tokens p) (phrase_long p)
 
 no_assign_inside : (x : Symbol) → SymbolInside x → nat_eq (symbol_number x) 9 ≡ false
 no_assign_inside s.OpenBrace h = absurd h
@@ -179,30 +179,30 @@ inside_no_assign [] rest all = refl
 inside_no_assign (token.Symbol x ∷ xs) rest all = ap (λ b. only_where b (xs ++ symbol s.Semicolon ∷ rest)) (no_assign_inside x all.0)
 inside_no_assign (_ ∷ xs) rest all = refl
 
-inside_not_assigned : (xs rest : List Token) → AllInside xs → assigned_at (xs ++ symbol s.Semicolon ∷ rest) ≡ None
+inside_not_assigned : (xs rest : List Token) → AllInside xs → assign_head (xs ++ symbol s.Semicolon ∷ rest) ≡ None
 inside_not_assigned [] rest all = refl
-inside_not_assigned (token.Name x ∷ xs) rest all = ap (λ o. behind o (λ ts. Some (x, ts))) (inside_no_assign xs rest all.1)
+inside_not_assigned (token.Name x ∷ xs) rest all = ap (λ o. on_rest o (λ ts. Some (x, ts))) (inside_no_assign xs rest all.1)
 inside_not_assigned (_ ∷ xs) rest all = refl
 
 -- a `;` behind it, an expression is no assignment
-pub phrase_not_assigned : (p : Phrase) (rest : List Token) → assigned_at (spelled p ++ symbol s.Semicolon ∷ rest) ≡ None
-phrase_not_assigned p rest = inside_not_assigned (spelled p) rest (phrase_tokens p)
+pub phrase_not_assigned : (p : Phrase) (rest : List Token) → assign_head (phrase_spelling p ++ symbol s.Semicolon ∷ rest) ≡ None
+phrase_not_assigned p rest = inside_not_assigned (phrase_spelling p) rest (phrase_tokens p)
 
-nothing_behind : {B : Type 0} (b : Bool) (ts : List Token) (next : List Token → Option B) → next ts ≡ None → behind (only_where b ts) next ≡ None
+nothing_behind : {B : Type 0} (b : Bool) (ts : List Token) (next : List Token → Option B) → next ts ≡ None → on_rest (only_where b ts) next ≡ None
 nothing_behind true ts next h = h
 nothing_behind false ts next h = refl
 
-inside_no_target : (xs rest : List Token) → AllInside xs → behind (after_symbol s.Dot (xs ++ symbol s.Semicolon ∷ rest)) assigned_at ≡ None
+inside_no_target : (xs rest : List Token) → AllInside xs → on_rest (after_symbol s.Dot (xs ++ symbol s.Semicolon ∷ rest)) assign_head ≡ None
 inside_no_target [] rest all = refl
 inside_no_target (token.Symbol x ∷ xs) rest all =
-    nothing_behind (nat_eq (symbol_number x) 8) (xs ++ symbol s.Semicolon ∷ rest) assigned_at (inside_not_assigned xs rest all.1)
+    nothing_behind (nat_eq (symbol_number x) 8) (xs ++ symbol s.Semicolon ∷ rest) assign_head (inside_not_assigned xs rest all.1)
 inside_no_target (_ ∷ xs) rest all = refl
 
 inside_not_set : (xs rest : List Token) → AllInside xs → set_at (xs ++ symbol s.Semicolon ∷ rest) ≡ None
 inside_not_set [] rest all = refl
 inside_not_set (token.Word x ∷ xs) rest all =
-    nothing_behind (nat_eq (word_number x) 7) (xs ++ symbol s.Semicolon ∷ rest) (λ ts. behind (after_symbol s.Dot ts) assigned_at) (inside_no_target xs rest all.1)
+    nothing_behind (nat_eq (word_number x) 7) (xs ++ symbol s.Semicolon ∷ rest) (λ ts. on_rest (after_symbol s.Dot ts) assign_head) (inside_no_target xs rest all.1)
 inside_not_set (_ ∷ xs) rest all = refl
 
-pub phrase_not_set : (p : Phrase) (rest : List Token) → set_at (spelled p ++ symbol s.Semicolon ∷ rest) ≡ None
-phrase_not_set p rest = inside_not_set (spelled p) rest (phrase_tokens p)
+pub phrase_not_set : (p : Phrase) (rest : List Token) → set_at (phrase_spelling p ++ symbol s.Semicolon ∷ rest) ≡ None
+phrase_not_set p rest = inside_not_set (phrase_spelling p) rest (phrase_tokens p)

@@ -6,7 +6,7 @@ use Rattle.model_lang.specs.declared.fault.Bound.{Bound}
 use Rattle.model_lang.specs.declared.fault.Bound.TheVariants as bound
 use Rattle.model_lang.specs.Tree.{ProgramTree}
 use Rattle.model_lang.specs.Grammar.{Derives}
-use Rattle.model_lang.specs.Bounds.{most_program_bytes, most_nested, greatest, brackets_after, operators_after, passed}
+use Rattle.model_lang.specs.Bounds.{most_program_bytes, most_nested, greatest, brackets_after, operators_after, first_excess}
 use Rattle.model_lang.specs.Program.{FewBrackets, FewOperators, IsSpelled, IsRead, ArePast, IsTooLarge, AreNoProgram, IsNoProgram, Reading, a_program, no_program, too_large, IsReading}
 use Rattle.model_lang.proofs.Whole.{OneDivision, one_derived, one_read, many_members, too_long, tokens_past}
 
@@ -29,14 +29,14 @@ one_past ts a b m n (inr (inr p)) (inl q) = absurd (omega arith)
 one_past ts a b m n (inr (inr p)) (inr (inl q)) = absurd (omega arith)
 one_past ts a b m n (inr (inr p)) (inr (inr q)) =
     let same : p.2.0 ≡ q.2.0 = one_derived ts p.2.0 q.2.0 p.2.1 q.2.1 in
-    each_same a b m n (sym p.2.2 ∙ ap passed same ∙ q.2.2)
+    each_same a b m n (sym p.2.2 ∙ ap first_excess same ∙ q.2.2)
 
 never_spelled : (ts : List Token) (what : Bound) (count : ℕ) (tree : ProgramTree) → ArePast what count ts → IsSpelled ts tree → ⊥
 never_spelled ts what count tree (inl p) spelled = omega (arith, spelled.brackets)
 never_spelled ts what count tree (inr (inl p)) spelled = omega (arith, spelled.operators)
 never_spelled ts what count tree (inr (inr p)) spelled =
     let same : p.2.0 ≡ tree = one_derived ts p.2.0 tree p.2.1 spelled.derives in
-    let e : ◌≡◌ {A = Option (Bound × ℕ)} (Some (what, count)) None = sym p.2.2 ∙ ap passed same ∙ spelled.fits in
+    let e : ◌≡◌ {A = Option (Bound × ℕ)} (Some (what, count)) None = sym p.2.2 ∙ ap first_excess same ∙ spelled.fits in
     cc
 
 never_none : (ts : List Token) (what : Bound) (count : ℕ) → ArePast what count ts → AreNoProgram ts → ⊥
@@ -84,7 +84,7 @@ one-reading one text (too_large a m) (too_large b n) p q = large_same a b m n (o
 abbrev Never : List ℕ → Type 0
 Never text = (reading : Reading) → ¬ IsReading text reading
 
-never_derived : (text : List ℕ) → Never text → length text ≤ most_program_bytes → (ts : List Token) → Divides ts text → FewBrackets ts → FewOperators ts → (tree : ProgramTree) → Derives ts tree → (found : Option (Bound × ℕ)) → passed tree ≡ found → ⊥
+never_derived : (text : List ℕ) → Never text → length text ≤ most_program_bytes → (ts : List Token) → Divides ts text → FewBrackets ts → FewOperators ts → (tree : ProgramTree) → Derives ts tree → (found : Option (Bound × ℕ)) → first_excess tree ≡ found → ⊥
 never_derived text never few ts divides brackets operators tree d None is =
     never (a_program tree) (record { bytes = few; tokens = ts; divides = divides; spelled = record { brackets = brackets; operators = operators; derives = d; fits = is } })
 never_derived text never few ts divides brackets operators tree d (Some p) is =
@@ -96,7 +96,7 @@ no_program_tokens text never few ts divides =
     let brackets : FewBrackets ts = omega (arith, one) in
     let other : most_nested < greatest operators_after 0 ts → ⊥ = λ many. never (too_large bound.Operators 33) (tokens_past text ts bound.Operators 33 few divides (inr (inl (brackets, many, refl, refl)))) in
     let operators : FewOperators ts = omega (arith, other) in
-    record { brackets = brackets; operators = operators; underived = λ tree d. never_derived text never few ts divides brackets operators tree d (passed tree) refl }
+    record { brackets = brackets; operators = operators; underived = λ tree d. never_derived text never few ts divides brackets operators tree d (first_excess tree) refl }
 
 pub some-reading : (text : List ℕ) → ¬ ((reading : Reading) → ¬ IsReading text reading)
 some-reading text never =

@@ -9,9 +9,9 @@ use Rattle.model_lang.specs.declared.operators.Line.{Line}
 use Rattle.model_lang.specs.declared.operators.Line.TheVariants as line
 use Rattle.model_lang.specs.Lines.{line_number, tighter_of}
 use Rattle.model_lang.specs.Tree.{Name, Expression, unary, binary, Statement, MethodTree, ClassTree}
-use Rattle.model_lang.specs.Reader.{Read, ExpressionReader, reading, behind, either_way, on_found, operator_at, more_of, turns_of, suffixes_of, read_suffix, read_more, read_operator_line, read_unary, read_post, sign_at, after_symbol, after_word, name_at, read_actions, read_action, read_block, read_fields, read_methods, read_method, read_further, read_classes, read_class}
+use Rattle.model_lang.specs.Reader.{ParseResult, ExpressionReader, on_read, on_rest, either_way, on_found, operator_at, more_of, turns_of, suffixes_of, read_suffix, read_more, read_operator_line, read_unary, read_post, sign_at, after_symbol, after_word, name_at, read_actions, read_action, read_block, read_fields, read_methods, read_method, read_further, read_classes, read_class}
 
-pub more_of-turn : (k : ℕ) (inner : ExpressionReader) (turns i : ℕ) (left : Expression) (ts : List Token) → i < turns → more_of k inner (turns - i) left ts ≡ on_found (operator_at k ts) (λ o rest. reading (inner rest) (λ e. more_of k inner (turns - (i + 1)) (binary o left e))) (Some (left, ts))
+pub more_of-turn : (k : ℕ) (inner : ExpressionReader) (turns i : ℕ) (left : Expression) (ts : List Token) → i < turns → more_of k inner (turns - i) left ts ≡ on_found (operator_at k ts) (λ o rest. on_read (inner rest) (λ e. more_of k inner (turns - (i + 1)) (binary o left e))) (Some (left, ts))
 more_of-turn k inner turns i left ts h =
     let e : turns - i ≡ suc (turns - (i + 1)) = omega arith in
     rw e refl
@@ -21,7 +21,7 @@ more_of-over k inner turns i left ts h =
     let e : turns - i ≡ 0 = omega arith in
     rw e refl
 
-pub suffixes_of-turn : (inner : ExpressionReader) (turns i : ℕ) (object : Expression) (ts : List Token) → i < turns → suffixes_of inner (turns - i) object ts ≡ either_way (after_symbol s.Dot ts) (λ ts. reading (read_suffix inner object ts) (suffixes_of inner (turns - (i + 1)))) (Some (object, ts))
+pub suffixes_of-turn : (inner : ExpressionReader) (turns i : ℕ) (object : Expression) (ts : List Token) → i < turns → suffixes_of inner (turns - i) object ts ≡ either_way (after_symbol s.Dot ts) (λ ts. on_read (read_suffix inner object ts) (suffixes_of inner (turns - (i + 1)))) (Some (object, ts))
 suffixes_of-turn inner turns i object ts h =
     let e : turns - i ≡ suc (turns - (i + 1)) = omega arith in
     rw e refl
@@ -31,7 +31,7 @@ suffixes_of-over inner turns i object ts h =
     let e : turns - i ≡ 0 = omega arith in
     rw e refl
 
-pub read_more-turn : (close : Symbol) (inner : ExpressionReader) (turns i : ℕ) (found : List Expression) (ts : List Token) → i < turns → read_more close inner (turns - i) found ts ≡ either_way (after_symbol s.Comma ts) (λ ts. reading (inner ts) (λ e. read_more close inner (turns - (i + 1)) (found ++ e ∷ []))) (behind (after_symbol close ts) (λ rest. Some (found, rest)))
+pub read_more-turn : (close : Symbol) (inner : ExpressionReader) (turns i : ℕ) (found : List Expression) (ts : List Token) → i < turns → read_more close inner (turns - i) found ts ≡ either_way (after_symbol s.Comma ts) (λ ts. on_read (inner ts) (λ e. read_more close inner (turns - (i + 1)) (found ++ e ∷ []))) (on_rest (after_symbol close ts) (λ rest. Some (found, rest)))
 read_more-turn close inner turns i found ts h =
     let e : turns - i ≡ suc (turns - (i + 1)) = omega arith in
     rw e refl
@@ -41,17 +41,17 @@ read_more-over close inner turns i found ts h =
     let e : turns - i ≡ 0 = omega arith in
     rw e refl
 
-pub read_actions-turn : (block : List Token → Read (List Statement)) (turns i : ℕ) (found : List Statement) (ts : List Token) → i < turns → read_actions block (turns - i) found ts ≡ either_way (after_symbol s.CloseBrace ts) (λ rest. Some (found, rest)) (reading (read_action block ts) (λ a. read_actions block (turns - (i + 1)) (found ++ a ∷ [])))
+pub read_actions-turn : (block : List Token → ParseResult (List Statement)) (turns i : ℕ) (found : List Statement) (ts : List Token) → i < turns → read_actions block (turns - i) found ts ≡ either_way (after_symbol s.CloseBrace ts) (λ rest. Some (found, rest)) (on_read (read_action block ts) (λ a. read_actions block (turns - (i + 1)) (found ++ a ∷ [])))
 read_actions-turn block turns i found ts h =
     let e : turns - i ≡ suc (turns - (i + 1)) = omega arith in
     rw e refl
 
-pub read_actions-over : (block : List Token → Read (List Statement)) (turns i : ℕ) (found : List Statement) (ts : List Token) → turns ≤ i → read_actions block (turns - i) found ts ≡ None
+pub read_actions-over : (block : List Token → ParseResult (List Statement)) (turns i : ℕ) (found : List Statement) (ts : List Token) → turns ≤ i → read_actions block (turns - i) found ts ≡ None
 read_actions-over block turns i found ts h =
     let e : turns - i ≡ 0 = omega arith in
     rw e refl
 
-pub read_fields-turn : (turns i : ℕ) (found : List Name) (ts : List Token) → i < turns → read_fields (turns - i) found ts ≡ either_way (after_word w.Field ts) (λ ts. reading (name_at ts) (λ x ts. behind (after_symbol s.Semicolon ts) (read_fields (turns - (i + 1)) (found ++ x ∷ [])))) (Some (found, ts))
+pub read_fields-turn : (turns i : ℕ) (found : List Name) (ts : List Token) → i < turns → read_fields (turns - i) found ts ≡ either_way (after_word w.Field ts) (λ ts. on_read (name_at ts) (λ x ts. on_rest (after_symbol s.Semicolon ts) (read_fields (turns - (i + 1)) (found ++ x ∷ [])))) (Some (found, ts))
 read_fields-turn turns i found ts h =
     let e : turns - i ≡ suc (turns - (i + 1)) = omega arith in
     rw e refl
@@ -61,7 +61,7 @@ read_fields-over turns i found ts h =
     let e : turns - i ≡ 0 = omega arith in
     rw e refl
 
-pub read_methods-turn : (turns i : ℕ) (found : List MethodTree) (ts : List Token) → i < turns → read_methods (turns - i) found ts ≡ either_way (after_symbol s.CloseBrace ts) (λ rest. Some (found, rest)) (reading (read_method ts) (λ m. read_methods (turns - (i + 1)) (found ++ m ∷ [])))
+pub read_methods-turn : (turns i : ℕ) (found : List MethodTree) (ts : List Token) → i < turns → read_methods (turns - i) found ts ≡ either_way (after_symbol s.CloseBrace ts) (λ rest. Some (found, rest)) (on_read (read_method ts) (λ m. read_methods (turns - (i + 1)) (found ++ m ∷ [])))
 read_methods-turn turns i found ts h =
     let e : turns - i ≡ suc (turns - (i + 1)) = omega arith in
     rw e refl
@@ -71,7 +71,7 @@ read_methods-over turns i found ts h =
     let e : turns - i ≡ 0 = omega arith in
     rw e refl
 
-pub read_further-turn : (turns i : ℕ) (found : List Name) (ts : List Token) → i < turns → read_further (turns - i) found ts ≡ either_way (after_symbol s.Comma ts) (λ ts. reading (name_at ts) (λ x. read_further (turns - (i + 1)) (found ++ x ∷ []))) (behind (after_symbol s.CloseRound ts) (λ rest. Some (found, rest)))
+pub read_further-turn : (turns i : ℕ) (found : List Name) (ts : List Token) → i < turns → read_further (turns - i) found ts ≡ either_way (after_symbol s.Comma ts) (λ ts. on_read (name_at ts) (λ x. read_further (turns - (i + 1)) (found ++ x ∷ []))) (on_rest (after_symbol s.CloseRound ts) (λ rest. Some (found, rest)))
 read_further-turn turns i found ts h =
     let e : turns - i ≡ suc (turns - (i + 1)) = omega arith in
     rw e refl
@@ -81,7 +81,7 @@ read_further-over turns i found ts h =
     let e : turns - i ≡ 0 = omega arith in
     rw e refl
 
-pub read_classes-turn : (turns i : ℕ) (found : List ClassTree) (ts : List Token) → i < turns → 0 < length ts → read_classes (turns - i) found ts ≡ reading (read_class ts) (λ c. read_classes (turns - (i + 1)) (found ++ c ∷ []))
+pub read_classes-turn : (turns i : ℕ) (found : List ClassTree) (ts : List Token) → i < turns → 0 < length ts → read_classes (turns - i) found ts ≡ on_read (read_class ts) (λ c. read_classes (turns - (i + 1)) (found ++ c ∷ []))
 read_classes-turn turns i found [] h some = absurd (omega arith)
 read_classes-turn turns i found (t ∷ ts) h some =
     let e : turns - i ≡ suc (turns - (i + 1)) = omega arith in
@@ -101,7 +101,7 @@ pub read_line-one : (inner : ExpressionReader) → read_operator_line inner 1 �
 unfolding read_operator_line
 read_line-one inner = refl
 
-pub read_line-next : (inner : ExpressionReader) (k : ℕ) (ts : List Token) → read_operator_line inner (suc (suc k)) ts ≡ reading (read_operator_line inner (suc k) ts) (more_of (suc (suc k)) (read_operator_line inner (suc k)) (turns_of (suc (suc k)) (length ts)))
+pub read_line-next : (inner : ExpressionReader) (k : ℕ) (ts : List Token) → read_operator_line inner (suc (suc k)) ts ≡ on_read (read_operator_line inner (suc k) ts) (more_of (suc (suc k)) (read_operator_line inner (suc k)) (turns_of (suc (suc k)) (length ts)))
 unfolding read_operator_line
 read_line-next inner k ts = refl
 
@@ -110,7 +110,7 @@ line_number_if None = 0
 line_number_if (Some l) = line_number l
 
 -- the same by the lines of operators
-pub read_line-turns : (inner : ExpressionReader) (l : Line) (ts : List Token) → read_operator_line inner (line_number l) ts ≡ reading (read_operator_line inner (line_number l - 1) ts) (more_of (line_number l) (read_operator_line inner (line_number l - 1)) (turns_of (line_number l) (length ts)))
+pub read_line-turns : (inner : ExpressionReader) (l : Line) (ts : List Token) → read_operator_line inner (line_number l) ts ≡ on_read (read_operator_line inner (line_number l - 1) ts) (more_of (line_number l) (read_operator_line inner (line_number l - 1)) (turns_of (line_number l) (length ts)))
 read_line-turns inner line.Term ts = read_line-next inner 0 ts
 read_line-turns inner line.Sum ts = read_line-next inner 1 ts
 read_line-turns inner line.Relation ts = read_line-next inner 2 ts
@@ -136,10 +136,10 @@ pub line_begins : (inner : ExpressionReader) (l : Line) (ts : List Token) (e : E
 line_begins inner l ts e rest h =
     let next = more_of (line_number l) (read_operator_line inner (line_number l - 1)) in
     let all : turns_of (line_number l) (length ts) - 0 ≡ turns_of (line_number l) (length ts) = omega arith in
-    ap (λ n. next n e rest) all ∙ sym (ap (λ o. reading o (next (turns_of (line_number l) (length ts)))) h) ∙ sym (read_line-turns inner l ts)
+    ap (λ n. next n e rest) all ∙ sym (ap (λ o. on_read o (next (turns_of (line_number l) (length ts)))) h) ∙ sym (read_line-turns inner l ts)
 
 pub line_stops : (inner : ExpressionReader) (l : Line) (ts : List Token) → read_operator_line inner (line_number l - 1) ts ≡ None → read_operator_line inner (line_number l) ts ≡ None
-line_stops inner l ts h = read_line-turns inner l ts ∙ ap (λ o. reading o (more_of (line_number l) (read_operator_line inner (line_number l - 1)) (turns_of (line_number l) (length ts)))) h
+line_stops inner l ts h = read_line-turns inner l ts ∙ ap (λ o. on_read o (more_of (line_number l) (read_operator_line inner (line_number l - 1)) (turns_of (line_number l) (length ts)))) h
 
 -- the sides of the tightest line
 pub tightest_sides : (inner : ExpressionReader) (l : Line) (ts : List Token) → tighter_of l ≡ None → read_operator_line inner (line_number l - 1) ts ≡ inner ts
@@ -157,7 +157,7 @@ read_block-inside (suc room) ts h =
     let e : suc room - 1 ≡ room = omega arith in
     rw e refl
 
-pub read_unary-inside : (room : ℕ) (ts : List Token) → 0 < room → read_unary room ts ≡ on_found (sign_at ts) (λ o ts. reading (read_unary (room - 1) ts) (λ e ts. Some (unary o e, ts))) (read_post (read_operator_line (read_unary (room - 1)) 6) ts)
+pub read_unary-inside : (room : ℕ) (ts : List Token) → 0 < room → read_unary room ts ≡ on_found (sign_at ts) (λ o ts. on_read (read_unary (room - 1) ts) (λ e ts. Some (unary o e, ts))) (read_post (read_operator_line (read_unary (room - 1)) 6) ts)
 read_unary-inside zero ts h = absurd (omega arith)
 read_unary-inside (suc room) ts h =
     let e : suc room - 1 ≡ room = omega arith in

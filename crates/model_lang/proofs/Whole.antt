@@ -8,7 +8,7 @@ use Rattle.model_lang.specs.declared.fault.LangFault.{LangFault}
 use Rattle.model_lang.specs.declared.fault.LangFault.TheVariants.{Syntax, TooLarge, WantOfMemory}
 use Rattle.model_lang.specs.Tree.{ProgramTree}
 use Rattle.model_lang.specs.Grammar.{Derives}
-use Rattle.model_lang.specs.Bounds.{most_program_bytes, passed}
+use Rattle.model_lang.specs.Bounds.{most_program_bytes, first_excess}
 use Rattle.model_lang.specs.Program.{FewBrackets, FewOperators, IsSpelled, IsRead, ArePast, IsTooLarge, AreNoProgram, IsNoProgram}
 use Rattle.model_lang.specs.Reader.{read_program}
 use Rattle.model_lang.specs.Answer.{ParsesTokens, Parses}
@@ -31,13 +31,13 @@ underived ts none tree d =
     let p : ◌≡◌ {A = Option ProgramTree} (Some tree) None = sym (derived-read ts tree d) ∙ none in
     cc
 
-pub are_spelled : (ts : List Token) (tree : ProgramTree) → FewBrackets ts → FewOperators ts → read_program ts ≡ Some tree → passed tree ≡ None → IsSpelled ts tree
+pub are_spelled : (ts : List Token) (tree : ProgramTree) → FewBrackets ts → FewOperators ts → read_program ts ≡ Some tree → first_excess tree ≡ None → IsSpelled ts tree
 are_spelled ts tree brackets operators read none = record { brackets = brackets; operators = operators; derives = program_sound ts tree read; fits = none }
 
 pub are_no_program : (ts : List Token) → FewBrackets ts → FewOperators ts → read_program ts ≡ None → AreNoProgram ts
 are_no_program ts brackets operators none = record { brackets = brackets; operators = operators; underived = underived ts none }
 
-pub many_members : (ts : List Token) (tree : ProgramTree) (what : Bound) (count : ℕ) → FewBrackets ts → FewOperators ts → Derives ts tree → passed tree ≡ Some (what, count) → ArePast what count ts
+pub many_members : (ts : List Token) (tree : ProgramTree) (what : Bound) (count : ℕ) → FewBrackets ts → FewOperators ts → Derives ts tree → first_excess tree ≡ Some (what, count) → ArePast what count ts
 many_members ts tree what count brackets operators d over = inr (inr (brackets, operators, (tree, d, over)))
 
 -- ---- the tokens of a text

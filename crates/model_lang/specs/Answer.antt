@@ -8,12 +8,12 @@ use Rattle.model_lang.specs.declared.tree.Class.{Class}
 use Rattle.model_lang.specs.declared.tree.Expr.{Expr}
 use Rattle.model_lang.specs.declared.fault.LangFault.{LangFault}
 use Rattle.model_lang.specs.declared.fault.LangFault.TheVariants.{Syntax, TooLarge, WantOfMemory}
-use Rattle.model_lang.specs.declared.fault.Stop.{Stop}
-use Rattle.model_lang.specs.declared.fault.Stop.TheVariants as stop
+use Rattle.model_lang.specs.declared.fault.ParseStop.{ParseStop}
+use Rattle.model_lang.specs.declared.fault.ParseStop.TheVariants as stop
 use Rattle.model_lang.specs.Tree.{Name, Expression, ClassTree}
 use Rattle.model_lang.specs.TreeView.{program_tree, expression_tree}
 use Rattle.model_lang.specs.Program.{IsSpelled, IsRead, ArePast, IsTooLarge, AreNoProgram, IsNoProgram}
-use Rattle.model_lang.specs.Reader.{Read}
+use Rattle.model_lang.specs.Reader.{ParseResult}
 
 -- the tree that the text is read as, or the refusal that it meets
 abbrev pub Parses : Result (List Class) LangFault → List ℕ → Type 0
@@ -35,18 +35,18 @@ ParsesTokens (Err (Syntax at)) ts = AreNoProgram ts
 ParsesTokens (Err WantOfMemory) ts = Unit {0}
 
 -- beside what the reader reads
-abbrev pub Reads : {A B : Type 0} → (A → B) → Result (A × Bor (List Token)) Stop → Read B → Type 0
-Reads seen (Ok found) meant = meant ≡ Some (seen found.0, found.1.now)
-Reads seen (Err (stop.NoProgram left)) meant = meant ≡ None
-Reads seen (Err stop.WantOfMemory) meant = Unit {0}
+abbrev pub ParsesPart : {A B : Type 0} → (A → B) → Result (A × Bor (List Token)) ParseStop → ParseResult B → Type 0
+ParsesPart seen (Ok found) meant = meant ≡ Some (seen found.0, found.1.now)
+ParsesPart seen (Err (stop.NoProgram left)) meant = meant ≡ None
+ParsesPart seen (Err stop.WantOfMemory) meant = Unit {0}
 
 -- a part that may be there or not, and needs no memory
-abbrev pub Finds : {A : Type 0} → Option (A × Bor (List Token)) → Read A → Type 0
+abbrev pub Finds : {A : Type 0} → Option (A × Bor (List Token)) → ParseResult A → Type 0
 Finds None meant = meant ≡ None
 Finds (Some found) meant = meant ≡ Some (found.0, found.1.now)
 
 -- a name that may be there or not
-abbrev pub FindsName : Option (Bor Name × Bor (List Token)) → Read Name → Type 0
+abbrev pub FindsName : Option (Bor Name × Bor (List Token)) → ParseResult Name → Type 0
 FindsName None meant = meant ≡ None
 FindsName (Some found) meant = meant ≡ Some (found.0.now, found.1.now)
 
@@ -54,13 +54,13 @@ abbrev pub IsBehind : Option (Bor (List Token)) → Option (List Token) → Type
 IsBehind None meant = meant ≡ None
 IsBehind (Some rest) meant = meant ≡ Some rest.now
 
-abbrev pub Expects : Result (Bor (List Token)) Stop → Option (List Token) → Type 0
+abbrev pub Expects : Result (Bor (List Token)) ParseStop → Option (List Token) → Type 0
 Expects (Ok rest) meant = meant ≡ Some rest.now
 Expects (Err (stop.NoProgram left)) meant = meant ≡ None
 Expects (Err stop.WantOfMemory) meant = ⊥
 
 -- the same of a name
-abbrev pub ExpectsName : Result (Bor Name × Bor (List Token)) Stop → Read Name → Type 0
+abbrev pub ExpectsName : Result (Bor Name × Bor (List Token)) ParseStop → ParseResult Name → Type 0
 ExpectsName (Ok found) meant = meant ≡ Some (found.0.now, found.1.now)
 ExpectsName (Err (stop.NoProgram left)) meant = meant ≡ None
 ExpectsName (Err stop.WantOfMemory) meant = ⊥
@@ -70,7 +70,7 @@ Makes (Ok e) meant = expression_tree e ≡ meant
 Makes (Err e) meant = Unit {0}
 
 -- all the classes, where they are read
-abbrev pub ReadsAll : Result (Vec Class Global) Stop → Option (List ClassTree) → Type 0
+abbrev pub ReadsAll : Result (Vec Class Global) ParseStop → Option (List ClassTree) → Type 0
 ReadsAll (Ok classes) meant = meant ≡ Some (program_tree classes.items)
 ReadsAll (Err (stop.NoProgram left)) meant = meant ≡ None
 ReadsAll (Err stop.WantOfMemory) meant = Unit {0}

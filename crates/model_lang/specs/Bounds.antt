@@ -4,8 +4,8 @@ use Rattle.model_tokens.specs.declared.token.Token.{Token}
 use Rattle.model_tokens.specs.declared.token.Token.TheVariants as token
 use Rattle.model_tokens.specs.declared.token.Symbol.{Symbol}
 use Rattle.model_tokens.specs.declared.token.Symbol.TheVariants as symbol
-use Rattle.model_lang.specs.declared.bounds.Counted.{Counted}
-use Rattle.model_lang.specs.declared.bounds.Counted.TheVariants as what
+use Rattle.model_lang.specs.declared.bounds.TokenCount.{TokenCount}
+use Rattle.model_lang.specs.declared.bounds.TokenCount.TheVariants as what
 use Rattle.model_lang.specs.declared.fault.Bound.{Bound}
 use Rattle.model_lang.specs.declared.fault.Bound.TheVariants as bound
 use Rattle.model_lang.specs.Tree.{Expression, nil, bool, int, text, this, local, field, list, unary, binary, builtin, call, future, create, Expressions, no_expressions, expression, Statement, declare, assign, set_field, when, while, give, do_, Statements, no_statements, statement, Otherwise, no_else, else_block, MethodTree, ClassTree, ProgramTree}
@@ -49,7 +49,7 @@ operators_after before symbol.Assign = before
 operators_after before _ = before + 1
 
 -- the counts that are bounded
-abbrev pub count_symbol : Counted → ℕ → Symbol → ℕ
+abbrev pub count_symbol : TokenCount → ℕ → Symbol → ℕ
 count_symbol what.Brackets = brackets_after
 count_symbol what.Operators = operators_after
 
@@ -199,7 +199,7 @@ or_else what None behind = behind
 or_else what (Some count) behind = Some (what, count)
 
 -- the first bound that a program passes, in this order, with the first count that is above it
-abbrev pub passed : ProgramTree → Option (Bound × ℕ)
-passed cs =
+abbrev pub first_excess : ProgramTree → Option (Bound × ℕ)
+first_excess cs =
     or_else bound.Classes (above most_members (length cs))
     (or_else bound.Fields (many_fields cs) (or_else bound.Methods (many_methods cs) (or_else bound.Parameters (many_parameters cs) None)))

@@ -33,13 +33,13 @@ mutual
     a_call : Phrase → Name → Phrases → Phrase
     a_future : Phrase → Phrase → Name → Phrases → Phrase
     -- unary = ("-" | "!") unary | post
-    signed : UnaryOp → Phrase → Phrase
+    a_unary : UnaryOp → Phrase → Phrase
     -- term = unary (("*" | "/" | "%") unary)*
     -- sum  = term (("+" | "-") term)*
     -- rel  = sum [("==" | "!=" | "<" | "<=" | ">" | ">=") sum]?
     -- and  = rel ("&&" rel)*
     -- expr = and ("||" and)*
-    joined : BinaryOp → Phrase → Phrase → Phrase
+    a_binary : BinaryOp → Phrase → Phrase → Phrase
 
   -- args = [expr ("," expr)*]?
   pub data Phrases : Type 0 where
@@ -64,8 +64,8 @@ operator_line op.Divide = 2
 operator_line op.Rest = 2
 
 abbrev pub line : Phrase → ℕ
-line (signed o a) = 1
-line (joined o a b) = operator_line o
+line (a_unary o a) = 1
+line (a_binary o a b) = operator_line o
 line _ = 0
 
 -- The loosest line that may stand on the left of an operator: its own, since the operators of a line group to the left. But
@@ -87,26 +87,26 @@ left_of op.Rest = 2
 
 -- each part is of a line that may stand where it does
 abbrev mutual
-  pub Stands : Phrase → Type 0
-  Stands (a_number n) = Unit {0}
-  Stands (a_text t) = Unit {0}
-  Stands a_nil = Unit {0}
-  Stands (a_bool b) = Unit {0}
-  Stands a_this = Unit {0}
-  Stands (a_field x) = Unit {0}
-  Stands (a_local x) = Unit {0}
-  Stands (a_builtin x args) = AllStand args
-  Stands (a_create x options) = Stands options
-  Stands (a_list items) = AllStand items
-  Stands (brackets a) = Stands a
-  Stands (a_call object x args) = Stands object × (line object ≤ 0) × AllStand args
-  Stands (a_future object delay x args) = Stands object × (line object ≤ 0) × Stands delay × AllStand args
-  Stands (signed o a) = Stands a × (line a ≤ 1)
-  Stands (joined o a b) = Stands a × (line a ≤ left_of o) × Stands b × (line b < operator_line o)
+  pub IsWellFormed : Phrase → Type 0
+  IsWellFormed (a_number n) = Unit {0}
+  IsWellFormed (a_text t) = Unit {0}
+  IsWellFormed a_nil = Unit {0}
+  IsWellFormed (a_bool b) = Unit {0}
+  IsWellFormed a_this = Unit {0}
+  IsWellFormed (a_field x) = Unit {0}
+  IsWellFormed (a_local x) = Unit {0}
+  IsWellFormed (a_builtin x args) = AreWellFormed args
+  IsWellFormed (a_create x options) = IsWellFormed options
+  IsWellFormed (a_list items) = AreWellFormed items
+  IsWellFormed (brackets a) = IsWellFormed a
+  IsWellFormed (a_call object x args) = IsWellFormed object × (line object ≤ 0) × AreWellFormed args
+  IsWellFormed (a_future object delay x args) = IsWellFormed object × (line object ≤ 0) × IsWellFormed delay × AreWellFormed args
+  IsWellFormed (a_unary o a) = IsWellFormed a × (line a ≤ 1)
+  IsWellFormed (a_binary o a b) = IsWellFormed a × (line a ≤ left_of o) × IsWellFormed b × (line b < operator_line o)
 
-  pub AllStand : Phrases → Type 0
-  AllStand no_phrases = Unit {0}
-  AllStand (phrase a more) = Stands a × AllStand more
+  pub AreWellFormed : Phrases → Type 0
+  AreWellFormed no_phrases = Unit {0}
+  AreWellFormed (phrase a more) = IsWellFormed a × AreWellFormed more
 
 abbrev pub in_round : List Token → List Token
 in_round ts = symbol s.OpenRound ∷ (ts ++ symbol s.CloseRound ∷ [])
@@ -141,31 +141,31 @@ truth_word true = word w.True
 truth_word false = word w.False
 
 abbrev mutual
-  pub spelled : Phrase → List Token
-  spelled (a_number n) = number n ∷ []
-  spelled (a_text t) = literal t ∷ []
-  spelled a_nil = word w.Nil ∷ []
-  spelled (a_bool b) = truth_word b ∷ []
-  spelled a_this = word w.This ∷ []
-  spelled (a_field x) = word w.This ∷ symbol s.Dot ∷ name x ∷ []
-  spelled (a_local x) = name x ∷ []
-  spelled (a_builtin x args) = name x ∷ in_round (spelled_args args)
-  spelled (a_create x options) = word w.Create ∷ in_round (class_name x ∷ symbol s.Comma ∷ spelled options)
-  spelled (a_list items) = in_square (spelled_args items)
-  spelled (brackets a) = in_round (spelled a)
-  spelled (a_call object x args) = spelled object ++ symbol s.Dot ∷ name x ∷ in_round (spelled_args args)
-  spelled (a_future object delay x args) =
-      spelled object ++ symbol s.Dot ∷ word w.Future ∷ (in_round (spelled delay) ++ symbol s.Dot ∷ name x ∷ in_round (spelled_args args))
-  spelled (signed o a) = symbol (sign_symbol o) ∷ spelled a
-  spelled (joined o a b) = spelled a ++ symbol (op_symbol o) ∷ spelled b
+  pub phrase_spelling : Phrase → List Token
+  phrase_spelling (a_number n) = number n ∷ []
+  phrase_spelling (a_text t) = literal t ∷ []
+  phrase_spelling a_nil = word w.Nil ∷ []
+  phrase_spelling (a_bool b) = truth_word b ∷ []
+  phrase_spelling a_this = word w.This ∷ []
+  phrase_spelling (a_field x) = word w.This ∷ symbol s.Dot ∷ name x ∷ []
+  phrase_spelling (a_local x) = name x ∷ []
+  phrase_spelling (a_builtin x args) = name x ∷ in_round (args_spelling args)
+  phrase_spelling (a_create x options) = word w.Create ∷ in_round (class_name x ∷ symbol s.Comma ∷ phrase_spelling options)
+  phrase_spelling (a_list items) = in_square (args_spelling items)
+  phrase_spelling (brackets a) = in_round (phrase_spelling a)
+  phrase_spelling (a_call object x args) = phrase_spelling object ++ symbol s.Dot ∷ name x ∷ in_round (args_spelling args)
+  phrase_spelling (a_future object delay x args) =
+      phrase_spelling object ++ symbol s.Dot ∷ word w.Future ∷ (in_round (phrase_spelling delay) ++ symbol s.Dot ∷ name x ∷ in_round (args_spelling args))
+  phrase_spelling (a_unary o a) = symbol (sign_symbol o) ∷ phrase_spelling a
+  phrase_spelling (a_binary o a b) = phrase_spelling a ++ symbol (op_symbol o) ∷ phrase_spelling b
 
-  pub spelled_args : Phrases → List Token
-  spelled_args no_phrases = []
-  spelled_args (phrase a more) = spelled a ++ spelled_more more
+  pub args_spelling : Phrases → List Token
+  args_spelling no_phrases = []
+  args_spelling (phrase a more) = phrase_spelling a ++ more_spelling more
 
-  pub spelled_more : Phrases → List Token
-  spelled_more no_phrases = []
-  spelled_more (phrase a more) = symbol s.Comma ∷ (spelled a ++ spelled_more more)
+  pub more_spelling : Phrases → List Token
+  more_spelling no_phrases = []
+  more_spelling (phrase a more) = symbol s.Comma ∷ (phrase_spelling a ++ more_spelling more)
 
 -- round brackets leave no node
 abbrev mutual
@@ -183,8 +183,8 @@ abbrev mutual
   tree_of (brackets a) = tree_of a
   tree_of (a_call object x args) = call (tree_of object) x (trees_of args)
   tree_of (a_future object delay x args) = future (tree_of object) (tree_of delay) x (trees_of args)
-  tree_of (signed o a) = unary o (tree_of a)
-  tree_of (joined o a b) = binary o (tree_of a) (tree_of b)
+  tree_of (a_unary o a) = unary o (tree_of a)
+  tree_of (a_binary o a b) = binary o (tree_of a) (tree_of b)
 
   pub trees_of : Phrases → Expressions
   trees_of no_phrases = no_expressions
@@ -197,14 +197,14 @@ mutual
   --      | "if" "(" expr ")" block ["else" block]? | "while" "(" expr ")" block
   --      | "return" expr ";" | expr ";"
   pub data Action : Type 0 where
-    declaring : Name → Phrase → Action
-    assigning : Name → Phrase → Action
-    setting : Name → Phrase → Action
+    a_let : Name → Phrase → Action
+    an_assignment : Name → Phrase → Action
+    a_set_field : Name → Phrase → Action
     choice : Phrase → Block → Action
     choice_else : Phrase → Block → Block → Action
-    looping : Phrase → Block → Action
-    giving : Phrase → Action
-    doing : Phrase → Action
+    a_while : Phrase → Block → Action
+    a_return : Phrase → Action
+    a_do : Phrase → Action
 
   -- block = "{" stmt* "}"
   pub data Block : Type 0 where
@@ -212,51 +212,51 @@ mutual
     first : Action → Block → Block
 
 abbrev mutual
-  pub ActionStands : Action → Type 0
-  ActionStands (declaring x a) = Stands a
-  ActionStands (assigning x a) = Stands a
-  ActionStands (setting x a) = Stands a
-  ActionStands (choice a block) = Stands a × BlockStands block
-  ActionStands (choice_else a block other) = Stands a × BlockStands block × BlockStands other
-  ActionStands (looping a block) = Stands a × BlockStands block
-  ActionStands (giving a) = Stands a
-  ActionStands (doing a) = Stands a
+  pub IsWellFormedAction : Action → Type 0
+  IsWellFormedAction (a_let x a) = IsWellFormed a
+  IsWellFormedAction (an_assignment x a) = IsWellFormed a
+  IsWellFormedAction (a_set_field x a) = IsWellFormed a
+  IsWellFormedAction (choice a block) = IsWellFormed a × IsWellFormedBlock block
+  IsWellFormedAction (choice_else a block other) = IsWellFormed a × IsWellFormedBlock block × IsWellFormedBlock other
+  IsWellFormedAction (a_while a block) = IsWellFormed a × IsWellFormedBlock block
+  IsWellFormedAction (a_return a) = IsWellFormed a
+  IsWellFormedAction (a_do a) = IsWellFormed a
 
-  pub BlockStands : Block → Type 0
-  BlockStands closed = Unit {0}
-  BlockStands (first a block) = ActionStands a × BlockStands block
+  pub IsWellFormedBlock : Block → Type 0
+  IsWellFormedBlock closed = Unit {0}
+  IsWellFormedBlock (first a block) = IsWellFormedAction a × IsWellFormedBlock block
 
 -- an expression with the `;` behind it
-abbrev pub spelled_end : Phrase → List Token
-spelled_end a = spelled a ++ symbol s.Semicolon ∷ []
+abbrev pub end_spelling : Phrase → List Token
+end_spelling a = phrase_spelling a ++ symbol s.Semicolon ∷ []
 
 abbrev mutual
-  pub spelled_action : Action → List Token
-  spelled_action (declaring x a) = word w.Let ∷ name x ∷ symbol s.Assign ∷ spelled_end a
-  spelled_action (assigning x a) = name x ∷ symbol s.Assign ∷ spelled_end a
-  spelled_action (setting x a) = word w.This ∷ symbol s.Dot ∷ name x ∷ symbol s.Assign ∷ spelled_end a
-  spelled_action (choice a block) = word w.If ∷ (in_round (spelled a) ++ in_braces (spelled_block block))
-  spelled_action (choice_else a block other) =
-      word w.If ∷ (in_round (spelled a) ++ (in_braces (spelled_block block) ++ word w.Else ∷ in_braces (spelled_block other)))
-  spelled_action (looping a block) = word w.While ∷ (in_round (spelled a) ++ in_braces (spelled_block block))
-  spelled_action (giving a) = word w.Return ∷ spelled_end a
-  spelled_action (doing a) = spelled_end a
+  pub action_spelling : Action → List Token
+  action_spelling (a_let x a) = word w.Let ∷ name x ∷ symbol s.Assign ∷ end_spelling a
+  action_spelling (an_assignment x a) = name x ∷ symbol s.Assign ∷ end_spelling a
+  action_spelling (a_set_field x a) = word w.This ∷ symbol s.Dot ∷ name x ∷ symbol s.Assign ∷ end_spelling a
+  action_spelling (choice a block) = word w.If ∷ (in_round (phrase_spelling a) ++ in_braces (block_spelling block))
+  action_spelling (choice_else a block other) =
+      word w.If ∷ (in_round (phrase_spelling a) ++ (in_braces (block_spelling block) ++ word w.Else ∷ in_braces (block_spelling other)))
+  action_spelling (a_while a block) = word w.While ∷ (in_round (phrase_spelling a) ++ in_braces (block_spelling block))
+  action_spelling (a_return a) = word w.Return ∷ end_spelling a
+  action_spelling (a_do a) = end_spelling a
 
   -- between its braces
-  pub spelled_block : Block → List Token
-  spelled_block closed = []
-  spelled_block (first a block) = spelled_action a ++ spelled_block block
+  pub block_spelling : Block → List Token
+  block_spelling closed = []
+  block_spelling (first a block) = action_spelling a ++ block_spelling block
 
 abbrev mutual
   pub tree_of_action : Action → Statement
-  tree_of_action (declaring x a) = declare x (tree_of a)
-  tree_of_action (assigning x a) = assign x (tree_of a)
-  tree_of_action (setting x a) = set_field x (tree_of a)
+  tree_of_action (a_let x a) = declare x (tree_of a)
+  tree_of_action (an_assignment x a) = assign x (tree_of a)
+  tree_of_action (a_set_field x a) = set_field x (tree_of a)
   tree_of_action (choice a block) = when (tree_of a) (trees_of_block block) no_else
   tree_of_action (choice_else a block other) = when (tree_of a) (trees_of_block block) (else_block (trees_of_block other))
-  tree_of_action (looping a block) = while (tree_of a) (trees_of_block block)
-  tree_of_action (giving a) = give (tree_of a)
-  tree_of_action (doing a) = do_ (tree_of a)
+  tree_of_action (a_while a block) = while (tree_of a) (trees_of_block block)
+  tree_of_action (a_return a) = give (tree_of a)
+  tree_of_action (a_do a) = do_ (tree_of a)
 
   pub trees_of_block : Block → Statements
   trees_of_block closed = no_statements
@@ -276,39 +276,39 @@ pub record ClassForm : Type 0 where
   pub fields : List Name
   pub methods : List MethodForm
 
-abbrev pub MethodsStand : List MethodForm → Type 0
-MethodsStand [] = Unit {0}
-MethodsStand (m ∷ ms) = BlockStands m.body × MethodsStand ms
+abbrev pub AreWellFormedMethods : List MethodForm → Type 0
+AreWellFormedMethods [] = Unit {0}
+AreWellFormedMethods (m ∷ ms) = IsWellFormedBlock m.body × AreWellFormedMethods ms
 
-abbrev pub ClassesStand : List ClassForm → Type 0
-ClassesStand [] = Unit {0}
-ClassesStand (c ∷ cs) = MethodsStand c.methods × ClassesStand cs
+abbrev pub AreWellFormedClasses : List ClassForm → Type 0
+AreWellFormedClasses [] = Unit {0}
+AreWellFormedClasses (c ∷ cs) = AreWellFormedMethods c.methods × AreWellFormedClasses cs
 
-abbrev pub spelled_further : List Name → List Token
-spelled_further [] = []
-spelled_further (x ∷ xs) = symbol s.Comma ∷ name x ∷ spelled_further xs
+abbrev pub further_spelling : List Name → List Token
+further_spelling [] = []
+further_spelling (x ∷ xs) = symbol s.Comma ∷ name x ∷ further_spelling xs
 
-abbrev pub spelled_params : List Name → List Token
-spelled_params [] = []
-spelled_params (x ∷ xs) = name x ∷ spelled_further xs
+abbrev pub params_spelling : List Name → List Token
+params_spelling [] = []
+params_spelling (x ∷ xs) = name x ∷ further_spelling xs
 
-abbrev pub spelled_method : MethodForm → List Token
-spelled_method m = name m.name ∷ (in_round (spelled_params m.params) ++ in_braces (spelled_block m.body))
+abbrev pub method_spelling : MethodForm → List Token
+method_spelling m = name m.name ∷ (in_round (params_spelling m.params) ++ in_braces (block_spelling m.body))
 
-abbrev pub spelled_methods : List MethodForm → List Token
-spelled_methods [] = []
-spelled_methods (m ∷ ms) = spelled_method m ++ spelled_methods ms
+abbrev pub methods_spelling : List MethodForm → List Token
+methods_spelling [] = []
+methods_spelling (m ∷ ms) = method_spelling m ++ methods_spelling ms
 
-abbrev pub spelled_fields : List Name → List Token
-spelled_fields [] = []
-spelled_fields (x ∷ xs) = word w.Field ∷ name x ∷ symbol s.Semicolon ∷ spelled_fields xs
+abbrev pub fields_spelling : List Name → List Token
+fields_spelling [] = []
+fields_spelling (x ∷ xs) = word w.Field ∷ name x ∷ symbol s.Semicolon ∷ fields_spelling xs
 
-abbrev pub spelled_class : ClassForm → List Token
-spelled_class c = word w.Class ∷ class_name c.name ∷ in_braces (spelled_fields c.fields ++ spelled_methods c.methods)
+abbrev pub class_spelling : ClassForm → List Token
+class_spelling c = word w.Class ∷ class_name c.name ∷ in_braces (fields_spelling c.fields ++ methods_spelling c.methods)
 
-abbrev pub spelled_classes : List ClassForm → List Token
-spelled_classes [] = []
-spelled_classes (c ∷ cs) = spelled_class c ++ spelled_classes cs
+abbrev pub classes_spelling : List ClassForm → List Token
+classes_spelling [] = []
+classes_spelling (c ∷ cs) = class_spelling c ++ classes_spelling cs
 
 abbrev pub tree_of_method : MethodForm → MethodTree
 tree_of_method m = record { name = m.name; params = m.params; body = trees_of_block m.body }
@@ -319,4 +319,4 @@ tree_of_class c = record { name = c.name; fields = c.fields; methods = map tree_
 -- program = class class*
 -- these tokens are a program, which stands for this tree
 abbrev pub Derives : List Token → ProgramTree → Type 0
-Derives ts tree = (cs : List ClassForm) × (0 < length cs) × ClassesStand cs × (spelled_classes cs ≡ ts) × (map tree_of_class cs ≡ tree)
+Derives ts tree = (cs : List ClassForm) × (0 < length cs) × AreWellFormedClasses cs × (classes_spelling cs ≡ ts) × (map tree_of_class cs ≡ tree)

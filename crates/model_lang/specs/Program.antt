@@ -6,7 +6,7 @@ use Rattle.model_lang.specs.declared.fault.Bound.{Bound}
 use Rattle.model_lang.specs.declared.fault.Bound.TheVariants as bound
 use Rattle.model_lang.specs.Tree.{ProgramTree}
 use Rattle.model_lang.specs.Grammar.{Derives}
-use Rattle.model_lang.specs.Bounds.{most_program_bytes, most_nested, greatest, brackets_after, operators_after, passed}
+use Rattle.model_lang.specs.Bounds.{most_program_bytes, most_nested, greatest, brackets_after, operators_after, first_excess}
 
 abbrev pub FewBrackets : List Token → Type 0
 FewBrackets ts = greatest brackets_after 0 ts ≤ most_nested
@@ -19,7 +19,7 @@ pub record IsSpelled (tokens : List Token) (tree : ProgramTree) : Type 0 where
   pub brackets : FewBrackets tokens
   pub operators : FewOperators tokens
   pub derives : Derives tokens tree
-  pub fits : passed tree ≡ None
+  pub fits : first_excess tree ≡ None
 
 -- this text is a program within the bounds, which stands for this tree
 pub record IsRead (text : List ℕ) (tree : ProgramTree) : Type 0 where
@@ -40,7 +40,7 @@ abbrev pub ArePast : Bound → ℕ → List Token → Type 0
 ArePast what count ts =
     ((most_nested < greatest brackets_after 0 ts) × (what ≡ bound.Brackets) × (count ≡ 33))
     ⊎ ((FewBrackets ts × (most_nested < greatest operators_after 0 ts) × (what ≡ bound.Operators) × (count ≡ 33))
-    ⊎ (FewBrackets ts × FewOperators ts × ((tree : ProgramTree) × Derives ts tree × (passed tree ≡ Some (what, count)))))
+    ⊎ (FewBrackets ts × FewOperators ts × ((tree : ProgramTree) × Derives ts tree × (first_excess tree ≡ Some (what, count)))))
 
 -- the bound that the text passes first, and the count
 abbrev pub IsTooLarge : Bound → ℕ → List ℕ → Type 0

@@ -14,16 +14,16 @@ use Rattle.model_lang.specs.Tree.{Name, Expression, nil, bool, int, text, this, 
 use Rattle.model_lang.specs.Grammar.{operator_line}
 
 -- what was read, and the tokens behind it
-abbrev pub Read : Type 0 → Type 0
-Read A = Option (A × List Token)
+abbrev pub ParseResult : Type 0 → Type 0
+ParseResult A = Option (A × List Token)
 
-abbrev pub reading : {A B : Type 0} → Read A → (A → List Token → Option B) → Option B
-reading None next = None
-reading (Some p) next = next p.0 p.1
+abbrev pub on_read : {A B : Type 0} → ParseResult A → (A → List Token → Option B) → Option B
+on_read None next = None
+on_read (Some p) next = next p.0 p.1
 
-abbrev pub behind : {B : Type 0} → Option (List Token) → (List Token → Option B) → Option B
-behind None next = None
-behind (Some ts) next = next ts
+abbrev pub on_rest : {B : Type 0} → Option (List Token) → (List Token → Option B) → Option B
+on_rest None next = None
+on_rest (Some ts) next = next ts
 
 -- the first where there are tokens, else the second
 abbrev pub either_way : {B : Type 0} → Option (List Token) → (List Token → B) → B → B
@@ -31,7 +31,7 @@ either_way None next other = other
 either_way (Some ts) next other = next ts
 
 -- with what was found, or what there is without it
-abbrev pub on_found : {A B : Type 0} → Read A → (A → List Token → B) → B → B
+abbrev pub on_found : {A B : Type 0} → ParseResult A → (A → List Token → B) → B → B
 on_found None with_it without = without
 on_found (Some p) with_it without = with_it p.0 p.1
 
@@ -90,36 +90,36 @@ abbrev pub after_symbol : Symbol → List Token → Option (List Token)
 after_symbol wanted (token.Symbol found ∷ ts) = only_where (nat_eq (symbol_number found) (symbol_number wanted)) ts
 after_symbol wanted _ = None
 
-abbrev pub name_at : List Token → Read Name
+abbrev pub name_at : List Token → ParseResult Name
 name_at (token.Name x ∷ ts) = Some (x, ts)
 name_at _ = None
 
-abbrev pub class_name_at : List Token → Read Name
+abbrev pub class_name_at : List Token → ParseResult Name
 class_name_at (token.ClassName x ∷ ts) = Some (x, ts)
 class_name_at _ = None
 
 -- ---- expressions
 
 abbrev pub ExpressionReader : Type 0
-ExpressionReader = List Token → Read Expression
+ExpressionReader = List Token → ParseResult Expression
 
 -- expressions behind the first, up to the closing bracket, which is read too
-abbrev pub read_more : Symbol → ExpressionReader → ℕ → List Expression → List Token → Read (List Expression)
+abbrev pub read_more : Symbol → ExpressionReader → ℕ → List Expression → List Token → ParseResult (List Expression)
 read_more close inner zero found ts = None
 read_more close inner (suc turns) found ts =
-    either_way (after_symbol s.Comma ts) (λ ts. reading (inner ts) (λ e. read_more close inner turns (found ++ e ∷ []))) (behind (after_symbol close ts) (λ rest. Some (found, rest)))
+    either_way (after_symbol s.Comma ts) (λ ts. on_read (inner ts) (λ e. read_more close inner turns (found ++ e ∷ []))) (on_rest (after_symbol close ts) (λ rest. Some (found, rest)))
 
-abbrev pub read_args : Symbol → ExpressionReader → List Token → Read (List Expression)
-read_args close inner ts = either_way (after_symbol close ts) (λ rest. Some ([], rest)) (reading (inner ts) (λ e rest. read_more close inner (length ts) (e ∷ []) rest))
+abbrev pub read_args : Symbol → ExpressionReader → List Token → ParseResult (List Expression)
+read_args close inner ts = either_way (after_symbol close ts) (λ rest. Some ([], rest)) (on_read (inner ts) (λ e rest. read_more close inner (length ts) (e ∷ []) rest))
 
 -- behind a name at the start of a prim
 abbrev pub read_named : ExpressionReader → Name → ExpressionReader
 read_named inner x ts =
-    either_way (after_symbol s.OpenRound ts) (λ ts. reading (read_args s.CloseRound inner ts) (λ args ts. Some (builtin x (expressions_of args), ts))) (Some (local x, ts))
+    either_way (after_symbol s.OpenRound ts) (λ ts. on_read (read_args s.CloseRound inner ts) (λ args ts. Some (builtin x (expressions_of args), ts))) (Some (local x, ts))
 
 -- `.` and a name that no `(` follows
-abbrev pub field_at : List Token → Read Name
-field_at ts = behind (after_symbol s.Dot ts) (λ ts. reading (name_at ts) (λ x ts. either_way (after_symbol s.OpenRound ts) (λ rest. None) (Some (x, ts))))
+abbrev pub field_at : List Token → ParseResult Name
+field_at ts = on_rest (after_symbol s.Dot ts) (λ ts. on_read (name_at ts) (λ x ts. either_way (after_symbol s.OpenRound ts) (λ rest. None) (Some (x, ts))))
 
 -- behind `this`
 abbrev pub read_this : ExpressionReader
@@ -128,8 +128,8 @@ read_this ts = on_found (field_at ts) (λ x ts. Some (field x, ts)) (Some (this,
 -- behind `create`
 abbrev pub read_create : ExpressionReader → ExpressionReader
 read_create inner ts =
-    behind (after_symbol s.OpenRound ts) (λ ts. reading (class_name_at ts) (λ x ts. behind (after_symbol s.Comma ts) (λ ts.
-    reading (inner ts) (λ e ts. behind (after_symbol s.CloseRound ts) (λ ts. Some (create x e, ts))))))
+    on_rest (after_symbol s.OpenRound ts) (λ ts. on_read (class_name_at ts) (λ x ts. on_rest (after_symbol s.Comma ts) (λ ts.
+    on_read (inner ts) (λ e ts. on_rest (after_symbol s.CloseRound ts) (λ ts. Some (create x e, ts))))))
 
 abbrev pub read_word : ExpressionReader → Word → ExpressionReader
 read_word inner w.Nil ts = Some (nil, ts)
@@ -140,8 +140,8 @@ read_word inner w.Create ts = read_create inner ts
 read_word inner _ ts = None
 
 abbrev pub read_opened : ExpressionReader → Symbol → ExpressionReader
-read_opened inner s.OpenRound ts = reading (inner ts) (λ e ts. behind (after_symbol s.CloseRound ts) (λ ts. Some (e, ts)))
-read_opened inner s.OpenSquare ts = reading (read_args s.CloseSquare inner ts) (λ items ts. Some (list (expressions_of items), ts))
+read_opened inner s.OpenRound ts = on_read (inner ts) (λ e ts. on_rest (after_symbol s.CloseRound ts) (λ ts. Some (e, ts)))
+read_opened inner s.OpenSquare ts = on_read (read_args s.CloseSquare inner ts) (λ items ts. Some (list (expressions_of items), ts))
 read_opened inner _ ts = None
 
 abbrev pub read_prim : ExpressionReader → ExpressionReader
@@ -153,32 +153,32 @@ read_prim inner (token.Symbol x ∷ ts) = read_opened inner x ts
 read_prim inner _ = None
 
 -- a name and the `(` behind it
-abbrev pub call_head : List Token → Read Name
-call_head ts = reading (name_at ts) (λ x ts. behind (after_symbol s.OpenRound ts) (λ ts. Some (x, ts)))
+abbrev pub call_head : List Token → ParseResult Name
+call_head ts = on_read (name_at ts) (λ x ts. on_rest (after_symbol s.OpenRound ts) (λ ts. Some (x, ts)))
 
 -- the same behind the `)` and the `.` that stand behind a delay
-abbrev pub message_head : List Token → Read Name
-message_head ts = behind (after_symbol s.CloseRound ts) (λ ts. behind (after_symbol s.Dot ts) call_head)
+abbrev pub message_head : List Token → ParseResult Name
+message_head ts = on_rest (after_symbol s.CloseRound ts) (λ ts. on_rest (after_symbol s.Dot ts) call_head)
 
 -- the name of a class between `(` and `,`
-abbrev pub create_head : List Token → Read Name
-create_head ts = behind (after_symbol s.OpenRound ts) (λ ts. reading (class_name_at ts) (λ x ts. behind (after_symbol s.Comma ts) (λ ts. Some (x, ts))))
+abbrev pub create_head : List Token → ParseResult Name
+create_head ts = on_rest (after_symbol s.OpenRound ts) (λ ts. on_read (class_name_at ts) (λ x ts. on_rest (after_symbol s.Comma ts) (λ ts. Some (x, ts))))
 
 -- a call behind its `.`
 abbrev pub read_call : ExpressionReader → Expression → ExpressionReader
 read_call inner object ts =
-    reading (name_at ts) (λ x ts. behind (after_symbol s.OpenRound ts) (λ ts. reading (read_args s.CloseRound inner ts) (λ args ts. Some (call object x (expressions_of args), ts))))
+    on_read (name_at ts) (λ x ts. on_rest (after_symbol s.OpenRound ts) (λ ts. on_read (read_args s.CloseRound inner ts) (λ args ts. Some (call object x (expressions_of args), ts))))
 
 -- a future behind its delay
 abbrev pub read_message : ExpressionReader → Expression → Expression → ExpressionReader
 read_message inner object delay ts =
-    behind (after_symbol s.Dot ts) (λ ts. reading (name_at ts) (λ x ts. behind (after_symbol s.OpenRound ts) (λ ts.
-    reading (read_args s.CloseRound inner ts) (λ args ts. Some (future object delay x (expressions_of args), ts)))))
+    on_rest (after_symbol s.Dot ts) (λ ts. on_read (name_at ts) (λ x ts. on_rest (after_symbol s.OpenRound ts) (λ ts.
+    on_read (read_args s.CloseRound inner ts) (λ args ts. Some (future object delay x (expressions_of args), ts)))))
 
 -- a future behind `.future`
 abbrev pub read_future : ExpressionReader → Expression → ExpressionReader
 read_future inner object ts =
-    behind (after_symbol s.OpenRound ts) (λ ts. reading (inner ts) (λ delay ts. behind (after_symbol s.CloseRound ts) (read_message inner object delay)))
+    on_rest (after_symbol s.OpenRound ts) (λ ts. on_read (inner ts) (λ delay ts. on_rest (after_symbol s.CloseRound ts) (read_message inner object delay)))
 
 -- behind the `.` of a call or a future
 abbrev pub read_suffix : ExpressionReader → Expression → ExpressionReader
@@ -187,10 +187,10 @@ read_suffix inner object ts = either_way (after_word w.Future ts) (read_future i
 -- at most so many calls and futures, each of what stands before it
 abbrev pub suffixes_of : ExpressionReader → ℕ → Expression → ExpressionReader
 suffixes_of inner zero object ts = Some (object, ts)
-suffixes_of inner (suc turns) object ts = either_way (after_symbol s.Dot ts) (λ ts. reading (read_suffix inner object ts) (suffixes_of inner turns)) (Some (object, ts))
+suffixes_of inner (suc turns) object ts = either_way (after_symbol s.Dot ts) (λ ts. on_read (read_suffix inner object ts) (suffixes_of inner turns)) (Some (object, ts))
 
 abbrev pub read_post : ExpressionReader → ExpressionReader
-read_post inner ts = reading (read_prim inner ts) (suffixes_of inner (length ts))
+read_post inner ts = on_read (read_prim inner ts) (suffixes_of inner (length ts))
 
 abbrev pub unary_of_symbol : Symbol → Option UnaryOp
 unary_of_symbol s.Minus = Some sign.Minus
@@ -213,11 +213,11 @@ operator_of s.Divide = Some op.Divide
 operator_of s.Rest = Some op.Rest
 operator_of _ = None
 
-abbrev pub with_rest : {A : Type 0} → Option A → List Token → Read A
+abbrev pub with_rest : {A : Type 0} → Option A → List Token → ParseResult A
 with_rest None ts = None
 with_rest (Some o) ts = Some (o, ts)
 
-abbrev pub sign_at : List Token → Read UnaryOp
+abbrev pub sign_at : List Token → ParseResult UnaryOp
 sign_at (token.Symbol x ∷ ts) = with_rest (unary_of_symbol x) ts
 sign_at _ = None
 
@@ -226,7 +226,7 @@ of_line k None = None
 of_line k (Some o) = if nat_eq (operator_line o) k then Some o else None
 
 -- an operator of this line at the front
-abbrev pub operator_at : ℕ → List Token → Read BinaryOp
+abbrev pub operator_at : ℕ → List Token → ParseResult BinaryOp
 operator_at k (token.Symbol x ∷ ts) = with_rest (of_line k (operator_of x)) ts
 operator_at k _ = None
 
@@ -234,7 +234,7 @@ operator_at k _ = None
 abbrev pub more_of : ℕ → ExpressionReader → ℕ → Expression → ExpressionReader
 more_of k inner zero left ts = Some (left, ts)
 more_of k inner (suc turns) left ts =
-    on_found (operator_at k ts) (λ o ts. reading (inner ts) (λ e. more_of k inner turns (binary o left e))) (Some (left, ts))
+    on_found (operator_at k ts) (λ o ts. on_read (inner ts) (λ e. more_of k inner turns (binary o left e))) (Some (left, ts))
 
 -- how many operators of a line may stand one behind the other, among so many tokens. Relations do not group
 abbrev pub turns_of : ℕ → ℕ → ℕ
@@ -245,13 +245,13 @@ unfoldable pub read_operator_line : ExpressionReader → ℕ → ExpressionReade
 read_operator_line inner zero ts = inner ts
 read_operator_line inner (suc zero) ts = inner ts
 read_operator_line inner (suc (suc k)) ts =
-    reading (read_operator_line inner (suc k) ts) (more_of (suc (suc k)) (read_operator_line inner (suc k)) (turns_of (suc (suc k)) (length ts)))
+    on_read (read_operator_line inner (suc k) ts) (more_of (suc (suc k)) (read_operator_line inner (suc k)) (turns_of (suc (suc k)) (length ts)))
 
 -- with at most so many signs and brackets one in another
 abbrev pub read_unary : ℕ → ExpressionReader
 read_unary zero ts = None
 read_unary (suc room) ts =
-    on_found (sign_at ts) (λ o ts. reading (read_unary room ts) (λ e ts. Some (unary o e, ts))) (read_post (read_operator_line (read_unary room) 6) ts)
+    on_found (sign_at ts) (λ o ts. on_read (read_unary room ts) (λ e ts. Some (unary o e, ts))) (read_post (read_operator_line (read_unary room) 6) ts)
 
 abbrev pub read_expression : ExpressionReader
 read_expression ts = read_operator_line (read_unary (length ts)) 6 ts
@@ -260,48 +260,48 @@ read_expression ts = read_operator_line (read_unary (length ts)) 6 ts
 
 -- an expression and the `;` behind it
 abbrev pub read_ended : ExpressionReader
-read_ended ts = reading (read_expression ts) (λ e ts. behind (after_symbol s.Semicolon ts) (λ ts. Some (e, ts)))
+read_ended ts = on_read (read_expression ts) (λ e ts. on_rest (after_symbol s.Semicolon ts) (λ ts. Some (e, ts)))
 
 -- a statement that ends with an expression
-abbrev pub read_end : (Expression → Statement) → List Token → Read Statement
-read_end make ts = reading (read_ended ts) (λ e ts. Some (make e, ts))
+abbrev pub read_end : (Expression → Statement) → List Token → ParseResult Statement
+read_end make ts = on_read (read_ended ts) (λ e ts. Some (make e, ts))
 
 -- behind `let`
-abbrev pub read_let : List Token → Read Statement
-read_let ts = reading (name_at ts) (λ x ts. behind (after_symbol s.Assign ts) (read_end (declare x)))
+abbrev pub read_let : List Token → ParseResult Statement
+read_let ts = on_read (name_at ts) (λ x ts. on_rest (after_symbol s.Assign ts) (read_end (declare x)))
 
 -- a name and a `=`
-abbrev pub assigned_at : List Token → Read Name
-assigned_at ts = reading (name_at ts) (λ x ts. behind (after_symbol s.Assign ts) (λ ts. Some (x, ts)))
+abbrev pub assign_head : List Token → ParseResult Name
+assign_head ts = on_read (name_at ts) (λ x ts. on_rest (after_symbol s.Assign ts) (λ ts. Some (x, ts)))
 
 -- `this`, `.`, a name and a `=`
-abbrev pub set_at : List Token → Read Name
-set_at ts = behind (after_word w.This ts) (λ ts. behind (after_symbol s.Dot ts) assigned_at)
+abbrev pub set_at : List Token → ParseResult Name
+set_at ts = on_rest (after_word w.This ts) (λ ts. on_rest (after_symbol s.Dot ts) assign_head)
 
 -- a statement that no word begins which stands before statements alone
-abbrev pub read_simple : List Token → Read Statement
-read_simple ts = on_found (assigned_at ts) (λ x. read_end (assign x)) (on_found (set_at ts) (λ x. read_end (set_field x)) (read_end do_ ts))
+abbrev pub read_simple : List Token → ParseResult Statement
+read_simple ts = on_found (assign_head ts) (λ x. read_end (assign x)) (on_found (set_at ts) (λ x. read_end (set_field x)) (read_end do_ ts))
 
 -- an expression in round brackets, and the opening brace behind it
-abbrev pub read_test : List Token → Read Expression
+abbrev pub read_test : List Token → ParseResult Expression
 read_test ts =
-    behind (after_symbol s.OpenRound ts) (λ ts. reading (read_expression ts) (λ e ts. behind (after_symbol s.CloseRound ts) (λ ts. behind (after_symbol s.OpenBrace ts) (λ ts. Some (e, ts)))))
+    on_rest (after_symbol s.OpenRound ts) (λ ts. on_read (read_expression ts) (λ e ts. on_rest (after_symbol s.CloseRound ts) (λ ts. on_rest (after_symbol s.OpenBrace ts) (λ ts. Some (e, ts)))))
 
 -- behind `else`
-abbrev pub read_else : (List Token → Read (List Statement)) → Expression → List Statement → List Token → Read Statement
+abbrev pub read_else : (List Token → ParseResult (List Statement)) → Expression → List Statement → List Token → ParseResult Statement
 read_else block test found ts =
-    behind (after_symbol s.OpenBrace ts) (λ ts. reading (block ts) (λ other ts. Some (when test (statements_of found) (else_block (statements_of other)), ts)))
+    on_rest (after_symbol s.OpenBrace ts) (λ ts. on_read (block ts) (λ other ts. Some (when test (statements_of found) (else_block (statements_of other)), ts)))
 
 -- behind `if`
-abbrev pub read_if : (List Token → Read (List Statement)) → List Token → Read Statement
+abbrev pub read_if : (List Token → ParseResult (List Statement)) → List Token → ParseResult Statement
 read_if block ts =
-    reading (read_test ts) (λ test ts. reading (block ts) (λ found ts. either_way (after_word w.Else ts) (read_else block test found) (Some (when test (statements_of found) no_else, ts))))
+    on_read (read_test ts) (λ test ts. on_read (block ts) (λ found ts. either_way (after_word w.Else ts) (read_else block test found) (Some (when test (statements_of found) no_else, ts))))
 
 -- behind `while`
-abbrev pub read_while : (List Token → Read (List Statement)) → List Token → Read Statement
-read_while block ts = reading (read_test ts) (λ test ts. reading (block ts) (λ body ts. Some (while test (statements_of body), ts)))
+abbrev pub read_while : (List Token → ParseResult (List Statement)) → List Token → ParseResult Statement
+read_while block ts = on_read (read_test ts) (λ test ts. on_read (block ts) (λ body ts. Some (while test (statements_of body), ts)))
 
-abbrev pub read_action : (List Token → Read (List Statement)) → List Token → Read Statement
+abbrev pub read_action : (List Token → ParseResult (List Statement)) → List Token → ParseResult Statement
 read_action block ts =
     either_way (after_word w.If ts) (read_if block)
     (either_way (after_word w.While ts) (read_while block)
@@ -309,57 +309,57 @@ read_action block ts =
     (either_way (after_word w.Return ts) (read_end give) (read_simple ts))))
 
 -- up to the closing brace, which is read too
-abbrev pub read_actions : (List Token → Read (List Statement)) → ℕ → List Statement → List Token → Read (List Statement)
+abbrev pub read_actions : (List Token → ParseResult (List Statement)) → ℕ → List Statement → List Token → ParseResult (List Statement)
 read_actions block zero found ts = None
 read_actions block (suc turns) found ts =
-    either_way (after_symbol s.CloseBrace ts) (λ rest. Some (found, rest)) (reading (read_action block ts) (λ a. read_actions block turns (found ++ a ∷ [])))
+    either_way (after_symbol s.CloseBrace ts) (λ rest. Some (found, rest)) (on_read (read_action block ts) (λ a. read_actions block turns (found ++ a ∷ [])))
 
 -- behind the opening brace of a block, with at most so many blocks one in another
-abbrev pub read_block : ℕ → List Token → Read (List Statement)
+abbrev pub read_block : ℕ → List Token → ParseResult (List Statement)
 read_block zero ts = None
 read_block (suc room) ts = read_actions (read_block room) (length ts) [] ts
 
 -- ---- classes
 
 -- further names, up to the closing bracket, which is read too
-abbrev pub read_further : ℕ → List Name → List Token → Read (List Name)
+abbrev pub read_further : ℕ → List Name → List Token → ParseResult (List Name)
 read_further zero found ts = None
 read_further (suc turns) found ts =
-    either_way (after_symbol s.Comma ts) (λ ts. reading (name_at ts) (λ x. read_further turns (found ++ x ∷ []))) (behind (after_symbol s.CloseRound ts) (λ rest. Some (found, rest)))
+    either_way (after_symbol s.Comma ts) (λ ts. on_read (name_at ts) (λ x. read_further turns (found ++ x ∷ []))) (on_rest (after_symbol s.CloseRound ts) (λ rest. Some (found, rest)))
 
-abbrev pub read_params : List Token → Read (List Name)
-read_params ts = either_way (after_symbol s.CloseRound ts) (λ rest. Some ([], rest)) (reading (name_at ts) (λ x rest. read_further (length ts) (x ∷ []) rest))
+abbrev pub read_params : List Token → ParseResult (List Name)
+read_params ts = either_way (after_symbol s.CloseRound ts) (λ rest. Some ([], rest)) (on_read (name_at ts) (λ x rest. read_further (length ts) (x ∷ []) rest))
 
-abbrev pub read_body : Name → List Name → List Token → Read MethodTree
+abbrev pub read_body : Name → List Name → List Token → ParseResult MethodTree
 read_body x params ts =
-    behind (after_symbol s.OpenBrace ts) (λ ts. reading (read_block (length ts) ts) (λ found ts. Some (record { name = x; params = params; body = statements_of found }, ts)))
+    on_rest (after_symbol s.OpenBrace ts) (λ ts. on_read (read_block (length ts) ts) (λ found ts. Some (record { name = x; params = params; body = statements_of found }, ts)))
 
-abbrev pub read_method : List Token → Read MethodTree
-read_method ts = reading (name_at ts) (λ x ts. behind (after_symbol s.OpenRound ts) (λ ts. reading (read_params ts) (read_body x)))
+abbrev pub read_method : List Token → ParseResult MethodTree
+read_method ts = on_read (name_at ts) (λ x ts. on_rest (after_symbol s.OpenRound ts) (λ ts. on_read (read_params ts) (read_body x)))
 
-abbrev pub read_fields : ℕ → List Name → List Token → Read (List Name)
+abbrev pub read_fields : ℕ → List Name → List Token → ParseResult (List Name)
 read_fields zero found ts = Some (found, ts)
 read_fields (suc turns) found ts =
-    either_way (after_word w.Field ts) (λ ts. reading (name_at ts) (λ x ts. behind (after_symbol s.Semicolon ts) (read_fields turns (found ++ x ∷ [])))) (Some (found, ts))
+    either_way (after_word w.Field ts) (λ ts. on_read (name_at ts) (λ x ts. on_rest (after_symbol s.Semicolon ts) (read_fields turns (found ++ x ∷ [])))) (Some (found, ts))
 
 -- up to the closing brace, which is read too
-abbrev pub read_methods : ℕ → List MethodTree → List Token → Read (List MethodTree)
+abbrev pub read_methods : ℕ → List MethodTree → List Token → ParseResult (List MethodTree)
 read_methods zero found ts = None
 read_methods (suc turns) found ts =
-    either_way (after_symbol s.CloseBrace ts) (λ rest. Some (found, rest)) (reading (read_method ts) (λ m. read_methods turns (found ++ m ∷ [])))
+    either_way (after_symbol s.CloseBrace ts) (λ rest. Some (found, rest)) (on_read (read_method ts) (λ m. read_methods turns (found ++ m ∷ [])))
 
-abbrev pub read_members : Name → List Token → Read ClassTree
+abbrev pub read_members : Name → List Token → ParseResult ClassTree
 read_members x ts =
-    reading (read_fields (length ts) [] ts) (λ fields ts. reading (read_methods (length ts) [] ts) (λ methods ts. Some (record { name = x; fields = fields; methods = methods }, ts)))
+    on_read (read_fields (length ts) [] ts) (λ fields ts. on_read (read_methods (length ts) [] ts) (λ methods ts. Some (record { name = x; fields = fields; methods = methods }, ts)))
 
-abbrev pub read_class : List Token → Read ClassTree
-read_class ts = behind (after_word w.Class ts) (λ ts. reading (class_name_at ts) (λ x ts. behind (after_symbol s.OpenBrace ts) (read_members x)))
+abbrev pub read_class : List Token → ParseResult ClassTree
+read_class ts = on_rest (after_word w.Class ts) (λ ts. on_read (class_name_at ts) (λ x ts. on_rest (after_symbol s.OpenBrace ts) (read_members x)))
 
 abbrev pub read_classes : ℕ → List ClassTree → List Token → Option (List ClassTree)
 read_classes turns found [] = Some found
 read_classes zero found (t ∷ ts) = None
-read_classes (suc turns) found (t ∷ ts) = reading (read_class (t ∷ ts)) (λ c. read_classes turns (found ++ c ∷ []))
+read_classes (suc turns) found (t ∷ ts) = on_read (read_class (t ∷ ts)) (λ c. read_classes turns (found ++ c ∷ []))
 
 -- all the tokens
 abbrev pub read_program : List Token → Option (List ClassTree)
-read_program ts = reading (read_class ts) (λ c. read_classes (length ts) (c ∷ []))
+read_program ts = on_read (read_class ts) (λ c. read_classes (length ts) (c ∷ []))

@@ -1,14 +1,14 @@
 //! The bounds of a program.
 ghost use Rattle.std.specs.Prelude.{◌≡◌, ◌↔◌, ◌≤◌, IsTrue, map, length};
 ghost use Rattle.model_lang.specs.TreeView.{expression_tree, expression_trees, statement_tree, statement_trees, method_tree, program_tree};
-ghost use Rattle.model_lang.specs.Bounds.{greatest, count_symbol, count_after, most_nested, most_members, most_arguments, how_many, above as too_many, first_found, many_arguments as many_in_expression, all_many_arguments, many_in_statement, many_in_block, many_in_methods, many_parameters, many_fields as too_many_fields, many_methods as too_many_methods, passed as first_passed};
+ghost use Rattle.model_lang.specs.Bounds.{greatest, count_symbol, count_after, most_nested, most_members, most_arguments, how_many, above as too_many, first_found, many_arguments as many_in_expression, all_many_arguments, many_in_statement, many_in_block, many_in_methods, many_parameters, many_fields as too_many_fields, many_methods as too_many_methods, first_excess as first_passed};
 
 use crate::fault::Bound;
 use crate::tree::{Class, Expr, Method, Stmt};
 use model_tokens::{Symbol, Token};
 
 /// The most bytes of a program's text.
-pub const MOST_BYTES: usize = 65_536;
+pub const MOST_PROGRAM_BYTES: usize = 65_536;
 
 /// The most brackets that are open at a token, and the most operators since the last `,`, `;`, `{` or `}`.
 const MOST_NESTED: usize = 32;
@@ -21,7 +21,7 @@ const MOST_ARGUMENTS: usize = 16;
 
 /// What is counted along the tokens of a text.
 #[derive(Clone, Copy, Debug, PartialEq, Eq)]
-pub enum Counted {
+pub enum TokenCount {
     /// Brackets that are open. A closing one closes the last, of whatever kind, if there is one.
     Brackets,
     /// Operators since the last `,`, `;`, `{` or `}`.
@@ -30,7 +30,7 @@ pub enum Counted {
 
 /// Whether a count stays within the bound at each token.
 #[tactic(auto, using(crate::proofs::Counts::by_greatest))]
-pub fn stays_low(tokens: &[Token], what: Counted) -> bool
+pub fn stays_low(tokens: &[Token], what: TokenCount) -> bool
     ensures { IsTrue result ↔ greatest (count_symbol what) 0 tokens.now ≤ most_nested }
 {
     let mut count = 0;
@@ -43,7 +43,7 @@ pub fn stays_low(tokens: &[Token], what: Counted) -> bool
     true
 }
 
-fn after_token(what: Counted, count: usize, token: &Token) -> usize
+fn after_token(what: TokenCount, count: usize, token: &Token) -> usize
     requires { count ≤ most_nested }
     ensures { result ≡ count_after (count_symbol what) count token.now }
 {
@@ -53,19 +53,19 @@ fn after_token(what: Counted, count: usize, token: &Token) -> usize
     }
 }
 
-fn after_symbol(what: Counted, count: usize, symbol: Symbol) -> usize
+fn after_symbol(what: TokenCount, count: usize, symbol: Symbol) -> usize
     requires { count ≤ most_nested }
     ensures { result ≡ count_symbol what count symbol }
 {
     match what {
-        Counted::Brackets => match symbol {
+        TokenCount::Brackets => match symbol {
             Symbol::OpenBrace | Symbol::OpenRound | Symbol::OpenSquare => count + 1,
             Symbol::CloseBrace | Symbol::CloseRound | Symbol::CloseSquare => {
                 count.saturating_sub(1)
             }
             _ => count,
         },
-        Counted::Operators => match symbol {
+        TokenCount::Operators => match symbol {
             Symbol::Comma | Symbol::Semicolon | Symbol::OpenBrace | Symbol::CloseBrace => 0,
             Symbol::OpenRound
             | Symbol::CloseRound
@@ -78,7 +78,7 @@ fn after_symbol(what: Counted, count: usize, symbol: Symbol) -> usize
 }
 
 /// The first bound that a program passes, with the first count that is above it.
-pub fn passed(classes: &[Class]) -> Option<(Bound, u64)>
+pub fn first_excess(classes: &[Class]) -> Option<(Bound, u64)>
     ensures { result ≡ first_passed (program_tree classes.now) }
 {
     if let Some(count) = above(classes.len(), MOST_MEMBERS) {

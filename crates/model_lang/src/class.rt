@@ -1,10 +1,10 @@
 //! Classes, read from the front of the tokens.
 ghost use Rattle.std.specs.Prelude.{[], length, map};
-ghost use Rattle.model_lang.specs.Answer.{Reads, ReadsAll};
+ghost use Rattle.model_lang.specs.Answer.{ParsesPart, ReadsAll};
 ghost use Rattle.model_lang.specs.TreeView.{class_tree, method_tree};
 ghost use Rattle.model_lang.specs.Reader.{read_class, read_members, read_fields, read_methods, read_method, read_body, read_params, read_further, read_program};
 
-use crate::fault::Stop;
+use crate::fault::ParseStop;
 use crate::front::{class_name, expect_symbol, expect_word, name, symbol, word};
 use crate::statement::block;
 use crate::tree::{Class, Method};
@@ -14,7 +14,7 @@ use tea_base::{Text, push};
 
 /// Reads `program = class class*`, all the tokens.
 #[tactic(auto, using(crate::proofs::Turns::by_turn))]
-pub fn program(alloc: Global, tokens: &[Token]) -> Result<Vec<Class>, Stop>
+pub fn program(alloc: Global, tokens: &[Token]) -> Result<Vec<Class>, ParseStop>
     ensures { ReadsAll result (read_program tokens.now) }
 {
     let mut found = Vec::new(alloc);
@@ -29,14 +29,14 @@ pub fn program(alloc: Global, tokens: &[Token]) -> Result<Vec<Class>, Stop>
         rest = behind;
     }
     if !rest.is_empty() {
-        return Err(Stop::at(rest));
+        return Err(ParseStop::at(rest));
     }
     Ok(found)
 }
 
 // Reads `class = "class" CName "{" ("field" name ";")* method* "}"`.
-fn class(alloc: Global, tokens: &[Token]) -> Result<(Class, &[Token]), Stop>
-    ensures { Reads class_tree result (read_class tokens.now) }
+fn class(alloc: Global, tokens: &[Token]) -> Result<(Class, &[Token]), ParseStop>
+    ensures { ParsesPart class_tree result (read_class tokens.now) }
 {
     let rest = expect_word(tokens, Word::Class)?;
     let (name, rest) = class_name(rest)?;
@@ -44,8 +44,8 @@ fn class(alloc: Global, tokens: &[Token]) -> Result<(Class, &[Token]), Stop>
     members(alloc, name, rest)
 }
 
-fn members(alloc: Global, name: Text, tokens: &[Token]) -> Result<(Class, &[Token]), Stop>
-    ensures { Reads class_tree result (read_members name tokens.now) }
+fn members(alloc: Global, name: Text, tokens: &[Token]) -> Result<(Class, &[Token]), ParseStop>
+    ensures { ParsesPart class_tree result (read_members name tokens.now) }
 {
     let (fields, rest) = fields(alloc, tokens)?;
     let (methods, rest) = methods(alloc, rest)?;
@@ -58,8 +58,8 @@ fn members(alloc: Global, name: Text, tokens: &[Token]) -> Result<(Class, &[Toke
 }
 
 #[tactic(auto, using(crate::proofs::Turns::by_turn))]
-fn fields(alloc: Global, tokens: &[Token]) -> Result<(Vec<Text>, &[Token]), Stop>
-    ensures { Reads (λ found. found.items) result (read_fields (length tokens.now) [] tokens.now) }
+fn fields(alloc: Global, tokens: &[Token]) -> Result<(Vec<Text>, &[Token]), ParseStop>
+    ensures { ParsesPart (λ found. found.items) result (read_fields (length tokens.now) [] tokens.now) }
 {
     let mut found = Vec::new(alloc);
     let mut rest = tokens;
@@ -76,8 +76,8 @@ fn fields(alloc: Global, tokens: &[Token]) -> Result<(Vec<Text>, &[Token]), Stop
 
 // methods, up to the closing brace
 #[tactic(auto, using(crate::proofs::Turns::by_turn))]
-fn methods(alloc: Global, tokens: &[Token]) -> Result<(Vec<Method>, &[Token]), Stop>
-    ensures { Reads (λ found. map method_tree found.items) result (read_methods (length tokens.now) [] tokens.now) }
+fn methods(alloc: Global, tokens: &[Token]) -> Result<(Vec<Method>, &[Token]), ParseStop>
+    ensures { ParsesPart (λ found. map method_tree found.items) result (read_methods (length tokens.now) [] tokens.now) }
 {
     let mut found = Vec::new(alloc);
     let mut rest = tokens;
@@ -89,11 +89,11 @@ fn methods(alloc: Global, tokens: &[Token]) -> Result<(Vec<Method>, &[Token]), S
         push(&mut found, next)?;
         rest = behind;
     }
-    Err(Stop::at(rest))
+    Err(ParseStop::at(rest))
 }
 
-fn method(alloc: Global, tokens: &[Token]) -> Result<(Method, &[Token]), Stop>
-    ensures { Reads method_tree result (read_method tokens.now) }
+fn method(alloc: Global, tokens: &[Token]) -> Result<(Method, &[Token]), ParseStop>
+    ensures { ParsesPart method_tree result (read_method tokens.now) }
 {
     let (name, rest) = name(tokens)?;
     let rest = expect_symbol(rest, Symbol::OpenRound)?;
@@ -106,8 +106,8 @@ fn body(
     name: Text,
     params: Vec<Text>,
     tokens: &[Token],
-) -> Result<(Method, &[Token]), Stop>
-    ensures { Reads method_tree result (read_body name params.items tokens.now) }
+) -> Result<(Method, &[Token]), ParseStop>
+    ensures { ParsesPart method_tree result (read_body name params.items tokens.now) }
 {
     let rest = expect_symbol(tokens, Symbol::OpenBrace)?;
     let (body, rest) = block(alloc, rest.len(), rest)?;
@@ -116,8 +116,8 @@ fn body(
 }
 
 // parameters, and the closing bracket
-fn params(alloc: Global, tokens: &[Token]) -> Result<(Vec<Text>, &[Token]), Stop>
-    ensures { Reads (λ found. found.items) result (read_params tokens.now) }
+fn params(alloc: Global, tokens: &[Token]) -> Result<(Vec<Text>, &[Token]), ParseStop>
+    ensures { ParsesPart (λ found. found.items) result (read_params tokens.now) }
 {
     let mut found = Vec::new(alloc);
     if let Some(rest) = symbol(tokens, Symbol::CloseRound) {
@@ -133,8 +133,8 @@ fn further(
     turns: usize,
     mut found: Vec<Text>,
     tokens: &[Token],
-) -> Result<(Vec<Text>, &[Token]), Stop>
-    ensures { Reads (λ found. found.items) result (read_further turns found.items tokens.now) }
+) -> Result<(Vec<Text>, &[Token]), ParseStop>
+    ensures { ParsesPart (λ found. found.items) result (read_further turns found.items tokens.now) }
 {
     let mut rest = tokens;
     for _turn in 0..turns {
@@ -146,5 +146,5 @@ fn further(
         push(&mut found, next)?;
         rest = behind;
     }
-    Err(Stop::at(rest))
+    Err(ParseStop::at(rest))
 }

@@ -1,12 +1,12 @@
 //! Expressions, read from tokens.
 ghost use Rattle.std.specs.Prelude.{◌≡◌, ◌-◌, [], length, map, Result, Ok, Err};
-ghost use Rattle.model_lang.specs.Answer.{Reads, FindsName, Makes};
+ghost use Rattle.model_lang.specs.Answer.{ParsesPart, FindsName, Makes};
 ghost use Rattle.model_lang.specs.Tree.{binary, call, create, expressions_of, future, unary};
 ghost use Rattle.model_lang.specs.TreeView.{expression_tree};
 ghost use Rattle.model_lang.specs.Lines.{line_number};
 ghost use Rattle.model_lang.specs.Reader.{read_expression, read_operator_line, read_unary, read_post, suffixes_of, read_suffix, read_call, read_future, read_prim, read_word, read_opened, read_named, read_this, field_at as read_field, read_create, read_args, read_more};
 
-use crate::fault::Stop;
+use crate::fault::ParseStop;
 use crate::front::{call_head, create_head, expect_symbol, message_head, named, symbol, word};
 use crate::operators::{Line, operator_at, sign_at};
 use crate::tree::{BinaryOp, Expr, UnaryOp};
@@ -15,8 +15,8 @@ use std::alloc::Global;
 use tea_base::{Text, WantOfMemory, push};
 
 /// Reads `expr`, with at most as many signs and brackets one in another as there are tokens.
-pub fn expression(alloc: Global, tokens: &[Token]) -> Result<(Expr, &[Token]), Stop>
-    ensures { Reads expression_tree result (read_expression tokens.now) }
+pub fn expression(alloc: Global, tokens: &[Token]) -> Result<(Expr, &[Token]), ParseStop>
+    ensures { ParsesPart expression_tree result (read_expression tokens.now) }
 {
     line(alloc, tokens.len(), Line::Or, tokens)
 }
@@ -24,8 +24,13 @@ pub fn expression(alloc: Global, tokens: &[Token]) -> Result<(Expr, &[Token]), S
 // An expression of this line or a tighter one.
 #[cycle(line)]
 #[tactic(auto, using(crate::proofs::Turns::by_line))]
-fn line(alloc: Global, room: usize, line: Line, tokens: &[Token]) -> Result<(Expr, &[Token]), Stop>
-    ensures { Reads expression_tree result (read_operator_line (read_unary room) (line_number line) tokens.now) }
+fn line(
+    alloc: Global,
+    room: usize,
+    line: Line,
+    tokens: &[Token],
+) -> Result<(Expr, &[Token]), ParseStop>
+    ensures { ParsesPart expression_tree result (read_operator_line (read_unary room) (line_number line) tokens.now) }
 {
     let (mut left, mut rest) = inner(alloc, room, line, tokens)?;
     for _turn in 0..line.turns(tokens.len()) {
@@ -33,7 +38,7 @@ fn line(alloc: Global, room: usize, line: Line, tokens: &[Token]) -> Result<(Exp
             return Ok((left, rest));
         };
         let (right, behind) = inner(alloc, room, line, more)?;
-        left = joined(alloc, op, left, right)?;
+        left = new_binary(alloc, op, left, right)?;
         rest = behind;
     }
     Ok((left, rest))
@@ -41,8 +46,13 @@ fn line(alloc: Global, room: usize, line: Line, tokens: &[Token]) -> Result<(Exp
 
 // A side of an operator of this line.
 #[cycle(line)]
-fn inner(alloc: Global, room: usize, line: Line, tokens: &[Token]) -> Result<(Expr, &[Token]), Stop>
-    ensures { Reads expression_tree result (read_operator_line (read_unary room) (line_number line - 1) tokens.now) }
+fn inner(
+    alloc: Global,
+    room: usize,
+    line: Line,
+    tokens: &[Token],
+) -> Result<(Expr, &[Token]), ParseStop>
+    ensures { ParsesPart expression_tree result (read_operator_line (read_unary room) (line_number line - 1) tokens.now) }
 {
     match line.tighter() {
         Some(tighter) => crate::expression::line(alloc, room, tighter, tokens),
@@ -50,7 +60,7 @@ fn inner(alloc: Global, room: usize, line: Line, tokens: &[Token]) -> Result<(Ex
     }
 }
 
-fn signed(alloc: Global, op: UnaryOp, of: Expr) -> Result<Expr, WantOfMemory>
+fn new_unary(alloc: Global, op: UnaryOp, of: Expr) -> Result<Expr, WantOfMemory>
     ensures { Makes result (unary op (expression_tree of)) }
 {
     Ok(Expr::Unary {
@@ -59,7 +69,7 @@ fn signed(alloc: Global, op: UnaryOp, of: Expr) -> Result<Expr, WantOfMemory>
     })
 }
 
-fn joined(alloc: Global, op: BinaryOp, left: Expr, right: Expr) -> Result<Expr, WantOfMemory>
+fn new_binary(alloc: Global, op: BinaryOp, left: Expr, right: Expr) -> Result<Expr, WantOfMemory>
     ensures { Makes result (binary op (expression_tree left) (expression_tree right)) }
 {
     Ok(Expr::Binary {
@@ -69,7 +79,7 @@ fn joined(alloc: Global, op: BinaryOp, left: Expr, right: Expr) -> Result<Expr, 
     })
 }
 
-fn called(alloc: Global, object: Expr, name: &Text, args: Vec<Expr>) -> Result<Expr, WantOfMemory>
+fn new_call(alloc: Global, object: Expr, name: &Text, args: Vec<Expr>) -> Result<Expr, WantOfMemory>
     ensures { Makes result (call (expression_tree object) name.now (expressions_of (map expression_tree args.items))) }
 {
     Ok(Expr::Call {
@@ -79,7 +89,7 @@ fn called(alloc: Global, object: Expr, name: &Text, args: Vec<Expr>) -> Result<E
     })
 }
 
-fn sent(
+fn new_future(
     alloc: Global,
     object: Expr,
     delay: Expr,
@@ -96,7 +106,7 @@ fn sent(
     })
 }
 
-fn created(alloc: Global, class: &Text, options: Expr) -> Result<Expr, WantOfMemory>
+fn new_create(alloc: Global, class: &Text, options: Expr) -> Result<Expr, WantOfMemory>
     ensures { Makes result (create class.now (expression_tree options)) }
 {
     Ok(Expr::Create {
@@ -108,24 +118,24 @@ fn created(alloc: Global, class: &Text, options: Expr) -> Result<Expr, WantOfMem
 // unary = ("-" | "!") unary | post
 #[cycle(line)]
 #[tactic(auto, using(crate::proofs::Turns::by_room))]
-fn unary(alloc: Global, room: usize, tokens: &[Token]) -> Result<(Expr, &[Token]), Stop>
-    ensures { Reads expression_tree result (read_unary room tokens.now) }
+fn unary(alloc: Global, room: usize, tokens: &[Token]) -> Result<(Expr, &[Token]), ParseStop>
+    ensures { ParsesPart expression_tree result (read_unary room tokens.now) }
 {
     if room == 0 {
-        return Err(Stop::at(tokens));
+        return Err(ParseStop::at(tokens));
     }
     let Some((op, rest)) = sign_at(tokens) else {
         return post(alloc, room - 1, tokens);
     };
     let (of, rest) = unary(alloc, room - 1, rest)?;
-    Ok((signed(alloc, op, of)?, rest))
+    Ok((new_unary(alloc, op, of)?, rest))
 }
 
 // A prim, and the calls and futures behind it.
 #[cycle(line)]
 #[tactic(auto, using(crate::proofs::Turns::by_turn))]
-fn post(alloc: Global, room: usize, tokens: &[Token]) -> Result<(Expr, &[Token]), Stop>
-    ensures { Reads expression_tree result (read_post (read_operator_line (read_unary room) 6) tokens.now) }
+fn post(alloc: Global, room: usize, tokens: &[Token]) -> Result<(Expr, &[Token]), ParseStop>
+    ensures { ParsesPart expression_tree result (read_post (read_operator_line (read_unary room) 6) tokens.now) }
 {
     let (mut object, mut rest) = prim(alloc, room, tokens)?;
     for _turn in 0..tokens.len() {
@@ -144,8 +154,8 @@ fn suffix(
     room: usize,
     object: Expr,
     tokens: &[Token],
-) -> Result<(Expr, &[Token]), Stop>
-    ensures { Reads expression_tree result (read_suffix (read_operator_line (read_unary room) 6) (expression_tree object) tokens.now) }
+) -> Result<(Expr, &[Token]), ParseStop>
+    ensures { ParsesPart expression_tree result (read_suffix (read_operator_line (read_unary room) 6) (expression_tree object) tokens.now) }
 {
     match word(tokens, Word::Future) {
         Some(rest) => future(alloc, room, object, rest),
@@ -160,12 +170,12 @@ fn call(
     room: usize,
     object: Expr,
     tokens: &[Token],
-) -> Result<(Expr, &[Token]), Stop>
-    ensures { Reads expression_tree result (read_call (read_operator_line (read_unary room) 6) (expression_tree object) tokens.now) }
+) -> Result<(Expr, &[Token]), ParseStop>
+    ensures { ParsesPart expression_tree result (read_call (read_operator_line (read_unary room) 6) (expression_tree object) tokens.now) }
 {
     let (name, rest) = call_head(tokens)?;
     let (args, rest) = arguments(alloc, room, Symbol::CloseRound, rest)?;
-    Ok((called(alloc, object, name, args)?, rest))
+    Ok((new_call(alloc, object, name, args)?, rest))
 }
 
 // Behind `.future`.
@@ -176,27 +186,27 @@ fn future(
     room: usize,
     object: Expr,
     tokens: &[Token],
-) -> Result<(Expr, &[Token]), Stop>
-    ensures { Reads expression_tree result (read_future (read_operator_line (read_unary room) 6) (expression_tree object) tokens.now) }
+) -> Result<(Expr, &[Token]), ParseStop>
+    ensures { ParsesPart expression_tree result (read_future (read_operator_line (read_unary room) 6) (expression_tree object) tokens.now) }
 {
     let rest = expect_symbol(tokens, Symbol::OpenRound)?;
     let (delay, rest) = line(alloc, room, Line::Or, rest)?;
     let (name, rest) = message_head(rest)?;
     let (args, rest) = arguments(alloc, room, Symbol::CloseRound, rest)?;
-    Ok((sent(alloc, object, delay, name, args)?, rest))
+    Ok((new_future(alloc, object, delay, name, args)?, rest))
 }
 
 #[cycle(line)]
-fn prim(alloc: Global, room: usize, tokens: &[Token]) -> Result<(Expr, &[Token]), Stop>
-    ensures { Reads expression_tree result (read_prim (read_operator_line (read_unary room) 6) tokens.now) }
+fn prim(alloc: Global, room: usize, tokens: &[Token]) -> Result<(Expr, &[Token]), ParseStop>
+    ensures { ParsesPart expression_tree result (read_prim (read_operator_line (read_unary room) 6) tokens.now) }
 {
     match tokens.split_first() {
         Some((Token::Number(number), rest)) => Ok((Expr::Int(*number), rest)),
         Some((Token::Text(text), rest)) => Ok((Expr::Text(text.try_clone()?), rest)),
         Some((Token::Name(name), rest)) => builtin_or_local(alloc, room, name.try_clone()?, rest),
-        Some((Token::Word(word), rest)) => worded(alloc, room, *word, rest),
-        Some((Token::Symbol(symbol), rest)) => opened(alloc, room, *symbol, rest),
-        _ => Err(Stop::at(tokens)),
+        Some((Token::Word(word), rest)) => word_prim(alloc, room, *word, rest),
+        Some((Token::Symbol(symbol), rest)) => bracket_prim(alloc, room, *symbol, rest),
+        _ => Err(ParseStop::at(tokens)),
     }
 }
 
@@ -207,8 +217,8 @@ fn builtin_or_local(
     room: usize,
     name: Text,
     tokens: &[Token],
-) -> Result<(Expr, &[Token]), Stop>
-    ensures { Reads expression_tree result (read_named (read_operator_line (read_unary room) 6) name tokens.now) }
+) -> Result<(Expr, &[Token]), ParseStop>
+    ensures { ParsesPart expression_tree result (read_named (read_operator_line (read_unary room) 6) name tokens.now) }
 {
     let Some(rest) = symbol(tokens, Symbol::OpenRound) else {
         return Ok((Expr::Local { name }, tokens));
@@ -219,13 +229,13 @@ fn builtin_or_local(
 
 // Behind a word.
 #[cycle(line)]
-fn worded(
+fn word_prim(
     alloc: Global,
     room: usize,
     word: Word,
     tokens: &[Token],
-) -> Result<(Expr, &[Token]), Stop>
-    ensures { Reads expression_tree result (read_word (read_operator_line (read_unary room) 6) word tokens.now) }
+) -> Result<(Expr, &[Token]), ParseStop>
+    ensures { ParsesPart expression_tree result (read_word (read_operator_line (read_unary room) 6) word tokens.now) }
 {
     match word {
         Word::Nil => Ok((Expr::Nil, tokens)),
@@ -233,13 +243,13 @@ fn worded(
         Word::False => Ok((Expr::Bool(false), tokens)),
         Word::This => this(tokens),
         Word::Create => create(alloc, room, tokens),
-        _ => Err(Stop::before(tokens)),
+        _ => Err(ParseStop::before(tokens)),
     }
 }
 
 // Behind `this`.
-fn this(tokens: &[Token]) -> Result<(Expr, &[Token]), Stop>
-    ensures { Reads expression_tree result (read_this tokens.now) }
+fn this(tokens: &[Token]) -> Result<(Expr, &[Token]), ParseStop>
+    ensures { ParsesPart expression_tree result (read_this tokens.now) }
 {
     let Some((name, rest)) = field_at(tokens) else {
         return Ok((Expr::This, tokens));
@@ -266,24 +276,24 @@ fn field_at(tokens: &[Token]) -> Option<(&Text, &[Token])>
 
 #[cycle(line)]
 #[tactic(auto, using(crate::proofs::Heads::by_head))]
-fn create(alloc: Global, room: usize, tokens: &[Token]) -> Result<(Expr, &[Token]), Stop>
-    ensures { Reads expression_tree result (read_create (read_operator_line (read_unary room) 6) tokens.now) }
+fn create(alloc: Global, room: usize, tokens: &[Token]) -> Result<(Expr, &[Token]), ParseStop>
+    ensures { ParsesPart expression_tree result (read_create (read_operator_line (read_unary room) 6) tokens.now) }
 {
     let (class, rest) = create_head(tokens)?;
     let (options, rest) = line(alloc, room, Line::Or, rest)?;
     let rest = expect_symbol(rest, Symbol::CloseRound)?;
-    Ok((created(alloc, class, options)?, rest))
+    Ok((new_create(alloc, class, options)?, rest))
 }
 
 // Behind a symbol that opens an expression in brackets or a list.
 #[cycle(line)]
-fn opened(
+fn bracket_prim(
     alloc: Global,
     room: usize,
     bracket: Symbol,
     tokens: &[Token],
-) -> Result<(Expr, &[Token]), Stop>
-    ensures { Reads expression_tree result (read_opened (read_operator_line (read_unary room) 6) bracket tokens.now) }
+) -> Result<(Expr, &[Token]), ParseStop>
+    ensures { ParsesPart expression_tree result (read_opened (read_operator_line (read_unary room) 6) bracket tokens.now) }
 {
     match bracket {
         Symbol::OpenRound => {
@@ -295,7 +305,7 @@ fn opened(
             let (items, rest) = arguments(alloc, room, Symbol::CloseSquare, tokens)?;
             Ok((Expr::List { items }, rest))
         }
-        _ => Err(Stop::before(tokens)),
+        _ => Err(ParseStop::before(tokens)),
     }
 }
 
@@ -306,8 +316,8 @@ fn arguments(
     room: usize,
     close: Symbol,
     tokens: &[Token],
-) -> Result<(Vec<Expr>, &[Token]), Stop>
-    ensures { Reads (λ args. map expression_tree args.items) result (read_args close (read_operator_line (read_unary room) 6) tokens.now) }
+) -> Result<(Vec<Expr>, &[Token]), ParseStop>
+    ensures { ParsesPart (λ args. map expression_tree args.items) result (read_args close (read_operator_line (read_unary room) 6) tokens.now) }
 {
     let mut found = Vec::new(alloc);
     if let Some(rest) = symbol(tokens, close) {
@@ -327,8 +337,8 @@ fn further(
     turns: usize,
     mut found: Vec<Expr>,
     tokens: &[Token],
-) -> Result<(Vec<Expr>, &[Token]), Stop>
-    ensures { Reads (λ args. map expression_tree args.items) result (read_more close (read_operator_line (read_unary room) 6) turns (map expression_tree found.items) tokens.now) }
+) -> Result<(Vec<Expr>, &[Token]), ParseStop>
+    ensures { ParsesPart (λ args. map expression_tree args.items) result (read_more close (read_operator_line (read_unary room) 6) turns (map expression_tree found.items) tokens.now) }
 {
     let mut rest = tokens;
     for _turn in 0..turns {
@@ -340,5 +350,5 @@ fn further(
         push(&mut found, next)?;
         rest = behind;
     }
-    Err(Stop::at(rest))
+    Err(ParseStop::at(rest))
 }

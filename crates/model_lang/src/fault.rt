@@ -38,25 +38,25 @@ pub enum Bound {
 
 /// Why tokens were not read on.
 #[derive(Clone, Copy, Debug, PartialEq, Eq)]
-pub enum Stop {
+pub enum ParseStop {
     /// No program can go on at the token that so many tokens, itself among them, are left from.
     NoProgram { left: usize },
     WantOfMemory,
 }
 
-impl Stop {
+impl ParseStop {
     /// The stop at the first of these tokens.
-    pub fn at(tokens: &[Token]) -> Stop
-        ensures { result ≡ Stop.NoProgram (length tokens.now) }
+    pub fn at(tokens: &[Token]) -> ParseStop
+        ensures { result ≡ ParseStop.NoProgram (length tokens.now) }
     {
-        Stop::NoProgram { left: tokens.len() }
+        ParseStop::NoProgram { left: tokens.len() }
     }
 
     /// The stop at the token before these.
-    pub fn before(tokens: &[Token]) -> Stop
-        ensures { (left : ℕ) × (result ≡ Stop.NoProgram left) }
+    pub fn before(tokens: &[Token]) -> ParseStop
+        ensures { (left : ℕ) × (result ≡ ParseStop.NoProgram left) }
     {
-        Stop::NoProgram {
+        ParseStop::NoProgram {
             left: tokens.len().saturating_add(1),
         }
     }
@@ -73,13 +73,13 @@ impl From<WantOfMemory> for LangFault {
     }
 }
 
-impl From<WantOfMemory> for Stop {
+impl From<WantOfMemory> for ParseStop {
     ghost use Rattle.std.specs.Prelude.{◌≡◌};
-    ghost use Rattle.model_lang.specs.declared.fault.Stop.TheVariants.{WantOfMemory};
+    ghost use Rattle.model_lang.specs.declared.fault.ParseStop.TheVariants.{WantOfMemory};
 
     ghost from_gives = { λ _ r. r ≡ WantOfMemory };
 
-    fn from(_error: WantOfMemory) -> Stop {
-        Stop::WantOfMemory
+    fn from(_error: WantOfMemory) -> ParseStop {
+        ParseStop::WantOfMemory
     }
 }

@@ -1,8 +1,8 @@
 //! The token at the front, and the tokens behind it.
-ghost use Rattle.model_lang.specs.Answer.{IsBehind, Expects, ExpectsName, Reads, FindsName};
+ghost use Rattle.model_lang.specs.Answer.{IsBehind, Expects, ExpectsName, ParsesPart, FindsName};
 ghost use Rattle.model_lang.specs.Reader.{after_word, after_symbol, name_at, class_name_at, call_head, message_head, create_head};
 
-use crate::fault::Stop;
+use crate::fault::ParseStop;
 use model_tokens::{Symbol, Token, Word};
 use tea_base::Text;
 
@@ -27,17 +27,17 @@ pub fn symbol(tokens: &[Token], wanted: Symbol) -> Option<&[Token]>
 }
 
 /// The tokens behind a reserved word, which must be at the front.
-pub fn expect_word(tokens: &[Token], wanted: Word) -> Result<&[Token], Stop>
+pub fn expect_word(tokens: &[Token], wanted: Word) -> Result<&[Token], ParseStop>
     ensures { Expects result (after_word wanted tokens.now) }
 {
-    word(tokens, wanted).ok_or(Stop::at(tokens))
+    word(tokens, wanted).ok_or(ParseStop::at(tokens))
 }
 
 /// The tokens behind a symbol, which must be at the front.
-pub fn expect_symbol(tokens: &[Token], wanted: Symbol) -> Result<&[Token], Stop>
+pub fn expect_symbol(tokens: &[Token], wanted: Symbol) -> Result<&[Token], ParseStop>
     ensures { Expects result (after_symbol wanted tokens.now) }
 {
-    symbol(tokens, wanted).ok_or(Stop::at(tokens))
+    symbol(tokens, wanted).ok_or(ParseStop::at(tokens))
 }
 
 /// The name at the front, if one is there, and the tokens behind it.
@@ -51,24 +51,24 @@ pub fn named(tokens: &[Token]) -> Option<(&Text, &[Token])>
 }
 
 /// The name at the front, which must be there, and the tokens behind it.
-fn expect_name(tokens: &[Token]) -> Result<(&Text, &[Token]), Stop>
+fn expect_name(tokens: &[Token]) -> Result<(&Text, &[Token]), ParseStop>
     ensures { ExpectsName result (name_at tokens.now) }
 {
-    named(tokens).ok_or(Stop::at(tokens))
+    named(tokens).ok_or(ParseStop::at(tokens))
 }
 
 /// The name of a class at the front, which must be there, and the tokens behind it.
-fn expect_class_name(tokens: &[Token]) -> Result<(&Text, &[Token]), Stop>
+fn expect_class_name(tokens: &[Token]) -> Result<(&Text, &[Token]), ParseStop>
     ensures { ExpectsName result (class_name_at tokens.now) }
 {
     match tokens.split_first() {
         Some((Token::ClassName(found), rest)) => Ok((found, rest)),
-        _ => Err(Stop::at(tokens)),
+        _ => Err(ParseStop::at(tokens)),
     }
 }
 
 /// The name of a call, and the tokens behind the `(` of its arguments.
-pub fn call_head(tokens: &[Token]) -> Result<(&Text, &[Token]), Stop>
+pub fn call_head(tokens: &[Token]) -> Result<(&Text, &[Token]), ParseStop>
     ensures { ExpectsName result (call_head tokens.now) }
 {
     let (name, rest) = expect_name(tokens)?;
@@ -76,7 +76,7 @@ pub fn call_head(tokens: &[Token]) -> Result<(&Text, &[Token]), Stop>
 }
 
 /// The name of a message behind the delay of a future, from its `)` on, and the tokens behind the `(` of its arguments.
-pub fn message_head(tokens: &[Token]) -> Result<(&Text, &[Token]), Stop>
+pub fn message_head(tokens: &[Token]) -> Result<(&Text, &[Token]), ParseStop>
     ensures { ExpectsName result (message_head tokens.now) }
 {
     let rest = expect_symbol(tokens, Symbol::CloseRound)?;
@@ -85,7 +85,7 @@ pub fn message_head(tokens: &[Token]) -> Result<(&Text, &[Token]), Stop>
 }
 
 /// The name of the class behind `create`, and the tokens behind the `,`.
-pub fn create_head(tokens: &[Token]) -> Result<(&Text, &[Token]), Stop>
+pub fn create_head(tokens: &[Token]) -> Result<(&Text, &[Token]), ParseStop>
     ensures { ExpectsName result (create_head tokens.now) }
 {
     let rest = expect_symbol(tokens, Symbol::OpenRound)?;
@@ -94,21 +94,21 @@ pub fn create_head(tokens: &[Token]) -> Result<(&Text, &[Token]), Stop>
 }
 
 /// The name at the front.
-pub fn name(tokens: &[Token]) -> Result<(Text, &[Token]), Stop>
-    ensures { Reads (λ name. name) result (name_at tokens.now) }
+pub fn name(tokens: &[Token]) -> Result<(Text, &[Token]), ParseStop>
+    ensures { ParsesPart (λ name. name) result (name_at tokens.now) }
 {
     match tokens.split_first() {
         Some((Token::Name(found), rest)) => Ok((found.try_clone()?, rest)),
-        _ => Err(Stop::at(tokens)),
+        _ => Err(ParseStop::at(tokens)),
     }
 }
 
 /// The name of a class at the front.
-pub fn class_name(tokens: &[Token]) -> Result<(Text, &[Token]), Stop>
-    ensures { Reads (λ name. name) result (class_name_at tokens.now) }
+pub fn class_name(tokens: &[Token]) -> Result<(Text, &[Token]), ParseStop>
+    ensures { ParsesPart (λ name. name) result (class_name_at tokens.now) }
 {
     match tokens.split_first() {
         Some((Token::ClassName(found), rest)) => Ok((found.try_clone()?, rest)),
-        _ => Err(Stop::at(tokens)),
+        _ => Err(ParseStop::at(tokens)),
     }
 }

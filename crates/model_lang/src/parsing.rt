@@ -6,9 +6,9 @@ ghost use Rattle.model_lang.specs.Grammar.{Derives};
 ghost use Rattle.model_lang.specs.Program.{IsRead, Reading, IsReading};
 ghost use Rattle.model_lang.specs.Answer.{Parses, ParsesTokens, IsPlaced};
 
-use crate::bounds::{Counted, MOST_BYTES, passed, stays_low};
+use crate::bounds::{MOST_PROGRAM_BYTES, TokenCount, first_excess, stays_low};
 use crate::class::program;
-use crate::fault::{Bound, LangFault, Stop};
+use crate::fault::{Bound, LangFault, ParseStop};
 use crate::program::Program;
 use crate::tree::Class;
 use model_tokens::{Token, TokenFault, one_division, place_of_fault, place_of_token, tokens};
@@ -29,7 +29,7 @@ pub fn parse(alloc: Global, text: &[u8]) -> Result<Program, LangFault>
     ensures reading { Parses result text.now }
     ensures place { IsPlaced result (length text.now) }
 {
-    if text.len() > MOST_BYTES {
+    if text.len() > MOST_PROGRAM_BYTES {
         return Err(LangFault::TooLarge {
             what: Bound::Bytes,
             count: text.len() as u64,
@@ -54,13 +54,13 @@ fn whole(alloc: Global, text: &[u8], tokens: &[Token]) -> Result<Vec<Class>, Lan
     ensures reading { ParsesTokens result tokens.now }
     ensures place { IsPlaced result (length text.now) }
 {
-    if !stays_low(tokens, Counted::Brackets) {
+    if !stays_low(tokens, TokenCount::Brackets) {
         return Err(LangFault::TooLarge {
             what: Bound::Brackets,
             count: ONE_TOO_MANY,
         });
     }
-    if !stays_low(tokens, Counted::Operators) {
+    if !stays_low(tokens, TokenCount::Operators) {
         return Err(LangFault::TooLarge {
             what: Bound::Operators,
             count: ONE_TOO_MANY,
@@ -68,14 +68,14 @@ fn whole(alloc: Global, text: &[u8], tokens: &[Token]) -> Result<Vec<Class>, Lan
     }
     let classes = match program(alloc, tokens) {
         Ok(classes) => classes,
-        Err(Stop::NoProgram { left }) => {
+        Err(ParseStop::NoProgram { left }) => {
             return Err(LangFault::Syntax {
                 at: place_of_token(text, tokens.len().saturating_sub(left)),
             });
         }
-        Err(Stop::WantOfMemory) => return Err(LangFault::WantOfMemory),
+        Err(ParseStop::WantOfMemory) => return Err(LangFault::WantOfMemory),
     };
-    match passed(&classes) {
+    match first_excess(&classes) {
         Some((what, count)) => Err(LangFault::TooLarge { what, count }),
         None => Ok(classes),
     }

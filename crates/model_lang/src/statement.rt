@@ -1,11 +1,11 @@
 //! Statements and blocks, read from tokens.
 ghost use Rattle.std.specs.Prelude.{[], length, map};
-ghost use Rattle.model_lang.specs.Answer.{Reads, FindsName};
+ghost use Rattle.model_lang.specs.Answer.{ParsesPart, FindsName};
 ghost use Rattle.model_lang.specs.TreeView.{statement_tree, expression_tree};
-ghost use Rattle.model_lang.specs.Reader.{read_block, read_actions, read_action, read_if, read_else, read_while, read_test, read_simple, read_let, read_ended, assigned_at as read_assigned, set_at as read_set};
+ghost use Rattle.model_lang.specs.Reader.{read_block, read_actions, read_action, read_if, read_else, read_while, read_test, read_simple, read_let, read_ended, assign_head as read_assigned, set_at as read_set};
 
 use crate::expression::expression;
-use crate::fault::Stop;
+use crate::fault::ParseStop;
 use crate::front::{expect_symbol, name, named, symbol, word};
 use crate::tree::{Expr, Stmt};
 use model_tokens::{Symbol, Token, Word};
@@ -16,19 +16,27 @@ use tea_base::{Text, push};
 /// another.
 #[cycle(block)]
 #[tactic(auto, using(crate::proofs::Turns::by_room))]
-pub fn block(alloc: Global, room: usize, tokens: &[Token]) -> Result<(Vec<Stmt>, &[Token]), Stop>
-    ensures { Reads (λ found. map statement_tree found.items) result (read_block room tokens.now) }
+pub fn block(
+    alloc: Global,
+    room: usize,
+    tokens: &[Token],
+) -> Result<(Vec<Stmt>, &[Token]), ParseStop>
+    ensures { ParsesPart (λ found. map statement_tree found.items) result (read_block room tokens.now) }
 {
     if room == 0 {
-        return Err(Stop::at(tokens));
+        return Err(ParseStop::at(tokens));
     }
     statements(alloc, room - 1, tokens)
 }
 
 #[cycle(block)]
 #[tactic(auto, using(crate::proofs::Turns::by_turn))]
-fn statements(alloc: Global, room: usize, tokens: &[Token]) -> Result<(Vec<Stmt>, &[Token]), Stop>
-    ensures { Reads (λ found. map statement_tree found.items) result (read_actions (read_block room) (length tokens.now) [] tokens.now) }
+fn statements(
+    alloc: Global,
+    room: usize,
+    tokens: &[Token],
+) -> Result<(Vec<Stmt>, &[Token]), ParseStop>
+    ensures { ParsesPart (λ found. map statement_tree found.items) result (read_actions (read_block room) (length tokens.now) [] tokens.now) }
 {
     let mut found = Vec::new(alloc);
     let mut rest = tokens;
@@ -40,24 +48,24 @@ fn statements(alloc: Global, room: usize, tokens: &[Token]) -> Result<(Vec<Stmt>
         push(&mut found, next)?;
         rest = behind;
     }
-    Err(Stop::at(rest))
+    Err(ParseStop::at(rest))
 }
 
 #[cycle(block)]
-fn statement(alloc: Global, room: usize, tokens: &[Token]) -> Result<(Stmt, &[Token]), Stop>
-    ensures { Reads statement_tree result (read_action (read_block room) tokens.now) }
+fn statement(alloc: Global, room: usize, tokens: &[Token]) -> Result<(Stmt, &[Token]), ParseStop>
+    ensures { ParsesPart statement_tree result (read_action (read_block room) tokens.now) }
 {
     if let Some(rest) = word(tokens, Word::If) {
         return choice(alloc, room, rest);
     }
     if let Some(rest) = word(tokens, Word::While) {
-        return looping(alloc, room, rest);
+        return while_statement(alloc, room, rest);
     }
     if let Some(rest) = word(tokens, Word::Let) {
         return declaration(alloc, rest);
     }
     if let Some(rest) = word(tokens, Word::Return) {
-        let (value, rest) = ended(alloc, rest)?;
+        let (value, rest) = value_end(alloc, rest)?;
         return Ok((Stmt::Return { value }, rest));
     }
     simple(alloc, tokens)
@@ -65,10 +73,10 @@ fn statement(alloc: Global, room: usize, tokens: &[Token]) -> Result<(Stmt, &[To
 
 // Behind `if`.
 #[cycle(block)]
-fn choice(alloc: Global, room: usize, tokens: &[Token]) -> Result<(Stmt, &[Token]), Stop>
-    ensures { Reads statement_tree result (read_if (read_block room) tokens.now) }
+fn choice(alloc: Global, room: usize, tokens: &[Token]) -> Result<(Stmt, &[Token]), ParseStop>
+    ensures { ParsesPart statement_tree result (read_if (read_block room) tokens.now) }
 {
-    let (test, rest) = tested(alloc, tokens)?;
+    let (test, rest) = condition(alloc, tokens)?;
     let (yes, rest) = block(alloc, room, rest)?;
     match word(rest, Word::Else) {
         Some(rest) => otherwise(alloc, room, test, yes, rest),
@@ -92,8 +100,8 @@ fn otherwise(
     test: Expr,
     yes: Vec<Stmt>,
     tokens: &[Token],
-) -> Result<(Stmt, &[Token]), Stop>
-    ensures { Reads statement_tree result (read_else (read_block room) (expression_tree test) (map statement_tree yes.items) tokens.now) }
+) -> Result<(Stmt, &[Token]), ParseStop>
+    ensures { ParsesPart statement_tree result (read_else (read_block room) (expression_tree test) (map statement_tree yes.items) tokens.now) }
 {
     let rest = expect_symbol(tokens, Symbol::OpenBrace)?;
     let (no, rest) = block(alloc, room, rest)?;
@@ -109,17 +117,21 @@ fn otherwise(
 
 // Behind `while`.
 #[cycle(block)]
-fn looping(alloc: Global, room: usize, tokens: &[Token]) -> Result<(Stmt, &[Token]), Stop>
-    ensures { Reads statement_tree result (read_while (read_block room) tokens.now) }
+fn while_statement(
+    alloc: Global,
+    room: usize,
+    tokens: &[Token],
+) -> Result<(Stmt, &[Token]), ParseStop>
+    ensures { ParsesPart statement_tree result (read_while (read_block room) tokens.now) }
 {
-    let (test, rest) = tested(alloc, tokens)?;
+    let (test, rest) = condition(alloc, tokens)?;
     let (body, rest) = block(alloc, room, rest)?;
     Ok((Stmt::While { test, body }, rest))
 }
 
 // An expression in round brackets, and the opening brace behind it.
-fn tested(alloc: Global, tokens: &[Token]) -> Result<(Expr, &[Token]), Stop>
-    ensures { Reads expression_tree result (read_test tokens.now) }
+fn condition(alloc: Global, tokens: &[Token]) -> Result<(Expr, &[Token]), ParseStop>
+    ensures { ParsesPart expression_tree result (read_test tokens.now) }
 {
     let rest = expect_symbol(tokens, Symbol::OpenRound)?;
     let (test, rest) = expression(alloc, rest)?;
@@ -129,30 +141,30 @@ fn tested(alloc: Global, tokens: &[Token]) -> Result<(Expr, &[Token]), Stop>
 }
 
 // Behind `let`.
-fn declaration(alloc: Global, tokens: &[Token]) -> Result<(Stmt, &[Token]), Stop>
-    ensures { Reads statement_tree result (read_let tokens.now) }
+fn declaration(alloc: Global, tokens: &[Token]) -> Result<(Stmt, &[Token]), ParseStop>
+    ensures { ParsesPart statement_tree result (read_let tokens.now) }
 {
     let (name, rest) = name(tokens)?;
     let rest = expect_symbol(rest, Symbol::Assign)?;
-    let (value, rest) = ended(alloc, rest)?;
+    let (value, rest) = value_end(alloc, rest)?;
     Ok((Stmt::Let { name, value }, rest))
 }
 
 // A statement that begins with no word of its own.
-fn simple(alloc: Global, tokens: &[Token]) -> Result<(Stmt, &[Token]), Stop>
-    ensures { Reads statement_tree result (read_simple tokens.now) }
+fn simple(alloc: Global, tokens: &[Token]) -> Result<(Stmt, &[Token]), ParseStop>
+    ensures { ParsesPart statement_tree result (read_simple tokens.now) }
 {
     if let Some((name, rest)) = assigned_at(tokens) {
         let name = name.try_clone()?;
-        let (value, rest) = ended(alloc, rest)?;
+        let (value, rest) = value_end(alloc, rest)?;
         return Ok((Stmt::Assign { name, value }, rest));
     }
     if let Some((name, rest)) = set_at(tokens) {
         let name = name.try_clone()?;
-        let (value, rest) = ended(alloc, rest)?;
+        let (value, rest) = value_end(alloc, rest)?;
         return Ok((Stmt::SetField { name, value }, rest));
     }
-    let (value, rest) = ended(alloc, tokens)?;
+    let (value, rest) = value_end(alloc, tokens)?;
     Ok((Stmt::Do { value }, rest))
 }
 
@@ -175,8 +187,8 @@ fn set_at(tokens: &[Token]) -> Option<(&Text, &[Token])>
 }
 
 // An expression and the `;` behind it.
-fn ended(alloc: Global, tokens: &[Token]) -> Result<(Expr, &[Token]), Stop>
-    ensures { Reads expression_tree result (read_ended tokens.now) }
+fn value_end(alloc: Global, tokens: &[Token]) -> Result<(Expr, &[Token]), ParseStop>
+    ensures { ParsesPart expression_tree result (read_ended tokens.now) }
 {
     let (value, rest) = expression(alloc, tokens)?;
     let rest = expect_symbol(rest, Symbol::Semicolon)?;

@@ -4,11 +4,11 @@ use Rattle.std.proofs.lemmas.List.{length-map}
 use Rattle.model_tokens.specs.declared.token.Token.{Token}
 use Rattle.model_tokens.specs.declared.token.Token.TheVariants.{Symbol as symbol}
 use Rattle.model_tokens.specs.declared.token.Symbol.TheVariants as s
-use Rattle.model_tokens.specs.Division.{Piece, blank, comment, taken, ArePieces, tokens_of, Divides}
+use Rattle.model_tokens.specs.Division.{Piece, blank, comment, a_token, ArePieces, tokens_of, Divides}
 use Rattle.model_lang.specs.Tree.{ProgramTree}
-use Rattle.model_lang.specs.Grammar.{tree_of_class, spelled_classes, Derives}
+use Rattle.model_lang.specs.Grammar.{tree_of_class, classes_spelling, Derives}
 use Rattle.model_lang.specs.Program.{IsSpelled, IsRead, IsProgram}
-use Rattle.model_print.specs.Canonical.{written_class, canonical_tokens, text_behind, canonical_text}
+use Rattle.model_print.specs.Canonical.{class_form, canonical_tokens, text_behind, canonical_text}
 use Rattle.model_print.proofs.Written.{classes-stand, trees-classes}
 use Rattle.model_print.proofs.Shedding.{Sheds, classes_shed}
 use Rattle.model_print.proofs.ShedCounts.{AreTokens, tokens_shed, nests_shed, counts_shed}
@@ -19,19 +19,19 @@ use Rattle.model_print.proofs.Shortest.{shorter_sheds, text_is_shortest}
 -- the canonical tokens and any others of the tree
 canonical_sheds : {M : List Token → List Token → Type 0} (m : Sheds M) (ts : List Token) (tree : ProgramTree) → Derives ts tree → M (canonical_tokens tree) ts
 canonical_sheds {M = M} m ts tree d =
-    subst (M (canonical_tokens tree)) d.3 (subst (λ t. M (canonical_tokens t) (spelled_classes d.0)) d.4 (classes_shed m d.0 d.2))
+    subst (M (canonical_tokens tree)) d.3 (subst (λ t. M (canonical_tokens t) (classes_spelling d.0)) d.4 (classes_shed m d.0 d.2))
 
 canonical_derives : (ts : List Token) (tree : ProgramTree) → Derives ts tree → Derives (canonical_tokens tree) tree
 canonical_derives ts tree d =
-    let some : 0 < length (map written_class tree) =
-    omega (arith, d.1, ap length d.4, length-map d.0 tree_of_class, length-map tree written_class) in
-    (map written_class tree, some, classes-stand tree, refl, trees-classes tree)
+    let some : 0 < length (map class_form tree) =
+    omega (arith, d.1, ap length d.4, length-map d.0 tree_of_class, length-map tree class_form) in
+    (map class_form tree, some, classes-stand tree, refl, trees-classes tree)
 
 pieces_are : (pieces : List Piece) → ArePieces pieces → AreTokens (tokens_of pieces)
 pieces_are [] h = tt
 pieces_are (blank b ∷ pieces) h = pieces_are pieces h.2
 pieces_are (comment bs ∷ pieces) h = pieces_are pieces h.2
-pieces_are (taken t ∷ pieces) h = (h.0, pieces_are pieces h.2)
+pieces_are (a_token t ∷ pieces) h = (h.0, pieces_are pieces h.2)
 
 divided_are : (ts : List Token) (text : List ℕ) → Divides ts text → AreTokens ts
 divided_are ts text d = subst AreTokens d.3 (pieces_are d.0 d.1)
@@ -65,7 +65,7 @@ canonical_read : (text : List ℕ) (tree : ProgramTree) → IsRead text tree →
 canonical_read text tree read = record {
   bytes = omega (arith, canonical-short text tree read, read.bytes);
   tokens = canonical_tokens tree;
-  divides = text-divides (symbol s.Semicolon) (canonical_tokens tree) (classes_chain (map written_class tree)) (canonical_are text tree read);
+  divides = text-divides (symbol s.Semicolon) (canonical_tokens tree) (classes_chain (map class_form tree)) (canonical_are text tree read);
   spelled = canonical_spelled read.tokens tree read.spelled;
 }
 

@@ -7,7 +7,7 @@ use Rattle.model_tokens.specs.declared.token.Symbol.{Symbol}
 use Rattle.model_tokens.specs.declared.token.Symbol.TheVariants as s
 use Rattle.model_tokens.specs.Bytes.{goes_on_name}
 use Rattle.model_tokens.specs.Spelling.{token_spelling, IsToken}
-use Rattle.model_tokens.specs.Division.{Piece, blank, comment, taken, token_goes_on, EndsBefore, Ends, spelling_of, ArePieces, tokens_of, Divides}
+use Rattle.model_tokens.specs.Division.{Piece, blank, comment, a_token, token_goes_on, EndsBefore, EndsPiece, spelling_of, ArePieces, tokens_of, Divides}
 use Rattle.model_print.specs.Canonical.{is_worded, token_gap, text_behind}
 use Rattle.model_print.proofs.Shedding.{Sheds}
 use Rattle.model_print.proofs.Neighbours.{may_follow, Chain, Free}
@@ -152,7 +152,7 @@ semicolon_ends : (bytes : List ℕ) → EndsBefore (token_goes_on (symbol s.Semi
 semicolon_ends [] = tt
 semicolon_ends (b ∷ bytes) = refl
 
-shortest_behind : (pieces : List Piece) (t : Token) → ArePieces pieces → Chain t (tokens_of pieces) → Ends (taken t) (spelling_of pieces) → bytes (is_worded t) (tokens_of pieces) ≤ length (spelling_of pieces)
+shortest_behind : (pieces : List Piece) (t : Token) → ArePieces pieces → Chain t (tokens_of pieces) → EndsPiece (a_token t) (spelling_of pieces) → bytes (is_worded t) (tokens_of pieces) ≤ length (spelling_of pieces)
 shortest_behind [] t are h ends = omega arith
 shortest_behind (blank b ∷ pieces) t are h ends =
     let more = shortest_behind pieces (symbol s.Semicolon) are.2 (free_chain t (symbol s.Semicolon) (tokens_of pieces) (λ u. refl) h) (semicolon_ends (spelling_of pieces)) in
@@ -160,7 +160,7 @@ shortest_behind (blank b ∷ pieces) t are h ends =
 shortest_behind (comment bs ∷ pieces) t are h ends =
     let more = shortest_behind pieces (symbol s.Semicolon) are.2 (free_chain t (symbol s.Semicolon) (tokens_of pieces) (λ u. refl) h) (semicolon_ends (spelling_of pieces)) in
     omega (arith, more, one_space (is_worded t) (tokens_of pieces), length-append bs (spelling_of pieces))
-shortest_behind (taken u ∷ pieces) t are h ends =
+shortest_behind (a_token u ∷ pieces) t are h ends =
     let more = shortest_behind pieces u are.2 h.1 are.1 in
     let e = ap (λ xs. length (xs ++ (token_spelling u ++ text_behind (is_worded u) (tokens_of pieces)))) (no_space_between t u (spelling_of pieces) are.0 h.0 ends) in
     omega (arith, more, e, length-append (token_spelling u) (text_behind (is_worded u) (tokens_of pieces)), length-append (token_spelling u) (spelling_of pieces))

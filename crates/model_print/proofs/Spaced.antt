@@ -13,7 +13,7 @@ use Rattle.model_tokens.specs.declared.token.Symbol.{Symbol}
 use Rattle.model_tokens.specs.declared.token.Symbol.TheVariants as s
 use Rattle.model_tokens.specs.Bytes.{is_digit, goes_on_name, begins_name, begins_class_name}
 use Rattle.model_tokens.specs.Spelling.{token_spelling, spelled_word, spelled_symbol, IsNamed, IsToken}
-use Rattle.model_tokens.specs.Division.{Piece, blank, taken, spelling, symbol_goes_on, number_goes_on, token_goes_on, EndsBefore, Ends, spelling_of, ArePieces, tokens_of, Divides}
+use Rattle.model_tokens.specs.Division.{Piece, blank, a_token, spelling, symbol_goes_on, number_goes_on, token_goes_on, EndsBefore, EndsPiece, spelling_of, ArePieces, tokens_of, Divides}
 use Rattle.model_tokens.proofs.NameLaws.{word_is_named}
 use Rattle.model_print.specs.Canonical.{is_worded, token_gap, text_behind}
 use Rattle.model_print.proofs.ShedCounts.{AreTokens}
@@ -177,7 +177,7 @@ spaced _ _ pieces = pieces
 
 abbrev pieces_behind : Bool → List Token → List Piece
 pieces_behind worded [] = []
-pieces_behind worded (t ∷ ts) = spaced worded (is_worded t) (taken t ∷ pieces_behind (is_worded t) ts)
+pieces_behind worded (t ∷ ts) = spaced worded (is_worded t) (a_token t ∷ pieces_behind (is_worded t) ts)
 
 spelled-spaced : (v w : Bool) (pieces : List Piece) → spelling_of (spaced v w pieces) ≡ token_gap v w ++ spelling_of pieces
 spelled-spaced true true pieces = refl
@@ -187,7 +187,7 @@ spelled-spaced false w pieces = refl
 spelled-pieces : (worded : Bool) (ts : List Token) → spelling_of (pieces_behind worded ts) ≡ text_behind worded ts
 spelled-pieces worded [] = refl
 spelled-pieces worded (t ∷ ts) =
-    spelled-spaced worded (is_worded t) (taken t ∷ pieces_behind (is_worded t) ts)
+    spelled-spaced worded (is_worded t) (a_token t ∷ pieces_behind (is_worded t) ts)
     ∙ ap (λ xs. token_gap worded (is_worded t) ++ (token_spelling t ++ xs)) (spelled-pieces (is_worded t) ts)
 
 tokens-spaced : (v w : Bool) (pieces : List Piece) → tokens_of (spaced v w pieces) ≡ tokens_of pieces
@@ -198,7 +198,7 @@ tokens-spaced false w pieces = refl
 tokens-pieces : (worded : Bool) (ts : List Token) → tokens_of (pieces_behind worded ts) ≡ ts
 tokens-pieces worded [] = refl
 tokens-pieces worded (t ∷ ts) =
-    tokens-spaced worded (is_worded t) (taken t ∷ pieces_behind (is_worded t) ts) ∙ ap (λ xs. t ∷ xs) (tokens-pieces (is_worded t) ts)
+    tokens-spaced worded (is_worded t) (a_token t ∷ pieces_behind (is_worded t) ts) ∙ ap (λ xs. t ∷ xs) (tokens-pieces (is_worded t) ts)
 
 are-spaced : (v w : Bool) (pieces : List Piece) → ArePieces pieces → ArePieces (spaced v w pieces)
 are-spaced true true pieces h = (refl, never_ends (spelling_of pieces), h)
@@ -209,7 +209,7 @@ are-pieces : (t : Token) (ts : List Token) → Chain t ts → AreTokens ts → A
 are-pieces t [] h are = tt
 are-pieces t (u ∷ us) h are =
     let ends = subst (EndsBefore (token_goes_on u)) (sym (spelled-pieces (is_worded u) us)) (ends_before u us h.1 are.1) in
-    are-spaced (is_worded t) (is_worded u) (taken u ∷ pieces_behind (is_worded u) us) (are.0, ends, are-pieces u us h.1 are.1)
+    are-spaced (is_worded t) (is_worded u) (a_token u ∷ pieces_behind (is_worded u) us) (are.0, ends, are-pieces u us h.1 are.1)
 
 pub text-divides : (t : Token) (ts : List Token) → Chain t ts → AreTokens ts → Divides ts (text_behind (is_worded t) ts)
 text-divides t ts h are =

@@ -5,8 +5,8 @@ use Rattle.std.proofs.lemmas.Bool.Decides.{nat_tests}
 use Rattle.model_lang.specs.declared.tree.BinaryOp.{BinaryOp}
 use Rattle.model_lang.specs.declared.tree.BinaryOp.TheVariants as op
 use Rattle.model_lang.specs.Tree.{Expression, nil, bool, int, text, this, local, field, list, unary, binary, builtin, call, future, create, Expressions, no_expressions, expression, Statement, declare, assign, set_field, when, while, give, do_, Statements, no_statements, statement, no_else, else_block, MethodTree, ClassTree, ProgramTree}
-use Rattle.model_lang.specs.Grammar.{Phrase, brackets, joined, operator_line, line, left_of, Stands, AllStand, tree_of, trees_of, ActionStands, BlockStands, MethodsStand, ClassesStand, tree_of_action, trees_of_block, tree_of_method, tree_of_class}
-use Rattle.model_print.specs.Canonical.{at_line, written, all_written, written_action, written_block, written_method, written_class}
+use Rattle.model_lang.specs.Grammar.{Phrase, brackets, a_binary, operator_line, line, left_of, IsWellFormed, AreWellFormed, tree_of, trees_of, IsWellFormedAction, IsWellFormedBlock, AreWellFormedMethods, AreWellFormedClasses, tree_of_action, trees_of_block, tree_of_method, tree_of_class}
+use Rattle.model_print.specs.Canonical.{at_line, phrase_of, phrases_of, action_of, block_of, method_form, class_form}
 
 -- ---- a phrase where one of a line may stand
 
@@ -21,8 +21,8 @@ line_if wanted p false h = omega arith
 line_at : (wanted : ℕ) (p : Phrase) → line (at_line wanted p) ≤ wanted
 line_at wanted p = line_if wanted p (nat_le (line p) wanted) refl
 
-stands_at : (wanted : ℕ) (p : Phrase) → Stands p → Stands (at_line wanted p)
-stands_at wanted p h = either Stands (nat_le (line p) wanted) p (brackets p) h h
+stands_at : (wanted : ℕ) (p : Phrase) → IsWellFormed p → IsWellFormed (at_line wanted p)
+stands_at wanted p h = either IsWellFormed (nat_le (line p) wanted) p (brackets p) h h
 
 tree_at : (wanted : ℕ) (p : Phrase) → tree_of (at_line wanted p) ≡ tree_of p
 tree_at wanted p = either (λ q. tree_of q ≡ tree_of p) (nat_le (line p) wanted) p (brackets p) refl refl
@@ -50,7 +50,7 @@ line_of_within op.Rest = (omega arith, omega arith)
 
 -- line 6 is the loosest
 pub loosest : (p : Phrase) → line p ≤ 6
-loosest (joined o a b) = (line_of_within o).1
+loosest (a_binary o a b) = (line_of_within o).1
 loosest p = omega arith
 
 pub right_of : (o : BinaryOp) (n : ℕ) → n < operator_line o → n ≤ operator_line o - 1
@@ -62,7 +62,7 @@ tighter o p = omega (arith, line_at (operator_line o - 1) p, (line_of_within o).
 -- ---- expressions
 
 mutual
-  pub written-stands : (e : Expression) → Stands (written e)
+  pub written-stands : (e : Expression) → IsWellFormed (phrase_of e)
   written-stands nil = tt
   written-stands (bool b) = tt
   written-stands (int n) = tt
@@ -71,25 +71,25 @@ mutual
   written-stands (local x) = tt
   written-stands (field x) = tt
   written-stands (list items) = all_written-stand items
-  written-stands (unary o a) = (stands_at 1 (written a) (written-stands a), line_at 1 (written a))
+  written-stands (unary o a) = (stands_at 1 (phrase_of a) (written-stands a), line_at 1 (phrase_of a))
   written-stands (binary o a b) = (
-    stands_at (left_of o) (written a) (written-stands a),
-    line_at (left_of o) (written a),
-    stands_at (operator_line o - 1) (written b) (written-stands b),
-    tighter o (written b),
+    stands_at (left_of o) (phrase_of a) (written-stands a),
+    line_at (left_of o) (phrase_of a),
+    stands_at (operator_line o - 1) (phrase_of b) (written-stands b),
+    tighter o (phrase_of b),
   )
   written-stands (builtin x args) = all_written-stand args
-  written-stands (call object x args) = (stands_at 0 (written object) (written-stands object), line_at 0 (written object), all_written-stand args)
+  written-stands (call object x args) = (stands_at 0 (phrase_of object) (written-stands object), line_at 0 (phrase_of object), all_written-stand args)
   written-stands (future object delay x args) =
-      (stands_at 0 (written object) (written-stands object), line_at 0 (written object), written-stands delay, all_written-stand args)
+      (stands_at 0 (phrase_of object) (written-stands object), line_at 0 (phrase_of object), written-stands delay, all_written-stand args)
   written-stands (create x options) = written-stands options
 
-  all_written-stand : (es : Expressions) → AllStand (all_written es)
+  all_written-stand : (es : Expressions) → AreWellFormed (phrases_of es)
   all_written-stand no_expressions = tt
   all_written-stand (expression a more) = (written-stands a, all_written-stand more)
 
 mutual
-  pub tree-written : (e : Expression) → tree_of (written e) ≡ e
+  pub tree-written : (e : Expression) → tree_of (phrase_of e) ≡ e
   tree-written nil = refl
   tree-written (bool b) = refl
   tree-written (int n) = refl
@@ -98,27 +98,27 @@ mutual
   tree-written (local x) = refl
   tree-written (field x) = refl
   tree-written (list items) = ap list (trees-all_written items)
-  tree-written (unary o a) = ap (unary o) (tree_at 1 (written a) ∙ tree-written a)
+  tree-written (unary o a) = ap (unary o) (tree_at 1 (phrase_of a) ∙ tree-written a)
   tree-written (binary o a b) =
-      ap (λ x. binary o x (tree_of (at_line (operator_line o - 1) (written b)))) (tree_at (left_of o) (written a) ∙ tree-written a)
-      ∙ ap (binary o a) (tree_at (operator_line o - 1) (written b) ∙ tree-written b)
+      ap (λ x. binary o x (tree_of (at_line (operator_line o - 1) (phrase_of b)))) (tree_at (left_of o) (phrase_of a) ∙ tree-written a)
+      ∙ ap (binary o a) (tree_at (operator_line o - 1) (phrase_of b) ∙ tree-written b)
   tree-written (builtin x args) = ap (builtin x) (trees-all_written args)
   tree-written (call object x args) =
-      ap (λ y. call y x (trees_of (all_written args))) (tree_at 0 (written object) ∙ tree-written object) ∙ ap (call object x) (trees-all_written args)
+      ap (λ y. call y x (trees_of (phrases_of args))) (tree_at 0 (phrase_of object) ∙ tree-written object) ∙ ap (call object x) (trees-all_written args)
   tree-written (future object delay x args) =
-      ap (λ y. future y (tree_of (written delay)) x (trees_of (all_written args))) (tree_at 0 (written object) ∙ tree-written object)
-      ∙ ap (λ y. future object y x (trees_of (all_written args))) (tree-written delay)
+      ap (λ y. future y (tree_of (phrase_of delay)) x (trees_of (phrases_of args))) (tree_at 0 (phrase_of object) ∙ tree-written object)
+      ∙ ap (λ y. future object y x (trees_of (phrases_of args))) (tree-written delay)
       ∙ ap (future object delay x) (trees-all_written args)
   tree-written (create x options) = ap (create x) (tree-written options)
 
-  trees-all_written : (es : Expressions) → trees_of (all_written es) ≡ es
+  trees-all_written : (es : Expressions) → trees_of (phrases_of es) ≡ es
   trees-all_written no_expressions = refl
-  trees-all_written (expression a more) = ap (λ y. expression y (trees_of (all_written more))) (tree-written a) ∙ ap (expression a) (trees-all_written more)
+  trees-all_written (expression a more) = ap (λ y. expression y (trees_of (phrases_of more))) (tree-written a) ∙ ap (expression a) (trees-all_written more)
 
 -- ---- statements
 
 mutual
-  action-stands : (s : Statement) → ActionStands (written_action s)
+  action-stands : (s : Statement) → IsWellFormedAction (action_of s)
   action-stands (declare x a) = written-stands a
   action-stands (assign x a) = written-stands a
   action-stands (set_field x a) = written-stands a
@@ -128,47 +128,47 @@ mutual
   action-stands (give a) = written-stands a
   action-stands (do_ a) = written-stands a
 
-  block-stands : (ss : Statements) → BlockStands (written_block ss)
+  block-stands : (ss : Statements) → IsWellFormedBlock (block_of ss)
   block-stands no_statements = tt
   block-stands (statement a more) = (action-stands a, block-stands more)
 
 mutual
-  tree-action : (s : Statement) → tree_of_action (written_action s) ≡ s
+  tree-action : (s : Statement) → tree_of_action (action_of s) ≡ s
   tree-action (declare x a) = ap (declare x) (tree-written a)
   tree-action (assign x a) = ap (assign x) (tree-written a)
   tree-action (set_field x a) = ap (set_field x) (tree-written a)
   tree-action (when a block no_else) =
-      ap (λ y. when y (trees_of_block (written_block block)) no_else) (tree-written a) ∙ ap (λ y. when a y no_else) (trees-block block)
+      ap (λ y. when y (trees_of_block (block_of block)) no_else) (tree-written a) ∙ ap (λ y. when a y no_else) (trees-block block)
   tree-action (when a block (else_block other)) =
-      ap (λ y. when y (trees_of_block (written_block block)) (else_block (trees_of_block (written_block other)))) (tree-written a)
-      ∙ ap (λ y. when a y (else_block (trees_of_block (written_block other)))) (trees-block block)
+      ap (λ y. when y (trees_of_block (block_of block)) (else_block (trees_of_block (block_of other)))) (tree-written a)
+      ∙ ap (λ y. when a y (else_block (trees_of_block (block_of other)))) (trees-block block)
       ∙ ap (λ y. when a block (else_block y)) (trees-block other)
-  tree-action (while a block) = ap (λ y. while y (trees_of_block (written_block block))) (tree-written a) ∙ ap (while a) (trees-block block)
+  tree-action (while a block) = ap (λ y. while y (trees_of_block (block_of block))) (tree-written a) ∙ ap (while a) (trees-block block)
   tree-action (give a) = ap give (tree-written a)
   tree-action (do_ a) = ap do_ (tree-written a)
 
-  trees-block : (ss : Statements) → trees_of_block (written_block ss) ≡ ss
+  trees-block : (ss : Statements) → trees_of_block (block_of ss) ≡ ss
   trees-block no_statements = refl
-  trees-block (statement a more) = ap (λ y. statement y (trees_of_block (written_block more))) (tree-action a) ∙ ap (statement a) (trees-block more)
+  trees-block (statement a more) = ap (λ y. statement y (trees_of_block (block_of more))) (tree-action a) ∙ ap (statement a) (trees-block more)
 
 -- ---- classes
 
-methods-stand : (ms : List MethodTree) → MethodsStand (map written_method ms)
+methods-stand : (ms : List MethodTree) → AreWellFormedMethods (map method_form ms)
 methods-stand [] = tt
 methods-stand (m ∷ ms) = (block-stands m.body, methods-stand ms)
 
-pub classes-stand : (cs : ProgramTree) → ClassesStand (map written_class cs)
+pub classes-stand : (cs : ProgramTree) → AreWellFormedClasses (map class_form cs)
 classes-stand [] = tt
 classes-stand (c ∷ cs) = (methods-stand c.methods, classes-stand cs)
 
-trees-methods : (ms : List MethodTree) → map tree_of_method (map written_method ms) ≡ ms
+trees-methods : (ms : List MethodTree) → map tree_of_method (map method_form ms) ≡ ms
 trees-methods [] = refl
 trees-methods (m ∷ ms) =
-    let same : tree_of_method (written_method m) ≡ m = ap (λ b. record m { body = b }) (trees-block m.body) in
-    ap (λ y. y ∷ map tree_of_method (map written_method ms)) same ∙ ap (λ ys. m ∷ ys) (trees-methods ms)
+    let same : tree_of_method (method_form m) ≡ m = ap (λ b. record m { body = b }) (trees-block m.body) in
+    ap (λ y. y ∷ map tree_of_method (map method_form ms)) same ∙ ap (λ ys. m ∷ ys) (trees-methods ms)
 
-pub trees-classes : (cs : ProgramTree) → map tree_of_class (map written_class cs) ≡ cs
+pub trees-classes : (cs : ProgramTree) → map tree_of_class (map class_form cs) ≡ cs
 trees-classes [] = refl
 trees-classes (c ∷ cs) =
-    let same : tree_of_class (written_class c) ≡ c = ap (λ ms. record c { methods = ms }) (trees-methods c.methods) in
-    ap (λ y. y ∷ map tree_of_class (map written_class cs)) same ∙ ap (λ ys. c ∷ ys) (trees-classes cs)
+    let same : tree_of_class (class_form c) ≡ c = ap (λ ms. record c { methods = ms }) (trees-methods c.methods) in
+    ap (λ y. y ∷ map tree_of_class (map class_form cs)) same ∙ ap (λ ys. c ∷ ys) (trees-classes cs)

@@ -5,56 +5,56 @@ use Rattle.model_tokens.specs.declared.token.Token.{Token}
 use Rattle.model_tokens.specs.declared.token.Token.TheVariants as token
 use Rattle.model_tokens.specs.Spelling.{token_spelling as spelled_token}
 use Rattle.model_lang.specs.Tree.{Expression, nil, bool, int, text, this, local, field, list, unary, binary, builtin, call, future, create, Expressions, no_expressions, expression, Statement, declare, assign, set_field, when, while, give, do_, Statements, no_statements, statement, no_else, else_block, MethodTree, ClassTree, ProgramTree}
-use Rattle.model_lang.specs.Grammar.{Phrase, a_number, a_text, a_nil, a_bool, a_this, a_field, a_local, a_builtin, a_create, a_list, brackets, a_call, a_future, signed, joined, Phrases, no_phrases, phrase, operator_line, line, left_of, Action, declaring, assigning, setting, choice, choice_else, looping, giving, doing, Block, closed, first, MethodForm, ClassForm, spelled_classes}
+use Rattle.model_lang.specs.Grammar.{Phrase, a_number, a_text, a_nil, a_bool, a_this, a_field, a_local, a_builtin, a_create, a_list, brackets, a_call, a_future, a_unary, a_binary, Phrases, no_phrases, phrase, operator_line, line, left_of, Action, a_let, an_assignment, a_set_field, choice, choice_else, a_while, a_return, a_do, Block, closed, first, MethodForm, ClassForm, classes_spelling}
 
 -- the phrase where one of this line may stand
 abbrev pub at_line : ℕ → Phrase → Phrase
 at_line wanted p = if nat_le (line p) wanted then p else brackets p
 
 abbrev mutual
-  pub written : Expression → Phrase
-  written nil = a_nil
-  written (bool b) = a_bool b
-  written (int n) = a_number n
-  written (text t) = a_text t
-  written this = a_this
-  written (local x) = a_local x
-  written (field x) = a_field x
-  written (list items) = a_list (all_written items)
-  written (unary o a) = signed o (at_line 1 (written a))
-  written (binary o a b) = joined o (at_line (left_of o) (written a)) (at_line (operator_line o - 1) (written b))
-  written (builtin x args) = a_builtin x (all_written args)
-  written (call object x args) = a_call (at_line 0 (written object)) x (all_written args)
-  written (future object delay x args) = a_future (at_line 0 (written object)) (written delay) x (all_written args)
-  written (create x options) = a_create x (written options)
+  pub phrase_of : Expression → Phrase
+  phrase_of nil = a_nil
+  phrase_of (bool b) = a_bool b
+  phrase_of (int n) = a_number n
+  phrase_of (text t) = a_text t
+  phrase_of this = a_this
+  phrase_of (local x) = a_local x
+  phrase_of (field x) = a_field x
+  phrase_of (list items) = a_list (phrases_of items)
+  phrase_of (unary o a) = a_unary o (at_line 1 (phrase_of a))
+  phrase_of (binary o a b) = a_binary o (at_line (left_of o) (phrase_of a)) (at_line (operator_line o - 1) (phrase_of b))
+  phrase_of (builtin x args) = a_builtin x (phrases_of args)
+  phrase_of (call object x args) = a_call (at_line 0 (phrase_of object)) x (phrases_of args)
+  phrase_of (future object delay x args) = a_future (at_line 0 (phrase_of object)) (phrase_of delay) x (phrases_of args)
+  phrase_of (create x options) = a_create x (phrase_of options)
 
-  pub all_written : Expressions → Phrases
-  all_written no_expressions = no_phrases
-  all_written (expression a more) = phrase (written a) (all_written more)
+  pub phrases_of : Expressions → Phrases
+  phrases_of no_expressions = no_phrases
+  phrases_of (expression a more) = phrase (phrase_of a) (phrases_of more)
 
 abbrev mutual
-  pub written_action : Statement → Action
-  written_action (declare x a) = declaring x (written a)
-  written_action (assign x a) = assigning x (written a)
-  written_action (set_field x a) = setting x (written a)
-  written_action (when a block no_else) = choice (written a) (written_block block)
-  written_action (when a block (else_block other)) = choice_else (written a) (written_block block) (written_block other)
-  written_action (while a block) = looping (written a) (written_block block)
-  written_action (give a) = giving (written a)
-  written_action (do_ a) = doing (written a)
+  pub action_of : Statement → Action
+  action_of (declare x a) = a_let x (phrase_of a)
+  action_of (assign x a) = an_assignment x (phrase_of a)
+  action_of (set_field x a) = a_set_field x (phrase_of a)
+  action_of (when a block no_else) = choice (phrase_of a) (block_of block)
+  action_of (when a block (else_block other)) = choice_else (phrase_of a) (block_of block) (block_of other)
+  action_of (while a block) = a_while (phrase_of a) (block_of block)
+  action_of (give a) = a_return (phrase_of a)
+  action_of (do_ a) = a_do (phrase_of a)
 
-  pub written_block : Statements → Block
-  written_block no_statements = closed
-  written_block (statement a more) = first (written_action a) (written_block more)
+  pub block_of : Statements → Block
+  block_of no_statements = closed
+  block_of (statement a more) = first (action_of a) (block_of more)
 
-abbrev pub written_method : MethodTree → MethodForm
-written_method m = record { name = m.name; params = m.params; body = written_block m.body }
+abbrev pub method_form : MethodTree → MethodForm
+method_form m = record { name = m.name; params = m.params; body = block_of m.body }
 
-abbrev pub written_class : ClassTree → ClassForm
-written_class c = record { name = c.name; fields = c.fields; methods = map written_method c.methods }
+abbrev pub class_form : ClassTree → ClassForm
+class_form c = record { name = c.name; fields = c.fields; methods = map method_form c.methods }
 
 abbrev pub canonical_tokens : ProgramTree → List Token
-canonical_tokens tree = spelled_classes (map written_class tree)
+canonical_tokens tree = classes_spelling (map class_form tree)
 
 -- a name, a word or a number
 abbrev pub is_worded : Token → Bool

@@ -13,27 +13,27 @@ use Rattle.model_lang.specs.Tree.{ProgramTree}
 use Rattle.model_lang.specs.TreeView.{program_tree}
 use Rattle.model_print.specs.Canonical.{is_worded, token_gap}
 
-abbrev pub Printed : Type 0
-Printed = List ℕ × Bool
+abbrev pub PrintState : Type 0
+PrintState = List ℕ × Bool
 
 -- with the spelling of one token more, which is worded or not
-abbrev pub with_gap : Printed → Bool → List ℕ → Printed
+abbrev pub with_gap : PrintState → Bool → List ℕ → PrintState
 with_gap p worded bytes = (p.0 ++ (token_gap p.1 worded ++ bytes), worded)
 
 -- what is printed of a token: names and texts are held as UTF-8
-abbrev pub printed : Token → List ℕ
-printed (token.Name x) = encode_utf8_all x
-printed (token.ClassName x) = encode_utf8_all x
-printed (token.Number n) = token_spelling (token.Number n)
-printed (token.Text x) = spelled_text (chars (encode_utf8_all x))
-printed (token.Word w) = token_spelling (token.Word w)
-printed (token.Symbol s) = token_spelling (token.Symbol s)
+abbrev pub token_text : Token → List ℕ
+token_text (token.Name x) = encode_utf8_all x
+token_text (token.ClassName x) = encode_utf8_all x
+token_text (token.Number n) = token_spelling (token.Number n)
+token_text (token.Text x) = spelled_text (chars (encode_utf8_all x))
+token_text (token.Word w) = token_spelling (token.Word w)
+token_text (token.Symbol s) = token_spelling (token.Symbol s)
 
-unfoldable pub with_token : Printed → Token → Printed
-with_token p t = with_gap p (is_worded t) (printed t)
+unfoldable pub with_token : PrintState → Token → PrintState
+with_token p t = with_gap p (is_worded t) (token_text t)
 
 -- with tokens more, one behind the other
-abbrev pub with_tokens : Printed → List Token → Printed
+abbrev pub with_tokens : PrintState → List Token → PrintState
 with_tokens p [] = p
 with_tokens p (t ∷ ts) = with_tokens (with_token p t) ts
 

@@ -1,26 +1,24 @@
 //! The canonical text of a program.
 #![tactic(auto, using(crate::proofs::Printed::by_append))]
 
-ghost use Rattle.std.specs.Prelude.{◌≡◌, ◌∷◌, [], ◌++◌, ◌-◌, ◌/◌, ◌%◌, ◌<◌, true, false, map, if◌then◌else◌, flat_map, encode_utf8, encode_utf8_all, IfOk, OnOk, string_bytes, List, Result, ℕ, length, ◌≤◌};
-ghost use Rattle.std.specs.Str.{chars};
+ghost use Rattle.std.specs.Prelude.{◌≡◌, ◌∷◌, [], ◌++◌, ◌-◌, ◌<◌, true, false, map, encode_utf8_all, IfOk, OnOk, string_bytes, List, Result, ℕ, length, ◌≤◌};
 ghost use Rattle.model_tokens.specs.declared.token.Token.TheVariants as token;
 ghost use Rattle.model_tokens.specs.declared.token.Word.TheVariants as word;
 ghost use Rattle.model_tokens.specs.declared.token.Symbol.TheVariants as symbol;
-ghost use Rattle.model_tokens.specs.Spelling.{spelled_symbol as meant_symbol, spelled_word as meant_word, hex_digit as meant_digit, spelled_character};
-ghost use Rattle.model_tokens.specs.Bytes.{is_control as is_control_code};
+ghost use Rattle.model_tokens.specs.Spelling.{spelled_symbol as meant_symbol, spelled_word as meant_word};
 ghost use Rattle.model_lang.specs.Tree.{ProgramTree};
 ghost use Rattle.model_lang.specs.declared.tree.Class.{Class as Held};
 ghost use Rattle.model_lang.specs.declared.fault.LangFault.{LangFault};
 ghost use Rattle.model_lang.specs.TreeView.{expression_tree, expression_trees, statement_tree, statement_trees, method_tree, class_tree, program_tree};
-ghost use Rattle.model_lang.specs.Grammar.{line, operator_line as number_of, left_of as number_left_of, op_symbol as meant_op, sign_symbol as meant_sign, in_round, in_square, in_braces, spelled, spelled_args, spelled_end, spelled_action, spelled_block, spelled_further, spelled_params, spelled_method, spelled_methods, spelled_fields, spelled_class, spelled_classes};
+ghost use Rattle.model_lang.specs.Grammar.{line, operator_line as number_of, left_of as number_left_of, op_symbol as meant_op, sign_symbol as meant_sign, in_round, in_square, in_braces, phrase_spelling, args_spelling, end_spelling, action_spelling, block_spelling, further_spelling, params_spelling, method_spelling, methods_spelling, fields_spelling, class_spelling, classes_spelling};
 ghost use Rattle.model_lang.specs.Program.{IsRead, IsProgram};
 ghost use Rattle.model_lang.specs.Answer.{Parses};
-ghost use Rattle.model_print.specs.Canonical.{at_line, written, all_written, written_action, written_block, written_method, written_class, canonical_tokens, canonical_text};
+ghost use Rattle.model_print.specs.Canonical.{at_line, phrase_of, phrases_of, action_of, block_of, method_form, class_form, canonical_tokens, canonical_text};
 ghost use Rattle.model_print.specs.Printing.{with_gap, with_token, with_tokens, level_number, GivesAgain};
 
 use model_lang::{BinaryOp, Class, Expr, Method, Program, Stmt, UnaryOp, one_reading};
-use model_tokens::{Symbol, Word};
-use std::alloc::{AllocError, Global};
+use model_tokens::{Symbol, Word, push_literal};
+use std::alloc::Global;
 use std::marker::Model;
 use tea_base::{Blob, Text, WantOfMemory};
 
@@ -78,7 +76,7 @@ impl Level {
 }
 
 /// The line on which an operator stands.
-fn line_of(op: BinaryOp) -> Level
+fn operator_level(op: BinaryOp) -> Level
     ensures { level_number result ≡ number_of op }
 {
     match op {
@@ -133,11 +131,11 @@ fn right_of(op: BinaryOp) -> Level
 }
 
 fn level_of(expr: &Expr) -> Level
-    ensures { level_number result ≡ line (written (expression_tree expr.now)) }
+    ensures { level_number result ≡ line (phrase_of (expression_tree expr.now)) }
 {
     match expr {
         Expr::Unary { .. } => Level::Unary,
-        Expr::Binary { op, .. } => line_of(*op),
+        Expr::Binary { op, .. } => operator_level(*op),
         Expr::Nil
         | Expr::Bool(_)
         | Expr::Int(_)
@@ -233,65 +231,6 @@ fn word_text(word: Word) -> &'static str
     }
 }
 
-fn is_control(code: u32) -> bool
-    ensures { result ≡ is_control_code code }
-{
-    code < 32 || code == 127
-}
-
-/// A hexadecimal digit from 0 to 15, in lower case.
-fn hex_digit(digit: u32) -> char
-    requires { digit < 16 }
-    ensures digit { result ≡ meant_digit digit }
-    ensures ascii { result < 128 }
-{
-    char::from_digit(digit, 16).unwrap_or('0')
-}
-
-/// Appends the escape of a control, other than an LF.
-fn push_control(out: &mut String, code: u32) -> Result<(), AllocError>
-    requires { code < 256 }
-    ensures { OnOk result (string_bytes out.new ≡ string_bytes out.old ++ 92 ∷ 120 ∷ meant_digit (code / 16) ∷ meant_digit (code % 16) ∷ []) }
-{
-    out.push_str("\\x")?;
-    out.push(hex_digit(code / 16))?;
-    out.push(hex_digit(code % 16))
-}
-
-/// Appends the spelling of a character that is no quote, backslash or LF.
-fn push_other(out: &mut String, character: char) -> Result<(), AllocError>
-    ensures { OnOk result (string_bytes out.new ≡ string_bytes out.old ++ (if is_control_code character then 92 ∷ 120 ∷ meant_digit (character / 16) ∷ meant_digit (character % 16) ∷ [] else encode_utf8 character)) }
-{
-    let code = u32::from(character);
-    if is_control(code) {
-        push_control(out, code)
-    } else {
-        out.push(character)
-    }
-}
-
-/// Appends the spelling of a character in a text literal.
-fn push_character(out: &mut String, character: char) -> Result<(), AllocError>
-    ensures { OnOk result (string_bytes out.new ≡ string_bytes out.old ++ spelled_character character) }
-{
-    match character {
-        '"' => out.push_str("\\\""),
-        '\\' => out.push_str("\\\\"),
-        '\n' => out.push_str("\\n"),
-        _ => push_other(out, character),
-    }
-}
-
-/// Appends the spelling of each character of a text literal.
-fn push_characters(out: &mut String, text: &str) -> Result<(), AllocError>
-    ensures { OnOk result (string_bytes out.new ≡ string_bytes out.old ++ flat_map spelled_character (chars text.now)) }
-{
-    for character in text.chars() {
-        push_character(out, character)?;
-    }
-    Ok(())
-}
-
 /// A text that is printed token by token. Contracts see its bytes, and whether its last token is a name, a word or a number.
 #[derive(Drop)]
 struct Printer {
@@ -328,7 +267,7 @@ impl Printer {
     // ---- tokens
 
     /// A name, a word or a number, behind a space where another stands before it.
-    fn worded(&mut self, bytes: &str) -> Result<(), WantOfMemory>
+    fn push_word(&mut self, bytes: &str) -> Result<(), WantOfMemory>
         ensures { OnOk result (self.new ≡ with_gap self.old true bytes.now) }
     {
         if self.worded {
@@ -343,14 +282,14 @@ impl Printer {
     fn name(&mut self, name: &Text) -> Result<(), WantOfMemory>
         ensures { OnOk result (self.new ≡ with_token self.old (token.Name name.now)) }
     {
-        self.worded(name.as_str())
+        self.push_word(name.as_str())
     }
 
     #[tactic(auto, unfolding(crate::specs::Printing::with_token))]
     fn class_name(&mut self, name: &Text) -> Result<(), WantOfMemory>
         ensures { OnOk result (self.new ≡ with_token self.old (token.ClassName name.now)) }
     {
-        self.worded(name.as_str())
+        self.push_word(name.as_str())
     }
 
     #[tactic(auto, unfolding(crate::specs::Printing::with_token))]
@@ -358,14 +297,14 @@ impl Printer {
         ensures { OnOk result (self.new ≡ with_token self.old (token.Number number)) }
     {
         let digits = number.to_string(self.alloc)?;
-        self.worded(digits.as_str())
+        self.push_word(digits.as_str())
     }
 
     #[tactic(auto, unfolding(crate::specs::Printing::with_token))]
     fn word(&mut self, word: Word) -> Result<(), WantOfMemory>
         ensures { OnOk result (self.new ≡ with_token self.old (token.Word word)) }
     {
-        self.worded(word_text(word))
+        self.push_word(word_text(word))
     }
 
     #[tactic(auto, unfolding(crate::specs::Printing::with_token))]
@@ -381,9 +320,7 @@ impl Printer {
     fn literal(&mut self, text: &Text) -> Result<(), WantOfMemory>
         ensures { OnOk result (self.new ≡ with_token self.old (token.Text text.now)) }
     {
-        self.text.push_str("\"")?;
-        push_characters(&mut self.text, text.as_str())?;
-        self.text.push_str("\"")?;
+        push_literal(&mut self.text, text.as_str())?;
         self.worded = false;
         Ok(())
     }
@@ -392,20 +329,20 @@ impl Printer {
 
     /// An expression, in brackets where none of its line may stand.
     #[cycle(print)]
-    fn placed(&mut self, wanted: Level, expr: &Expr) -> Result<(), WantOfMemory>
-        ensures { OnOk result (self.new ≡ with_tokens self.old (spelled (at_line (level_number wanted) (written (expression_tree expr.now))))) }
+    fn at_level(&mut self, wanted: Level, expr: &Expr) -> Result<(), WantOfMemory>
+        ensures { OnOk result (self.new ≡ with_tokens self.old (phrase_spelling (at_line (level_number wanted) (phrase_of (expression_tree expr.now))))) }
     {
         if level_of(expr).number() <= wanted.number() {
             self.phrase(expr)
         } else {
-            self.bracketed(expr)
+            self.brackets(expr)
         }
     }
 
     /// An expression in round brackets.
     #[cycle(print)]
-    fn bracketed(&mut self, expr: &Expr) -> Result<(), WantOfMemory>
-        ensures { OnOk result (self.new ≡ with_tokens self.old (in_round (spelled (written (expression_tree expr.now))))) }
+    fn brackets(&mut self, expr: &Expr) -> Result<(), WantOfMemory>
+        ensures { OnOk result (self.new ≡ with_tokens self.old (in_round (phrase_spelling (phrase_of (expression_tree expr.now))))) }
     {
         self.symbol(Symbol::OpenRound)?;
         self.phrase(expr)?;
@@ -414,7 +351,7 @@ impl Printer {
 
     #[cycle(print)]
     fn phrase(&mut self, expr: &Expr) -> Result<(), WantOfMemory>
-        ensures { OnOk result (self.new ≡ with_tokens self.old (spelled (written (expression_tree expr.now)))) }
+        ensures { OnOk result (self.new ≡ with_tokens self.old (phrase_spelling (phrase_of (expression_tree expr.now)))) }
     {
         match expr {
             Expr::Nil => self.word(Word::Nil),
@@ -425,21 +362,21 @@ impl Printer {
             Expr::This => self.word(Word::This),
             Expr::Local { name } => self.name(name),
             Expr::Field { name } => self.field(name),
-            Expr::List { items } => self.listed(items),
+            Expr::List { items } => self.list(items),
             Expr::Unary { op, of } => {
                 self.symbol(sign_symbol(*op))?;
-                self.placed(Level::Unary, of)
+                self.at_level(Level::Unary, of)
             }
             Expr::Binary { op, left, right } => {
-                self.placed(left_of(*op), left)?;
+                self.at_level(left_of(*op), left)?;
                 self.symbol(op_symbol(*op))?;
-                self.placed(right_of(*op), right)
+                self.at_level(right_of(*op), right)
             }
-            Expr::Builtin { name, args } => self.called(name, args),
+            Expr::Builtin { name, args } => self.call(name, args),
             Expr::Call { object, name, args } => {
-                self.placed(Level::Post, object)?;
+                self.at_level(Level::Post, object)?;
                 self.symbol(Symbol::Dot)?;
-                self.called(name, args)
+                self.call(name, args)
             }
             Expr::Future {
                 object,
@@ -447,12 +384,12 @@ impl Printer {
                 name,
                 args,
             } => {
-                self.placed(Level::Post, object)?;
-                self.delayed(delay)?;
-                self.called(name, args)
+                self.at_level(Level::Post, object)?;
+                self.delay(delay)?;
+                self.call(name, args)
             }
             Expr::Create { class, options } => {
-                self.creating(class)?;
+                self.create_opening(class)?;
                 self.phrase(options)?;
                 self.symbol(Symbol::CloseRound)
             }
@@ -469,7 +406,7 @@ impl Printer {
     }
 
     /// `create(class,`
-    fn creating(&mut self, class: &Text) -> Result<(), WantOfMemory>
+    fn create_opening(&mut self, class: &Text) -> Result<(), WantOfMemory>
         ensures { OnOk result (self.new ≡ with_tokens self.old (token.Word word.Create ∷ token.Symbol symbol.OpenRound ∷ token.ClassName class.now ∷ token.Symbol symbol.Comma ∷ [])) }
     {
         self.word(Word::Create)?;
@@ -480,19 +417,19 @@ impl Printer {
 
     /// `.future(delay).`
     #[cycle(print)]
-    fn delayed(&mut self, delay: &Expr) -> Result<(), WantOfMemory>
-        ensures { OnOk result (self.new ≡ with_tokens self.old (token.Symbol symbol.Dot ∷ token.Word word.Future ∷ (in_round (spelled (written (expression_tree delay.now))) ++ token.Symbol symbol.Dot ∷ []))) }
+    fn delay(&mut self, delay: &Expr) -> Result<(), WantOfMemory>
+        ensures { OnOk result (self.new ≡ with_tokens self.old (token.Symbol symbol.Dot ∷ token.Word word.Future ∷ (in_round (phrase_spelling (phrase_of (expression_tree delay.now))) ++ token.Symbol symbol.Dot ∷ []))) }
     {
         self.symbol(Symbol::Dot)?;
         self.word(Word::Future)?;
-        self.bracketed(delay)?;
+        self.brackets(delay)?;
         self.symbol(Symbol::Dot)
     }
 
     /// `name(args)`
     #[cycle(print)]
-    fn called(&mut self, name: &Text, args: &[Expr]) -> Result<(), WantOfMemory>
-        ensures { OnOk result (self.new ≡ with_tokens self.old (token.Name name.now ∷ in_round (spelled_args (all_written (expression_trees args.now))))) }
+    fn call(&mut self, name: &Text, args: &[Expr]) -> Result<(), WantOfMemory>
+        ensures { OnOk result (self.new ≡ with_tokens self.old (token.Name name.now ∷ in_round (args_spelling (phrases_of (expression_trees args.now))))) }
     {
         self.name(name)?;
         self.symbol(Symbol::OpenRound)?;
@@ -502,8 +439,8 @@ impl Printer {
 
     /// `[items]`
     #[cycle(print)]
-    fn listed(&mut self, items: &[Expr]) -> Result<(), WantOfMemory>
-        ensures { OnOk result (self.new ≡ with_tokens self.old (in_square (spelled_args (all_written (expression_trees items.now))))) }
+    fn list(&mut self, items: &[Expr]) -> Result<(), WantOfMemory>
+        ensures { OnOk result (self.new ≡ with_tokens self.old (in_square (args_spelling (phrases_of (expression_trees items.now))))) }
     {
         self.symbol(Symbol::OpenSquare)?;
         self.phrases(items)?;
@@ -513,7 +450,7 @@ impl Printer {
     /// Expressions with commas between them.
     #[cycle(print)]
     fn phrases(&mut self, exprs: &[Expr]) -> Result<(), WantOfMemory>
-        ensures { OnOk result (self.new ≡ with_tokens self.old (spelled_args (all_written (expression_trees exprs.now)))) }
+        ensures { OnOk result (self.new ≡ with_tokens self.old (args_spelling (phrases_of (expression_trees exprs.now)))) }
     {
         let Some((first, further)) = exprs.split_first() else {
             return Ok(());
@@ -529,51 +466,51 @@ impl Printer {
     // ---- statements
 
     /// `value;`
-    fn ended(&mut self, value: &Expr) -> Result<(), WantOfMemory>
-        ensures { OnOk result (self.new ≡ with_tokens self.old (spelled_end (written (expression_tree value.now)))) }
+    fn value_end(&mut self, value: &Expr) -> Result<(), WantOfMemory>
+        ensures { OnOk result (self.new ≡ with_tokens self.old (end_spelling (phrase_of (expression_tree value.now)))) }
     {
         self.phrase(value)?;
         self.symbol(Symbol::Semicolon)
     }
 
     /// `name=value;`
-    fn assigned(&mut self, name: &Text, value: &Expr) -> Result<(), WantOfMemory>
-        ensures { OnOk result (self.new ≡ with_tokens self.old (token.Name name.now ∷ token.Symbol symbol.Assign ∷ spelled_end (written (expression_tree value.now)))) }
+    fn assignment(&mut self, name: &Text, value: &Expr) -> Result<(), WantOfMemory>
+        ensures { OnOk result (self.new ≡ with_tokens self.old (token.Name name.now ∷ token.Symbol symbol.Assign ∷ end_spelling (phrase_of (expression_tree value.now)))) }
     {
         self.name(name)?;
         self.symbol(Symbol::Assign)?;
-        self.ended(value)
+        self.value_end(value)
     }
 
     /// `word(test)`
-    fn tested(&mut self, word: Word, test: &Expr) -> Result<(), WantOfMemory>
-        ensures { OnOk result (self.new ≡ with_tokens self.old (token.Word word ∷ in_round (spelled (written (expression_tree test.now))))) }
+    fn test_head(&mut self, word: Word, test: &Expr) -> Result<(), WantOfMemory>
+        ensures { OnOk result (self.new ≡ with_tokens self.old (token.Word word ∷ in_round (phrase_spelling (phrase_of (expression_tree test.now))))) }
     {
         self.word(word)?;
-        self.bracketed(test)
+        self.brackets(test)
     }
 
     #[cycle(statements)]
     fn statement(&mut self, statement: &Stmt) -> Result<(), WantOfMemory>
-        ensures { OnOk result (self.new ≡ with_tokens self.old (spelled_action (written_action (statement_tree statement.now)))) }
+        ensures { OnOk result (self.new ≡ with_tokens self.old (action_spelling (action_of (statement_tree statement.now)))) }
     {
         match statement {
             Stmt::Let { name, value } => {
                 self.word(Word::Let)?;
-                self.assigned(name, value)
+                self.assignment(name, value)
             }
-            Stmt::Assign { name, value } => self.assigned(name, value),
+            Stmt::Assign { name, value } => self.assignment(name, value),
             Stmt::SetField { name, value } => {
                 self.word(Word::This)?;
                 self.symbol(Symbol::Dot)?;
-                self.assigned(name, value)
+                self.assignment(name, value)
             }
             Stmt::If {
                 test,
                 yes,
                 no: None,
             } => {
-                self.tested(Word::If, test)?;
+                self.test_head(Word::If, test)?;
                 self.block(yes)
             }
             Stmt::If {
@@ -581,27 +518,27 @@ impl Printer {
                 yes,
                 no: Some(no),
             } => {
-                self.tested(Word::If, test)?;
+                self.test_head(Word::If, test)?;
                 self.block(yes)?;
                 self.word(Word::Else)?;
                 self.block(no)
             }
             Stmt::While { test, body } => {
-                self.tested(Word::While, test)?;
+                self.test_head(Word::While, test)?;
                 self.block(body)
             }
             Stmt::Return { value } => {
                 self.word(Word::Return)?;
-                self.ended(value)
+                self.value_end(value)
             }
-            Stmt::Do { value } => self.ended(value),
+            Stmt::Do { value } => self.value_end(value),
         }
     }
 
     /// Statements in braces.
     #[cycle(statements)]
     fn block(&mut self, statements: &[Stmt]) -> Result<(), WantOfMemory>
-        ensures { OnOk result (self.new ≡ with_tokens self.old (in_braces (spelled_block (written_block (statement_trees statements.now))))) }
+        ensures { OnOk result (self.new ≡ with_tokens self.old (in_braces (block_spelling (block_of (statement_trees statements.now))))) }
     {
         self.symbol(Symbol::OpenBrace)?;
         self.statements(statements)?;
@@ -610,7 +547,7 @@ impl Printer {
 
     #[cycle(statements)]
     fn statements(&mut self, statements: &[Stmt]) -> Result<(), WantOfMemory>
-        ensures { OnOk result (self.new ≡ with_tokens self.old (spelled_block (written_block (statement_trees statements.now)))) }
+        ensures { OnOk result (self.new ≡ with_tokens self.old (block_spelling (block_of (statement_trees statements.now)))) }
     {
         for statement in statements {
             self.statement(statement)?;
@@ -622,7 +559,7 @@ impl Printer {
 
     /// `,name` of each.
     fn further(&mut self, names: &[Text]) -> Result<(), WantOfMemory>
-        ensures { OnOk result (self.new ≡ with_tokens self.old (spelled_further names.now)) }
+        ensures { OnOk result (self.new ≡ with_tokens self.old (further_spelling names.now)) }
     {
         for name in names {
             self.symbol(Symbol::Comma)?;
@@ -632,7 +569,7 @@ impl Printer {
     }
 
     fn params(&mut self, names: &[Text]) -> Result<(), WantOfMemory>
-        ensures { OnOk result (self.new ≡ with_tokens self.old (spelled_params names.now)) }
+        ensures { OnOk result (self.new ≡ with_tokens self.old (params_spelling names.now)) }
     {
         let Some((first, further)) = names.split_first() else {
             return Ok(());
@@ -642,7 +579,7 @@ impl Printer {
     }
 
     fn method(&mut self, method: &Method) -> Result<(), WantOfMemory>
-        ensures { OnOk result (self.new ≡ with_tokens self.old (spelled_method (written_method (method_tree method.now)))) }
+        ensures { OnOk result (self.new ≡ with_tokens self.old (method_spelling (method_form (method_tree method.now)))) }
     {
         self.name(&method.name)?;
         self.symbol(Symbol::OpenRound)?;
@@ -652,7 +589,7 @@ impl Printer {
     }
 
     fn methods(&mut self, methods: &[Method]) -> Result<(), WantOfMemory>
-        ensures { OnOk result (self.new ≡ with_tokens self.old (spelled_methods (map written_method (map method_tree methods.now)))) }
+        ensures { OnOk result (self.new ≡ with_tokens self.old (methods_spelling (map method_form (map method_tree methods.now)))) }
     {
         for method in methods {
             self.method(method)?;
@@ -662,7 +599,7 @@ impl Printer {
 
     /// `field name;` of each.
     fn fields(&mut self, names: &[Text]) -> Result<(), WantOfMemory>
-        ensures { OnOk result (self.new ≡ with_tokens self.old (spelled_fields names.now)) }
+        ensures { OnOk result (self.new ≡ with_tokens self.old (fields_spelling names.now)) }
     {
         for name in names {
             self.word(Word::Field)?;
@@ -673,7 +610,7 @@ impl Printer {
     }
 
     fn class(&mut self, class: &Class) -> Result<(), WantOfMemory>
-        ensures { OnOk result (self.new ≡ with_tokens self.old (spelled_class (written_class (class_tree class.now)))) }
+        ensures { OnOk result (self.new ≡ with_tokens self.old (class_spelling (class_form (class_tree class.now)))) }
     {
         self.word(Word::Class)?;
         self.class_name(&class.name)?;

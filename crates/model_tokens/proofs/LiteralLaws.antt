@@ -7,8 +7,8 @@ use Rattle.std.proofs.lemmas.List.Concat.{flat_map-append}
 use Rattle.std.proofs.lemmas.Str.{encode_ascii, inside_one, is_utf8-from_IsUtf8, IsUtf8-from_is_utf8, chars-encodes, encodes-chars, scalars-chars}
 use Rattle.model_tokens.specs.Bytes.{is_digit, is_control}
 use Rattle.model_tokens.specs.Spelling.{hex_digit, spelled_character, spelled_text}
-use Rattle.model_tokens.specs.Division.{taken}
-use Rattle.model_tokens.specs.Reader.{hex_value, control_of, control_at, escape_at, literal_byte_at, with_front, literal_step, literal_at, as_text, next}
+use Rattle.model_tokens.specs.Division.{a_token}
+use Rattle.model_tokens.specs.Reader.{hex_value, control_of, control_at, escape_at, literal_byte_at, with_front, literal_step, literal_at, as_characters, literal_text_at, as_text, next_piece}
 use Rattle.model_tokens.specs.declared.token.Token.TheVariants as token
 use Rattle.model_tokens.proofs.Lists.{both}
 
@@ -263,20 +263,26 @@ spelled_literal cs rest =
 
 -- ---- the whole literal
 
-text_if : (bytes rest cs : List ℕ) → is_utf8 bytes ≡ true → chars bytes ≡ cs → as_text (Some (bytes, rest)) ≡ Some (taken (token.Text cs), rest)
+text_if : (bytes rest cs : List ℕ) → is_utf8 bytes ≡ true → chars bytes ≡ cs → as_characters (Some (bytes, rest)) ≡ Some (cs, rest)
 text_if bytes rest cs is e = rw (is, e) refl
 
-pub text_next : (cs rest : List ℕ) → all_scalars cs ≡ true → next (spelled_text cs ++ rest) ≡ Some (taken (token.Text cs), rest)
-text_next cs rest all =
+-- a text is read from its literal
+pub literal_again : (cs rest : List ℕ) → all_scalars cs ≡ true → literal_text_at (flat_map spelled_character cs ++ 34 ∷ rest) ≡ Some (cs, rest)
+literal_again cs rest all =
     let bytes : List ℕ = encode_utf8_all cs in
-    ap next (spelled_literal cs rest) ∙ ap as_text (literal_whole bytes rest) ∙ text_if bytes rest cs (is_utf8-from_IsUtf8 bytes (cs, (all, refl))) (chars-encodes cs all)
+    ap (λ xs. literal_text_at (xs ++ 34 ∷ rest)) (spelled_characters cs) ∙ ap as_characters (literal_whole bytes rest)
+    ∙ text_if bytes rest cs (is_utf8-from_IsUtf8 bytes (cs, (all, refl))) (chars-encodes cs all)
+
+pub text_next : (cs rest : List ℕ) → all_scalars cs ≡ true → next_piece (spelled_text cs ++ rest) ≡ Some (a_token (token.Text cs), rest)
+text_next cs rest all =
+    ap (λ xs. next_piece (34 ∷ xs)) (append_assoc (flat_map spelled_character cs) (34 ∷ []) rest) ∙ ap as_text (literal_again cs rest all)
 
 -- what a reading of a text literal behind its first quote says
 pub record TextRead (text cs rest : List ℕ) : Type 0 where
   pub scalars : all_scalars cs ≡ true
   pub whole : spelled_text cs ++ rest ≡ 34 ∷ text
 
-pub text_read : (text bytes rest : List ℕ) → literal_at 0 text ≡ Some (bytes, rest) → is_utf8 bytes ≡ true → TextRead text (chars bytes) rest
+text_read : (text bytes rest : List ℕ) → literal_at 0 text ≡ Some (bytes, rest) → is_utf8 bytes ≡ true → TextRead text (chars bytes) rest
 text_read text bytes rest h is =
     let utf8 = IsUtf8-from_is_utf8 bytes is in
     let back : encode_utf8_all (chars bytes) ≡ bytes = encodes-chars bytes utf8 in
@@ -317,3 +323,17 @@ one_byte bytes (x ∷ rest) text byte more e here =
     let passed : literal_at more rest ≡ literal_at 0 (drop (more + 1) (x ∷ rest)) = rw add-one (passed_over more rest) in
     let step : literal_at 0 (x ∷ rest) ≡ with_front byte (literal_at more rest) = ap (λ o. literal_step x rest o (λ k. literal_at k rest)) here in
     with_one bytes byte (literal_at 0 (drop (more + 1) (x ∷ rest))) ∙ ap (with_bytes bytes) (sym (step ∙ ap (with_front byte) passed)) ∙ e
+
+characters_if : (text bytes behind cs rest : List ℕ) (b : Bool) → is_utf8 bytes ≡ b → literal_at 0 text ≡ Some (bytes, behind) → cond {A = Option (List ℕ × List ℕ)} b (Some (chars bytes, behind)) None ≡ Some (cs, rest) → TextRead text cs rest
+characters_if text bytes behind cs rest true hb e h =
+    let p = lists_are (chars bytes) behind cs rest h in
+    subst (λ r. TextRead text cs r) p.1 (subst (λ c. TextRead text c behind) p.0 (text_read text bytes behind e hb))
+characters_if text bytes behind cs rest false hb e h = cc
+
+characters_found : (text cs rest : List ℕ) (o : Option (List ℕ × List ℕ)) → literal_at 0 text ≡ o → as_characters o ≡ Some (cs, rest) → TextRead text cs rest
+characters_found text cs rest None e h = cc
+characters_found text cs rest (Some found) e h = characters_if text found.0 found.1 cs rest (is_utf8 found.0) refl e h
+
+-- and from nothing else
+pub literal_only : (text cs rest : List ℕ) → literal_text_at text ≡ Some (cs, rest) → TextRead text cs rest
+literal_only text cs rest h = characters_found text cs rest (literal_at 0 text) refl h

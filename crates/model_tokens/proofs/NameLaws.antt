@@ -8,12 +8,12 @@ use Rattle.std.specs.Str.{bytes_eq, is_utf8, chars}
 use Rattle.std.specs.Prelude.{nat_lt}
 use Rattle.model_tokens.specs.Bytes.{begins_name, begins_class_name, goes_on_name}
 use Rattle.model_tokens.specs.Spelling.{spelled_word, IsNamed}
-use Rattle.model_tokens.specs.Division.{taken, EndsBefore}
-use Rattle.model_tokens.specs.Reader.{front, rest_past, kind_of, word_among, every_word, named_or, name_token_at, row, next}
+use Rattle.model_tokens.specs.Division.{a_token, EndsBefore}
+use Rattle.model_tokens.specs.Reader.{front, rest_past, kind_of, word_among, every_word, token_of_name, name_token_at, row, next_piece}
 use Rattle.model_tokens.specs.declared.token.Token.TheVariants as token
 use Rattle.model_tokens.specs.declared.token.Word.{Word}
 use Rattle.model_tokens.specs.declared.token.Word.TheVariants as word
-use Rattle.model_tokens.specs.declared.bytes.Kind.TheVariants as kind
+use Rattle.model_tokens.specs.declared.bytes.ByteKind.TheVariants as kind
 use Rattle.model_tokens.proofs.Lists.{both, from_both, length_front, take_front, drop_front, front_all}
 
 -- ---- words
@@ -89,27 +89,27 @@ either_right false b h = h
 -- ---- what is read of a name
 
 -- a name of so many bytes, and what stands behind it
-read_name : (name rest : List ℕ) → prefix_len goes_on_name (name ++ rest) ≡ length name → length name ≤ 64 → name_token_at (name ++ rest) ≡ Some (taken (named_or (word_among every_word name) name), rest)
+read_name : (name rest : List ℕ) → prefix_len goes_on_name (name ++ rest) ≡ length name → length name ≤ 64 → name_token_at (name ++ rest) ≡ Some (a_token (token_of_name (word_among every_word name) name), rest)
 read_name name rest len short =
     let here : front goes_on_name (name ++ rest) ≡ name = ap (λ n. take n (name ++ rest)) len ∙ take_front name rest in
     let there : rest_past goes_on_name (name ++ rest) ≡ rest = ap (λ n. drop n (name ++ rest)) len ∙ drop_front name rest in
     let test : nat_lt 64 (prefix_len goes_on_name (name ++ rest)) ≡ false = rw len (grind (arith, nat_tests)) in
     rw (test, here, there) refl
 
-named_next : (byte : ℕ) (bytes rest : List ℕ) → (begins_name byte || begins_class_name byte) ≡ true → list_all goes_on_name bytes ≡ true → length bytes < 64 → EndsBefore goes_on_name rest → next ((byte ∷ bytes) ++ rest) ≡ Some (taken (named_or (word_among every_word (byte ∷ bytes)) (byte ∷ bytes)), rest)
+named_next : (byte : ℕ) (bytes rest : List ℕ) → (begins_name byte || begins_class_name byte) ≡ true → list_all goes_on_name bytes ≡ true → length bytes < 64 → EndsBefore goes_on_name rest → next_piece ((byte ∷ bytes) ++ rest) ≡ Some (a_token (token_of_name (word_among every_word (byte ∷ bytes)) (byte ∷ bytes)), rest)
 named_next byte bytes rest begins all short ends =
     let letter : kind_of byte ≡ kind.Letter = (begins_letter byte begins).0 in
     let every : list_all goes_on_name (byte ∷ bytes) ≡ true = from_both (goes_on_name byte) (list_all goes_on_name bytes) (begins_letter byte begins).1 all in
     let len : prefix_len goes_on_name ((byte ∷ bytes) ++ rest) ≡ length (byte ∷ bytes) = length_front goes_on_name (byte ∷ bytes) rest every ends in
     ap (λ k. row k byte (bytes ++ rest)) letter ∙ read_name (byte ∷ bytes) rest len (omega arith)
 
-pub name_next : (name rest : List ℕ) → IsNamed begins_name name → ((w : Word) → name ≢ spelled_word w) → EndsBefore goes_on_name rest → next (name ++ rest) ≡ Some (taken (token.Name name), rest)
+pub name_next : (name rest : List ℕ) → IsNamed begins_name name → ((w : Word) → name ≢ spelled_word w) → EndsBefore goes_on_name rest → next_piece (name ++ rest) ≡ Some (a_token (token.Name name), rest)
 name_next [] rest is not ends = absurd is
 name_next (byte ∷ bytes) rest is not ends =
     let read = named_next byte bytes rest (either_left (begins_name byte) (begins_class_name byte) is.0) is.1 is.2 ends in
     let word : word_among every_word (byte ∷ bytes) ≡ None = among_none every_word (byte ∷ bytes) not in
     let small : begins_class_name byte ≡ false = not_both byte is.0 in
-    read ∙ ap (λ o. Some (taken (named_or o (byte ∷ bytes)), rest)) word ∙ ap (λ b. Some (taken (cond b (token.ClassName (byte ∷ bytes)) (token.Name (byte ∷ bytes))), rest)) small
+    read ∙ ap (λ o. Some (a_token (token_of_name o (byte ∷ bytes)), rest)) word ∙ ap (λ b. Some (a_token (cond b (token.ClassName (byte ∷ bytes)) (token.Name (byte ∷ bytes))), rest)) small
 
 no_word : (byte : ℕ) (bytes spelled : List ℕ) → begins_class_name byte ≡ true → IsNamed begins_name spelled → (byte ∷ bytes) ≢ spelled
 no_word byte bytes [] large is e = absurd is
@@ -118,21 +118,21 @@ no_word byte bytes (c ∷ cs) large is e =
     let small : begins_class_name byte ≡ false = ap begins_class_name same ∙ not_both c is.0 in
     cc
 
-pub class_name_next : (name rest : List ℕ) → IsNamed begins_class_name name → EndsBefore goes_on_name rest → next (name ++ rest) ≡ Some (taken (token.ClassName name), rest)
+pub class_name_next : (name rest : List ℕ) → IsNamed begins_class_name name → EndsBefore goes_on_name rest → next_piece (name ++ rest) ≡ Some (a_token (token.ClassName name), rest)
 class_name_next [] rest is ends = absurd is
 class_name_next (byte ∷ bytes) rest is ends =
     let read = named_next byte bytes rest (either_right (begins_name byte) (begins_class_name byte) is.0) is.1 is.2 ends in
     let word : word_among every_word (byte ∷ bytes) ≡ None = among_none every_word (byte ∷ bytes) (λ w. no_word byte bytes (spelled_word w) is.0 (word_is_named w)) in
-    read ∙ ap (λ o. Some (taken (named_or o (byte ∷ bytes)), rest)) word ∙ ap (λ b. Some (taken (cond b (token.ClassName (byte ∷ bytes)) (token.Name (byte ∷ bytes))), rest)) is.0
+    read ∙ ap (λ o. Some (a_token (token_of_name o (byte ∷ bytes)), rest)) word ∙ ap (λ b. Some (a_token (cond b (token.ClassName (byte ∷ bytes)) (token.Name (byte ∷ bytes))), rest)) is.0
 
-word_next_as : (w : Word) (name rest : List ℕ) → name ≡ spelled_word w → IsNamed begins_name name → EndsBefore goes_on_name rest → next (name ++ rest) ≡ Some (taken (token.Word w), rest)
+word_next_as : (w : Word) (name rest : List ℕ) → name ≡ spelled_word w → IsNamed begins_name name → EndsBefore goes_on_name rest → next_piece (name ++ rest) ≡ Some (a_token (token.Word w), rest)
 word_next_as w [] rest e is ends = absurd is
 word_next_as w (byte ∷ bytes) rest e is ends =
     let read = named_next byte bytes rest (either_left (begins_name byte) (begins_class_name byte) is.0) is.1 is.2 ends in
     let word : word_among every_word (byte ∷ bytes) ≡ Some w = ap (word_among every_word) e ∙ among_every w in
-    read ∙ ap (λ o. Some (taken (named_or o (byte ∷ bytes)), rest)) word
+    read ∙ ap (λ o. Some (a_token (token_of_name o (byte ∷ bytes)), rest)) word
 
-pub word_next : (w : Word) (rest : List ℕ) → EndsBefore goes_on_name rest → next (spelled_word w ++ rest) ≡ Some (taken (token.Word w), rest)
+pub word_next : (w : Word) (rest : List ℕ) → EndsBefore goes_on_name rest → next_piece (spelled_word w ++ rest) ≡ Some (a_token (token.Word w), rest)
 word_next w rest ends = word_next_as w (spelled_word w) rest refl (word_is_named w) ends
 
 -- ---- the text of a name
@@ -140,7 +140,8 @@ word_next w rest ends = word_next_as w (spelled_word w) rest refl (word_is_named
 ascii_name : (b : ℕ) → goes_on_name b ≡ true → b < 128
 ascii_name b h = grind (arith, nat_tests)
 
-ascii_at : (bytes : List ℕ) → list_all goes_on_name bytes ≡ true → (i : ℕ) → get_or bytes i 0 < 128
+-- the bytes of a name are ASCII
+pub ascii_at : (bytes : List ℕ) → list_all goes_on_name bytes ≡ true → (i : ℕ) → get_or bytes i 0 < 128
 ascii_at [] h i = lit< tt
 ascii_at (b ∷ bytes) h zero = ascii_name b (both (goes_on_name b) (list_all goes_on_name bytes) h).0
 ascii_at (b ∷ bytes) h (suc i) = ascii_at bytes (both (goes_on_name b) (list_all goes_on_name bytes) h).1 i

@@ -9,10 +9,10 @@ use Rattle.std.proofs.lemmas.Bool.Decides.{nat_tests}
 use Rattle.std.proofs.lemmas.Str.Parse.{IsNumeralModel, numerals_by_value, tells_digits}
 use Rattle.std.proofs.lemmas.Fmt.{decimal-digits_value, digits_value-decimal, decimal_is_IsNumeral, decimal_nonempty, first_decimal, decimal_digit}
 use Rattle.model_tokens.specs.Bytes.{is_digit}
-use Rattle.model_tokens.specs.Division.{taken, EndsBefore, number_goes_on}
-use Rattle.model_tokens.specs.Reader.{front, rest_past, kind_of, valued, row, next}
+use Rattle.model_tokens.specs.Division.{a_token, EndsBefore, number_goes_on}
+use Rattle.model_tokens.specs.Reader.{front, rest_past, kind_of, number_in_bounds, row, next_piece}
 use Rattle.model_tokens.specs.declared.token.Token.TheVariants as token
-use Rattle.model_tokens.specs.declared.bytes.Kind.TheVariants as kind
+use Rattle.model_tokens.specs.declared.bytes.ByteKind.TheVariants as kind
 use Rattle.model_tokens.proofs.Lists.{both, from_both, front_is, behind_is, front_all, ends_behind, whole_is}
 
 own : IsNumeralModel (AllDigits 10) (digits_value 10)
@@ -41,13 +41,13 @@ digit_kind b h = grind (arith, nat_tests)
 pub kind_digit : (b : ℕ) → kind_of b ≡ kind.Digit → is_digit b ≡ true
 kind_digit b h = grind (arith, nat_tests)
 
-valued_small : (n : ℕ) (rest : List ℕ) → n ≤ 9_223_372_036_854_775_807 → valued n rest ≡ Some (taken (token.Number (pos n)), rest)
+valued_small : (n : ℕ) (rest : List ℕ) → n ≤ 9_223_372_036_854_775_807 → number_in_bounds n rest ≡ Some (a_token (token.Number (pos n)), rest)
 valued_small n rest small =
     let test : nat_le n 9_223_372_036_854_775_807 ≡ true = grind (arith, nat_tests) in
     rw test refl
 
 -- a number that is not 0
-positive_next : (n : ℕ) (ds rest : List ℕ) → ds ≡ decimal n → 0 < n → n ≤ 9_223_372_036_854_775_807 → EndsBefore is_digit rest → next (ds ++ rest) ≡ Some (taken (token.Number (pos n)), rest)
+positive_next : (n : ℕ) (ds rest : List ℕ) → ds ≡ decimal n → 0 < n → n ≤ 9_223_372_036_854_775_807 → EndsBefore is_digit rest → next_piece (ds ++ rest) ≡ Some (a_token (token.Number (pos n)), rest)
 positive_next n [] rest e positive small ends =
     let some : 0 < length (decimal n) = decimal_nonempty n (omega arith) in
     let none : length (decimal n) ≡ 0 = ap length (sym e) in
@@ -62,20 +62,20 @@ positive_next n (d ∷ ds) rest e positive small ends =
     let there : rest_past is_digit ((d ∷ ds) ++ rest) ≡ rest = behind_is is_digit (d ∷ ds) rest all ends in
     let digit : kind_of d ≡ kind.Digit = digit_kind d (both (is_digit d) (list_all is_digit ds) all).0 in
     ap (λ k. row k d (ds ++ rest)) digit
-    ∙ ap (λ b. cond b (Some (taken (token.Number (pos zero)), ds ++ rest)) (valued (digits_value 10 (front is_digit ((d ∷ ds) ++ rest))) (rest_past is_digit ((d ∷ ds) ++ rest)))) zero_test
-    ∙ ap (λ xs. valued (digits_value 10 xs) (rest_past is_digit ((d ∷ ds) ++ rest))) here
-    ∙ ap (λ xs. valued (digits_value 10 (d ∷ ds)) xs) there
-    ∙ ap (λ m. valued m rest) value
+    ∙ ap (λ b. cond b (Some (a_token (token.Number (pos zero)), ds ++ rest)) (number_in_bounds (digits_value 10 (front is_digit ((d ∷ ds) ++ rest))) (rest_past is_digit ((d ∷ ds) ++ rest)))) zero_test
+    ∙ ap (λ xs. number_in_bounds (digits_value 10 xs) (rest_past is_digit ((d ∷ ds) ++ rest))) here
+    ∙ ap (λ xs. number_in_bounds (digits_value 10 (d ∷ ds)) xs) there
+    ∙ ap (λ m. number_in_bounds m rest) value
     ∙ valued_small n rest small
 
 ends_digits : (n : ℕ) (rest : List ℕ) → EndsBefore (number_goes_on (pos (suc n))) rest → EndsBefore is_digit rest
 ends_digits n [] ends = tt
 ends_digits n (b ∷ rest) ends = ends
 
-pub number_next : (n : ℕ) (rest : List ℕ) → n ≤ 9_223_372_036_854_775_807 → EndsBefore (number_goes_on (pos n)) rest → next (decimal n ++ rest) ≡ Some (taken (token.Number (pos n)), rest)
+pub number_next : (n : ℕ) (rest : List ℕ) → n ≤ 9_223_372_036_854_775_807 → EndsBefore (number_goes_on (pos n)) rest → next_piece (decimal n ++ rest) ≡ Some (a_token (token.Number (pos n)), rest)
 number_next zero rest small ends =
     let e : decimal 0 ≡ 48 ∷ [] = decimal_digit 0 (omega arith) in
-    ap (λ ds. next (ds ++ rest)) e
+    ap (λ ds. next_piece (ds ++ rest)) e
 number_next (suc n) rest small ends = positive_next (suc n) (decimal (suc n)) rest refl (omega arith) small (ends_digits n rest ends)
 
 -- what a reading of a number says

@@ -2,31 +2,30 @@
 use Rattle.std.proofs.Common.{◌≡◌, ◌≢◌, ℕ, zero, suc, pos, ◌<◌, ◌≤◌, Bool, true, false, ◌||◌, cond, List, [], ◌∷◌, ◌++◌, length, Option, Some, None, refl, sym, ap, ◌∙◌, subst, arith, one-add}
 use Rattle.std.specs.Prelude.{nat_le, nat_lt, ◌==◌}
 use Rattle.std.specs.List.{prefix_len, list_all}
-use Rattle.std.specs.Str.{is_utf8, chars}
 use Rattle.std.specs.Str.Parse.{digits_value}
 use Rattle.std.specs.Fmt.{decimal}
 use Rattle.std.proofs.lemmas.Bool.Decides.{nat_tests}
 use Rattle.std.proofs.lemmas.Fmt.{decimal_digit}
 use Rattle.model_tokens.specs.Bytes.{is_blank, is_digit, begins_name, begins_class_name, goes_on_name, goes_on_line}
 use Rattle.model_tokens.specs.Spelling.{spelled_word}
-use Rattle.model_tokens.specs.Division.{Piece, blank, comment, taken, spelling, IsPiece, Ends, EndsBefore, number_goes_on}
-use Rattle.model_tokens.specs.Reader.{TokenRead, front, rest_past, kind_of, word_among, every_word, named_or, valued, literal_at, as_text, symbol_at, comment_at, as_symbol, or_symbol, row, next}
+use Rattle.model_tokens.specs.Division.{Piece, blank, comment, a_token, spelling, IsPiece, EndsPiece, EndsBefore, number_goes_on}
+use Rattle.model_tokens.specs.Reader.{TokenRead, front, rest_past, kind_of, word_among, every_word, token_of_name, number_in_bounds, literal_text_at, as_text, symbol_at, comment_at, as_symbol, or_symbol, row, next_piece}
 use Rattle.model_tokens.specs.declared.token.Token.TheVariants as token
 use Rattle.model_tokens.specs.declared.token.Word.{Word}
 use Rattle.model_tokens.specs.declared.token.Symbol.{Symbol}
-use Rattle.model_tokens.specs.declared.bytes.Kind.{Kind}
-use Rattle.model_tokens.specs.declared.bytes.Kind.TheVariants as kind
+use Rattle.model_tokens.specs.declared.bytes.ByteKind.{ByteKind}
+use Rattle.model_tokens.specs.declared.bytes.ByteKind.TheVariants as kind
 use Rattle.model_tokens.proofs.Lists.{whole_is, front_all, ends_behind, length_of_front}
 use Rattle.model_tokens.proofs.NameLaws.{among_spells, among_every, begins_letter, letter_begins}
 use Rattle.model_tokens.proofs.NumberLaws.{NumberRead, digits_read, kind_digit}
-use Rattle.model_tokens.proofs.LiteralLaws.{text_read}
+use Rattle.model_tokens.proofs.LiteralLaws.{literal_only}
 use Rattle.model_tokens.proofs.SymbolLaws.{symbol_read, comment_read}
 
 -- the text begins with the piece, and goes on so
 pub record Begins (text : List ℕ) (piece : Piece) (rest : List ℕ) : Type 0 where
   pub whole : spelling piece ++ rest ≡ text
   pub is : IsPiece piece
-  pub ends : Ends piece rest
+  pub ends : EndsPiece piece rest
 
 pub same_read : (p q : Piece) (a b : List ℕ) → ◌≡◌ {A = TokenRead} (Some (p, a)) (Some (q, b)) → (p ≡ q) × (a ≡ b)
 same_read p q a b h =
@@ -47,11 +46,11 @@ zero_ends : (rest : List ℕ) → EndsBefore (number_goes_on (pos zero)) rest
 zero_ends [] = tt
 zero_ends (b ∷ rest) = refl
 
-text_ends : (cs rest : List ℕ) → Ends (taken (token.Text cs)) rest
+text_ends : (cs rest : List ℕ) → EndsPiece (a_token (token.Text cs)) rest
 text_ends cs [] = tt
 text_ends cs (b ∷ rest) = refl
 
-blank_ends : (byte : ℕ) (rest : List ℕ) → Ends (blank byte) rest
+blank_ends : (byte : ℕ) (rest : List ℕ) → EndsPiece (blank byte) rest
 blank_ends byte [] = tt
 blank_ends byte (b ∷ rest) = refl
 
@@ -67,24 +66,24 @@ either_name true b h n = refl
 either_name false b h n = cc
 
 name_if : (byte : ℕ) (bytes : List ℕ) (rest : List ℕ) (text : List ℕ) → (byte ∷ bytes) ++ rest ≡ text → EndsBefore goes_on_name rest → list_all goes_on_name bytes ≡ true → length bytes < 64 → (begins_name byte || begins_class_name byte) ≡ true
-    → word_among every_word (byte ∷ bytes) ≡ None → (b : Bool) → begins_class_name byte ≡ b → Begins text (taken (cond b (token.ClassName (byte ∷ bytes)) (token.Name (byte ∷ bytes)))) rest
+    → word_among every_word (byte ∷ bytes) ≡ None → (b : Bool) → begins_class_name byte ≡ b → Begins text (a_token (cond b (token.ClassName (byte ∷ bytes)) (token.Name (byte ∷ bytes)))) rest
 name_if byte bytes rest text whole ends all short begins none true hb = record { whole = whole; is = (hb, all, short); ends = ends }
 name_if byte bytes rest text whole ends all short begins none false hb =
     record { whole = whole; is = ((either_name (begins_name byte) (begins_class_name byte) begins hb, all, short), not_word (byte ∷ bytes) none); ends = ends }
 
 name_named : (byte : ℕ) (bytes : List ℕ) (rest : List ℕ) (text : List ℕ) → (byte ∷ bytes) ++ rest ≡ text → EndsBefore goes_on_name rest → list_all goes_on_name bytes ≡ true → length bytes < 64 → (begins_name byte || begins_class_name byte) ≡ true
-    → (o : Option Word) → word_among every_word (byte ∷ bytes) ≡ o → Begins text (taken (named_or o (byte ∷ bytes))) rest
+    → (o : Option Word) → word_among every_word (byte ∷ bytes) ≡ o → Begins text (a_token (token_of_name o (byte ∷ bytes))) rest
 name_named byte bytes rest text whole ends all short begins (Some w) e =
     record { whole = ap (λ xs. xs ++ rest) (sym (among_spells every_word (byte ∷ bytes) w e)) ∙ whole; is = tt; ends = ends }
 name_named byte bytes rest text whole ends all short begins None e = name_if byte bytes rest text whole ends all short begins e (begins_class_name byte) refl
 
-name_found : (text name same left : List ℕ) (piece : Piece) (rest : List ℕ) → name ≡ same → ◌≡◌ {A = TokenRead} (Some (taken (named_or (word_among every_word same) same), left)) (Some (piece, rest)) → Begins text (taken (named_or (word_among every_word name) name)) left → Begins text piece rest
+name_found : (text name same left : List ℕ) (piece : Piece) (rest : List ℕ) → name ≡ same → ◌≡◌ {A = TokenRead} (Some (a_token (token_of_name (word_among every_word same) same), left)) (Some (piece, rest)) → Begins text (a_token (token_of_name (word_among every_word name) name)) left → Begins text piece rest
 name_found text name same left piece rest e h is =
-    let wrap : List ℕ → TokenRead = λ xs. Some (taken (named_or (word_among every_word xs) xs), left) in
-    found text (taken (named_or (word_among every_word name) name)) piece left rest (ap wrap e ∙ h) is
+    let wrap : List ℕ → TokenRead = λ xs. Some (a_token (token_of_name (word_among every_word xs) xs), left) in
+    found text (a_token (token_of_name (word_among every_word name) name)) piece left rest (ap wrap e ∙ h) is
 
 name_read_if : (byte : ℕ) (bytes : List ℕ) (piece : Piece) (rest : List ℕ) (len : ℕ) (b : Bool) → nat_lt 64 len ≡ b → prefix_len goes_on_name (byte ∷ bytes) ≡ len → (begins_name byte || begins_class_name byte) ≡ true → goes_on_name byte ≡ true
-    → cond {A = TokenRead} b None (Some (taken (named_or (word_among every_word (front goes_on_name (byte ∷ bytes))) (front goes_on_name (byte ∷ bytes))), rest_past goes_on_name (byte ∷ bytes))) ≡ Some (piece, rest) → Begins (byte ∷ bytes) piece rest
+    → cond {A = TokenRead} b None (Some (a_token (token_of_name (word_among every_word (front goes_on_name (byte ∷ bytes))) (front goes_on_name (byte ∷ bytes))), rest_past goes_on_name (byte ∷ bytes))) ≡ Some (piece, rest) → Begins (byte ∷ bytes) piece rest
 name_read_if byte bytes piece rest len true hb e begins goes h = cc
 name_read_if byte bytes piece rest len false hb e begins goes h =
     let is_front : front goes_on_name (byte ∷ bytes) ≡ byte ∷ front goes_on_name bytes = rw goes (rw (one-add (prefix_len goes_on_name bytes)) refl) in
@@ -97,38 +96,34 @@ name_read_if byte bytes piece rest len false hb e begins goes h =
 
 -- ---- numbers
 
-number_found : (text : List ℕ) (n : ℕ) (rest : List ℕ) → NumberRead text n rest → Begins text (taken (token.Number (pos n))) rest
+number_found : (text : List ℕ) (n : ℕ) (rest : List ℕ) → NumberRead text n rest → Begins text (a_token (token.Number (pos n))) rest
 number_found text n rest h = record { whole = h.whole; is = (n, h.small, refl); ends = h.ends }
 
 valued_if : (text : List ℕ) (d : ℕ) (ds : List ℕ) (piece : Piece) (rest : List ℕ) (b : Bool) → front is_digit text ≡ d ∷ ds → (d == 48) ≡ false → nat_le (digits_value 10 (d ∷ ds)) 9_223_372_036_854_775_807 ≡ b
-    → cond {A = TokenRead} b (Some (taken (token.Number (pos (digits_value 10 (d ∷ ds)))), rest_past is_digit text)) None ≡ Some (piece, rest) → Begins text piece rest
+    → cond {A = TokenRead} b (Some (a_token (token.Number (pos (digits_value 10 (d ∷ ds)))), rest_past is_digit text)) None ≡ Some (piece, rest) → Begins text piece rest
 valued_if text d ds piece rest true e nonzero hb h =
     let n : ℕ = digits_value 10 (d ∷ ds) in
     let small : digits_value 10 (d ∷ ds) ≤ 9_223_372_036_854_775_807 = grind (arith, nat_tests) in
-    found text (taken (token.Number (pos (digits_value 10 (d ∷ ds))))) piece (rest_past is_digit text) rest h (number_found text (digits_value 10 (d ∷ ds)) (rest_past is_digit text) (digits_read text d ds e nonzero small))
+    found text (a_token (token.Number (pos (digits_value 10 (d ∷ ds))))) piece (rest_past is_digit text) rest h (number_found text (digits_value 10 (d ∷ ds)) (rest_past is_digit text) (digits_read text d ds e nonzero small))
 valued_if text d ds piece rest false e nonzero hb h = cc
 
 number_if : (d : ℕ) (bytes : List ℕ) (piece : Piece) (rest : List ℕ) (b : Bool) → (d == 48) ≡ b → is_digit d ≡ true
-    → cond {A = TokenRead} b (Some (taken (token.Number (pos zero)), bytes)) (valued (digits_value 10 (front is_digit (d ∷ bytes))) (rest_past is_digit (d ∷ bytes))) ≡ Some (piece, rest) → Begins (d ∷ bytes) piece rest
+    → cond {A = TokenRead} b (Some (a_token (token.Number (pos zero)), bytes)) (number_in_bounds (digits_value 10 (front is_digit (d ∷ bytes))) (rest_past is_digit (d ∷ bytes))) ≡ Some (piece, rest) → Begins (d ∷ bytes) piece rest
 number_if d bytes piece rest true hb digit h =
     let at : 48 ≡ d = grind (arith, nat_tests) in
     let zero_is : decimal 0 ≡ 48 ∷ [] = decimal_digit 0 (omega arith) in
-    found (d ∷ bytes) (taken (token.Number (pos zero))) piece bytes rest h (record { whole = ap (λ xs. xs ++ bytes) zero_is ∙ ap (λ n. n ∷ bytes) at; is = (zero, omega arith, refl); ends = zero_ends bytes })
+    found (d ∷ bytes) (a_token (token.Number (pos zero))) piece bytes rest h (record { whole = ap (λ xs. xs ++ bytes) zero_is ∙ ap (λ n. n ∷ bytes) at; is = (zero, omega arith, refl); ends = zero_ends bytes })
 number_if d bytes piece rest false hb digit h =
     let is_front : front is_digit (d ∷ bytes) ≡ d ∷ front is_digit bytes = rw digit (rw (one-add (prefix_len is_digit bytes)) refl) in
-    valued_if (d ∷ bytes) d (front is_digit bytes) piece rest (nat_le (digits_value 10 (d ∷ front is_digit bytes)) 9_223_372_036_854_775_807) is_front hb refl (ap (λ xs. valued (digits_value 10 xs) (rest_past is_digit (d ∷ bytes))) (sym is_front) ∙ h)
+    valued_if (d ∷ bytes) d (front is_digit bytes) piece rest (nat_le (digits_value 10 (d ∷ front is_digit bytes)) 9_223_372_036_854_775_807) is_front hb refl (ap (λ xs. number_in_bounds (digits_value 10 xs) (rest_past is_digit (d ∷ bytes))) (sym is_front) ∙ h)
 
 -- ---- text literals
 
-utf8_if : (text bytes behind_it : List ℕ) (piece : Piece) (rest : List ℕ) (b : Bool) → is_utf8 bytes ≡ b → literal_at 0 text ≡ Some (bytes, behind_it) → cond {A = TokenRead} b (Some (taken (token.Text (chars bytes)), behind_it)) None ≡ Some (piece, rest) → Begins (34 ∷ text) piece rest
-utf8_if text bytes behind_it piece rest true hb e h =
-    let read = text_read text bytes behind_it e hb in
-    found (34 ∷ text) (taken (token.Text (chars bytes))) piece behind_it rest h (record { whole = read.whole; is = read.scalars; ends = text_ends (chars bytes) behind_it })
-utf8_if text bytes behind_it piece rest false hb e h = cc
-
-text_found : (text : List ℕ) (piece : Piece) (rest : List ℕ) (o : Option (List ℕ × List ℕ)) → literal_at 0 text ≡ o → as_text o ≡ Some (piece, rest) → Begins (34 ∷ text) piece rest
+text_found : (text : List ℕ) (piece : Piece) (rest : List ℕ) (o : Option (List ℕ × List ℕ)) → literal_text_at text ≡ o → as_text o ≡ Some (piece, rest) → Begins (34 ∷ text) piece rest
 text_found text piece rest None e h = cc
-text_found text piece rest (Some read) e h = utf8_if text read.0 read.1 piece rest (is_utf8 read.0) refl e h
+text_found text piece rest (Some read) e h =
+    let is = literal_only text read.0 read.1 e in
+    found (34 ∷ text) (a_token (token.Text read.0)) piece read.1 rest h (record { whole = is.whole; is = is.scalars; ends = text_ends read.0 read.1 })
 
 -- ---- symbols and comments
 
@@ -136,7 +131,7 @@ symbol_found : (text : List ℕ) (piece : Piece) (rest : List ℕ) (o : Option (
 symbol_found text piece rest None c e h = cc
 symbol_found text piece rest (Some read) c e h =
     let s = symbol_read text read.0 read.1 c e in
-    found text (taken (token.Symbol read.0)) piece read.1 rest h (record { whole = s.whole; is = tt; ends = s.ends })
+    found text (a_token (token.Symbol read.0)) piece read.1 rest h (record { whole = s.whole; is = tt; ends = s.ends })
 
 other_found : (text : List ℕ) (piece : Piece) (rest : List ℕ) (o : Option (List ℕ)) → comment_at text ≡ o → or_symbol o text ≡ Some (piece, rest) → Begins text piece rest
 other_found text piece rest None e h = symbol_found text piece rest (symbol_at text) e refl h
@@ -152,15 +147,15 @@ other_found text piece rest (Some line) e h =
 quote_kind : (byte : ℕ) → kind_of byte ≡ kind.Quote → 34 ≡ byte
 quote_kind byte h = grind (arith, nat_tests)
 
-row_sound : (k : Kind) (byte : ℕ) (bytes : List ℕ) (piece : Piece) (rest : List ℕ) → kind_of byte ≡ k → row k byte bytes ≡ Some (piece, rest) → Begins (byte ∷ bytes) piece rest
+row_sound : (k : ByteKind) (byte : ℕ) (bytes : List ℕ) (piece : Piece) (rest : List ℕ) → kind_of byte ≡ k → row k byte bytes ≡ Some (piece, rest) → Begins (byte ∷ bytes) piece rest
 row_sound kind.Blank byte bytes piece rest e h = found (byte ∷ bytes) (blank byte) piece bytes rest h (record { whole = refl; is = blank_if byte (is_blank byte) refl e; ends = blank_ends byte bytes })
 row_sound kind.Digit byte bytes piece rest e h = number_if byte bytes piece rest (byte == 48) refl (kind_digit byte e) h
 row_sound kind.Letter byte bytes piece rest e h =
     let begins = letter_begins byte e in
     name_read_if byte bytes piece rest (prefix_len goes_on_name (byte ∷ bytes)) (nat_lt 64 (prefix_len goes_on_name (byte ∷ bytes))) refl refl begins (begins_letter byte begins).1 h
-row_sound kind.Quote byte bytes piece rest e h = subst (λ n. Begins (n ∷ bytes) piece rest) (quote_kind byte e) (text_found bytes piece rest (literal_at 0 bytes) refl h)
+row_sound kind.Quote byte bytes piece rest e h = subst (λ n. Begins (n ∷ bytes) piece rest) (quote_kind byte e) (text_found bytes piece rest (literal_text_at bytes) refl h)
 row_sound kind.Other byte bytes piece rest e h = other_found (byte ∷ bytes) piece rest (comment_at (byte ∷ bytes)) refl h
 
-pub sound : (text : List ℕ) (piece : Piece) (rest : List ℕ) → next text ≡ Some (piece, rest) → Begins text piece rest
+pub sound : (text : List ℕ) (piece : Piece) (rest : List ℕ) → next_piece text ≡ Some (piece, rest) → Begins text piece rest
 sound [] piece rest h = cc
 sound (byte ∷ bytes) piece rest h = row_sound (kind_of byte) byte bytes piece rest refl h

@@ -4,14 +4,14 @@ use Rattle.std.specs.Prelude.{◌==◌}
 use Rattle.std.specs.List.{AllByRecursion}
 use Rattle.std.proofs.lemmas.Bool.Decides.{nat_tests}
 use Rattle.model_tokens.specs.Spelling.{spelled_symbol}
-use Rattle.model_tokens.specs.Division.{taken, EndsBefore, symbol_goes_on}
-use Rattle.model_tokens.specs.Reader.{single_among, singles, double_of, single_at, double_or, symbol_at, comment_at, next}
+use Rattle.model_tokens.specs.Division.{a_token, EndsBefore, symbol_goes_on}
+use Rattle.model_tokens.specs.Reader.{single_among, singles, double_of, single_at, double_or, symbol_at, comment_at, next_piece}
 use Rattle.model_tokens.specs.declared.token.Token.TheVariants as token
 use Rattle.model_tokens.specs.declared.token.Symbol.{Symbol}
 use Rattle.model_tokens.specs.declared.token.Symbol.TheVariants as symbol
 use Rattle.model_tokens.proofs.Lists.{both}
 
-pub symbol_next : (s : Symbol) (rest : List ℕ) → EndsBefore (symbol_goes_on s) rest → next (spelled_symbol s ++ rest) ≡ Some (taken (token.Symbol s), rest)
+pub symbol_next : (s : Symbol) (rest : List ℕ) → EndsBefore (symbol_goes_on s) rest → next_piece (spelled_symbol s ++ rest) ≡ Some (a_token (token.Symbol s), rest)
 symbol_next symbol.OpenBrace [] ends = refl
 symbol_next symbol.OpenBrace (b ∷ rest) ends = refl
 symbol_next symbol.CloseBrace [] ends = refl

@@ -3,7 +3,7 @@ use Rattle.std.specs.Prelude.{◌≡◌, ℕ, true, false, List, Option, Some, N
 use Rattle.std.specs.Str.{is_utf8, chars}
 use Rattle.std.specs.Borrow.{Bor}
 use Rattle.std.specs.declared.alloc.Global.{Global}
-use Rattle.model_tokens.specs.Division.{Piece, blank, comment, taken}
+use Rattle.model_tokens.specs.Division.{Piece, blank, comment, a_token}
 use Rattle.model_tokens.specs.Reader.{TokenRead, as_symbol}
 use Rattle.model_tokens.specs.declared.token.Token.{Token}
 use Rattle.model_tokens.specs.declared.token.Symbol.{Symbol}
@@ -12,29 +12,29 @@ use Rattle.model_tokens.specs.declared.dividing.TokenFault.TheVariants.{NoToken,
 
 -- a token, and the bytes behind it
 abbrev pub ReadsToken : Result (Token × Bor (List ℕ)) TokenFault → TokenRead → Type 0
-ReadsToken (Ok found) read = read ≡ Some (taken found.0, found.1.now)
+ReadsToken (Ok found) read = read ≡ Some (a_token found.0, found.1.now)
 ReadsToken (Err NoToken) read = read ≡ None
 ReadsToken (Err WantOfMemory) read = Unit {0}
 
 abbrev pub token_in : Piece → Option Token
 token_in (blank _) = None
 token_in (comment _) = None
-token_in (taken token) = Some token
+token_in (a_token token) = Some token
 
-abbrev pub seen : TokenRead → Option (Option Token × List ℕ)
-seen None = None
-seen (Some found) = Some (token_in found.0, found.1)
+abbrev pub token_found : TokenRead → Option (Option Token × List ℕ)
+token_found None = None
+token_found (Some found) = Some (token_in found.0, found.1)
 
 -- a token if the piece is one, and the bytes behind the piece
 abbrev pub ReadsPiece : Result (Option Token × Bor (List ℕ)) TokenFault → TokenRead → Type 0
-ReadsPiece (Ok found) read = seen read ≡ Some (found.0, found.1.now)
+ReadsPiece (Ok found) read = token_found read ≡ Some (found.0, found.1.now)
 ReadsPiece (Err NoToken) read = read ≡ None
 ReadsPiece (Err WantOfMemory) read = Unit {0}
 
 -- a symbol, and the bytes behind it
 abbrev pub FindsSymbolAt : Option (Token × Bor (List ℕ)) → Option (Symbol × List ℕ) → Type 0
 FindsSymbolAt None read = read ≡ None
-FindsSymbolAt (Some found) read = as_symbol read ≡ Some (taken found.0, found.1.now)
+FindsSymbolAt (Some found) read = as_symbol read ≡ Some (a_token found.0, found.1.now)
 
 abbrev pub FindsComment : Option (Bor (List ℕ)) → Option (List ℕ) → Type 0
 FindsComment None read = read ≡ None
@@ -45,6 +45,12 @@ abbrev pub ReadsBytes : Result (Vec ℕ Global × Bor (List ℕ)) TokenFault →
 ReadsBytes (Ok found) read = read ≡ Some (found.0.items, found.1.now)
 ReadsBytes (Err NoToken) read = read ≡ None
 ReadsBytes (Err WantOfMemory) read = Unit {0}
+
+-- the text of a literal, and the bytes behind it
+abbrev pub ReadsLiteral : Result (List ℕ × Bor (List ℕ)) TokenFault → Option (List ℕ × List ℕ) → Type 0
+ReadsLiteral (Ok found) read = read ≡ Some (found.0, found.1.now)
+ReadsLiteral (Err NoToken) read = read ≡ None
+ReadsLiteral (Err WantOfMemory) read = Unit {0}
 
 -- the characters of a text's bytes
 abbrev pub ReadsText : Result (List ℕ) TokenFault → List ℕ → Type 0

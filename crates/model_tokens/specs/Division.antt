@@ -14,17 +14,17 @@ use Rattle.model_tokens.specs.declared.dividing.TokenFault.TheVariants.{NoToken,
 pub data Piece : Type 0 where
   blank : ℕ → Piece
   comment : List ℕ → Piece
-  taken : Token → Piece
+  a_token : Token → Piece
 
 abbrev pub spelling : Piece → List ℕ
 spelling (blank byte) = byte ∷ []
 spelling (comment bytes) = 47 ∷ 47 ∷ bytes
-spelling (taken token) = token_spelling token
+spelling (a_token token) = token_spelling token
 
 abbrev pub IsPiece : Piece → Type 0
 IsPiece (blank byte) = is_blank byte ≡ true
 IsPiece (comment bytes) = list_all goes_on_line bytes ≡ true
-IsPiece (taken token) = IsToken token
+IsPiece (a_token token) = IsToken token
 
 -- The bytes that make a longer symbol, or a comment, of this one. `&` and `|` alone are no symbols.
 abbrev pub symbol_goes_on : Symbol → ℕ → Bool
@@ -52,15 +52,15 @@ token_goes_on (token.Symbol symbol) byte = symbol_goes_on symbol byte
 abbrev pub goes_on : Piece → ℕ → Bool
 goes_on (blank _) byte = false
 goes_on (comment bytes) byte = goes_on_line byte
-goes_on (taken token) byte = token_goes_on token byte
+goes_on (a_token token) byte = token_goes_on token byte
 
 -- no longer piece begins here: what stands behind this one does not go on with it
 abbrev pub EndsBefore : (ℕ → Bool) → List ℕ → Type 0
 EndsBefore goes [] = Unit {0}
 EndsBefore goes (byte ∷ bytes) = goes byte ≡ false
 
-abbrev pub Ends : Piece → List ℕ → Type 0
-Ends piece behind = EndsBefore (goes_on piece) behind
+abbrev pub EndsPiece : Piece → List ℕ → Type 0
+EndsPiece piece behind = EndsBefore (goes_on piece) behind
 
 abbrev pub spelling_of : List Piece → List ℕ
 spelling_of = flat_map spelling
@@ -68,12 +68,12 @@ spelling_of = flat_map spelling
 -- each is a piece, and ends before what follows it
 abbrev pub ArePieces : List Piece → Type 0
 ArePieces [] = Unit {0}
-ArePieces (piece ∷ pieces) = IsPiece piece × Ends piece (spelling_of pieces) × ArePieces pieces
+ArePieces (piece ∷ pieces) = IsPiece piece × EndsPiece piece (spelling_of pieces) × ArePieces pieces
 
 abbrev pub token_of : Piece → List Token
 token_of (blank _) = []
 token_of (comment _) = []
-token_of (taken token) = token ∷ []
+token_of (a_token token) = token ∷ []
 
 -- the tokens in order
 abbrev pub tokens_of : List Piece → List Token

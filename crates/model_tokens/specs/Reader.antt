@@ -5,15 +5,15 @@ use Rattle.std.specs.Str.{bytes_eq, is_utf8, chars}
 use Rattle.std.specs.Str.Parse.{digits_value}
 use Rattle.model_tokens.specs.Bytes.{is_blank, is_digit, begins_name, begins_class_name, goes_on_name, goes_on_line, is_control}
 use Rattle.model_tokens.specs.Spelling.{spelled_word}
-use Rattle.model_tokens.specs.Division.{Piece, blank, comment, taken}
+use Rattle.model_tokens.specs.Division.{Piece, blank, comment, a_token}
 use Rattle.model_tokens.specs.declared.token.Token.{Token}
 use Rattle.model_tokens.specs.declared.token.Token.TheVariants as token
 use Rattle.model_tokens.specs.declared.token.Word.{Word}
 use Rattle.model_tokens.specs.declared.token.Word.TheVariants as word
 use Rattle.model_tokens.specs.declared.token.Symbol.{Symbol}
 use Rattle.model_tokens.specs.declared.token.Symbol.TheVariants as symbol
-use Rattle.model_tokens.specs.declared.bytes.Kind.{Kind}
-use Rattle.model_tokens.specs.declared.bytes.Kind.TheVariants as kind
+use Rattle.model_tokens.specs.declared.bytes.ByteKind.{ByteKind}
+use Rattle.model_tokens.specs.declared.bytes.ByteKind.TheVariants as kind
 
 -- the piece, and the bytes behind it
 abbrev pub TokenRead : Type 0
@@ -27,7 +27,7 @@ abbrev pub rest_past : (ℕ → Bool) → List ℕ → List ℕ
 rest_past test text = drop (prefix_len test text) text
 
 -- what the first byte begins
-abbrev pub kind_of : ℕ → Kind
+abbrev pub kind_of : ℕ → ByteKind
 kind_of byte =
     if is_blank byte then kind.Blank
     else (if is_digit byte then kind.Digit
@@ -44,24 +44,24 @@ word_among (word ∷ words) bytes = if bytes_eq bytes (spelled_word word) then S
 abbrev pub every_word : List Word
 every_word = word.Class ∷ word.Field ∷ word.Let ∷ word.If ∷ word.Else ∷ word.While ∷ word.Return ∷ word.This ∷ word.Nil ∷ word.True ∷ word.False ∷ word.Create ∷ word.Future ∷ []
 
-abbrev pub named_or : Option Word → List ℕ → Token
-named_or (Some word) bytes = token.Word word
-named_or None bytes = if begins_class_name (slice_index bytes 0) then token.ClassName bytes else token.Name bytes
+abbrev pub token_of_name : Option Word → List ℕ → Token
+token_of_name (Some word) bytes = token.Word word
+token_of_name None bytes = if begins_class_name (slice_index bytes 0) then token.ClassName bytes else token.Name bytes
 
 abbrev pub name_token_at : List ℕ → TokenRead
 name_token_at text =
     if nat_lt 64 (prefix_len goes_on_name text) then None
-    else Some (taken (named_or (word_among every_word (front goes_on_name text)) (front goes_on_name text)), rest_past goes_on_name text)
+    else Some (a_token (token_of_name (word_among every_word (front goes_on_name text)) (front goes_on_name text)), rest_past goes_on_name text)
 
 -- ---- numbers
 
-abbrev pub valued : ℕ → List ℕ → TokenRead
-valued number rest = if nat_le number 9_223_372_036_854_775_807 then Some (taken (token.Number (pos number)), rest) else None
+abbrev pub number_in_bounds : ℕ → List ℕ → TokenRead
+number_in_bounds number rest = if nat_le number 9_223_372_036_854_775_807 then Some (a_token (token.Number (pos number)), rest) else None
 
 abbrev pub number_token_at : List ℕ → TokenRead
 number_token_at text =
-    if slice_index text 0 == 48 then Some (taken (token.Number (pos zero)), drop 1 text)
-    else valued (digits_value 10 (front is_digit text)) (rest_past is_digit text)
+    if slice_index text 0 == 48 then Some (a_token (token.Number (pos zero)), drop 1 text)
+    else number_in_bounds (digits_value 10 (front is_digit text)) (rest_past is_digit text)
 
 -- ---- text literals
 
@@ -112,9 +112,18 @@ literal_at passed [] = None
 literal_at (suc passed) (byte ∷ bytes) = literal_at passed bytes
 literal_at zero (byte ∷ bytes) = literal_step byte bytes (literal_byte_at (byte ∷ bytes)) (λ passed. literal_at passed bytes)
 
+-- the text of its bytes, if they are UTF-8
+abbrev pub as_characters : Option (List ℕ × List ℕ) → Option (List ℕ × List ℕ)
+as_characters None = None
+as_characters (Some found) = if is_utf8 found.0 then Some (chars found.0, found.1) else None
+
+-- the text whose literal stands there, all but its first quote, and what is behind the literal
+abbrev pub literal_text_at : List ℕ → Option (List ℕ × List ℕ)
+literal_text_at text = as_characters (literal_at zero text)
+
 abbrev pub as_text : Option (List ℕ × List ℕ) → TokenRead
 as_text None = None
-as_text (Some found) = if is_utf8 found.0 then Some (taken (token.Text (chars found.0)), found.1) else None
+as_text (Some found) = Some (a_token (token.Text found.0), found.1)
 
 -- ---- symbols and comments
 
@@ -160,7 +169,7 @@ comment_at _ = None
 
 abbrev pub as_symbol : Option (Symbol × List ℕ) → TokenRead
 as_symbol None = None
-as_symbol (Some found) = Some (taken (token.Symbol found.0), found.1)
+as_symbol (Some found) = Some (a_token (token.Symbol found.0), found.1)
 
 abbrev pub or_symbol : Option (List ℕ) → List ℕ → TokenRead
 or_symbol (Some line) text = Some (comment (front goes_on_line line), rest_past goes_on_line line)
@@ -171,13 +180,13 @@ other_at text = or_symbol (comment_at text) text
 
 -- ---- any piece
 
-abbrev pub row : Kind → ℕ → List ℕ → TokenRead
+abbrev pub row : ByteKind → ℕ → List ℕ → TokenRead
 row kind.Blank byte bytes = Some (blank byte, bytes)
 row kind.Digit byte bytes = number_token_at (byte ∷ bytes)
 row kind.Letter byte bytes = name_token_at (byte ∷ bytes)
-row kind.Quote byte bytes = as_text (literal_at zero bytes)
+row kind.Quote byte bytes = as_text (literal_text_at bytes)
 row kind.Other byte bytes = other_at (byte ∷ bytes)
 
-abbrev pub next : List ℕ → TokenRead
-next [] = None
-next (byte ∷ bytes) = row (kind_of byte) byte bytes
+abbrev pub next_piece : List ℕ → TokenRead
+next_piece [] = None
+next_piece (byte ∷ bytes) = row (kind_of byte) byte bytes

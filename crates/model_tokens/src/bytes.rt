@@ -6,7 +6,7 @@ ghost use Rattle.model_tokens.specs.Reader.{kind_of};
 
 /// What a byte begins.
 #[derive(Clone, Copy, Debug, PartialEq, Eq)]
-pub enum Kind {
+pub enum ByteKind {
     Blank,
     Digit,
     /// Letters and `_`.
@@ -17,15 +17,15 @@ pub enum Kind {
 }
 
 /// What a piece that begins with this byte is.
-pub fn begins(byte: u8) -> Kind
+pub fn begins(byte: u8) -> ByteKind
     ensures { result ≡ kind_of byte }
 {
     match byte {
-        b' ' | b'\t' | b'\r' | b'\n' => Kind::Blank,
-        b'0'..=b'9' => Kind::Digit,
-        b'a'..=b'z' | b'A'..=b'Z' | b'_' => Kind::Letter,
-        b'"' => Kind::Quote,
-        _ => Kind::Other,
+        b' ' | b'\t' | b'\r' | b'\n' => ByteKind::Blank,
+        b'0'..=b'9' => ByteKind::Digit,
+        b'a'..=b'z' | b'A'..=b'Z' | b'_' => ByteKind::Letter,
+        b'"' => ByteKind::Quote,
+        _ => ByteKind::Other,
     }
 }
 

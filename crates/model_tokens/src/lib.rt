@@ -21,7 +21,10 @@ mod pieces;
 mod places;
 mod symbols;
 mod token;
+mod writing;
 
 pub use dividing::{TokenFault, one_division, tokens};
+pub use literals::read_literal;
 pub use places::{place_of_fault, place_of_token};
 pub use token::{Symbol, Token, Tokens, Word};
+pub use writing::push_literal;

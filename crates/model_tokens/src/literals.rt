@@ -2,8 +2,8 @@
 ghost use Rattle.std.specs.Prelude.{◌≡◌, ◌<◌, length, Err, IfOk, OnOk, IfSome};
 ghost use Rattle.std.specs.Str.{IsUtf8, chars};
 ghost use Rattle.model_tokens.specs.Bytes.{is_control};
-ghost use Rattle.model_tokens.specs.Reader.{hex_value, control_at, escape_at, literal_byte_at, literal_at, as_text};
-ghost use Rattle.model_tokens.specs.Answer.{ReadsText, ReadsToken, ReadsBytes};
+ghost use Rattle.model_tokens.specs.Reader.{hex_value, control_at, escape_at, literal_byte_at, literal_at, literal_text_at, as_text};
+ghost use Rattle.model_tokens.specs.Answer.{ReadsText, ReadsLiteral, ReadsToken, ReadsBytes};
 
 use crate::dividing::TokenFault;
 use crate::token::Token;
@@ -96,10 +96,20 @@ fn literal_bytes<'a>(alloc: Global, text: &'a [u8]) -> Result<(Vec<u8>, &'a [u8]
     }
 }
 
-/// The text literal of which the text is what stands behind the first quote, and the bytes behind it.
-pub fn literal<'a>(alloc: Global, text: &'a [u8]) -> Result<(Token, &'a [u8]), TokenFault>
-    ensures { ReadsToken result (as_text (literal_at 0 text.now)) }
+/// The text whose literal stands at the front of these bytes, all but its first quote, and the bytes behind the literal.
+///
+/// Fails with `NoToken` exactly where no text's literal stands there.
+pub fn read_literal<'a>(alloc: Global, text: &'a [u8]) -> Result<(Text, &'a [u8]), TokenFault>
+    ensures { ReadsLiteral result (literal_text_at text.now) }
 {
     let (bytes, behind) = literal_bytes(alloc, text)?;
-    Ok((Token::Text(text_of(alloc, bytes.as_slice())?), behind))
+    Ok((text_of(alloc, bytes.as_slice())?, behind))
+}
+
+/// The token of the same text, and the bytes behind it.
+pub fn literal<'a>(alloc: Global, text: &'a [u8]) -> Result<(Token, &'a [u8]), TokenFault>
+    ensures { ReadsToken result (as_text (literal_text_at text.now)) }
+{
+    let (text, behind) = read_literal(alloc, text)?;
+    Ok((Token::Text(text), behind))
 }

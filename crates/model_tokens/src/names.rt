@@ -1,7 +1,7 @@
 //! Names, class names and reserved words.
 ghost use Rattle.std.specs.Prelude.{◌≡◌, true};
 ghost use Rattle.std.specs.Str.{is_utf8, chars};
-ghost use Rattle.model_tokens.specs.Reader.{word_among, every_word, named_or, name_token_at};
+ghost use Rattle.model_tokens.specs.Reader.{word_among, every_word, token_of_name, name_token_at};
 ghost use Rattle.model_tokens.specs.Answer.{ReadsToken, ReadsNamed};
 
 use crate::bytes::{begins_class_name, name_length};
@@ -14,7 +14,7 @@ use std::alloc::Global;
 pub const LONGEST_NAME: usize = 64;
 
 /// The reserved word that these bytes are.
-fn reserved(name: &[u8]) -> Option<Word>
+fn reserved_word(name: &[u8]) -> Option<Word>
     ensures { result ≡ word_among every_word name.now }
 {
     match name {
@@ -36,11 +36,11 @@ fn reserved(name: &[u8]) -> Option<Word>
 }
 
 /// The token of a name that is not too long.
-fn named(alloc: Global, name: &[u8]) -> Result<Token, TokenFault>
+fn token_of_name(alloc: Global, name: &[u8]) -> Result<Token, TokenFault>
     requires { (is_utf8 name.now ≡ true) × (chars name.now ≡ name.now) }
-    ensures { ReadsNamed result (named_or (word_among every_word name.now) name.now) }
+    ensures { ReadsNamed result (token_of_name (word_among every_word name.now) name.now) }
 {
-    if let Some(word) = reserved(name) {
+    if let Some(word) = reserved_word(name) {
         return Ok(Token::Word(word));
     }
     let held = text_of(alloc, name)?;
@@ -59,5 +59,5 @@ pub fn name<'a>(alloc: Global, text: &'a [u8]) -> Result<(Token, &'a [u8]), Toke
     if name.len() > LONGEST_NAME {
         return Err(TokenFault::NoToken);
     }
-    Ok((named(alloc, name)?, rest))
+    Ok((token_of_name(alloc, name)?, rest))
 }

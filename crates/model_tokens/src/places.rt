@@ -1,7 +1,7 @@
 //! Places in a text, in bytes from its start. That they are the right ones is tested.
 ghost use Rattle.std.specs.Prelude.{◌≤◌, length};
 
-use crate::bytes::{Kind, begins, digits_length, name_length};
+use crate::bytes::{ByteKind, begins, digits_length, name_length};
 use crate::literals::spelled_byte;
 use crate::names::LONGEST_NAME;
 use crate::numbers::number;
@@ -56,7 +56,7 @@ fn within(text: &[u8], place: usize) -> u32
 
 fn begins_token(text: &[u8]) -> bool {
     match text.first() {
-        Some(byte) => begins(*byte) != Kind::Blank && !text.starts_with(b"//"),
+        Some(byte) => begins(*byte) != ByteKind::Blank && !text.starts_with(b"//"),
         None => false,
     }
 }
@@ -67,12 +67,12 @@ fn piece_length(text: &[u8]) -> usize {
         return 0;
     };
     match begins(*first) {
-        Kind::Blank => 1,
-        Kind::Digit if *first == b'0' => 1,
-        Kind::Digit => digits_length(text),
-        Kind::Letter => name_length(text),
-        Kind::Quote => literal_length(behind).saturating_add(2),
-        Kind::Other => match other(text) {
+        ByteKind::Blank => 1,
+        ByteKind::Digit if *first == b'0' => 1,
+        ByteKind::Digit => digits_length(text),
+        ByteKind::Letter => name_length(text),
+        ByteKind::Quote => literal_length(behind).saturating_add(2),
+        ByteKind::Other => match other(text) {
             Ok((_, rest)) => text.len().saturating_sub(rest.len()),
             Err(_) => 1,
         },
@@ -83,12 +83,12 @@ fn piece_length(text: &[u8]) -> usize {
 fn piece_fault(text: &[u8]) -> Option<usize> {
     let (first, behind) = text.split_first()?;
     match begins(*first) {
-        Kind::Blank => None,
-        Kind::Digit => number(text).err().map(|_| 0),
-        Kind::Letter if name_length(text) > LONGEST_NAME => Some(0),
-        Kind::Letter => None,
-        Kind::Quote => literal_fault(behind).map(|place| place.saturating_add(1)),
-        Kind::Other => other(text).err().map(|_| symbol_fault(*first)),
+        ByteKind::Blank => None,
+        ByteKind::Digit => number(text).err().map(|_| 0),
+        ByteKind::Letter if name_length(text) > LONGEST_NAME => Some(0),
+        ByteKind::Letter => None,
+        ByteKind::Quote => literal_fault(behind).map(|place| place.saturating_add(1)),
+        ByteKind::Other => other(text).err().map(|_| symbol_fault(*first)),
     }
 }
 

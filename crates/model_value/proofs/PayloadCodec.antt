@@ -2,7 +2,7 @@
 use Rattle.std.proofs.Common.{◌≡◌, ℕ, Bool, true, false, List, length, Option, Some, None, refl, ap, ◌∙◌, subst, ◌==◌, if◌then◌else◌}
 use Rattle.std.specs.Prelude.{Result, Ok, Err, IfErr}
 use Rattle.std.proofs.lemmas.Option.{none-some, same_Some}
-use Rattle.byte_fields.specs.Fields.{Reader, ◌>>=◌, text_at, paired_at}
+use Rattle.byte_fields.specs.Fields.{Decoder, ◌>>=◌, text_at, paired_at}
 use Rattle.byte_fields.proofs.Codecs.{Codec, FitsText, text_codec, paired_codec, made_codec}
 use Rattle.model_value.specs.declared.fault.ValueFault.{ValueFault}
 use Rattle.model_value.specs.declared.fault.ValueFault.TheVariants.{BadValue, WantOfMemory}
@@ -47,7 +47,7 @@ bounded-in_bounds bytes rest v e =
     let p = passed (is_in_bounds x.0.0) x.0 (v, rest) x.2 in
     InBounds-is_in_bounds v (subst (λ (y : PlainValue × List ℕ). is_in_bounds y.0 ≡ true) p.1 p.0)
 
-paired-second : {A B : Type 0} (first : Reader A) (second : Reader B) (bytes rest : List ℕ) (a : A) (b : B) → paired_at first second bytes ≡ Some ((a, b), rest) → (between : List ℕ) × (second between ≡ Some (b, rest))
+paired-second : {A B : Type 0} (first : Decoder A) (second : Decoder B) (bytes rest : List ℕ) (a : A) (b : B) → paired_at first second bytes ≡ Some ((a, b), rest) → (between : List ℕ) × (second between ≡ Some (b, rest))
 paired-second {A = A} {B = B} first second bytes rest a b e =
     let x = stepped (first bytes) (λ x. second x.1 >>= λ y. Some ((x.0, y.0), y.1)) ((a, b), rest) e in
     let y = stepped (second x.0.1) (λ y. Some ((x.0.0, y.0), y.1)) ((a, b), rest) x.2 in

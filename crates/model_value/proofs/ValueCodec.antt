@@ -7,7 +7,7 @@ use Rattle.std.proofs.Math.Facts.{sfits_to_z, Fits-of_z}
 use Rattle.std.proofs.lemmas.Int.{to_z-of_z, of_z-to_z}
 use Rattle.std.proofs.lemmas.Bool.{eqb-true, eqb-false, leb-true, le-leb}
 use Rattle.std.proofs.lemmas.List.Concat.{flat_map-cons}
-use Rattle.byte_fields.specs.Fields.{Reader, made_at, list_of, list_at, never_at, text_field}
+use Rattle.byte_fields.specs.Fields.{Decoder, made_at, list_of, list_at, never_at, text_field}
 use Rattle.byte_fields.proofs.Codecs.{Codec, EachFits, FitsText, wide32, wide64, number_codec, byte_codec, text_codec, list_codec, headed_codec, made_codec, said_codec, tested_codec, chosen_codec, nothing_codec, never_codec}
 use Rattle.model_value.specs.Plain.{PlainValue, nil, bool, int, text, ref, list, PlainValues, no_items, item, items_of, weight, weight_of_all, depth, greatest_depth, InBounds, is_in_bounds, most_weight, most_depth}
 use Rattle.model_value.specs.View.{plains_of}
@@ -162,7 +162,7 @@ no_other kind v a b c d e f g is =
     let g1 = eqb-false kind 6 g in
     omega arith
 
-body_codec : (F : PlainValues → Type 0) (r : Reader PlainValues) → Codec PlainValues list_spelling F r → (kind : ℕ) → Codec PlainValue body (OfKind F kind) (value_of_kind r kind)
+body_codec : (F : PlainValues → Type 0) (r : Decoder PlainValues) → Codec PlainValues list_spelling F r → (kind : ℕ) → Codec PlainValue body (OfKind F kind) (value_of_kind r kind)
 body_codec F r items kind =
     chosen_codec (eqb kind 0)
     (λ h. let is = eqb-true kind 0 h in said_codec body (OfKind F kind) (λ v e. rw e refl) (λ v e. subst (OfKind F kind) (sym e) (sym is, tt)) (λ v f. is_nil v (f.0 ∙ is)) (nothing_codec nil))
@@ -189,7 +189,7 @@ spelled_so (text s) = refl
 spelled_so (ref n) = refl
 spelled_so (list items) = refl
 
-row_codec : (F : PlainValues → Type 0) (r : Reader PlainValues) → Codec PlainValues list_spelling F r → Codec PlainValue value_spelling (RowFits F) (value_row r)
+row_codec : (F : PlainValues → Type 0) (r : Decoder PlainValues) → Codec PlainValues list_spelling F r → Codec PlainValue value_spelling (RowFits F) (value_row r)
 row_codec F r items = said_codec value_spelling (RowFits F) (λ v _. spelled_so v) (λ v f. f.1) (λ v f. let small = kind-small v in (omega arith, f))
     (headed_codec kind_of body (RowFits F) (value_of_kind r) byte_codec (λ kind _. body_codec F r items kind))
 
@@ -197,10 +197,10 @@ row_codec F r items = said_codec value_spelling (RowFits F) (λ v _. spelled_so 
 
 -- lists nest at most so deep, and there is a spelling
 abbrev pub Nests : ℕ → PlainValue → Type 0
-Nests room v = (depth v ≤ room) × HasSpelling v
+Nests levels v = (depth v ≤ levels) × HasSpelling v
 
 abbrev NestAll : ℕ → PlainValues → Type 0
-NestAll room items = (item_count items < 2 ^ 32) × ((greatest_depth items ≤ room) × HaveSpellings items)
+NestAll levels items = (item_count items < 2 ^ 32) × ((greatest_depth items ≤ levels) × HaveSpellings items)
 
 count-plains_of : (vs : List PlainValue) → item_count (plains_of vs) ≡ length vs
 count-plains_of [] = refl
@@ -214,43 +214,43 @@ spelled_all : (vs : List PlainValue) → items_spelling (plains_of vs) ≡ flat_
 spelled_all [] = refl
 spelled_all (v ∷ vs) = ap (λ (x : List ℕ). value_spelling v ++ x) (spelled_all vs) ∙ sym (flat_map-cons value_spelling v vs)
 
-each_nests : (room : ℕ) (before : List PlainValue) (items : PlainValues) → greatest_depth items ≤ room → HaveSpellings items → EachFits (λ _. Nests room) before (items_of items)
-each_nests room before no_items deep has = tt
-each_nests room before (item v rest) deep has = ((omega arith, has.0), each_nests room (before ++ v ∷ []) rest (omega arith) has.1)
+each_nests : (levels : ℕ) (before : List PlainValue) (items : PlainValues) → greatest_depth items ≤ levels → HaveSpellings items → EachFits (λ _. Nests levels) before (items_of items)
+each_nests levels before no_items deep has = tt
+each_nests levels before (item v rest) deep has = ((omega arith, has.0), each_nests levels (before ++ v ∷ []) rest (omega arith) has.1)
 
-all_nest : (room : ℕ) (before vs : List PlainValue) → EachFits (λ _. Nests room) before vs → (greatest_depth (plains_of vs) ≤ room) × HaveSpellings (plains_of vs)
-all_nest room before [] each = (omega arith, tt)
-all_nest room before (v ∷ vs) each =
+all_nest : (levels : ℕ) (before vs : List PlainValue) → EachFits (λ _. Nests levels) before vs → (greatest_depth (plains_of vs) ≤ levels) × HaveSpellings (plains_of vs)
+all_nest levels before [] each = (omega arith, tt)
+all_nest levels before (v ∷ vs) each =
     let one = each.0.0 in
-    let more = all_nest room (before ++ v ∷ []) vs each.1 in
+    let more = all_nest levels (before ++ v ∷ []) vs each.1 in
     let deep = more.0 in
     (omega arith, (each.0.1, more.1))
 
 items_spelled : (vs : List PlainValue) → list_spelling (plains_of vs) ≡ list_of value_spelling vs
 items_spelled vs = ap (λ (n : ℕ). to_be_bytes w32 n ++ items_spelling (plains_of vs)) (count-plains_of vs) ∙ ap (λ (x : List ℕ). to_be_bytes w32 (length vs) ++ x) (spelled_all vs)
 
-items_codec : (room : ℕ) → Codec PlainValue value_spelling (Nests room) (value_at room) → Codec PlainValues list_spelling (NestAll room) (made_at plains_of (list_at (λ _. value_at room)))
-items_codec room one =
-    made_codec plains_of list_spelling (NestAll room) (list_codec value_spelling (λ _. Nests room) (λ _. value_at room) (λ _. one))
-    (λ items fits. (items_of items, sym (plains_of-items_of items), (rw (length-items_of items) (fits.0), each_nests room [] items fits.1.0 fits.1.1)))
-    (λ vs fits. (rw (count-plains_of vs) (fits.0), all_nest room [] vs fits.1))
+items_codec : (levels : ℕ) → Codec PlainValue value_spelling (Nests levels) (value_at levels) → Codec PlainValues list_spelling (NestAll levels) (made_at plains_of (list_at (λ _. value_at levels)))
+items_codec levels one =
+    made_codec plains_of list_spelling (NestAll levels) (list_codec value_spelling (λ _. Nests levels) (λ _. value_at levels) (λ _. one))
+    (λ items fits. (items_of items, sym (plains_of-items_of items), (rw (length-items_of items) (fits.0), each_nests levels [] items fits.1.0 fits.1.1)))
+    (λ vs fits. (rw (count-plains_of vs) (fits.0), all_nest levels [] vs fits.1))
     (λ vs _. items_spelled vs)
 
-to_nests : (room : ℕ) (v : PlainValue) → RowFits (NestAll room) v → Nests (suc room) v
-to_nests room nil fits = (omega arith, fits)
-to_nests room (bool b) fits = (omega arith, fits)
-to_nests room (int n) fits = (omega arith, fits)
-to_nests room (text s) fits = (omega arith, fits)
-to_nests room (ref n) fits = (omega arith, fits)
-to_nests room (list items) fits = let deep = fits.1.0 in (omega arith, (fits.0, fits.1.1))
+to_nests : (levels : ℕ) (v : PlainValue) → RowFits (NestAll levels) v → Nests (suc levels) v
+to_nests levels nil fits = (omega arith, fits)
+to_nests levels (bool b) fits = (omega arith, fits)
+to_nests levels (int n) fits = (omega arith, fits)
+to_nests levels (text s) fits = (omega arith, fits)
+to_nests levels (ref n) fits = (omega arith, fits)
+to_nests levels (list items) fits = let deep = fits.1.0 in (omega arith, (fits.0, fits.1.1))
 
-from_nests : (room : ℕ) (v : PlainValue) → Nests (suc room) v → RowFits (NestAll room) v
-from_nests room nil fits = fits.1
-from_nests room (bool b) fits = fits.1
-from_nests room (int n) fits = fits.1
-from_nests room (text s) fits = fits.1
-from_nests room (ref n) fits = fits.1
-from_nests room (list items) fits = let deep = fits.0 in (fits.1.0, (omega arith, fits.1.1))
+from_nests : (levels : ℕ) (v : PlainValue) → Nests (suc levels) v → RowFits (NestAll levels) v
+from_nests levels nil fits = fits.1
+from_nests levels (bool b) fits = fits.1
+from_nests levels (int n) fits = fits.1
+from_nests levels (text s) fits = fits.1
+from_nests levels (ref n) fits = fits.1
+from_nests levels (list items) fits = let deep = fits.0 in (fits.1.0, (omega arith, fits.1.1))
 
 abbrev NoItems : PlainValues → Type 0
 NoItems items = ⊥
@@ -271,10 +271,10 @@ from_flat (text s) fits = fits.1
 from_flat (ref n) fits = fits.1
 from_flat (list items) fits = let deep = fits.0 in absurd (omega arith)
 
-pub value_codec : (room : ℕ) → Codec PlainValue value_spelling (Nests room) (value_at room)
+pub value_codec : (levels : ℕ) → Codec PlainValue value_spelling (Nests levels) (value_at levels)
 unfolding value_at
 value_codec zero = said_codec value_spelling (Nests 0) (λ v _. refl) to_flat from_flat (row_codec NoItems never_at (never_codec list_spelling NoItems (λ items h. h)))
-value_codec (suc room) = said_codec value_spelling (Nests (suc room)) (λ v _. refl) (to_nests room) (from_nests room) (row_codec (NestAll room) (made_at plains_of (list_at (λ _. value_at room))) (items_codec room (value_codec room)))
+value_codec (suc levels) = said_codec value_spelling (Nests (suc levels)) (λ v _. refl) (to_nests levels) (from_nests levels) (row_codec (NestAll levels) (made_at plains_of (list_at (λ _. value_at levels))) (items_codec levels (value_codec levels)))
 
 -- ---- values in bounds
 

@@ -3,7 +3,7 @@ use Rattle.std.proofs.Common.{◌≡◌, ℕ, zero, suc, ◌+◌, ◌-◌, ◌<�
 use Rattle.std.specs.Prelude.{nat_le, if◌then◌else◌}
 use Rattle.std.proofs.lemmas.Bool.{cases_lt, le-leb, leb-true, lt-leb}
 use Rattle.std.proofs.lemmas.Option.{none-some, same_Some}
-use Rattle.byte_fields.specs.Fields.{Reader, ◌>>=◌, items_at, list_at}
+use Rattle.byte_fields.specs.Fields.{Decoder, ◌>>=◌, items_at, list_at}
 use Rattle.model_value.specs.Plain.{PlainValue, weight, weight_of_all, values_weight}
 use Rattle.model_value.specs.Reading.{value_at, items_in, weighed_at}
 use Rattle.model_value.specs.View.{plains_of}
@@ -72,21 +72,21 @@ weighed-items room levels bytes h =
 
 -- ---- items one after the other
 
-more-heavier : (r : Reader PlainValue) (before : List PlainValue) (count : ℕ) (found : Option (PlainValue × List ℕ)) (p : List PlainValue × List ℕ)
+more-heavier : (r : Decoder PlainValue) (before : List PlainValue) (count : ℕ) (found : Option (PlainValue × List ℕ)) (p : List PlainValue × List ℕ)
     → ((x : PlainValue × List ℕ) → items_at (λ _. r) (before ++ x.0 ∷ []) count x.1 ≡ Some p → values_weight (before ++ x.0 ∷ []) ≤ values_weight p.0)
     → (found >>= λ x. items_at (λ _. r) (before ++ x.0 ∷ []) count x.1) ≡ Some p → values_weight before ≤ values_weight p.0
 more-heavier r before count None p later e = absurd (none-some p e)
 more-heavier r before count (Some x) p later e = omega (arith, later x e, values_weight-append before (x.0 ∷ []))
 
 -- all items weigh no less than those before
-items-heavier : (r : Reader PlainValue) (before : List PlainValue) (count : ℕ) (bytes : List ℕ) (p : List PlainValue × List ℕ) → items_at (λ _. r) before count bytes ≡ Some p → values_weight before ≤ values_weight p.0
+items-heavier : (r : Decoder PlainValue) (before : List PlainValue) (count : ℕ) (bytes : List ℕ) (p : List PlainValue × List ℕ) → items_at (λ _. r) before count bytes ≡ Some p → values_weight before ≤ values_weight p.0
 unfolding items_at
 items-heavier r before zero bytes p e = let is : (before, bytes) ≡ p = same_Some (before, bytes) p e in let same = ap (λ (q : List PlainValue × List ℕ). values_weight q.0) is in omega arith
 items-heavier r before (suc count) bytes p e =
     more-heavier r before count (r bytes) p (λ x f. items-heavier r (before ++ x.0 ∷ []) count x.1 p f) e
 
 -- where the next item is none or too heavy, the items are none or too heavy
-pub stops : (r : Reader PlainValue) (before : List PlainValue) (room left count i : ℕ) (bytes : List ℕ) (total : Option (List PlainValue × List ℕ)) → values_weight before + left ≡ room → i < count → weighed weight left (r bytes) ≡ None
+pub stops : (r : Decoder PlainValue) (before : List PlainValue) (room left count i : ℕ) (bytes : List ℕ) (total : Option (List PlainValue × List ℕ)) → values_weight before + left ≡ room → i < count → weighed weight left (r bytes) ≡ None
     → items_at (λ _. r) before (count - i) bytes ≡ total → weighed values_weight room total ≡ None
 unfolding items_at
 stops r before room left count i bytes total spent lt none so_far =

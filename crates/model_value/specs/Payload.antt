@@ -1,7 +1,7 @@
 -- Payloads: what an event carries, and its one spelling.
 use Rattle.std.specs.Prelude.{◌≡◌, ◌<◌, ◌^◌, ℕ, true, List, ◌++◌, length, Option, encode_utf8_all}
 use Rattle.std.specs.Str.{all_scalars}
-use Rattle.byte_fields.specs.Fields.{Reader, text_at, paired_at, made_at, whole, text_field}
+use Rattle.byte_fields.specs.Fields.{Decoder, text_at, paired_at, made_at, whole, text_field}
 use Rattle.tea_base.specs.declared.text.Text.{Text}
 use Rattle.model_value.specs.Plain.{PlainValue, InBounds}
 use Rattle.model_value.specs.Reading.{bounded_at}
@@ -32,7 +32,7 @@ pub record IsPayload (p : PlainPayload) : Type 0 where
   pub bounds : InBounds p.value
 
 -- reading a payload
-unfoldable pub payload_at : Reader PlainPayload
+unfoldable pub payload_at : Decoder PlainPayload
 payload_at = made_at (λ p. record { scope = p.0; event = p.1.0; value = p.1.1 }) (paired_at text_at (paired_at text_at bounded_at))
 
 -- the payload that bytes spell, if they spell one

@@ -29,14 +29,14 @@ abbrev mutual
   marks_of_all (item value rest) = marks_of_all rest ++ (marks value ++ mark 8 ∷ [])
 
 -- a reader holds the trees and the rows of trees that are not used yet
-abbrev pub wrapped : List PlainValue → List PlainValues → (List PlainValue → List PlainValues → List PlainValue) → List PlainValue
-wrapped values [] next = []
-wrapped values (row ∷ rows) next = next (list row ∷ values) rows
+abbrev pub wrap_list : List PlainValue → List PlainValues → (List PlainValue → List PlainValues → List PlainValue) → List PlainValue
+wrap_list values [] next = []
+wrap_list values (row ∷ rows) next = next (list row ∷ values) rows
 
-abbrev pub joined : List PlainValue → List PlainValues → (List PlainValue → List PlainValues → List PlainValue) → List PlainValue
-joined [] rows next = []
-joined (value ∷ values) [] next = []
-joined (value ∷ values) (row ∷ rows) next = next values (item value row ∷ rows)
+abbrev pub join_item : List PlainValue → List PlainValues → (List PlainValue → List PlainValues → List PlainValue) → List PlainValue
+join_item [] rows next = []
+join_item (value ∷ values) [] next = []
+join_item (value ∷ values) (row ∷ rows) next = next values (item value row ∷ rows)
 
 abbrev pub first_code_number : List ℕ → ℕ
 first_code_number [] = 0
@@ -49,9 +49,9 @@ read_mark (suc (suc zero)) n s values rows next = next (bool true ∷ values) ro
 read_mark (suc (suc (suc zero))) n s values rows next = next (int n ∷ values) rows
 read_mark (suc (suc (suc (suc zero)))) n s values rows next = next (text s ∷ values) rows
 read_mark (suc (suc (suc (suc (suc zero))))) n s values rows next = next (ref (first_code_number s) ∷ values) rows
-read_mark (suc (suc (suc (suc (suc (suc zero)))))) n s values rows next = wrapped values rows next
+read_mark (suc (suc (suc (suc (suc (suc zero)))))) n s values rows next = wrap_list values rows next
 read_mark (suc (suc (suc (suc (suc (suc (suc zero))))))) n s values rows next = next values (no_items ∷ rows)
-read_mark (suc (suc (suc (suc (suc (suc (suc (suc _)))))))) n s values rows next = joined values rows next
+read_mark (suc (suc (suc (suc (suc (suc (suc (suc _)))))))) n s values rows next = join_item values rows next
 
 abbrev pub read_marks : List Mark → List PlainValue → List PlainValues → List PlainValue
 read_marks [] values rows = values

@@ -1,6 +1,6 @@
 //! Payloads: what an event carries from a view to the models.
 ghost use Rattle.std.specs.Prelude.{◌≡◌, ◌≢◌, ◌<◌, ◌^◌, IfOk, Err, length, encode_utf8_all};
-ghost use Rattle.byte_fields.specs.Fields.{Gives};
+ghost use Rattle.byte_fields.specs.Fields.{Decodes};
 ghost use Rattle.model_value.specs.Payload.{PlainPayload, plain_payload, payload_spelling, whole_payload, IsPayload};
 ghost use Rattle.model_value.specs.Plain.{weight as weight_of, InBounds};
 ghost use Rattle.model_value.specs.View.{plain};
@@ -43,7 +43,7 @@ pub fn payload(
 /// `BadValue` comes exactly where no payload has this spelling: it comes too where bytes follow the value, or where the
 /// value is not in bounds. As in [`decode`](crate::decode), no length and no count is trusted.
 pub fn read_payload(alloc: Global, bytes: &[u8]) -> Result<(Text, Text, Value), ValueFault>
-    ensures read { Gives ValueFault.BadValue plain_payload result (whole_payload bytes.now) }
+    ensures read { Decodes ValueFault.BadValue plain_payload result (whole_payload bytes.now) }
     // What is read is spelled so, and its value is in bounds.
     ensures spelled { IfOk result (λ read. bytes.now ≡ payload_spelling (plain_payload read)) }
     ensures bounds { IfOk result (λ read. InBounds (plain read.2)) }
@@ -57,7 +57,7 @@ pub fn read_payload(alloc: Global, bytes: &[u8]) -> Result<(Text, Text, Value), 
 
 #[tactic(auto, unfolding(crate::specs::Payload::payload_at))]
 fn read_all(alloc: Global, bytes: &[u8]) -> Result<(Text, Text, Value), ValueFault>
-    ensures { Gives ValueFault.BadValue plain_payload result (whole_payload bytes.now) }
+    ensures { Decodes ValueFault.BadValue plain_payload result (whole_payload bytes.now) }
 {
     let (scope, rest) = owned_text_at(alloc, bytes)?;
     let (event, rest) = owned_text_at(alloc, rest)?;

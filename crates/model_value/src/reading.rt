@@ -1,7 +1,7 @@
 //! Reading values from their spelling.
 ghost use Rattle.std.specs.Prelude.{◌≡◌, ◌≢◌, ◌+◌, ◌/◌, [], IfOk, Err, length, encode_utf8_all};
 ghost use Rattle.std.specs.Str.{chars};
-ghost use Rattle.byte_fields.specs.Fields.{Gives, whole, items_at, text_at as text_field_at};
+ghost use Rattle.byte_fields.specs.Fields.{Decodes, whole, items_at, text_at as text_field_at};
 ghost use Rattle.model_value.specs.Plain.{PlainValue, InBounds, weight, weight_of_all, values_weight, text_weight};
 ghost use Rattle.model_value.specs.Reading.{value_at, value_of_kind, items_in, bounded_at, weighed_at};
 ghost use Rattle.model_value.specs.Spelling.{value_spelling, IsValue};
@@ -32,7 +32,7 @@ pub fn decode(alloc: Global, bytes: &[u8]) -> Result<Value, ValueFault>
 }
 
 fn read_all(alloc: Global, bytes: &[u8]) -> Result<Value, ValueFault>
-    ensures { Gives ValueFault.BadValue plain result (whole bounded_at bytes.now) }
+    ensures { Decodes ValueFault.BadValue plain result (whole bounded_at bytes.now) }
 {
     let (value, rest) = bounded_at(alloc, bytes)?;
     if !rest.is_empty() {
@@ -45,7 +45,7 @@ fn read_all(alloc: Global, bytes: &[u8]) -> Result<Value, ValueFault>
 ///
 /// `BadValue` comes exactly where the bytes begin with no such value, as [`decode`] reads it.
 pub fn bounded_at(alloc: Global, bytes: &[u8]) -> Result<(Value, &[u8]), ValueFault>
-    ensures { Gives ValueFault.BadValue (λ x. (plain x.0, x.1.now)) result (bounded_at bytes.now) }
+    ensures { Decodes ValueFault.BadValue (λ x. (plain x.0, x.1.now)) result (bounded_at bytes.now) }
 {
     let (value, _left, rest) = value_in(alloc, MOST_DEPTH, MOST_WEIGHT, bytes)?;
     Ok((value, rest))
@@ -62,7 +62,7 @@ fn value_in(
     room: u32,
     bytes: &[u8],
 ) -> Result<(Value, u32, &[u8]), ValueFault>
-    ensures { Gives ValueFault.BadValue (λ x. ((plain x.0, x.1), x.2.now)) result (weighed_at weight room (value_at levels) bytes.now) }
+    ensures { Decodes ValueFault.BadValue (λ x. ((plain x.0, x.1), x.2.now)) result (weighed_at weight room (value_at levels) bytes.now) }
 {
     // Each value weighs at least 1.
     if room == 0 {
@@ -81,7 +81,7 @@ fn value_of_kind(
     kind: u8,
     bytes: &[u8],
 ) -> Result<(Value, u32, &[u8]), ValueFault>
-    ensures { Gives ValueFault.BadValue (λ x. ((plain x.0, x.1), x.2.now)) result (weighed_at weight (room + 1) (value_of_kind (items_in levels) kind) bytes.now) }
+    ensures { Decodes ValueFault.BadValue (λ x. ((plain x.0, x.1), x.2.now)) result (weighed_at weight (room + 1) (value_of_kind (items_in levels) kind) bytes.now) }
 {
     match kind {
         0 => Ok((Value::Nil, room, bytes)),
@@ -109,7 +109,7 @@ fn value_of_kind(
 
 /// A text, of which 1 of the weight is already taken off the room.
 fn text_in(alloc: Global, room: u32, bytes: &[u8]) -> Result<(Text, u32, &[u8]), ValueFault>
-    ensures { Gives ValueFault.BadValue (λ x. ((x.0, x.1), x.2.now)) result (weighed_at text_weight (room + 1) text_field_at bytes.now) }
+    ensures { Decodes ValueFault.BadValue (λ x. ((x.0, x.1), x.2.now)) result (weighed_at text_weight (room + 1) text_field_at bytes.now) }
 {
     let (text, rest) = text_at(bytes).ok_or(ValueFault::BadValue)?;
     let blocks = blocks(text);
@@ -135,7 +135,7 @@ fn items_in(
     room: u32,
     bytes: &[u8],
 ) -> Result<(Vec<Value>, u32, &[u8]), ValueFault>
-    ensures { Gives ValueFault.BadValue (λ x. ((plains x.0.items, x.1), x.2.now)) result (weighed_at weight_of_all room (items_in levels) bytes.now) }
+    ensures { Decodes ValueFault.BadValue (λ x. ((plains x.0.items, x.1), x.2.now)) result (weighed_at weight_of_all room (items_in levels) bytes.now) }
 {
     if levels == 0 {
         return Err(ValueFault::BadValue);
@@ -153,7 +153,7 @@ fn items_of(
     count: u32,
     bytes: &[u8],
 ) -> Result<(Vec<Value>, u32, &[u8]), ValueFault>
-    ensures { Gives ValueFault.BadValue (λ x. ((plain_values x.0.items, x.1), x.2.now)) result (weighed_at values_weight room (items_at (λ _. value_at levels) [] count) bytes.now) }
+    ensures { Decodes ValueFault.BadValue (λ x. ((plain_values x.0.items, x.1), x.2.now)) result (weighed_at values_weight room (items_at (λ _. value_at levels) [] count) bytes.now) }
 {
     let mut items = Vec::new(alloc);
     let mut left = room;
@@ -172,7 +172,7 @@ fn items_of(
 ///
 /// `BadValue` comes exactly where the bytes begin with no such field.
 pub fn owned_text_at(alloc: Global, bytes: &[u8]) -> Result<(Text, &[u8]), ValueFault>
-    ensures { Gives ValueFault.BadValue (λ x. (x.0, x.1.now)) result (text_field_at bytes.now) }
+    ensures { Decodes ValueFault.BadValue (λ x. (x.0, x.1.now)) result (text_field_at bytes.now) }
 {
     let (text, rest) = text_at(bytes).ok_or(ValueFault::BadValue)?;
     Ok((Text::copy(alloc, text)?, rest))

@@ -7,7 +7,7 @@ use Rattle.std.proofs.lemmas.List.{length-append}
 use Rattle.std.specs.Cmp.{unsigned_Decides}
 use Rattle.std.proofs.lemmas.Slice.Eq.{bytes_eq-Decides}
 use Rattle.model_value.specs.Plain.{TextFits}
-use Rattle.world_plain.specs.Valid.{IsNew, SubscriptionsDiffer, most_pending}
+use Rattle.world_plain.specs.Valid.{DiffersFromAll, SubscriptionsDiffer, most_pending}
 use Rattle.world_plain.specs.World.{subscription_weight, total_weight}
 use Rattle.world_plain.specs.declared.message.Subscription.{Subscription}
 use Rattle.pubsub.specs.Topics.{AreTopics, AreLightSubscriptions, IsLightSubscription, is_subscribed}
@@ -49,7 +49,7 @@ same-true s t e =
     let by_method : List ℕ → Subscription = λ x. record { scope = t.scope; event = t.event; object = t.object; method = x } in
     ap by_scope scope ∙ ap by_event event ∙ ap by_object object ∙ ap by_method method
 
-new_push : (t s : Subscription) (ts : List Subscription) → IsNew t ts → ¬ (t ≡ s) → IsNew t (ts ++ s ∷ [])
+new_push : (t s : Subscription) (ts : List Subscription) → DiffersFromAll t ts → ¬ (t ≡ s) → DiffersFromAll t (ts ++ s ∷ [])
 new_push t s [] h e = (e, tt)
 new_push t s (u ∷ ts) h e = (h.0, new_push t s ts h.1 e)
 
@@ -89,11 +89,11 @@ either : (P : List Subscription → Type 0) (b : Bool) (xs ys : List Subscriptio
 either P true xs ys h e = h
 either P false xs ys h e = e
 
-new_filter : (test : Subscription → Bool) (t : Subscription) (ts : List Subscription) → IsNew t ts → IsNew t (filter test ts)
+new_filter : (test : Subscription → Bool) (t : Subscription) (ts : List Subscription) → DiffersFromAll t ts → DiffersFromAll t (filter test ts)
 new_filter test t [] h = tt
 new_filter test t (u ∷ ts) h =
     let rest = new_filter test t ts h.1 in
-    either (IsNew t) (test u) (u ∷ filter test ts) (filter test ts) (h.0, rest) rest
+    either (DiffersFromAll t) (test u) (u ∷ filter test ts) (filter test ts) (h.0, rest) rest
 
 pub SubscriptionsDiffer-filtered : (test : Subscription → Bool) (ts : List Subscription) → SubscriptionsDiffer ts → SubscriptionsDiffer (filter test ts)
 SubscriptionsDiffer-filtered test [] h = tt

@@ -11,7 +11,7 @@ use Rattle.wire_frames.specs.declared.start.Want.{Want}
 use Rattle.reflector_core.specs.declared.request.Request.{Request}
 use Rattle.reflector_core.specs.declared.request.Request.TheVariants.{Join, Send, Tick, Leave, Offer, Pull}
 use Rattle.reflector_core.specs.PlainSession.{PlainSession}
-use Rattle.reflector_core.specs.Answer.{SessionOutcome, answer, join, leave, offer, pull, stamp, appended, is_stale, is_closed, is_ahead}
+use Rattle.reflector_core.specs.Answer.{SessionOutcome, answer, join, leave, offer, pull, stamp, append_entry, is_stale, is_closed, is_ahead}
 use Rattle.reflector_core.specs.Play.{after_all}
 use Rattle.reflector_core.specs.Growth.{AreLater, GrowsTo, is_offer}
 use Rattle.reflector_core.proofs.SoundLaws.{send_along, offer_along}
@@ -39,12 +39,12 @@ GrowsTo-then a b c first second = record {
 }
 
 -- one more entry
-stamps_one : (s : PlainSession) (now view : ℕ) (what : What) → GrowsTo s (appended s (stamp s.horizon now) view what)
+stamps_one : (s : PlainSession) (now view : ℕ) (what : What) → GrowsTo s (append_entry s (stamp s.horizon now) view what)
 stamps_one s now view what = record { rest = next_entry s.log (stamp s.horizon now) view what ∷ []; log = refl; later = (omega arith, tt); horizon = omega arith }
 
 -- what is so of the session as it was, and of the one with one more entry, is so after a Join, a Leave and a Pull
 module _ (P : PlainSession → Type 0) (s : PlainSession) (same : P s) where
-  join_along : (view now : ℕ) (want : Want) → P (appended s (stamp s.horizon now) view what.Join) → P (join s view now want).session
+  join_along : (view now : ℕ) (want : Want) → P (append_entry s (stamp s.horizon now) view what.Join) → P (join s view now want).session
   join_along view now want more =
       either (λ o. P o.session) (view == 0) same
       (either (λ o. P o.session) (is_ahead s.horizon want) same
@@ -52,7 +52,7 @@ module _ (P : PlainSession → Type 0) (s : PlainSession) (same : P s) where
       (either (λ o. P o.session) (is_closed s.log) same
       (either (λ o. P o.session) (nat_le end_of_time s.horizon) same more))))
 
-  leave_along : (view joined now : ℕ) → P (appended s (stamp s.horizon now) view what.Exit) → P (leave s view joined now).session
+  leave_along : (view joined now : ℕ) → P (append_entry s (stamp s.horizon now) view what.Exit) → P (leave s view joined now).session
   leave_along view joined now more = either (λ o. P o.session) (is_stale s.log view joined) same more
 
   pull_along : (after limit : ℕ) → P (pull s after limit).session

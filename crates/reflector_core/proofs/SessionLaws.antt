@@ -10,7 +10,7 @@ use Rattle.tea_base.proofs.LogLaws.{IsLegal-push, last_time-push, here_count-pus
 use Rattle.session_log.specs.LogState.{next_entry}
 use Rattle.wire_frames.specs.declared.start.Base.{Base}
 use Rattle.reflector_core.specs.PlainSession.{PlainSession, IsSoundSession, IsKeptBy}
-use Rattle.reflector_core.specs.Answer.{stamp, appended}
+use Rattle.reflector_core.specs.Answer.{stamp, append_entry}
 
 IsKeptBy-grows : (a b : ℕ) (kept : Option Base) → a ≤ b → IsKeptBy a kept → IsKeptBy b kept
 IsKeptBy-grows a b None le within = tt
@@ -30,7 +30,7 @@ IsSoundSession-later s horizon sound later bound = record {
 abbrev here_after : PlainSession → ℕ → ℕ → What → ℕ
 here_after s time view what = here_count (s.log ++ next_entry s.log time view what ∷ [])
 
-IsSoundSession-append : (s : PlainSession) (time view : ℕ) (what : What) → IsSoundSession s → MayFollow s.log (next_entry s.log time view what) → s.horizon < time → time + here_after s time view what < time_limit → here_after s time view what ≤ most_here → length s.log + 1 + here_after s time view what ≤ most_entries → IsSoundSession (appended s time view what)
+IsSoundSession-append : (s : PlainSession) (time view : ℕ) (what : What) → IsSoundSession s → MayFollow s.log (next_entry s.log time view what) → s.horizon < time → time + here_after s time view what < time_limit → here_after s time view what ≤ most_here → length s.log + 1 + here_after s time view what ≤ most_entries → IsSoundSession (append_entry s time view what)
 IsSoundSession-append s time view what sound may later bounded here room = record {
   legal = IsLegal-push s.log (next_entry s.log time view what) sound.legal may;
   latest = omega (arith, last_time-push s.log (next_entry s.log time view what));
@@ -57,7 +57,7 @@ exit_may_follow s now view sound bound here =
       allowed = (here, omega (arith, sound.room));
     }
 
-pub exit_is_sound : (s : PlainSession) (now view : ℕ) → IsSoundSession s → view < 2 ^ 32 → is_here s.log view ≡ true → IsSoundSession (appended s (stamp s.horizon now) view Exit)
+pub exit_is_sound : (s : PlainSession) (now view : ℕ) → IsSoundSession s → view < 2 ^ 32 → is_here s.log view ≡ true → IsSoundSession (append_entry s (stamp s.horizon now) view Exit)
 exit_is_sound s now view sound bound here =
     let count = here_count-push s.log (next_entry s.log (stamp s.horizon now) view Exit) in
     let falls : here_after s (stamp s.horizon now) view Exit + 1 ≡ here_count s.log = grind (arith, count, here) in
@@ -73,7 +73,7 @@ event_may_follow s now view number payload sound bound here next short fits stil
   allowed = (here, next, short, fits, still_open);
 }
 
-pub event_is_sound : (s : PlainSession) (now view : ℕ) (number : ℕ) (payload : List ℕ) → IsSoundSession s → MayFollow s.log (next_entry s.log (stamp s.horizon now) view (Event number payload)) → s.horizon < end_of_time → IsSoundSession (appended s (stamp s.horizon now) view (Event number payload))
+pub event_is_sound : (s : PlainSession) (now view : ℕ) (number : ℕ) (payload : List ℕ) → IsSoundSession s → MayFollow s.log (next_entry s.log (stamp s.horizon now) view (Event number payload)) → s.horizon < end_of_time → IsSoundSession (append_entry s (stamp s.horizon now) view (Event number payload))
 event_is_sound s now view number payload sound may before_end =
     let count = here_count-push s.log (next_entry s.log (stamp s.horizon now) view (Event number payload)) in
     let same : here_after s (stamp s.horizon now) view (Event number payload) ≡ here_count s.log = omega (arith, count) in
@@ -90,7 +90,7 @@ join_may_follow s now view sound bound named room still_open before_end = record
   allowed = (room, still_open);
 }
 
-pub join_is_sound : (s : PlainSession) (now view : ℕ) → IsSoundSession s → MayFollow s.log (next_entry s.log (stamp s.horizon now) view Join) → s.horizon < end_of_time → IsSoundSession (appended s (stamp s.horizon now) view Join)
+pub join_is_sound : (s : PlainSession) (now view : ℕ) → IsSoundSession s → MayFollow s.log (next_entry s.log (stamp s.horizon now) view Join) → s.horizon < end_of_time → IsSoundSession (append_entry s (stamp s.horizon now) view Join)
 join_is_sound s now view sound may before_end =
     let count = here_count-push s.log (next_entry s.log (stamp s.horizon now) view Join) in
     let here : here_after s (stamp s.horizon now) view Join ≤ most_here = grind (arith, count, may.allowed.0, sound.here) in

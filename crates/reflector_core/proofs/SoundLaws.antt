@@ -5,7 +5,7 @@ use Rattle.tea_base.specs.declared.entry.What.TheVariants as what
 use Rattle.tea_base.specs.Readings.{is_here, here_count, last_number, payload_bytes}
 use Rattle.tea_base.specs.Limits.{most_here, most_payload, most_bytes, most_snapshot, end_of_time}
 use Rattle.reflector_core.specs.PlainSession.{PlainSession, IsSoundSession}
-use Rattle.reflector_core.specs.Answer.{answer, send_event, join, leave, offer, appended, stamp, is_stale, is_closed}
+use Rattle.reflector_core.specs.Answer.{answer, send_event, join, leave, offer, append_entry, stamp, is_stale, is_closed}
 use Rattle.reflector_core.specs.Play.{first_session, after_all}
 use Rattle.wire_frames.specs.declared.start.Want.{Want}
 use Rattle.reflector_core.specs.declared.request.Request.{Request}
@@ -14,10 +14,10 @@ use Rattle.reflector_core.proofs.SessionLaws.{exit_is_sound, event_may_follow, e
 
 leave_keeps : (s : PlainSession) (view joined now : ℕ) → IsSoundSession s → view < 2 ^ 32 → IsSoundSession (leave s view joined now).session
 leave_keeps s view joined now sound bound =
-    let after : is_stale s.log view joined ≡ false → IsSoundSession (appended s (stamp s.horizon now) view what.Exit) = λ h. exit_is_sound s now view sound bound (grind arith) in
+    let after : is_stale s.log view joined ≡ false → IsSoundSession (append_entry s (stamp s.horizon now) view what.Exit) = λ h. exit_is_sound s now view sound bound (grind arith) in
     grind arith
 
-join_is_sound_where : (s : PlainSession) (view now : ℕ) → IsSoundSession s → view < 2 ^ 32 → eqb view 0 ≡ false → (not (is_here s.log view) && nat_le most_here (here_count s.log)) ≡ false → is_closed s.log ≡ false → nat_le end_of_time s.horizon ≡ false → IsSoundSession (appended s (stamp s.horizon now) view what.Join)
+join_is_sound_where : (s : PlainSession) (view now : ℕ) → IsSoundSession s → view < 2 ^ 32 → eqb view 0 ≡ false → (not (is_here s.log view) && nat_le most_here (here_count s.log)) ≡ false → is_closed s.log ≡ false → nat_le end_of_time s.horizon ≡ false → IsSoundSession (append_entry s (stamp s.horizon now) view what.Join)
 join_is_sound_where s view now sound bound named room unfilled before_end =
     let end : s.horizon < end_of_time = grind (arith, nat_tests) in
     let may = join_may_follow s now view sound bound (grind (arith, nat_tests)) (λ away. grind (arith, nat_tests)) (grind (arith, nat_tests)) end in
@@ -28,14 +28,14 @@ join_keeps s view now want sound bound =
     let after = join_is_sound_where s view now sound bound in
     grind arith
 
-event_is_sound_where : (s : PlainSession) (view joined number now : ℕ) (payload : List ℕ) → IsSoundSession s → view < 2 ^ 32 → is_stale s.log view joined ≡ false → nat_lt most_payload (length payload) ≡ false → nat_lt number (last_number s.log view + 1) ≡ false → nat_lt (last_number s.log view + 1) number ≡ false → (is_closed s.log || nat_lt most_bytes (payload_bytes s.log + length payload)) ≡ false → nat_le end_of_time s.horizon ≡ false → IsSoundSession (appended s (stamp s.horizon now) view (what.Event number payload))
+event_is_sound_where : (s : PlainSession) (view joined number now : ℕ) (payload : List ℕ) → IsSoundSession s → view < 2 ^ 32 → is_stale s.log view joined ≡ false → nat_lt most_payload (length payload) ≡ false → nat_lt number (last_number s.log view + 1) ≡ false → nat_lt (last_number s.log view + 1) number ≡ false → (is_closed s.log || nat_lt most_bytes (payload_bytes s.log + length payload)) ≡ false → nat_le end_of_time s.horizon ≡ false → IsSoundSession (append_entry s (stamp s.horizon now) view (what.Event number payload))
 event_is_sound_where s view joined number now payload sound bound fresh short least most unfilled before_end =
     let end : s.horizon < end_of_time = grind (arith, nat_tests) in
     let may = event_may_follow s now view number payload sound bound (grind arith) (grind (arith, nat_tests)) (grind (arith, nat_tests)) (grind (arith, nat_tests)) (grind (arith, nat_tests)) end in
     event_is_sound s now view number payload sound may end
 
 -- what is true before a Send, and of the session with the event where no test refuses it, is true after it
-pub send_along : (P : PlainSession → Type 0) (s : PlainSession) (view joined number : ℕ) (payload : List ℕ) (now : ℕ) → P s → (is_stale s.log view joined ≡ false → nat_lt most_payload (length payload) ≡ false → nat_lt number (last_number s.log view + 1) ≡ false → nat_lt (last_number s.log view + 1) number ≡ false → (is_closed s.log || nat_lt most_bytes (payload_bytes s.log + length payload)) ≡ false → nat_le end_of_time s.horizon ≡ false → P (appended s (stamp s.horizon now) view (what.Event number payload))) → P (send_event s view joined number payload now).session
+pub send_along : (P : PlainSession → Type 0) (s : PlainSession) (view joined number : ℕ) (payload : List ℕ) (now : ℕ) → P s → (is_stale s.log view joined ≡ false → nat_lt most_payload (length payload) ≡ false → nat_lt number (last_number s.log view + 1) ≡ false → nat_lt (last_number s.log view + 1) number ≡ false → (is_closed s.log || nat_lt most_bytes (payload_bytes s.log + length payload)) ≡ false → nat_le end_of_time s.horizon ≡ false → P (append_entry s (stamp s.horizon now) view (what.Event number payload))) → P (send_event s view joined number payload now).session
 send_along P s view joined number payload now holds after = grind arith
 
 send_keeps : (s : PlainSession) (view joined number : ℕ) (payload : List ℕ) (now : ℕ) → IsSoundSession s → view < 2 ^ 32 → IsSoundSession (send_event s view joined number payload now).session

@@ -24,8 +24,8 @@ pub record SessionOutcome : Type 0 where
   pub reply : Reply
 
 -- a length as a reply gives it
-abbrev pub capped : ℕ → ℕ
-capped len = min len (2 ^ 32 - 1)
+abbrev pub reply_length : ℕ → ℕ
+reply_length len = min len (2 ^ 32 - 1)
 
 -- the session is this one, with this reply
 abbrev pub with_reply : PlainSession → Reply → SessionOutcome
@@ -40,8 +40,8 @@ abbrev pub stamp : ℕ → ℕ → ℕ
 stamp horizon now = max (min now end_of_time) (horizon + 1)
 
 -- the session with one more entry, whose time is the new horizon
-abbrev pub appended : PlainSession → ℕ → ℕ → What → PlainSession
-appended s time view what =
+abbrev pub append_entry : PlainSession → ℕ → ℕ → What → PlainSession
+append_entry s time view what =
     record { log = with_next s.log time view what; horizon = time; kept = s.kept }
 
 -- the caller joined before the view's last Join or Exit, or the view is not here
@@ -66,13 +66,13 @@ repeats s payload (Some entry) otherwise =
 abbrev pub stamps : PlainSession → ℕ → ℕ → List ℕ → ℕ → SessionOutcome
 stamps s view number payload now =
     let time = stamp s.horizon now in
-    record { session = appended s time view (what.Event number payload); reply = Stamped (length s.log + 1) time }
+    record { session = append_entry s time view (what.Event number payload); reply = Stamped (length s.log + 1) time }
 
 abbrev pub send_event : PlainSession → ℕ → ℕ → ℕ → List ℕ → ℕ → SessionOutcome
 send_event s view joined number payload now =
     let next = last_number s.log view + 1 in
     if is_stale s.log view joined then refuses s (Stale (current s.log view))
-    else if nat_lt most_payload (length payload) then refuses s (TooLong (capped (length payload)))
+    else if nat_lt most_payload (length payload) then refuses s (TooLong (reply_length (length payload)))
     else if number == 0 then refuses s (Gap next)
     else if nat_lt number next
     then with_reply s (repeats s payload (view_event s.log view number) (Refused (Gap next)))
@@ -105,7 +105,7 @@ abbrev pub joins : PlainSession → ℕ → ℕ → Want → SessionOutcome
 joins s view now want =
     let time = stamp s.horizon now in
     record {
-      session = appended s time view what.Join;
+      session = append_entry s time view what.Join;
       reply =
           Joined (length s.log + 1) time (last_number s.log view)
           (from_for s.log want s.kept) (base_for want s.kept);
@@ -130,7 +130,7 @@ abbrev pub leave : PlainSession → ℕ → ℕ → ℕ → SessionOutcome
 leave s view joined now =
     let time = stamp s.horizon now in
     if is_stale s.log view joined then refuses s (Stale (current s.log view))
-    else record { session = appended s time view what.Exit; reply = Left (length s.log + 1) time }
+    else record { session = append_entry s time view what.Exit; reply = Left (length s.log + 1) time }
 
 -- the kept snapshot is of this time or a later one
 abbrev pub is_older : ℕ → Option Base → Bool
@@ -144,7 +144,7 @@ base_time_or_zero (Some base) = base.time
 abbrev pub offer : PlainSession → ℕ → ℕ → ℕ → List ℕ → SessionOutcome
 offer s view joined time snapshot =
     if is_stale s.log view joined then refuses s (Stale (current s.log view))
-    else if nat_lt most_snapshot (length snapshot) then refuses s (TooLong (capped (length snapshot)))
+    else if nat_lt most_snapshot (length snapshot) then refuses s (TooLong (reply_length (length snapshot)))
     else if nat_lt s.horizon time then refuses s (Ahead s.horizon)
     else if is_older time s.kept then refuses s (Older (base_time_or_zero s.kept))
     else

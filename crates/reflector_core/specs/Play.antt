@@ -27,37 +27,37 @@ replies_from s (request ∷ rest) =
     (answer s request).reply ∷ replies_from (answer s request).session rest
 
 -- the entry that the reply Stamped tells of an event, and none of another reply
-abbrev pub stamped_as : ℕ → ℕ → List ℕ → Reply → List Entry
-stamped_as view number payload (Joined seq time last from base) = []
-stamped_as view number payload (Stamped seq time) =
+abbrev pub stamped_event : ℕ → ℕ → List ℕ → Reply → List Entry
+stamped_event view number payload (Joined seq time last from base) = []
+stamped_event view number payload (Stamped seq time) =
     record { seq = seq; time = time; view = view; what = what.Event number payload } ∷ []
-stamped_as view number payload (Again seq time) = []
-stamped_as view number payload (Ticked time) = []
-stamped_as view number payload (Left seq time) = []
-stamped_as view number payload Kept = []
-stamped_as view number payload (Batch entries tick) = []
-stamped_as view number payload (Refused refusal) = []
+stamped_event view number payload (Again seq time) = []
+stamped_event view number payload (Ticked time) = []
+stamped_event view number payload (Left seq time) = []
+stamped_event view number payload Kept = []
+stamped_event view number payload (Batch entries tick) = []
+stamped_event view number payload (Refused refusal) = []
 
 -- the same of a request: only a Send sends an event
-abbrev pub stamped_by : Request → Reply → List Entry
-stamped_by (Join view now want) reply = []
-stamped_by (Send view joined number payload now) reply = stamped_as view number payload reply
-stamped_by (Tick now) reply = []
-stamped_by (Leave view joined now) reply = []
-stamped_by (Offer view joined time snapshot) reply = []
-stamped_by (Pull after limit) reply = []
+abbrev pub stamped_event_of : Request → Reply → List Entry
+stamped_event_of (Join view now want) reply = []
+stamped_event_of (Send view joined number payload now) reply = stamped_event view number payload reply
+stamped_event_of (Tick now) reply = []
+stamped_event_of (Leave view joined now) reply = []
+stamped_event_of (Offer view joined time snapshot) reply = []
+stamped_event_of (Pull after limit) reply = []
 
 -- the events that were answered Stamped, in order
-abbrev pub stamped : List Request → List Reply → List Entry
-stamped [] replies = []
-stamped (request ∷ requests) [] = []
-stamped (request ∷ requests) (reply ∷ replies) = stamped_by request reply ++ stamped requests replies
+abbrev pub stamped_events : List Request → List Reply → List Entry
+stamped_events [] replies = []
+stamped_events (request ∷ requests) [] = []
+stamped_events (request ∷ requests) (reply ∷ replies) = stamped_event_of request reply ++ stamped_events requests replies
 
 -- What a log has of the requests that were answered. It is legal, and its times rise. Its Events are those that were
 -- answered Stamped, each once and in order; so are those of each view, which it numbered 1, 2, 3 and so on.
 pub record TellsItsEvents (requests : List Request) (replies : List Reply) (log : List Entry) : Type 0 where
   pub legal : IsLegal log
   pub times : TimesRise log
-  pub events : events log ≡ stamped requests replies
-  pub senders : (view : ℕ) → view_events log view ≡ filter (λ entry. entry.view == view) (stamped requests replies)
+  pub events : events log ≡ stamped_events requests replies
+  pub senders : (view : ℕ) → view_events log view ≡ filter (λ entry. entry.view == view) (stamped_events requests replies)
   pub numbers : EachCountsItsEvents log

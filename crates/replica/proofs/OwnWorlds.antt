@@ -10,7 +10,7 @@ use Rattle.world_plain.specs.Valid.{Valid}
 use Rattle.world_plain.specs.World.{WorldRecord}
 use Rattle.world.specs.declared.fault.WorldFault.{WorldFault}
 use Rattle.world.specs.declared.fault.WorldFault.TheVariants as fault
-use Rattle.world.specs.View.{WorldView, IsSound, Moves}
+use Rattle.world.specs.View.{WorldView, IsSoundWorld, Moves}
 use Rattle.world.specs.Worlds.{Scene, field_counts, first_scene, external, advance, take_up}
 use Rattle.world.proofs.ByWorld.{advance-by_world, external-by_world}
 use Rattle.world.proofs.Replays.{first-id, first-begins, external-id, advance-id}
@@ -19,7 +19,7 @@ use Rattle.snapshot_codec.specs.Answer.{IsSnapshot, IsWorld, snapshot_world}
 use Rattle.snapshot_codec.specs.Spelling.{world_spelling}
 use Rattle.snapshot_codec.proofs.Snapshots.{snapshot-is}
 use Rattle.replica.specs.RealWorlds.{worlds}
-use Rattle.replica.specs.SessionWorlds.{unless_broken, session_view, IsOfSession, IsSoundWorld, GoesOn, Snaps}
+use Rattle.replica.specs.SessionWorlds.{unless_broken, session_view, IsOfSession, IsSoundSessionWorld, GoesOn, Snaps}
 use Rattle.replica.proofs.WorldTests.{own-passes}
 
 whole-is : (first w : WorldRecord) (broken : Bool) → broken ≡ false → unless_broken first broken w ≡ w
@@ -31,7 +31,7 @@ whole-seen id w e = whole-is (worlds (program_tree w.program) id).first w.scene.
 
 -- ---- the program and the session
 
-pub first-of-session : (program : List Class) (id : List ℕ) (w : WorldView) → program ≡ w.program → w.scene ≡ first_scene (program_tree program) id → IsSound w → IsOfSession program id w
+pub first-of-session : (program : List Class) (id : List ℕ) (w : WorldView) → program ≡ w.program → w.scene ≡ first_scene (program_tree program) id → IsSoundWorld w → IsOfSession program id w
 first-of-session program id w same is sound =
     let faultless : IsProgram (program_tree program) = subst (λ p. IsProgram (program_tree p)) (sym same) sound.program in
     record {
@@ -107,7 +107,7 @@ advance-goes result id v w t moves =
 
 -- ---- what is so of every one
 
-pub sound-seen : (program : List Class) (id : List ℕ) (w : WorldView) → IsOfSession program id w → IsSound w → IsSoundWorld (session_view id w)
+pub sound-seen : (program : List Class) (id : List ℕ) (w : WorldView) → IsOfSession program id w → IsSoundWorld w → IsSoundSessionWorld (session_view id w)
 sound-seen program id w is sound =
     let tree = program_tree w.program in
     record {

@@ -5,17 +5,13 @@ use Rattle.std.proofs.lemmas.Bool.{and_parts}
 use Rattle.std.proofs.lemmas.Option.{none-some, same_Some}
 use Rattle.std.proofs.lemmas.Slice.Eq.{bytes_eq-Decides}
 use Rattle.byte_fields.specs.Fields.{◌>>=◌, whole}
-use Rattle.byte_fields.proofs.Codecs.{IsBytes, whole_takes}
 use Rattle.model_lang.specs.Tree.{ProgramTree}
 use Rattle.world_plain.specs.Valid.{Valid}
 use Rattle.world_plain.specs.ValidTest.{is_valid}
 use Rattle.world_plain.specs.World.{WorldRecord}
 use Rattle.world_plain.proofs.ValidTests.{Valid-Decides}
 use Rattle.world.specs.Worlds.{field_counts}
-use Rattle.snapshot_codec.specs.Answer.{IsSnapshot, snapshot_world}
 use Rattle.snapshot_codec.specs.Reading.{world_record_at}
-use Rattle.snapshot_codec.proofs.WorldCodec.{world_codec}
-use Rattle.snapshot_codec.proofs.Fitting.{is_world}
 use Rattle.replica.specs.RealWorlds.{worlds}
 
 -- a valid world of the session
@@ -47,21 +43,3 @@ passed-found counts id (Some w) v found = passed-if counts id w v (is_valid coun
 -- what is spelled is a valid world of the session
 pub spelled-passes : (program : ProgramTree) (id bytes : List ℕ) (w : WorldRecord) → (worlds program id).unsnap bytes ≡ Some w → (worlds program id).valid w ≡ true
 spelled-passes program id bytes w found = passed-found (field_counts program) id (whole (world_record_at (field_counts program)) bytes) w found
-
-none-if : (counts id : List ℕ) (w : WorldRecord) (test : Bool) → (is_valid counts w && bytes_eq w.id id) ≡ test → (Valid counts w → w.id ≡ id → ⊥) → (if test then Some w else None) ≡ None
-none-if counts id w true e never =
-    let parts = and_parts (is_valid counts w) (bytes_eq w.id id) e in
-    absurd (never ((Valid-Decides counts w).0 parts.0) ((bytes_eq-Decides w.id id).0 parts.1))
-none-if counts id w false e never = refl
-
-none-found : (counts id bytes : List ℕ) (read : Option WorldRecord) → IsBytes bytes → whole (world_record_at counts) bytes ≡ read → ((w : WorldRecord) → ¬ IsSnapshot counts id bytes w)
-    → (read >>= λ w. if is_valid counts w && bytes_eq w.id id then Some w else None) ≡ None
-none-found counts id bytes None fits e never = refl
-none-found counts id bytes (Some w) fits e never =
-    let taken = whole_takes (world_codec counts) bytes w fits e in
-    none-if counts id w (is_valid counts w && bytes_eq w.id id) refl
-    (λ valid session. never w (record { world = is_world counts w taken.1; valid = valid; session = session; spelled = taken.0 }))
-
--- bytes that are no snapshot spell none
-pub none-spelled : (counts id bytes : List ℕ) → IsBytes bytes → ((w : WorldRecord) → ¬ IsSnapshot counts id bytes w) → snapshot_world counts id bytes ≡ None
-none-spelled counts id bytes fits never = none-found counts id bytes (whole (world_record_at counts) bytes) fits refl never

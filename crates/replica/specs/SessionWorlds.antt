@@ -47,7 +47,7 @@ pub record IsOfSession (program : List Class) (id : List ℕ) (w : WorldView) : 
   pub session : w.broken ≡ false → w.scene.world.id ≡ id
 
 -- what is so of every one: its program is one, its world is valid where it is not broken, and where it is nothing is published
-pub record IsSoundWorld (w : SessionWorldView) : Type 0 where
+pub record IsSoundSessionWorld (w : SessionWorldView) : Type 0 where
   pub program : IsProgram (program_tree w.program)
   pub valid : w.broken ≡ false → (own_worlds w).valid w.world ≡ true
   pub quiet : w.broken ≡ true → w.out ≡ []

@@ -16,7 +16,7 @@ ghost use Rattle.wire_frames.specs.declared.frame.ClientFrame.{ClientFrame};
 ghost use Rattle.wire_frames.specs.declared.frame.ServerFrame.{ServerFrame};
 ghost use Rattle.wire_frames.specs.declared.frame.ServerFrame.TheVariants.{Sync, Tick};
 ghost use Rattle.replica_plain.specs.declared.how.How.{How};
-ghost use Rattle.replica_plain.specs.Worlds.{AreWorlds, IsHonest, WorldFollows, replay_of};
+ghost use Rattle.replica_plain.specs.Worlds.{AreWorlds, IsHonest, WorldFollows, replay_world};
 ghost use Rattle.replica_plain.specs.Calls.{loses};
 ghost use Rattle.replica_plain.specs.Taking.{taken};
 ghost use Rattle.replica_plain.specs.Following.{AreReadCalls, FollowsLog, IsServedTo, ReplicaCall, ToTake, after_calls, frames_of_calls};
@@ -26,16 +26,16 @@ ghost use Rattle.replica.specs.contracts.replica.Replica as replica;
 
 use model_check::checked_crosses_threads;
 use world::{
-    advance_rests, advance_twice, at_rest_stays, external_after, external_stands, first_stands,
-    replay_folds, world_crosses_threads, world_decides,
+    advance_rests, advance_twice, at_rest_stays, external_after, external_keeps_valid,
+    first_world_is_valid, replay_folds, world_crosses_threads, world_decides,
 };
 
 /// The worlds of a program and a session are as a replica wants worlds.
 pub fn worlds_stand()
     ensures { (program : ProgramTree) (id : List ℕ) → IsProgram program → AreWorlds (worlds program id) }
 {
-    first_stands();
-    external_stands();
+    first_world_is_valid();
+    external_keeps_valid();
     external_after();
     advance_rests();
     advance_twice();
@@ -45,7 +45,7 @@ pub fn worlds_stand()
 
 /// What a log makes of them is the replay of the log, and one of them follows a log exactly where a world does.
 pub fn worlds_replay()
-    ensures replays { (program : ProgramTree) (id : List ℕ) (log : List Entry) (t : ℕ) → (replay program id log t).world ≡ replay_of (worlds program id) log t }
+    ensures replays { (program : ProgramTree) (id : List ℕ) (log : List Entry) (t : ℕ) → (replay program id log t).world ≡ replay_world (worlds program id) log t }
     ensures follows { (program : ProgramTree) (w : WorldRecord) (log : List Entry) → Follows program w log ↔ WorldFollows (worlds program w.id) log w }
 {
     replay_folds();

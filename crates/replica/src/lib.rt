@@ -12,4 +12,3 @@ pub use laws::{
     ticks_bring_rest, worlds_replay, worlds_stand,
 };
 pub use replica::Replica;
-pub use sending::ClientFrames;

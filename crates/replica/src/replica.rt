@@ -7,14 +7,14 @@ ghost use Rattle.model_value.specs.Plain.{InBounds};
 ghost use Rattle.model_value.specs.View.{plain};
 ghost use Rattle.world_plain.specs.Messages.{plain_outgoing};
 ghost use Rattle.replica_plain.specs.declared.how.How.TheVariants.{Resume};
-ghost use Rattle.replica_plain.specs.PlainReplica.{most_published, published, breaks};
+ghost use Rattle.replica_plain.specs.PlainReplica.{most_published, published_count, breaks};
 ghost use Rattle.replica_plain.specs.Taking.{IsTaken, begins_anew, begins_with_world, goes_on_from, lost_at, synced_with, take_done, take_entry, take_refused, take_sync, take_tick, taken};
 ghost use Rattle.replica_plain.specs.Calls.{Publishes, gives, join_frame, joining, loses, publishes, takes_out, unsent};
 ghost use Rattle.replica.specs.SessionWorlds.{Snaps};
 ghost use Rattle.replica.specs.View.{IsSoundReplica, IsTimely, KeepsSession, cause_of, founded_replica, with_plain, world_part, worlds_of};
 
 use crate::measure::payload_len;
-use crate::sending::{ClientFrames, sends};
+use crate::sending::sends;
 use crate::session_world::SessionWorld;
 use model_check::Checked;
 use model_value::{Value, payload};
@@ -23,7 +23,7 @@ use std::alloc::Global;
 use std::marker::Model;
 use std::sync::Arc;
 use tea_base::{Blob, Entry, List, MOST_PAYLOAD, SessionId, Text, WantOfMemory};
-use wire_frames::{Base, ClientFrame, ServerFrame, Want};
+use wire_frames::{Base, ClientFrame, ClientFrames, ServerFrame, Want};
 use world::WorldFault;
 use world_plain::Published;
 
@@ -383,7 +383,7 @@ impl Replica {
     }
 
     fn put(&mut self, payload: Blob) -> Result<(), WantOfMemory>
-        requires { published self.old.plain < most_published }
+        requires { published_count self.old.plain < most_published }
         ensures ok { OnOk result (self.new ≡ with_plain self.old (publishes self.old.plain payload)) }
         ensures err { OnErr result (self.new ≡ self.old) }
     {
@@ -393,7 +393,7 @@ impl Replica {
 
     /// How many events it published.
     fn published(&self) -> u32
-        ensures count { result ≡ published self.now.plain }
+        ensures count { result ≡ published_count self.now.plain }
         ensures most { result ≤ most_published }
     {
         self.acknowledged + self.outbox.len() as u32

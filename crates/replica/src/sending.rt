@@ -4,10 +4,7 @@ ghost use Rattle.replica_plain.specs.Calls.{sends_after};
 
 use std::alloc::Global;
 use tea_base::{Blob, List, WantOfMemory};
-use wire_frames::ClientFrame;
-
-/// Frames of a view in order.
-pub type ClientFrames = List<ClientFrame>;
+use wire_frames::{ClientFrame, ClientFrames};
 
 /// The frames of payloads whose numbers begin behind this one.
 pub(crate) fn sends(

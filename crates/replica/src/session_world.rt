@@ -7,7 +7,7 @@ ghost use Rattle.world_plain.specs.Messages.{plain_outgoing};
 ghost use Rattle.world_plain.specs.Valid.{Valid};
 ghost use Rattle.world_plain.specs.World.{world_record};
 ghost use Rattle.world.specs.Worlds.{field_counts};
-ghost use Rattle.replica.specs.SessionWorlds.{own_worlds, first_world, quiet_world, GoesOn, IsFound, IsSoundWorld, Snaps};
+ghost use Rattle.replica.specs.SessionWorlds.{own_worlds, first_world, quiet_world, GoesOn, IsFound, IsSoundSessionWorld, Snaps};
 
 use model_check::Checked;
 use snapshot_codec::{SnapFault, snapshot, unsnap};
@@ -133,7 +133,7 @@ impl SessionWorld {
     /// The world's time, which of a broken one is 0.
     pub(crate) fn time(&self) -> u64
         ensures time { result ≡ self.now.world.time }
-        ensures sound { IsSoundWorld self.now }
+        ensures sound { IsSoundSessionWorld self.now }
     {
         if self.world.broken() {
             return 0;
@@ -144,7 +144,7 @@ impl SessionWorld {
     /// Whether want of memory broke it.
     pub(crate) fn broken(&self) -> bool
         ensures broken { result ≡ self.now.broken }
-        ensures sound { IsSoundWorld self.now }
+        ensures sound { IsSoundSessionWorld self.now }
     {
         self.world.broken()
     }

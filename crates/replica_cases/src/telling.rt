@@ -1,9 +1,9 @@
 //! What steps come to, in words.
 use crate::fault::CaseFault;
-use replica::{ClientFrames, Replica};
+use replica::Replica;
 use replica_plain::{PublishRefusal, ReplicaFault};
 use std::alloc::{AllocError, Global};
-use wire_frames::{ClientFrame, Want};
+use wire_frames::{ClientFrame, ClientFrames, Want};
 
 /// A frame that joins.
 pub(crate) fn told_join(alloc: Global, frame: &ClientFrame) -> Result<String, AllocError> {

@@ -8,12 +8,12 @@ use Rattle.replica_plain.specs.declared.fault.ReplicaFault.TheVariants as cause
 use Rattle.replica_plain.specs.declared.how.How.{How}
 use Rattle.replica_plain.specs.declared.how.How.TheVariants.{Fresh, Whole, Resume}
 use Rattle.replica_plain.specs.Worlds.{Worlds}
-use Rattle.replica_plain.specs.PlainReplica.{PlainReplica, AreCounted, published, most_published}
+use Rattle.replica_plain.specs.PlainReplica.{PlainReplica, AreCounted, published_count, most_published}
 use Rattle.replica_plain.specs.Taking.{Taken, taken, faults, take_sync, begins_anew, begins_with, begins_with_world, take_done, take_refused, lost_at}
 use Rattle.replica_plain.specs.Calls.{publishes, gives}
 
 -- a replica with the same events, of which as many are acknowledged
-counted_with : {W O : Type 0} (r other : PlainReplica W O) → other.acknowledged ≡ r.acknowledged → other.outbox ≡ r.outbox → r.acknowledged ≤ other.given → other.given ≤ published r → AreCounted r → AreCounted other
+counted_with : {W O : Type 0} (r other : PlainReplica W O) → other.acknowledged ≡ r.acknowledged → other.outbox ≡ r.outbox → r.acknowledged ≤ other.given → other.given ≤ published_count r → AreCounted r → AreCounted other
 counted_with r other acknowledged outbox least few are = record { least = rw acknowledged least; few = rw (acknowledged, outbox) few; most = rw (acknowledged, outbox) are.most }
 
 -- none of them was given
@@ -68,7 +68,7 @@ begin_answers m r Resume from (Some base) = answers_if r (eqb from r.seen) _ _ (
 pub sync_answers : {W O : Type 0} (m : Worlds W O) (r : PlainReplica W O) (awaited : Option How) (last from : ℕ) (base : Option Base) → SyncAnswers r (take_sync m r awaited last from base)
 sync_answers m r None last from base = refuses r cause.Unasked
 sync_answers m r (Some how) last from base =
-    answers_if r (nat_lt (published r) last) _ _ (refuses r (cause.OutOfOrder (published r) last))
+    answers_if r (nat_lt (published_count r) last) _ _ (refuses r (cause.OutOfOrder (published_count r) last))
     (answers_if r (nat_lt last r.acknowledged) _ _ (refuses r (cause.OutOfOrder r.acknowledged last)) (begin_answers m r how from base))
 
 counted_by : {W O : Type 0} (r : PlainReplica W O) (taken : Taken W O) → SyncAnswers r taken → AreCounted r → AreCounted taken.replica
@@ -109,12 +109,12 @@ lost_counted m r new (Snapped time) are lost = absurd cc
 lost_counted m r new (Refused about code kept more) are lost = absurd cc
 lost_counted m r new Alive are lost = absurd cc
 
-pub publishes_counted : {W O : Type 0} (r : PlainReplica W O) (payload : List ℕ) → AreCounted r → published r < most_published → AreCounted (publishes r payload)
+pub publishes_counted : {W O : Type 0} (r : PlainReplica W O) (payload : List ℕ) → AreCounted r → published_count r < most_published → AreCounted (publishes r payload)
 publishes_counted r payload are few =
     let one = length-append r.outbox (payload ∷ []) in
     record { least = are.least; few = omega (arith, are.few); most = omega arith }
 
-gives_counted_if : {W O : Type 0} (r : PlainReplica W O) (synced : Bool) → AreCounted r → AreCounted (record r { given = cond synced (published r) r.given })
+gives_counted_if : {W O : Type 0} (r : PlainReplica W O) (synced : Bool) → AreCounted r → AreCounted (record r { given = cond synced (published_count r) r.given })
 gives_counted_if r true are = counted_with r _ refl refl (omega (arith, are.least, are.few)) (omega arith) are
 gives_counted_if r false are = are
 

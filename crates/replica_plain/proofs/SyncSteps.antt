@@ -13,9 +13,9 @@ use Rattle.wire_frames.specs.Served.{BeginsFor}
 use Rattle.replica_plain.specs.declared.how.How.{How}
 use Rattle.replica_plain.specs.declared.how.How.TheVariants.{Fresh, Whole, Resume}
 use Rattle.replica_plain.specs.Worlds.{Worlds, AreWorlds, IsHonest}
-use Rattle.replica_plain.specs.PlainReplica.{PlainReplica, published}
+use Rattle.replica_plain.specs.PlainReplica.{PlainReplica, published_count}
 use Rattle.replica_plain.specs.Taking.{Taken, taken, takes, take_sync, begins_anew, begins_with, begins_with_world, synced_with}
-use Rattle.replica_plain.specs.Calls.{want_of}
+use Rattle.replica_plain.specs.Calls.{join_want}
 use Rattle.replica_plain.specs.Following.{FollowsLog, AreReadCalls, IsHonestBase, IsServedTo, MayJoin, ReplicaCall, ToTake, after_calls, frames_of_calls}
 use Rattle.wire_frames.proofs.Times.{none_until}
 use Rattle.wire_frames.proofs.Streams.{Streams-front}
@@ -56,7 +56,7 @@ begins_based m laws log from time r base honest before counted =
     rw (honest.spelled, same)
     (begins_at m log from time (synced_with r honest.world [] from (Some base.time)) (record { whole = refl; valid = laws.unsnap_valid base.bytes honest.world honest.spelled; follows = honest.follows; counted = rw timed counted }) refl refl (omega arith))
 
-sync_world_begins : {W O : Type 0} (m : Worlds W O) → AreWorlds m → (log : List Entry) (from time : ℕ) (r : PlainReplica W O) (how : How) (base : Option Base) → IsLegal log → BeginsFor log (want_of m r how) time from base → IsHonestBase m log base → MayJoin m log r how
+sync_world_begins : {W O : Type 0} (m : Worlds W O) → AreWorlds m → (log : List Entry) (from time : ℕ) (r : PlainReplica W O) (how : How) (base : Option Base) → IsLegal log → BeginsFor log (join_want m r how) time from base → IsHonestBase m log base → MayJoin m log r how
     → SyncBegins m log from time (begins_with m r how from base)
 sync_world_begins m laws log from time r Fresh None legal from_is honest may = begins_first m laws log from time r legal from_is
 sync_world_begins m laws log from time r Whole None legal from_is honest may = begins_first m laws log from time r legal from_is
@@ -75,10 +75,10 @@ within_begins_if m log from time false false more less taken not_above not_below
 
 -- the Sync that answers the replica's own JOIN is taken
 pub sync_begins : {W O : Type 0} (m : Worlds W O) → AreWorlds m → (log : List Entry) (r : PlainReplica W O) (how : How) (joined last from time : ℕ) (base : Option Base) → IsLegal log → r.awaited ≡ Some how
-    → BeginsFor log (want_of m r how) time from base → r.acknowledged ≤ last → last ≤ published r → IsHonestBase m log base → MayJoin m log r how → SyncBegins m log from time (taken m r (Sync joined last from base))
+    → BeginsFor log (join_want m r how) time from base → r.acknowledged ≤ last → last ≤ published_count r → IsHonestBase m log base → MayJoin m log r how → SyncBegins m log from time (taken m r (Sync joined last from base))
 sync_begins m laws log r how joined last from time base legal awaited from_is least most honest may =
     subst (λ awaits. SyncBegins m log from time (take_sync m r awaits last from base)) (sym awaited)
-    (within_begins_if m log from time (nat_lt (published r) last) (nat_lt last r.acknowledged) _ _ (begins_with m r how from base) (grind (arith, nat_tests)) (grind (arith, nat_tests))
+    (within_begins_if m log from time (nat_lt (published_count r) last) (nat_lt last r.acknowledged) _ _ (begins_with m r how from base) (grind (arith, nat_tests)) (grind (arith, nat_tests))
     (sync_world_begins m laws log from time r how base legal from_is honest may))
 
 -- the first part of what it was served, from the Sync on, is read, whatever else it is asked between

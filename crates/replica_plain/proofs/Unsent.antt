@@ -8,7 +8,7 @@ use Rattle.wire_frames.specs.declared.frame.ServerFrame.TheVariants.{Sync, Done}
 use Rattle.replica_plain.specs.declared.fault.ReplicaFault.{ReplicaFault}
 use Rattle.replica_plain.specs.declared.fault.ReplicaFault.TheVariants as cause
 use Rattle.replica_plain.specs.Worlds.{Worlds}
-use Rattle.replica_plain.specs.PlainReplica.{PlainReplica, AreCounted, published}
+use Rattle.replica_plain.specs.PlainReplica.{PlainReplica, AreCounted, published_count}
 use Rattle.replica_plain.specs.Taking.{Taken, taken, takes, faults, take_done, acknowledges}
 use Rattle.replica_plain.specs.Calls.{publishes, gives, unsent, sends_after}
 use Rattle.replica_plain.proofs.Numbers.{SyncAnswers, sync_answers}
@@ -27,9 +27,9 @@ pub synced_unsent : {W O : Type 0} (m : Worlds W O) (r : PlainReplica W O) (join
     → unsent (taken m r (Sync joined last from base)).replica ≡ sends_after r.acknowledged r.outbox
 synced_unsent m r joined last from base fine = unsent_by r _ (sync_answers m r r.awaited last from base) fine
 
-gives_unsent_if : {W O : Type 0} (r : PlainReplica W O) (synced : Bool) → (if synced then sends_after (cond synced (published r) r.given) (drop (cond synced (published r) r.given - r.acknowledged) r.outbox) else []) ≡ []
+gives_unsent_if : {W O : Type 0} (r : PlainReplica W O) (synced : Bool) → (if synced then sends_after (cond synced (published_count r) r.given) (drop (cond synced (published_count r) r.given - r.acknowledged) r.outbox) else []) ≡ []
 gives_unsent_if r true =
-    let all : published r - r.acknowledged ≡ length r.outbox = omega arith in
+    let all : published_count r - r.acknowledged ≡ length r.outbox = omega arith in
     rw (all, drop-length r.outbox) refl
 gives_unsent_if r false = refl
 
@@ -42,12 +42,12 @@ sends_after-append number (first ∷ front) payload =
     let e : number + length (first ∷ front) + 1 ≡ number + 1 + length front + 1 = omega arith in
     rw e (ap (λ rest. Send (number + 1) first ∷ rest) (sends_after-append (number + 1) front payload))
 
-pub publishes_unsent : {W O : Type 0} (r : PlainReplica W O) (payload : List ℕ) → AreCounted r → r.synced ≡ true → unsent (publishes r payload) ≡ unsent r ++ Send (published r + 1) payload ∷ []
+pub publishes_unsent : {W O : Type 0} (r : PlainReplica W O) (payload : List ℕ) → AreCounted r → r.synced ≡ true → unsent (publishes r payload) ≡ unsent r ++ Send (published_count r + 1) payload ∷ []
 publishes_unsent r payload are synced =
     let few = are.few in
     let least = are.least in
     let short : r.given - r.acknowledged ≤ length r.outbox = omega arith in
-    let number : r.given + length (drop (r.given - r.acknowledged) r.outbox) + 1 ≡ published r + 1 = omega (arith, length-drop (r.given - r.acknowledged) r.outbox) in
+    let number : r.given + length (drop (r.given - r.acknowledged) r.outbox) + 1 ≡ published_count r + 1 = omega (arith, length-drop (r.given - r.acknowledged) r.outbox) in
     rw (synced, drop-append-le (r.given - r.acknowledged) r.outbox (payload ∷ []), sends_after-append r.given (drop (r.given - r.acknowledged) r.outbox) payload, number) refl
 
 done_unsent_if : {W O : Type 0} (r : PlainReplica W O) (payload : List ℕ) (rest : List (List ℕ)) (fits : Bool) (fault : ReplicaFault) → r.outbox ≡ payload ∷ rest → r.acknowledged < r.given

@@ -10,7 +10,7 @@ use Rattle.replica_plain.specs.declared.how.How.TheVariants.{Fresh, Whole, Resum
 use Rattle.replica_plain.specs.declared.fault.PublishRefusal.{PublishRefusal}
 use Rattle.replica_plain.specs.declared.fault.PublishRefusal.TheVariants.{TooLong, Full, WantOfMemory}
 use Rattle.replica_plain.specs.Worlds.{Worlds}
-use Rattle.replica_plain.specs.PlainReplica.{PlainReplica, published, most_published}
+use Rattle.replica_plain.specs.PlainReplica.{PlainReplica, published_count, most_published}
 
 -- ---- joining
 
@@ -18,13 +18,13 @@ use Rattle.replica_plain.specs.PlainReplica.{PlainReplica, published, most_publi
 abbrev pub joining : {W O : Type 0} → PlainReplica W O → How → PlainReplica W O
 joining r how = record r { given = r.acknowledged; awaited = Some how; synced = false }
 
-abbrev pub want_of : {W O : Type 0} → Worlds W O → PlainReplica W O → How → Want
-want_of m r Fresh = want.Fresh
-want_of m r Whole = want.Whole
-want_of m r Resume = want.After (m.time r.world)
+abbrev pub join_want : {W O : Type 0} → Worlds W O → PlainReplica W O → How → Want
+join_want m r Fresh = want.Fresh
+join_want m r Whole = want.Whole
+join_want m r Resume = want.After (m.time r.world)
 
 abbrev pub join_frame : {W O : Type 0} → Worlds W O → PlainReplica W O → How → ClientFrame
-join_frame m r how = Join (record { 0 = m.session }) r.view (want_of m r how)
+join_frame m r how = Join (record { 0 = m.session }) r.view (join_want m r how)
 
 -- the first world again, before any join
 abbrev pub loses : {W O : Type 0} → Worlds W O → PlainReplica W O → PlainReplica W O
@@ -39,10 +39,10 @@ publishes r payload = record r { outbox = r.outbox ++ payload ∷ [] }
 -- a payload of more than 4,096 bytes is too long, and then an event too many is refused
 abbrev pub Publishes : {W O : Type 0} → Result ℕ PublishRefusal → PlainReplica W O → PlainReplica W O → List ℕ → Type 0
 Publishes (Ok number) old new payload =
-    (length payload ≤ most_payload) × (published old < most_published) × (number ≡ published old + 1) × (new ≡ publishes old payload)
+    (length payload ≤ most_payload) × (published_count old < most_published) × (number ≡ published_count old + 1) × (new ≡ publishes old payload)
 Publishes (Err (TooLong len)) old new payload = (most_payload < length payload) × (len ≡ min (length payload) (2 ^ 32 - 1)) × (new ≡ old)
 Publishes (Err (Full count)) old new payload =
-    (length payload ≤ most_payload) × (published old ≡ most_published) × (count ≡ most_published) × (new ≡ old)
+    (length payload ≤ most_payload) × (published_count old ≡ most_published) × (count ≡ most_published) × (new ≡ old)
 Publishes (Err WantOfMemory) old new payload = new ≡ old
 
 -- the SENDs of payloads whose numbers begin behind this one
@@ -56,7 +56,7 @@ unsent r = if r.synced then sends_after r.given (drop (r.given - r.acknowledged)
 
 -- they are given
 abbrev pub gives : {W O : Type 0} → PlainReplica W O → PlainReplica W O
-gives r = record r { given = if r.synced then published r else r.given }
+gives r = record r { given = if r.synced then published_count r else r.given }
 
 -- ---- what models published, and snapshots
 

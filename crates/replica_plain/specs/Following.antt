@@ -11,7 +11,7 @@ use Rattle.replica_plain.specs.declared.how.How.{How}
 use Rattle.replica_plain.specs.declared.how.How.TheVariants.{Fresh, Whole, Resume}
 use Rattle.replica_plain.specs.declared.fault.ReplicaFault.{ReplicaFault}
 use Rattle.replica_plain.specs.Worlds.{Worlds, WorldFollows, IsHonest}
-use Rattle.replica_plain.specs.PlainReplica.{PlainReplica, published}
+use Rattle.replica_plain.specs.PlainReplica.{PlainReplica, published_count}
 use Rattle.replica_plain.specs.Taking.{taken}
 use Rattle.replica_plain.specs.Calls.{join_frame, publishes, gives, takes_out}
 
@@ -84,6 +84,6 @@ pub record IsServedTo {W O : Type 0} (m : Worlds W O) (log : List Entry) (r : Pl
   pub awaited : r.awaited ≡ Some how
   pub served : Served log (Some (join_frame m r how) ∷ given) (Sync joined last from base ∷ rest)
   pub least : r.acknowledged ≤ last
-  pub most : last ≤ published r
+  pub most : last ≤ published_count r
   pub honest : IsHonestBase m log base
   pub may : MayJoin m log r how

@@ -22,8 +22,8 @@ pub record PlainReplica (W O : Type 0) : Type 0 where
   pub base : Option ℕ
 
 -- how many events it published
-abbrev pub published : {W O : Type 0} → PlainReplica W O → ℕ
-published r = r.acknowledged + length r.outbox
+abbrev pub published_count : {W O : Type 0} → PlainReplica W O → ℕ
+published_count r = r.acknowledged + length r.outbox
 
 -- the most events that a view publishes
 abbrev pub most_published : ℕ
@@ -53,5 +53,5 @@ breaks m r = record r { world = m.first; out = []; broken = true }
 -- how the numbers of a replica stand
 pub record AreCounted {W O : Type 0} (r : PlainReplica W O) : Type 0 where
   pub least : r.acknowledged ≤ r.given
-  pub few : r.given ≤ published r
-  pub most : published r ≤ most_published
+  pub few : r.given ≤ published_count r
+  pub most : published_count r ≤ most_published

@@ -9,7 +9,7 @@ use Rattle.replica_plain.specs.declared.how.How.TheVariants.{Fresh, Whole, Resum
 use Rattle.replica_plain.specs.declared.fault.ReplicaFault.{ReplicaFault}
 use Rattle.replica_plain.specs.declared.fault.ReplicaFault.TheVariants as cause
 use Rattle.replica_plain.specs.Worlds.{Worlds}
-use Rattle.replica_plain.specs.PlainReplica.{PlainReplica, published, breaks}
+use Rattle.replica_plain.specs.PlainReplica.{PlainReplica, published_count, breaks}
 
 -- the replica after a frame, and what is wrong with the frame, if anything
 pub record Taken (W O : Type 0) : Type 0 where
@@ -59,7 +59,7 @@ begins_with m r Resume from (Some base) = if from == r.seen then faults r cause.
 abbrev pub take_sync : {W O : Type 0} → Worlds W O → PlainReplica W O → Option How → ℕ → ℕ → Option Base → Taken W O
 take_sync m r None last from base = faults r cause.Unasked
 take_sync m r (Some how) last from base =
-    if nat_lt (published r) last then out_of_order r (published r) last
+    if nat_lt (published_count r) last then out_of_order r (published_count r) last
     else if nat_lt last r.acknowledged then out_of_order r r.acknowledged last
     else begins_with m r how from base
 

@@ -35,8 +35,8 @@ pub record AreWorlds {W O : Type 0} (m : Worlds W O) : Type 0 where
   pub unsnap_valid : (bytes : List ℕ) (w : W) → m.unsnap bytes ≡ Some w → m.valid w ≡ true
 
 -- the entries with a time of at most this
-abbrev pub until : ℕ → List Entry → List Entry
-until t log = filter (λ entry. nat_le entry.time t) log
+abbrev pub entries_until : ℕ → List Entry → List Entry
+entries_until t log = filter (λ entry. nat_le entry.time t) log
 
 -- the world after these entries
 abbrev pub externals : {W O : Type 0} → Worlds W O → W → List Entry → W
@@ -44,12 +44,12 @@ externals m w [] = w
 externals m w (entry ∷ rest) = externals m (m.external w entry) rest
 
 -- the world of a log at a time
-abbrev pub replay_of : {W O : Type 0} → Worlds W O → List Entry → ℕ → W
-replay_of m log t = m.advance (externals m m.first (until t log)) t
+abbrev pub replay_world : {W O : Type 0} → Worlds W O → List Entry → ℕ → W
+replay_world m log t = m.advance (externals m m.first (entries_until t log)) t
 
 -- what is due at the world's own time makes it the replay to that time
 abbrev pub WorldFollows : {W O : Type 0} → Worlds W O → List Entry → W → Type 0
-WorldFollows m log w = m.advance w (m.time w) ≡ replay_of m log (m.time w)
+WorldFollows m log w = m.advance w (m.time w) ≡ replay_world m log (m.time w)
 
 -- the bytes spell a world of this time that follows the log
 pub record IsHonest {W O : Type 0} (m : Worlds W O) (log : List Entry) (time : ℕ) (bytes : List ℕ) : Type 0 where

@@ -9,8 +9,8 @@ ghost use Rattle.wire_frames.specs.declared.frame.ClientFrame.TheVariants.{Send}
 ghost use Rattle.wire_frames.specs.declared.frame.ServerFrame.{ServerFrame};
 ghost use Rattle.wire_frames.specs.declared.frame.ServerFrame.TheVariants.{Done, Sync, Tick};
 ghost use Rattle.replica_plain.specs.declared.how.How.{How};
-ghost use Rattle.replica_plain.specs.Worlds.{Worlds, AreWorlds, IsHonest, replay_of};
-ghost use Rattle.replica_plain.specs.PlainReplica.{PlainReplica, AreCounted, founded, most_published, published};
+ghost use Rattle.replica_plain.specs.Worlds.{Worlds, AreWorlds, IsHonest, replay_world};
+ghost use Rattle.replica_plain.specs.PlainReplica.{PlainReplica, AreCounted, founded, most_published, published_count};
 ghost use Rattle.replica_plain.specs.Taking.{lost_at, taken};
 ghost use Rattle.replica_plain.specs.Calls.{gives, joining, loses, publishes, sends_after, takes_out, unsent};
 ghost use Rattle.replica_plain.specs.Following.{AreReadCalls, FollowsLog, IsServedTo, ReplicaCall, ToTake, after_calls, frames_of_calls};
@@ -34,7 +34,7 @@ pub fn served_is_read<W, O>()
 /// that follows, at rest or not, is an honest base.
 pub fn replicas_agree<W, O>()
     ensures replays { (m : Worlds W O) (log : List Entry) (r : PlainReplica W O) → AreWorlds m → FollowsLog m log r → m.at_rest r.world ≡ true
-        → r.world ≡ replay_of m log (m.time r.world) }
+        → r.world ≡ replay_world m log (m.time r.world) }
     ensures snapshots { (m : Worlds W O) (log : List Entry) (r other : PlainReplica W O) → AreWorlds m → FollowsLog m log r → FollowsLog m log other
         → m.at_rest r.world ≡ true → m.at_rest other.world ≡ true → m.time r.world ≡ m.time other.world
         → m.snapshot r.world ≡ m.snapshot other.world }
@@ -52,7 +52,7 @@ pub fn numbers_stand<W, O>()
     ensures wants { (m : Worlds W O) (r new : PlainReplica W O) (frame : ServerFrame) → AreCounted r → lost_at m r frame ≡ Some new → AreCounted new }
     ensures joins { (r : PlainReplica W O) (how : How) → AreCounted r → AreCounted (joining r how) }
     ensures loses { (m : Worlds W O) (r : PlainReplica W O) → AreCounted r → AreCounted (loses m r) }
-    ensures publishes { (r : PlainReplica W O) (payload : List ℕ) → AreCounted r → published r < most_published → AreCounted (publishes r payload) }
+    ensures publishes { (r : PlainReplica W O) (payload : List ℕ) → AreCounted r → published_count r < most_published → AreCounted (publishes r payload) }
     ensures gives { (r : PlainReplica W O) → AreCounted r → AreCounted (gives r) }
     ensures takes_out { (r : PlainReplica W O) → AreCounted r → AreCounted (takes_out r) }
 {}
@@ -65,7 +65,7 @@ pub fn events_are_given<W, O>()
         → (taken m r (Sync joined last from base)).fault ≡ None → unsent (taken m r (Sync joined last from base)).replica ≡ sends_after r.acknowledged r.outbox }
     ensures gives { (r : PlainReplica W O) → unsent (gives r) ≡ [] }
     ensures publishes { (r : PlainReplica W O) (payload : List ℕ) → AreCounted r → r.synced ≡ true
-        → unsent (publishes r payload) ≡ unsent r ++ Send (published r + 1) payload ∷ [] }
+        → unsent (publishes r payload) ≡ unsent r ++ Send (published_count r + 1) payload ∷ [] }
     ensures answers { (m : Worlds W O) (r : PlainReplica W O) (number seq time : ℕ) → r.acknowledged < r.given
         → unsent (taken m r (Done number seq time)).replica ≡ unsent r }
 {}

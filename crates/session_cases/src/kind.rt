@@ -33,8 +33,8 @@ impl CaseKind for SessionCases {
 fn outcome(alloc: Global, kind: SessionCases, case: &[u8]) -> Result<String, CaseFault> {
     let bytes = hex::decode(alloc, case)?;
     let (mut told, again) = match kind {
-        SessionCases::Client => client::told(alloc, bytes.as_slice())?,
-        SessionCases::Server => server::told(alloc, bytes.as_slice())?,
+        SessionCases::Client => client::client_outcome(alloc, bytes.as_slice())?,
+        SessionCases::Server => server::server_outcome(alloc, bytes.as_slice())?,
     };
     put_other_spelling(alloc, &mut told, bytes.as_slice(), &again)?;
     Ok(told)

@@ -15,7 +15,7 @@ use Rattle.session_lock.specs.declared.knowledge.Item.TheVariants.{Did, Void}
 use Rattle.session_lock.specs.declared.knowledge.Knowledge.{Knowledge}
 use Rattle.session_lock.specs.History.{caller_of, after_item, play, has, calls_of, Saw}
 use Rattle.session_lock.specs.Rules.{Locks, HoldsOnce, holds_number, knows, no_part, longer}
-use Rattle.session_lock.specs.Steps.{M, HasCounted, Finishes, AnswersRequest, Fails, with_ticket, with_turn, merged, split_left, split_right}
+use Rattle.session_lock.specs.Steps.{M, HasCounted, Finishes, AnswersRequest, Fails, with_ticket, with_turn, join_left, split_left, split_right}
 use Rattle.session_lock.specs.Passes.{SharedState, shared_state, PassState, pass_state, Grew, Replied, Voided, Caught, Given, Merged, HeldOnce, UsedNoSpare, times_held, caller, numbers_held}
 use Rattle.session_lock.proofs.Histories.{saw_own, saw_each, saw_call, has_own}
 use Rattle.session_lock.specs.Numbers.{in_ranges, count_of, take_numbers, first_of_ranges}
@@ -96,14 +96,14 @@ abbrev Settled : M → M → Type 0
 Settled m m' = (m' ≡ (record m.0 { kept = no_part; other = no_part }, m.1)) × Saw m.0.kept.callers m.0.kept.seen m.0.seen × Saw m.0.other.callers m.0.other.seen m.0.seen × HoldsOnce m.0
 
 -- what is known once the two views were put together and looked at
-pub put_together : (m₀ m₁ m₂ : M) (w : Knowledge) → m₁ ≡ (merged m₀.0 w, m₀.1) → Settled m₁ m₂
-    → (m₂ ≡ (record (merged m₀.0 w) { kept = no_part; other = no_part }, m₀.1)) × Saw m₀.0.callers m₀.0.seen (longer m₀.0.seen w.seen) × Saw w.callers w.seen (longer m₀.0.seen w.seen) × HoldsOnce (merged m₀.0 w)
+pub put_together : (m₀ m₁ m₂ : M) (w : Knowledge) → m₁ ≡ (join_left m₀.0 w, m₀.1) → Settled m₁ m₂
+    → (m₂ ≡ (record (join_left m₀.0 w) { kept = no_part; other = no_part }, m₀.1)) × Saw m₀.0.callers m₀.0.seen (longer m₀.0.seen w.seen) × Saw w.callers w.seen (longer m₀.0.seen w.seen) × HoldsOnce (join_left m₀.0 w)
 put_together m₀ m₁ m₂ w e settled = subst (λ (m : M). Settled m m₂) e settled
 
-pub merged_told : (z z₁ z₂ : TableId) (m₀ m₁ m₂ : M) (w : Knowledge) (p q : PassState) → pass_state z m₀.0 ≡ p → pass_state z₁ w ≡ q → z₂ ≡ z → m₁ ≡ (merged m₀.0 w, m₀.1) → Settled m₁ m₂ → Merged p q (pass_state z₂ m₂.0)
+pub merged_told : (z z₁ z₂ : TableId) (m₀ m₁ m₂ : M) (w : Knowledge) (p q : PassState) → pass_state z m₀.0 ≡ p → pass_state z₁ w ≡ q → z₂ ≡ z → m₁ ≡ (join_left m₀.0 w, m₀.1) → Settled m₁ m₂ → Merged p q (pass_state z₂ m₂.0)
 merged_told z z₁ z₂ m₀ m₁ m₂ w p q view view' table e settled =
     let t = put_together m₀ m₁ m₂ w e settled in
-    let told : Merged (pass_state z m₀.0) (pass_state z₁ w) (pass_state z (merged m₀.0 w)) =
+    let told : Merged (pass_state z m₀.0) (pass_state z₁ w) (pass_state z (join_left m₀.0 w)) =
     record {
       same = refl;
       saw = t.1;
@@ -116,7 +116,7 @@ merged_told z z₁ z₂ m₀ m₁ m₂ w p q view view' table e settled =
     in
     subst (λ (x : (PassState × PassState) × (TableId × M)). Merged x.0.0 x.0.1 (pass_state x.1.0 x.1.1.0)) (λ i. ((view i, view' i), (sym table i, sym t.0 i))) told
 
-pub merged_count : (z z₁ z₂ : TableId) (m₀ m₁ m₂ : M) (w : Knowledge) (p q : PassState) → pass_state z m₀.0 ≡ p → pass_state z₁ w ≡ q → m₁ ≡ (merged m₀.0 w, m₀.1) → Settled m₁ m₂
+pub merged_count : (z z₁ z₂ : TableId) (m₀ m₁ m₂ : M) (w : Knowledge) (p q : PassState) → pass_state z m₀.0 ≡ p → pass_state z₁ w ≡ q → m₁ ≡ (join_left m₀.0 w, m₀.1) → Settled m₁ m₂
     → numbers_held (pass_state z₂ m₂.0) ≡ numbers_held p + numbers_held q
 merged_count z z₁ z₂ m₀ m₁ m₂ w p q view view' e settled =
     let t = put_together m₀ m₁ m₂ w e settled in
@@ -128,7 +128,7 @@ merged_count z z₁ z₂ m₀ m₁ m₂ w p q view view' e settled =
     omega (arith, a, b, c, d, f)
 
 -- the numbers of the two are distinct, and the pass stays its own caller's
-pub merged_apart : (z z₁ : TableId) (m₀ m₁ m₂ : M) (w : Knowledge) (p q : PassState) → pass_state z m₀.0 ≡ p → pass_state z₁ w ≡ q → m₁ ≡ (merged m₀.0 w, m₀.1) → Settled m₁ m₂ → HeldOnce p q
+pub merged_apart : (z z₁ : TableId) (m₀ m₁ m₂ : M) (w : Knowledge) (p q : PassState) → pass_state z m₀.0 ≡ p → pass_state z₁ w ≡ q → m₁ ≡ (join_left m₀.0 w, m₀.1) → Settled m₁ m₂ → HeldOnce p q
 merged_apart z z₁ m₀ m₁ m₂ w p q view view' e settled n =
     let once = (put_together m₀ m₁ m₂ w e settled).3 n in
     let a = ap (times_held n) view in

@@ -14,7 +14,7 @@ use Rattle.session_lock.specs.declared.knowledge.Knowledge.{Knowledge}
 use Rattle.session_lock.specs.History.{calls_of, Saw}
 use Rattle.session_lock.specs.Numbers.{in_ranges, count_of, take_numbers, drop_numbers, first_of_ranges}
 use Rattle.session_lock.specs.Rules.{views_total, is_ticket, has_ticket, one_if, is_holding, calls_as, holds_number, size_of, Every, HoldsInTurn, SpentHoldsNothing, PartsFit, no_part, IsSeenWhole, Locks}
-use Rattle.session_lock.specs.Steps.{split_left, split_right, merged, spent}
+use Rattle.session_lock.specs.Steps.{split_left, split_right, join_left, join_right}
 use Rattle.session_lock.proofs.Totals.{total_set, total_snoc, every_set, every_snoc}
 use Rattle.session_lock.proofs.Ranges.{cut, cut_count, taken_count, first_out, in_ranges_append, count_append, times_append}
 use Rattle.session_lock.proofs.Histories.{calls_append, saw_length, saw_whole, saw_rest, nothing_left, neither, saw_nothing}
@@ -100,11 +100,11 @@ longer_is_right false xs ys history cs is e p =
     let lt = leb-false (length xs) (length ys) is in let len : length ys ≡ length history = ap length e in let most = saw_length cs xs history p in absurd (omega (arith, lt, len, most))
 
 told_merge : (history : List Item) (views : List Knowledge) (id other : ℕ) (v w : Knowledge) → get_elem? views id ≡ some v → get_elem? views other ≡ some w → ¬ (other ≡ id) → Saw v.callers v.seen history → Saw w.callers w.seen history
-    → 0 < length v.callers → IsSeenWhole history views → IsSeenWhole history (set (set views id (merged v w)) other spent)
+    → 0 < length v.callers → IsSeenWhole history views → IsSeenWhole history (set (set views id (join_left v w)) other join_right)
 told_merge history views id other v w at atw ne saw saw' caller_is told =
-    let m : Knowledge = merged v w in
+    let m : Knowledge = join_left v w in
     let j : ℕ = told.0 in
-    let here : get_elem? (set (set views id m) other spent) id ≡ some m = set_other (set views id m) other id m spent (λ e. ne (sym e)) (set_at views id v m at) in
+    let here : get_elem? (set (set views id m) other join_right) id ≡ some m = set_other (set views id m) other id m join_right (λ e. ne (sym e)) (set_at views id v m at) in
     let some_caller : 0 < length m.callers = (let a = length-append v.callers w.callers in omega (arith, a, caller_is)) in
     dite (ℕ_discrete j id)
     (λ is. let same : told.1 ≡ v = some-injective told.1 v (sym told.2 ∙ (ap (λ (n : ℕ). get_elem? views n) is ∙ at)) in
@@ -112,27 +112,27 @@ told_merge history views id other v w at atw ne saw saw' caller_is told =
     (λ not_id. dite (ℕ_discrete j other)
     (λ is. let same : told.1 ≡ w = some-injective told.1 w (sym told.2 ∙ (ap (λ (n : ℕ). get_elem? views n) is ∙ atw)) in
     (id, m, here, longer_is_right (leb (length v.seen) (length w.seen)) v.seen w.seen history v.callers refl (ap (λ (u : Knowledge). u.seen) (sym same) ∙ told.3) saw, some_caller))
-    (λ not_other. (j, told.1, set_other (set views id m) other j told.1 spent not_other (set_other views id j told.1 m not_id told.2), told.3, told.4)))
+    (λ not_other. (j, told.1, set_other (set views id m) other j told.1 join_right not_other (set_other views id j told.1 m not_id told.2), told.3, told.4)))
 
 -- sums where one view takes in another
 total_join : (f : Knowledge → ℕ) (views : List Knowledge) (id other : ℕ) (v w both gone : Knowledge) → get_elem? views id ≡ some v → get_elem? (set views id both) other ≡ some w → f both + f gone ≡ f v + f w
     → views_total f (set (set views id both) other gone) ≡ views_total f views
 total_join f views id other v w both gone at also same = let a = total_set f views id v both at in let b = total_set f (set views id both) other w gone also in omega (arith, a, b, same)
 
-pub merges : (Trusted : PlainSession → Type 0) (id other : ℕ) (v w : Knowledge) → v.ticket ≡ None → v.holding ≡ false → w.ticket ≡ None → w.holding ≡ false → 0 < length v.callers → Joins (Locks Trusted) id v other w (merged v w) spent
+pub merges : (Trusted : PlainSession → Type 0) (id other : ℕ) (v w : Knowledge) → v.ticket ≡ None → v.holding ≡ false → w.ticket ≡ None → w.holding ≡ false → 0 < length v.callers → Joins (Locks Trusted) id v other w (join_left v w) join_right
 merges Trusted id other v w idle free idle' free' caller_is s (history, k) at ne also =
-    let m : Knowledge = merged v w in
-    let views : List Knowledge = set (set s.views id m) other spent in
+    let m : Knowledge = join_left v w in
+    let views : List Knowledge = set (set s.views id m) other join_right in
     let atw : get_elem? s.views other ≡ some w = sym (set_else s.views id other m ne) ∙ also in
     let saw = k.seen id v at in
     let saw' = k.seen other w atw in
     let fits : Saw m.callers m.seen history = longer_fits (leb (length v.seen) (length w.seen)) v.seen w.seen history v.callers w.callers refl saw saw' in
     let left = longer_left (leb (length v.seen) (length w.seen)) v.seen w.seen refl in
     let right = longer_right (leb (length v.seen) (length w.seen)) v.seen w.seen refl in
-    let join : (f : Knowledge → ℕ) → f m + f spent ≡ f v + f w → views_total f views ≡ views_total f s.views = λ f same. total_join f s.views id other v w m spent at also same in
+    let join : (f : Knowledge → ℕ) → f m + f join_right ≡ f v + f w → views_total f views ≡ views_total f s.views = λ f same. total_join f s.views id other v w m join_right at also same in
     let same_holding : views_total is_holding views ≡ views_total is_holding s.views = join is_holding (let a : is_holding w ≡ 0 = ap one_if free' in omega (arith, a)) in
     let some_caller : 0 < length m.callers = (let a = length-append v.callers w.callers in omega (arith, a, caller_is)) in
-    let every : (P : Knowledge → Type 0) → Every P s.views → P m → P spent → Every P views = λ P h p q. every_set P (set s.views id m) other spent (every_set P s.views id m h p) q in (
+    let every : (P : Knowledge → Type 0) → Every P s.views → P m → P join_right → Every P views = λ P h p q. every_set P (set s.views id m) other join_right (every_set P s.views id m h p) q in (
       history,
       record {
         next = k.next;
@@ -147,7 +147,7 @@ merges Trusted id other v w idle free idle' free' caller_is s (history, k) at ne
           (saw, left, λ n e. (let a = times_append n v.callers w.callers in omega (arith, a, e))),
           (saw', right, λ n e. (let a = times_append n v.callers w.callers in omega (arith, a, e))),
         )
-            (part_none history spent no_part refl, part_none history spent no_part refl);
+            (part_none history join_right no_part refl, part_none history join_right no_part refl);
         told = told_merge history s.views id other v w at atw ne saw saw' caller_is k.told;
         called = λ n none_of. k.called n (sym (join (calls_as n) (let a = times_append n v.callers w.callers in omega (arith, a))) ∙ none_of);
         turn = every (HoldsInTurn (length history)) k.turn (λ h. absurd (let e : true ≡ false = sym h ∙ free in cc (e))) (λ h. absurd (cc (h)));

@@ -16,7 +16,7 @@ use Rattle.session_lock.specs.declared.knowledge.Knowledge.{Knowledge}
 use Rattle.session_lock.specs.History.{caller_of, after_item, play, has, calls_of, Saw}
 use Rattle.session_lock.specs.Numbers.{times, in_ranges, count_of, one_between}
 use Rattle.session_lock.specs.Rules.{all_numbers, views_total, is_ticket, has_ticket, one_if, is_holding, calls_as, holds_number, size_of, HoldsOnce, HoldsInTurn, SpentHoldsNothing, PartFits, PartsFit, IsSeenWhole, IsInOrder, Locks, no_part}
-use Rattle.session_lock.specs.Steps.{Unused, Settles, M, with_ticket, with_turn, done, Draws, Looks, Finishes, Counts}
+use Rattle.session_lock.specs.Steps.{Unused, Settles, M, with_ticket, with_turn, with_seen_item, Draws, Looks, Finishes, CountsHistory}
 use Rattle.session_lock.proofs.Totals.{total_set, total_same, total_has, total_two, total_none, total_only, every_set, every_set_else}
 use Rattle.session_lock.proofs.Histories.{play_snoc, sound_more, sound_end, calls_append, saw_all, saw_more, saw_whole, saw_length, saw_nothing, saw_between, nothing_first, has_times}
 
@@ -218,7 +218,7 @@ module _ (Trusted : PlainSession → Type 0) where
       let h : List Item = v.seen in
       let k : IsInOrder Trusted h s = subst (λ (l : List Item). IsInOrder Trusted l s) (sym same) k₀ in
       let x : Item = item c in
-      let w : Knowledge = done v x in
+      let w : Knowledge = with_seen_item v x in
       let sound_now : IsSoundSession (after_item (play h) x) = subst IsSoundSession is_play y_sound in
       let trusted_now : Trusted (play (h ++ x ∷ [])) = subst Trusted (sym (play_snoc h x)) (stays (sound_end first_session h k.sound) sound_now k.trusted) in
       let some_caller : 0 < length v.callers = subst (λ (l : List ℕ). 0 < length l) (sym mine) (omega arith) in
@@ -302,7 +302,7 @@ module _ (Trusted : PlainSession → Type 0) where
     away = λ one. k.away (sym (total_same is_holding s.views id v w at (ap one_if holding)) ∙ one);
   }
 
-  pub counts : (Told : PlainSession → Type 0) → ((s : PlainSession) → Trusted s → Told s) → (slots id : ℕ) (v : Knowledge) (carried : List (ℕ × PlainSession)) → Allows (Locks Trusted) slots id (v, carried) 1 (λ n. n) (Counts Told (step slots 1 0 0 none) (v, carried))
+  pub counts : (Told : PlainSession → Type 0) → ((s : PlainSession) → Trusted s → Told s) → (slots id : ℕ) (v : Knowledge) (carried : List (ℕ × PlainSession)) → Allows (Locks Trusted) slots id (v, carried) 1 (λ n. n) (CountsHistory Told (step slots 1 0 0 none) (v, carried))
   counts Told tells slots id v carried s (history, k) wide at small = let w : Knowledge = record v { seen = history } in (
     w,
     keeps,
@@ -315,7 +315,7 @@ module _ (Trusted : PlainSession → Type 0) where
   looks_me Told tells slots id me t empty has_it free caller_is =
       subst (λ (c : List (ℕ × PlainSession)). Allows (Locks Trusted) slots id (me.0, c) 1 (λ n. n) (Looks Told (step slots 1 0 0 none) (me.0, c))) (sym empty) (looks Told tells slots id me.0 t has_it free caller_is)
 
-  pub counts_me : (Told : PlainSession → Type 0) → ((s : PlainSession) → Trusted s → Told s) → (slots id : ℕ) (me : M) → Allows (Locks Trusted) slots id me 1 (λ n. n) (Counts Told (step slots 1 0 0 none) me)
+  pub counts_me : (Told : PlainSession → Type 0) → ((s : PlainSession) → Trusted s → Told s) → (slots id : ℕ) (me : M) → Allows (Locks Trusted) slots id me 1 (λ n. n) (CountsHistory Told (step slots 1 0 0 none) me)
   counts_me Told tells slots id me = counts Told tells slots id me.0 me.1
 
   pub finishes_me : (Told : PlainSession → Type 0) → ((s : PlainSession) → Trusted s → Told s) → (slots id : ℕ) (me : M) (y : PlainSession) (item : ℕ → Item) (c : ℕ) (others : List ℕ) → slots ≡ 1 → me.1 ≡ (0, y) ∷ [] → me.0.callers ≡ c ∷ others → caller_of (item c) ≡ c → me.0.holding ≡ true → me.0.ticket ≡ Some (length me.0.seen) → me.0.kept ≡ no_part → me.0.other ≡ no_part

@@ -24,8 +24,8 @@ with_ticket v t = record v { ticket = Some t }
 abbrev pub with_turn : Knowledge → List Item → Knowledge
 with_turn v history = record v { seen = history; holding = true }
 
-abbrev pub done : Knowledge → Item → Knowledge
-done v item = record v { seen = v.seen ++ item ∷ []; ticket = None; holding = false }
+abbrev pub with_seen_item : Knowledge → Item → Knowledge
+with_seen_item v item = record v { seen = v.seen ++ item ∷ []; ticket = None; holding = false }
 
 -- draw: the ticket was drawn, or nothing changed
 abbrev pub Draws : Step PlainSession → M → ℕ → M → Type 0
@@ -61,7 +61,7 @@ Works m request result m' =
 -- sound all the way
 abbrev pub Finishes : (PlainSession → Type 0) → (ℕ → Item) → Step PlainSession → M → ℕ → M → Type 0
 Finishes Trusted item st m found m' =
-    (caller : ℕ) × (others : List ℕ) × (m.0.callers ≡ caller ∷ others) × (m' ≡ (done m.0 (item caller), []))
+    (caller : ℕ) × (others : List ℕ) × (m.0.callers ≡ caller ∷ others) × (m' ≡ (with_seen_item m.0 (item caller), []))
     × PlaysWell Trusted m'.0.seen
 
 -- the whole history was seen, which is so long, and whose play is trusted and was sound all the way
@@ -71,8 +71,8 @@ HasCounted Trusted m found m' =
     × (m' ≡ (record m.0 { seen = history }, m.1)) × PlaysWell Trusted history
 
 -- count: the whole history was seen, and its length found
-abbrev pub Counts : (PlainSession → Type 0) → Step PlainSession → M → ℕ → M → Type 0
-Counts Trusted st m found m' = HasCounted Trusted m found m'
+abbrev pub CountsHistory : (PlainSession → Type 0) → Step PlainSession → M → ℕ → M → Type 0
+CountsHistory Trusted st m found m' = HasCounted Trusted m found m'
 
 -- unused: no item has a spare number, and no number is held twice
 abbrev pub Unused : Step PlainSession → M → ℕ → M → Type 0
@@ -87,8 +87,8 @@ abbrev pub split_left : ℕ → Knowledge → Knowledge
 split_left n v = record v { spare = drop_numbers n v.spare }
 
 -- join: both views in one, and what is left of the other
-abbrev pub merged : Knowledge → Knowledge → Knowledge
-merged v w = record v {
+abbrev pub join_left : Knowledge → Knowledge → Knowledge
+join_left v w = record v {
   callers = v.callers ++ w.callers;
   spare = v.spare ++ w.spare;
   seen = longer v.seen w.seen;
@@ -96,8 +96,8 @@ merged v w = record v {
   other = merge_part w.callers w.seen;
 }
 
-abbrev pub spent : Knowledge
-spent = knows [] [] []
+abbrev pub join_right : Knowledge
+join_right = knows [] [] []
 
 -- settle: what was known before the merge begins what is known now, and its callers made no call since; and no number
 -- is held twice

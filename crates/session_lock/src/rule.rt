@@ -92,9 +92,9 @@ pub(crate) struct CountAll<J> {
 }
 
 impl<J: Trusting> Play<Held, Knowledge> for CountAll<J> {
-    ghost use Rattle.session_lock.specs.Steps.{Counts};
+    ghost use Rattle.session_lock.specs.Steps.{CountsHistory};
 
-    ghost then = { Counts J.trusted };
+    ghost then = { CountsHistory J.trusted };
 }
 
 /// How many spare numbers a new pass gets. Each split picks it.
@@ -133,11 +133,11 @@ impl<J: Sharing> Split<Knowledge> for Cut<J> {
 pub(crate) struct Glue;
 
 impl Join<Knowledge> for Glue {
-    ghost use Rattle.session_lock.specs.Steps.{merged, spent};
+    ghost use Rattle.session_lock.specs.Steps.{join_left, join_right};
 
-    ghost both = { merged };
+    ghost both = { join_left };
 
-    ghost spent = { spent };
+    ghost spent = { join_right };
 }
 
 /// Looks at what two passes knew that were just put together.

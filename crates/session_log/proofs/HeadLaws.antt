@@ -12,8 +12,8 @@ use Rattle.tea_base.proofs.LogLaws.{event-counted, last_presence-push, sent-push
 use Rattle.tea_base.specs.declared.entry.What.{What}
 use Rattle.tea_base.specs.declared.entry.What.TheVariants as what
 use Rattle.session_log.specs.declared.heads.Head.{Head}
-use Rattle.session_log.specs.declared.heads.Kind.{Kind}
-use Rattle.session_log.specs.declared.heads.Kind.TheVariants.{Join, Exit, Event}
+use Rattle.session_log.specs.declared.heads.HeadKind.{HeadKind}
+use Rattle.session_log.specs.declared.heads.HeadKind.TheVariants.{Join, Exit, Event}
 use Rattle.session_log.specs.Heads.{entry_of, what_of, AreWithin, IsKindWithin, IsPresence}
 use Rattle.session_log.specs.LogState.{next_entry}
 use Rattle.session_log.specs.Kept.{AreSound}
@@ -59,7 +59,7 @@ slice_range-append xs ys start len within =
     rw (drop-append-le start xs ys starts, take-append-le (start + len - start) (drop start xs) ys ends) refl
 
 -- more payload bytes leave what is recorded as it was
-what_of-append : (payloads more : List ℕ) (kind : Kind) → IsKindWithin (length payloads) kind → what_of (payloads ++ more) kind ≡ what_of payloads kind
+what_of-append : (payloads more : List ℕ) (kind : HeadKind) → IsKindWithin (length payloads) kind → what_of (payloads ++ more) kind ≡ what_of payloads kind
 what_of-append payloads more Join within = refl
 what_of-append payloads more Exit within = refl
 what_of-append payloads more (Event number start len) within = ap (what.Event number) (slice_range-append payloads more start len within)
@@ -74,7 +74,7 @@ entries-push payloads more grown heads pushed head what within grows push kept =
     let kept_more : what_of (payloads ++ more) head.kind ≡ what = rw (← grows) kept in
     rw (push, grows, map-append (entry_of (payloads ++ more)) heads (head ∷ []), entries-append payloads more heads within, kept_more) refl
 
-IsKindWithin-grows : (a b : ℕ) (kind : Kind) → a ≤ b → IsKindWithin a kind → IsKindWithin b kind
+IsKindWithin-grows : (a b : ℕ) (kind : HeadKind) → a ≤ b → IsKindWithin a kind → IsKindWithin b kind
 IsKindWithin-grows a b Join le within = tt
 IsKindWithin-grows a b Exit le within = tt
 IsKindWithin-grows a b (Event number start len) le within = omega arith
@@ -110,17 +110,17 @@ pub short-push : (payloads : List ℕ) (heads : List Head) (time view : ℕ) (wh
 short-push payloads heads time view what may = omega (arith, MayFollow-short _ _ may, length-map heads (entry_of payloads))
 
 -- a Join or an Exit needs no payload bytes
-pub what_of-presence : (payloads : List ℕ) (kind : Kind) → IsPresence kind → what_of payloads kind ≡ what_of [] kind
+pub what_of-presence : (payloads : List ℕ) (kind : HeadKind) → IsPresence kind → what_of payloads kind ≡ what_of [] kind
 what_of-presence payloads Join is = refl
 what_of-presence payloads Exit is = refl
 what_of-presence payloads (Event number start len) is = absurd is
 
-pub payload_of-presence : (kind : Kind) → IsPresence kind → event_payload (what_of [] kind) ≡ []
+pub payload_of-presence : (kind : HeadKind) → IsPresence kind → event_payload (what_of [] kind) ≡ []
 payload_of-presence Join is = refl
 payload_of-presence Exit is = refl
 payload_of-presence (Event number start len) is = absurd is
 
-pub IsKindWithin-presence : (bound : ℕ) (kind : Kind) → IsPresence kind → IsKindWithin bound kind
+pub IsKindWithin-presence : (bound : ℕ) (kind : HeadKind) → IsPresence kind → IsKindWithin bound kind
 IsKindWithin-presence bound Join is = tt
 IsKindWithin-presence bound Exit is = tt
 IsKindWithin-presence bound (Event number start len) is = absurd is

@@ -10,11 +10,11 @@ use Rattle.tea_base.specs.Readings.{is_here, last_number, last_time, is_presence
 use Rattle.tea_base.specs.Limits.{time_limit, most_entries}
 use Rattle.tea_base.specs.Legal.{LogAllows, MayFollow, IsLegalAfter, IsLegal}
 use Rattle.tea_base.proofs.LogLaws.{last_presence-push, MayFollow-short}
-use Rattle.session_log.specs.declared.legality.Stand.{Stand}
-use Rattle.session_log.specs.Legality.{standing, view_stand, log_allows, may_follow, stand_after}
+use Rattle.session_log.specs.declared.legality.ViewState.{ViewState}
+use Rattle.session_log.specs.Legality.{log_counts, view_state, log_allows, may_follow, view_state_after}
 use Rattle.session_log.proofs.HeadLaws.{last_number-push}
 
-allows-Decides : (log : List Entry) (view : ℕ) (what : What) → Decides (log_allows (standing log) (view_stand log view) what) (LogAllows log view what)
+allows-Decides : (log : List Entry) (view : ℕ) (what : What) → Decides (log_allows (log_counts log) (view_state log view) what) (LogAllows log view what)
 allows-Decides log view Join = (λ h. grind (arith, nat_tests), λ h. let a = h.0 in let b = h.1 in grind (arith, nat_tests))
 allows-Decides log view Exit = (λ h. grind (arith, nat_tests), λ h. let a = h.0 in let b = h.1 in grind (arith, nat_tests))
 allows-Decides log view (Event number payload) =
@@ -42,17 +42,17 @@ is_here_if false entry last = refl
 is_here-push : (log : List Entry) (entry : Entry) (view : ℕ) → is_here (log ++ entry ∷ []) view ≡ cond (is_presence_of view entry) (is_join entry.what) (is_here log view)
 is_here-push log entry view = ap is_some_join (last_presence-push log entry view) ∙ is_here_if (is_presence_of view entry) entry (last_entry (presence log view))
 
-abbrev made_stand : Bool → ℕ → Stand
+abbrev made_stand : Bool → ℕ → ViewState
 made_stand here number = record { here = here; number = number }
 
-stood_by : (same : Bool) (here : Bool) (number : ℕ) (what : What) → cond same (stand_after (made_stand here number) what) (made_stand here number)
+stood_by : (same : Bool) (here : Bool) (number : ℕ) (what : What) → cond same (view_state_after (made_stand here number) what) (made_stand here number)
     ≡ made_stand (cond (same && (is_join what || is_exit what)) (is_join what) here) (number + cond (same && is_event what) 1 0)
 stood_by true here number Join = let e : number ≡ number + 0 = omega arith in ap (made_stand true) e
 stood_by true here number Exit = let e : number ≡ number + 0 = omega arith in ap (made_stand false) e
 stood_by true here number (Event n payload) = refl
 stood_by false here number what = let e : number ≡ number + 0 = omega arith in ap (made_stand here) e
 
-pub stand-push : (log : List Entry) (entry : Entry) (view : ℕ) → view_stand (log ++ entry ∷ []) view ≡ cond (eqb entry.view view) (stand_after (view_stand log view) entry.what) (view_stand log view)
+pub stand-push : (log : List Entry) (entry : Entry) (view : ℕ) → view_state (log ++ entry ∷ []) view ≡ cond (eqb entry.view view) (view_state_after (view_state log view) entry.what) (view_state log view)
 stand-push log entry view =
     rw (is_here-push log entry view, last_number-push log entry view) (sym (stood_by (eqb entry.view view) (is_here log view) (last_number log view) entry.what))
 

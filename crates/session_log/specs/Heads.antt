@@ -4,10 +4,10 @@ use Rattle.tea_base.specs.declared.entry.Entry.{Entry}
 use Rattle.tea_base.specs.declared.entry.What.{What}
 use Rattle.tea_base.specs.declared.entry.What.TheVariants as what
 use Rattle.session_log.specs.declared.heads.Head.{Head}
-use Rattle.session_log.specs.declared.heads.Kind.{Kind}
-use Rattle.session_log.specs.declared.heads.Kind.TheVariants.{Join, Exit, Event}
+use Rattle.session_log.specs.declared.heads.HeadKind.{HeadKind}
+use Rattle.session_log.specs.declared.heads.HeadKind.TheVariants.{Join, Exit, Event}
 
-abbrev pub what_of : List ℕ → Kind → What
+abbrev pub what_of : List ℕ → HeadKind → What
 what_of payloads Join = what.Join
 what_of payloads Exit = what.Exit
 what_of payloads (Event number start len) = what.Event number (slice_range payloads start (start + len))
@@ -17,7 +17,7 @@ entry_of payloads head =
     record { seq = head.seq; time = head.time; view = head.view; what = what_of payloads head.kind }
 
 -- the payload lies within the first bytes
-abbrev pub IsKindWithin : ℕ → Kind → Type 0
+abbrev pub IsKindWithin : ℕ → HeadKind → Type 0
 IsKindWithin bound Join = Unit {0}
 IsKindWithin bound Exit = Unit {0}
 IsKindWithin bound (Event number start len) = start + len ≤ bound
@@ -27,7 +27,7 @@ AreWithin bound [] = Unit {0}
 AreWithin bound (head ∷ rest) = IsKindWithin bound head.kind × AreWithin bound rest
 
 -- it is a Join or an Exit
-abbrev pub IsPresence : Kind → Type 0
+abbrev pub IsPresence : HeadKind → Type 0
 IsPresence Join = Unit {0}
 IsPresence Exit = Unit {0}
 IsPresence (Event number start len) = ⊥

@@ -6,19 +6,19 @@ use Rattle.tea_base.specs.declared.entry.Entry.{Entry}
 use Rattle.tea_base.specs.declared.entry.What.{What}
 use Rattle.tea_base.specs.declared.entry.What.TheVariants.{Join, Exit, Event}
 use Rattle.tea_base.specs.Readings.{here_count, last_time}
-use Rattle.session_log.specs.Legality.{view_stand}
-use Rattle.session_log.specs.declared.legality.Stand.{Stand}
+use Rattle.session_log.specs.Legality.{view_state}
+use Rattle.session_log.specs.declared.legality.ViewState.{ViewState}
 use Rattle.session_log.specs.declared.tally.Tally.{Tally}
 
 -- a view that no entry names
-abbrev pub absent : Stand
+abbrev pub absent : ViewState
 absent = record { here = false; number = 0 }
 
-abbrev pub stand_in : BTreeMap ℕ Stand → ℕ → Stand
-stand_in stands view = unwrap_or (get nat_cmp stands view) absent
+abbrev pub view_state_in : BTreeMap ℕ ViewState → ℕ → ViewState
+view_state_in stands view = unwrap_or (get nat_cmp stands view) absent
 
 -- how many views are here after an entry of a view that stood so
-abbrev pub here_after : ℕ → Stand → What → ℕ
+abbrev pub here_after : ℕ → ViewState → What → ℕ
 here_after count view Join = if view.here then count else count + 1
 here_after count view Exit = count - 1
 here_after count view (Event number payload) = count
@@ -26,4 +26,4 @@ here_after count view (Event number payload) = count
 pub record TellsLog (tally : Tally) (log : List Entry) : Type 0 where
   pub time : tally.time ≡ last_time log
   pub views_here : tally.views_here ≡ here_count log
-  pub stands : (view : ℕ) → stand_in tally.stands view ≡ view_stand log view
+  pub stands : (view : ℕ) → view_state_in tally.stands view ≡ view_state log view

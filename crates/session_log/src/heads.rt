@@ -7,7 +7,7 @@ ghost use Rattle.session_log.specs.Heads.{entry_of};
 
 /// What an entry records. An Event's payload is `len` bytes from `start` on.
 #[derive(Clone, Copy, Debug)]
-pub enum Kind {
+pub enum HeadKind {
     Join,
     Exit,
     Event {
@@ -23,7 +23,7 @@ pub struct Head {
     pub seq: u32,
     pub time: u64,
     pub view: u32,
-    pub kind: Kind,
+    pub kind: HeadKind,
 }
 
 impl Head {
@@ -31,21 +31,21 @@ impl Head {
     fn is_join(&self) -> bool
         ensures { (payloads : List ℕ) → result ≡ is_join (entry_of payloads self.now).what }
     {
-        matches!(self.kind, Kind::Join)
+        matches!(self.kind, HeadKind::Join)
     }
 
     /// Whether the entry is a Join or an Exit of a view.
     fn is_presence_of(&self, view: u32) -> bool
         ensures { (payloads : List ℕ) → result ≡ is_presence_of view (entry_of payloads self.now) }
     {
-        self.view == view && matches!(self.kind, Kind::Join | Kind::Exit)
+        self.view == view && matches!(self.kind, HeadKind::Join | HeadKind::Exit)
     }
 
     /// Whether the entry is an Event of a view.
     fn is_event_of(&self, view: u32) -> bool
         ensures { (payloads : List ℕ) → result ≡ is_event_of view (entry_of payloads self.now) }
     {
-        self.view == view && matches!(self.kind, Kind::Event { .. })
+        self.view == view && matches!(self.kind, HeadKind::Event { .. })
     }
 }
 
@@ -105,8 +105,8 @@ pub fn current_of(heads: &[Head], view: u32) -> u32
     for head in heads {
         if head.view == view {
             match head.kind {
-                Kind::Join | Kind::Exit => found = head.seq,
-                Kind::Event { .. } => {}
+                HeadKind::Join | HeadKind::Exit => found = head.seq,
+                HeadKind::Event { .. } => {}
             }
         }
     }
@@ -121,9 +121,9 @@ pub fn is_here_in(heads: &[Head], view: u32) -> bool
     for head in heads {
         if head.view == view {
             match head.kind {
-                Kind::Join => here = true,
-                Kind::Exit => here = false,
-                Kind::Event { .. } => {}
+                HeadKind::Join => here = true,
+                HeadKind::Exit => here = false,
+                HeadKind::Event { .. } => {}
             }
         }
     }
@@ -141,8 +141,8 @@ pub fn last_number_in(heads: &[Head], view: u32) -> u32
     for head in heads {
         if head.view == view {
             match head.kind {
-                Kind::Event { .. } => count += 1,
-                Kind::Join | Kind::Exit => {}
+                HeadKind::Event { .. } => count += 1,
+                HeadKind::Join | HeadKind::Exit => {}
             }
         }
     }

@@ -2,7 +2,7 @@
 ghost use Rattle.std.specs.Prelude.{◌≡◌, ◌≤◌, List};
 ghost use Rattle.tea_base.specs.declared.entry.Entry.{Entry};
 ghost use Rattle.tea_base.specs.Limits.{most_entries, most_bytes};
-ghost use Rattle.session_log.specs.Legality.{log_allows, may_go_on, stand_after};
+ghost use Rattle.session_log.specs.Legality.{log_allows, may_go_on, view_state_after};
 ghost use Rattle.entry_fields.specs.Lent.{lent_what};
 ghost use Rattle.session_log.specs.Lent.{lent_entry};
 
@@ -12,7 +12,7 @@ use tea_base::{MOST_BYTES, MOST_ENTRIES, MOST_HERE, MOST_OPEN_ENTRIES, MOST_PAYL
 
 /// What the test needs of a log.
 #[derive(Clone, Copy, Debug)]
-pub struct Standing {
+pub struct LogCounts {
     pub entries: u32,
     pub payload_bytes: u64,
     pub views_here: u32,
@@ -21,13 +21,13 @@ pub struct Standing {
 
 /// Whether a view is here, and how many Events it sent.
 #[derive(Clone, Copy, Debug)]
-pub struct Stand {
+pub struct ViewState {
     pub here: bool,
     pub number: u32,
 }
 
 /// Whether there is room for what an entry records, and its view's stand allows it.
-fn allows(log: Standing, view: Stand, what: &LentWhat<'_>) -> bool
+fn allows(log: LogCounts, view: ViewState, what: &LentWhat<'_>) -> bool
     requires bytes { log.payload_bytes ≤ most_bytes }
     requires number { view.number ≤ most_entries }
     ensures { result ≡ log_allows log view (lent_what what.now) }
@@ -48,7 +48,7 @@ fn allows(log: Standing, view: Stand, what: &LentWhat<'_>) -> bool
 }
 
 /// Whether a log that stands so may go on with the entry.
-pub fn goes_on(log: Standing, view: Stand, entry: &LentLogEntry<'_>) -> bool
+pub fn goes_on(log: LogCounts, view: ViewState, entry: &LentLogEntry<'_>) -> bool
     requires bytes { log.payload_bytes ≤ most_bytes }
     requires number { view.number ≤ most_entries }
     ensures { (before : List Entry) → result ≡ may_go_on log view (lent_entry before entry.now) }
@@ -60,20 +60,20 @@ pub fn goes_on(log: Standing, view: Stand, entry: &LentLogEntry<'_>) -> bool
 }
 
 /// What an entry leaves of its view's stand.
-pub fn stand_after(view: Stand, what: &LentWhat<'_>) -> Stand
+pub fn stand_after(view: ViewState, what: &LentWhat<'_>) -> ViewState
     requires { view.number ≤ most_entries }
-    ensures { result ≡ stand_after view (lent_what what.now) }
+    ensures { result ≡ view_state_after view (lent_what what.now) }
 {
     match what {
-        LentWhat::Join => Stand {
+        LentWhat::Join => ViewState {
             here: true,
             number: view.number,
         },
-        LentWhat::Exit => Stand {
+        LentWhat::Exit => ViewState {
             here: false,
             number: view.number,
         },
-        LentWhat::Event { .. } => Stand {
+        LentWhat::Event { .. } => ViewState {
             here: view.here,
             number: view.number + 1,
         },

@@ -8,7 +8,7 @@ ghost use Rattle.session_log.specs.Heads.{what_of, IsPresence};
 ghost use Rattle.session_log.specs.Spelling.{log_spelling};
 
 use crate::heads::{
-    Head, Kind, count_until, current_of, here_count_in, is_here_in, last_number_in, push_head,
+    Head, HeadKind, count_until, current_of, here_count_in, is_here_in, last_number_in, push_head,
     seq_of_event,
 };
 use crate::payloads::{is_stored, lent, store_event};
@@ -122,8 +122,8 @@ impl Log {
         ensures spare_bytes { self.new.spare_bytes + payload_len what.now ≡ self.old.spare_bytes }
     {
         match what {
-            What::Join => self.push_presence(time, view, Kind::Join),
-            What::Exit => self.push_presence(time, view, Kind::Exit),
+            What::Join => self.push_presence(time, view, HeadKind::Join),
+            What::Exit => self.push_presence(time, view, HeadKind::Exit),
             What::Event { number, payload } => {
                 self.push_event(time, view, *number, payload.bytes())
             }
@@ -159,7 +159,7 @@ impl Log {
     }
 
     /// The same of a Join or an Exit.
-    fn push_presence(&mut self, time: u64, view: u32, kind: Kind) -> u32
+    fn push_presence(&mut self, time: u64, view: u32, kind: HeadKind) -> u32
         requires presence { IsPresence kind }
         requires legal { MayFollow self.old.entries
             (next_entry self.old.entries time view (what_of [] kind)) }

@@ -3,7 +3,7 @@ ghost use Rattle.std.specs.Prelude.{◌≡◌, ◌≢◌, [], List, IfOk, OnOk, 
 ghost use Rattle.std.specs.Option.{IfSome, option_map};
 ghost use Rattle.tea_base.specs.declared.entry.Entry.{Entry};
 ghost use Rattle.tea_base.specs.Legal.{IsLegal, MayFollow};
-ghost use Rattle.byte_fields.specs.Fields.{Gives, items_at, whole};
+ghost use Rattle.byte_fields.specs.Fields.{Decodes, items_at, whole};
 ghost use Rattle.session_log.specs.LogState.{with_next};
 ghost use Rattle.entry_fields.specs.Lent.{lent_what};
 ghost use Rattle.session_log.specs.Lent.{lent_entry};
@@ -78,7 +78,7 @@ fn append(log: &mut Log, entry: &LentLogEntry<'_>) -> Result<(), WantOfMemory>
 
 /// So many entries, from the first one on.
 fn entries_of(alloc: Global, count: u32, bytes: &[u8]) -> Result<(Log, &[u8]), LogFault>
-    ensures { Gives LogFault.BadLog (λ x. (x.0.entries, x.1.now)) result
+    ensures { Decodes LogFault.BadLog (λ x. (x.0.entries, x.1.now)) result
         (items_at entry_after [] count bytes.now) }
 {
     let mut log = Log::new(alloc);
@@ -96,7 +96,7 @@ fn entries_of(alloc: Global, count: u32, bytes: &[u8]) -> Result<(Log, &[u8]), L
 /// The log that is spelled by all of the bytes.
 #[tactic(auto, unfolding(crate::specs::Reading::log_at))]
 fn read_all(alloc: Global, bytes: &[u8]) -> Result<Log, LogFault>
-    ensures { Gives LogFault.BadLog (λ log. log.entries) result (whole log_at bytes.now) }
+    ensures { Decodes LogFault.BadLog (λ log. log.entries) result (whole log_at bytes.now) }
 {
     let rest = after_mark(bytes, b"TEALOG01").ok_or(LogFault::BadLog)?;
     let (count, rest) = u32_at(rest).ok_or(LogFault::BadLog)?;

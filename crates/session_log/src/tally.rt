@@ -4,12 +4,12 @@ ghost use Rattle.tea_base.specs.declared.entry.What.TheVariants.{Exit};
 ghost use Rattle.tea_base.specs.Legal.{MayFollow};
 ghost use Rattle.tea_base.specs.Limits.{most_entries};
 ghost use Rattle.session_log.specs.LogState.{with_next};
-ghost use Rattle.session_log.specs.Legality.{stand_after, may_follow};
+ghost use Rattle.session_log.specs.Legality.{view_state_after, may_follow};
 ghost use Rattle.entry_fields.specs.Lent.{lent_what};
 ghost use Rattle.session_log.specs.Lent.{lent_entry};
-ghost use Rattle.session_log.specs.Tally.{stand_in, here_after, TellsLog};
+ghost use Rattle.session_log.specs.Tally.{view_state_in, here_after, TellsLog};
 
-use crate::legality::{Stand, Standing, goes_on, stand_after};
+use crate::legality::{LogCounts, ViewState, goes_on, stand_after};
 use crate::lent::LentLogEntry;
 use crate::log::Log;
 use entry_fields::LentWhat;
@@ -22,7 +22,7 @@ use tea_base::WantOfMemory;
 pub struct Tally {
     pub time: u64,
     pub views_here: u32,
-    pub stands: BTreeMap<u32, Stand>,
+    pub stands: BTreeMap<u32, ViewState>,
 }
 
 /// What is told of no entries. Takes no memory.
@@ -37,12 +37,12 @@ pub fn no_entries(alloc: Global) -> Tally
 }
 
 /// How a view stands.
-fn stand_of(tally: &Tally, view: u32) -> Stand
-    ensures { result ≡ stand_in tally.now.stands view }
+fn stand_of(tally: &Tally, view: u32) -> ViewState
+    ensures { result ≡ view_state_in tally.now.stands view }
 {
     match tally.stands.get(&view) {
         Some(stand) => *stand,
-        None => Stand {
+        None => ViewState {
             here: false,
             number: 0,
         },
@@ -50,7 +50,7 @@ fn stand_of(tally: &Tally, view: u32) -> Stand
 }
 
 /// How many views are here after an entry.
-fn here_after(count: u32, view: Stand, what: &LentWhat<'_>) -> u32
+fn here_after(count: u32, view: ViewState, what: &LentWhat<'_>) -> u32
     requires few { count ≤ most_entries }
     requires some { lent_what what.now ≡ Exit → 0 < count }
     ensures { result ≡ here_after count view (lent_what what.now) }
@@ -64,16 +64,16 @@ fn here_after(count: u32, view: Stand, what: &LentWhat<'_>) -> u32
 }
 
 /// Takes note of an entry, whose view stood so.
-fn note(tally: &mut Tally, view: Stand, entry: &LentLogEntry<'_>) -> Result<(), WantOfMemory>
+fn note(tally: &mut Tally, view: ViewState, entry: &LentLogEntry<'_>) -> Result<(), WantOfMemory>
     requires number { view.number ≤ most_entries }
     requires few { tally.old.views_here ≤ most_entries }
     requires some { lent_what entry.now.what ≡ Exit → 0 < tally.old.views_here }
     ensures time { OnOk result (tally.new.time ≡ entry.now.time) }
     ensures views_here { OnOk result (tally.new.views_here ≡
         here_after tally.old.views_here view (lent_what entry.now.what)) }
-    ensures stands { OnOk result ((other : ℕ) → stand_in tally.new.stands other ≡
-        (if entry.now.view == other then stand_after view (lent_what entry.now.what)
-        else stand_in tally.old.stands other)) }
+    ensures stands { OnOk result ((other : ℕ) → view_state_in tally.new.stands other ≡
+        (if entry.now.view == other then view_state_after view (lent_what entry.now.what)
+        else view_state_in tally.old.stands other)) }
 {
     tally
         .stands
@@ -89,7 +89,7 @@ pub fn may_follow(tally: &Tally, log: &Log, entry: &LentLogEntry<'_>) -> bool
     ensures { result ≡ may_follow log.now.entries (lent_entry log.now.entries entry.now) }
 {
     let view = stand_of(tally, entry.view);
-    let standing = Standing {
+    let standing = LogCounts {
         entries: log.len(),
         payload_bytes: log.bytes(),
         views_here: tally.views_here,

@@ -1,6 +1,6 @@
 //! A net in memory and one that is not there, by the trait that programs call.
 ghost use Rattle.std.specs.Prelude.{All, IfOk};
-ghost use Rattle.tea_io.specs.MemNet.{IsNew};
+ghost use Rattle.tea_io.specs.MemNet.{HasNoCounts};
 
 use std::alloc::Global;
 use std::test::Fail;
@@ -29,7 +29,7 @@ fn connect<N: Net>(net: &mut N, address: &Text) -> Result<Heard, NetFault> {
 
 /// A link with one frame to come.
 fn one_frame(alloc: Global, frame: &[u8]) -> Result<MemLink, WantOfMemory>
-    ensures { IfOk result IsNew }
+    ensures { IfOk result HasNoCounts }
 {
     let mut frames = Blobs::new(alloc);
     frames.push(Blob::copy(alloc, frame)?)?;
@@ -38,7 +38,7 @@ fn one_frame(alloc: Global, frame: &[u8]) -> Result<MemLink, WantOfMemory>
 }
 
 fn two_links(alloc: Global) -> Result<MemLinks, WantOfMemory>
-    ensures { IfOk result (All IsNew) }
+    ensures { IfOk result (All HasNoCounts) }
 {
     let one = one_frame(alloc, b"one")?;
     let two = one_frame(alloc, b"two")?;

@@ -5,7 +5,7 @@ use Rattle.std.proofs.lemmas.Bool.{and_parts}
 use Rattle.std.proofs.lemmas.Slice.Eq.{bytes_eq-Decides}
 use Rattle.std.proofs.lemmas.List.{take_at}
 use Rattle.std.proofs.lemmas.Option.{none-some, same_Some}
-use Rattle.byte_fields.specs.Fields.{◌>>=◌, whole, Gives}
+use Rattle.byte_fields.specs.Fields.{◌>>=◌, whole, Decodes}
 use Rattle.byte_fields.proofs.Codecs.{IsBytes, whole_takes, whole_again}
 use Rattle.world_plain.specs.Valid.{Valid}
 use Rattle.world_plain.specs.ValidTest.{is_valid}
@@ -63,7 +63,6 @@ snapshot-is counts id bytes w is =
     let session : bytes_eq w.id id ≡ true = (bytes_eq-Decides w.id id).1 is.session in
     ap (λ (found : Option WorldRecord). found >>= λ v. if is_valid counts v && bytes_eq v.id id then Some v else None) (snapshot-read counts id bytes w is) ∙ rw (valid, session) refl
 
--- where no world has this snapshot, the bytes spell none
 none-unless : (counts id : List ℕ) (w : WorldRecord) (test : Bool) → (is_valid counts w && bytes_eq w.id id) ≡ test → (Valid counts w → w.id ≡ id → ⊥) → (if test then Some w else None) ≡ None
 none-unless counts id w true e never =
     let parts = and_parts (is_valid counts w) (bytes_eq w.id id) e in
@@ -78,10 +77,14 @@ none-found counts id bytes (Some w) fits read never =
     none-unless counts id w (is_valid counts w && bytes_eq w.id id) refl
     (λ valid session. never w (record { world = is_world counts w taken.1; valid = valid; session = session; spelled = taken.0 }))
 
-pub gives-snapshot : (result : Result PlainWorld SnapFault) (counts id bytes : List ℕ) → IsBytes bytes → Unsnaps result counts id bytes → Gives Bad world_record result (snapshot_world counts id bytes)
+-- bytes that are no snapshot of the session spell none
+pub none-spelled : (counts id bytes : List ℕ) → IsBytes bytes → ((w : WorldRecord) → ¬ IsSnapshot counts id bytes w) → snapshot_world counts id bytes ≡ None
+none-spelled counts id bytes fits never = none-found counts id bytes (whole (world_record_at counts) bytes) fits refl never
+
+pub gives-snapshot : (result : Result PlainWorld SnapFault) (counts id bytes : List ℕ) → IsBytes bytes → Unsnaps result counts id bytes → Decodes Bad world_record result (snapshot_world counts id bytes)
 gives-snapshot (Ok world) counts id bytes fits answer = snapshot-is counts id bytes (world_record world) answer.1
 gives-snapshot (Err (OtherSession found)) counts id bytes fits answer = λ e. absurd cc
-gives-snapshot (Err Bad) counts id bytes fits answer = λ _. none-found counts id bytes (whole (world_record_at counts) bytes) fits refl answer.1
+gives-snapshot (Err Bad) counts id bytes fits answer = λ _. none-spelled counts id bytes fits answer.1
 gives-snapshot (Err WantOfMemory) counts id bytes fits answer = λ e. absurd cc
 
 -- the spelling of a valid world is a snapshot of it

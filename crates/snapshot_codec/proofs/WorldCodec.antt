@@ -3,7 +3,7 @@ use Rattle.std.proofs.Common.{◌≡◌, ℕ, ◌^◌, ◌<◌, List, [], ◌∷
 use Rattle.std.specs.Int.{w16, w32, w64, to_be_bytes}
 use Rattle.std.specs.List.{flat_map, AllByRecursion}
 use Rattle.std.proofs.lemmas.Option.{none-some, same_Some}
-use Rattle.byte_fields.specs.Fields.{Reader, byte_at, headed_at, made_at, items_at, list_at, list_of}
+use Rattle.byte_fields.specs.Fields.{Decoder, byte_at, headed_at, made_at, items_at, list_at, list_of}
 use Rattle.byte_fields.proofs.Codecs.{Codec, EachFits, FitsText, wide16, wide32, wide64, byte_codec, bytes_codec, number_codec, text_codec, paired_codec, headed_codec, made_codec, said_codec, never_codec, items_codec, list_codec}
 use Rattle.world_plain.specs.Messages.{PlainMessage}
 use Rattle.model_value.specs.Plain.{PlainValue}
@@ -35,12 +35,12 @@ FitsCount F count xs = (length xs ≡ count) × AllByRecursion F xs
 abbrev pub FitsList : {A : Type 0} → (A → Type 0) → List A → Type 0
 FitsList F xs = (length xs < 2 ^ 32) × AllByRecursion F xs
 
-count_codec : {A : Type 0} (s : A → List ℕ) (F : A → Type 0) (r : Reader A) → Codec A s F r → (count : ℕ) → Codec (List A) (flat_map s) (FitsCount F count) (items_at (λ _. r) [] count)
+count_codec : {A : Type 0} (s : A → List ℕ) (F : A → Type 0) (r : Decoder A) → Codec A s F r → (count : ℕ) → Codec (List A) (flat_map s) (FitsCount F count) (items_at (λ _. r) [] count)
 count_codec s F r codec count =
     said_codec (flat_map s) (FitsCount F count) (λ xs _. refl) (λ xs fits. (fits.0, each-all F [] xs fits.1)) (λ xs fits. (fits.0, all-each F [] xs fits.1))
     (items_codec s (λ _. F) (λ _. r) (λ _. codec) count)
 
-all_codec : {A : Type 0} (s : A → List ℕ) (F : A → Type 0) (r : Reader A) → Codec A s F r → Codec (List A) (list_of s) (FitsList F) (list_at (λ _. r))
+all_codec : {A : Type 0} (s : A → List ℕ) (F : A → Type 0) (r : Decoder A) → Codec A s F r → Codec (List A) (list_of s) (FitsList F) (list_at (λ _. r))
 all_codec s F r codec =
     said_codec (list_of s) (FitsList F) (λ xs _. refl) (λ xs fits. (fits.0, each-all F [] xs fits.1)) (λ xs fits. (fits.0, all-each F [] xs fits.1))
     (list_codec s (λ _. F) (λ _. r) (λ _. codec))

@@ -1,7 +1,7 @@
 -- Reading a world, by the number of fields of each class of its program.
 use Rattle.std.specs.Prelude.{ℕ, List, [], Option, Some, None, slice_get}
 use Rattle.std.specs.Int.{w16, w32, w64}
-use Rattle.byte_fields.specs.Fields.{Reader, byte_at, bytes_at, number_at, text_at, paired_at, headed_at, made_at, never_at, items_at, list_at}
+use Rattle.byte_fields.specs.Fields.{Decoder, byte_at, bytes_at, number_at, text_at, paired_at, headed_at, made_at, never_at, items_at, list_at}
 use Rattle.world_plain.specs.Messages.{PlainMessage}
 use Rattle.model_value.specs.Plain.{PlainValue}
 use Rattle.model_value.specs.Reading.{bounded_at}
@@ -11,47 +11,47 @@ use Rattle.world_plain.specs.declared.message.Subscription.{Subscription}
 use Rattle.world_plain.specs.declared.world.Known.{Known}
 
 -- so many values in bounds
-abbrev pub values_at : ℕ → Reader (List PlainValue)
+abbrev pub values_at : ℕ → Decoder (List PlainValue)
 values_at = items_at (λ _. bounded_at) []
 
 -- the fields of a class, if there is such a class
-abbrev pub fields_at : Option ℕ → Reader (List PlainValue)
+abbrev pub fields_at : Option ℕ → Decoder (List PlainValue)
 fields_at None = never_at
 fields_at (Some count) = values_at count
 
 -- the number of a class, and behind it as many fields as the class has
-abbrev pub classed_at : List ℕ → Reader (ℕ × List PlainValue)
+abbrev pub classed_at : List ℕ → Decoder (ℕ × List PlainValue)
 classed_at counts = headed_at (number_at w16) (λ class. made_at (λ fields. (class, fields)) (fields_at (slice_get counts class)))
 
-unfoldable pub object_record_at : List ℕ → Reader ObjectRecord
+unfoldable pub object_record_at : List ℕ → Decoder ObjectRecord
 object_record_at counts = made_at (λ p. record { id = p.0; class = p.1.0; fields = p.1.1 }) (paired_at (number_at w32) (classed_at counts))
 
-unfoldable pub known_at : Reader Known
+unfoldable pub known_at : Decoder Known
 known_at = made_at (λ p. record { name = p.0; object = p.1 }) (paired_at text_at (number_at w32))
 
-unfoldable pub subscription_at : Reader Subscription
+unfoldable pub subscription_at : Decoder Subscription
 subscription_at =
     made_at (λ p. record { scope = p.0; event = p.1.0; object = p.1.1.0; method = p.1.1.1 })
     (paired_at text_at (paired_at text_at (paired_at (number_at w32) text_at)))
 
-unfoldable pub message_at : Reader PlainMessage
+unfoldable pub message_at : Decoder PlainMessage
 message_at =
     made_at (λ p. record { time = p.0; number = p.1.0; object = p.1.1.0; method = p.1.1.1.0; args = p.1.1.1.1 })
     (paired_at (number_at w64) (paired_at (number_at w64) (paired_at (number_at w32) (paired_at text_at (headed_at byte_at values_at)))))
 
 -- the time, the next object and message, the state of the random numbers, and the turns
-unfoldable pub singles_at : Reader (ℕ × (ℕ × (ℕ × (ℕ × ℕ))))
+unfoldable pub singles_at : Decoder (ℕ × (ℕ × (ℕ × (ℕ × ℕ))))
 singles_at = paired_at (number_at w64) (paired_at (number_at w32) (paired_at (number_at w64) (paired_at (number_at w64) (number_at w32))))
 
 -- the counts of the kinds of fault
-abbrev pub faults_at : Reader (List ℕ)
+abbrev pub faults_at : Decoder (List ℕ)
 faults_at = items_at (λ _. number_at w64) [] 14
 
 -- what a world lists
 abbrev pub WorldLists : Type 0
 WorldLists = List ℕ × (List ObjectRecord × (List Known × (List Subscription × List PlainMessage)))
 
-unfoldable pub rows_at : List ℕ → Reader WorldLists
+unfoldable pub rows_at : List ℕ → Decoder WorldLists
 rows_at counts =
     paired_at (list_at (λ _. number_at w32))
     (paired_at (list_at (λ _. object_record_at counts))
@@ -59,7 +59,7 @@ rows_at counts =
     (paired_at (list_at (λ _. subscription_at))
     (list_at (λ _. message_at)))))
 
-unfoldable pub world_record_at : List ℕ → Reader WorldRecord
+unfoldable pub world_record_at : List ℕ → Decoder WorldRecord
 world_record_at counts =
     made_at world_of_parts
     (paired_at (bytes_at 32) (paired_at singles_at (paired_at faults_at (rows_at counts))))

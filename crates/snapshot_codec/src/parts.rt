@@ -2,7 +2,7 @@
 ghost use Rattle.std.specs.Prelude.{◌≡◌, [], length, map, slice_get};
 ghost use Rattle.std.specs.Int.{w32};
 ghost use Rattle.std.specs.Option.{option_map};
-ghost use Rattle.byte_fields.specs.Fields.{Gives, byte_at, bytes_at, number_at, headed_at, items_at, list_at, whole};
+ghost use Rattle.byte_fields.specs.Fields.{Decodes, byte_at, bytes_at, number_at, headed_at, items_at, list_at, whole};
 ghost use Rattle.world_plain.specs.Messages.{plain_message};
 ghost use Rattle.model_value.specs.View.{plain_values};
 ghost use Rattle.world_plain.specs.World.{object_record, world_record};
@@ -21,7 +21,7 @@ use world_plain::{
 /// The world that all of the bytes spell, valid or not; of a class of the program each object has as many fields as that
 /// declares.
 pub fn read_all(alloc: Global, counts: &[u32], bytes: &[u8]) -> Result<PlainWorld, ValueFault>
-    ensures { Gives BadValue world_record result (whole (world_record_at counts.now) bytes.now) }
+    ensures { Decodes BadValue world_record result (whole (world_record_at counts.now) bytes.now) }
 {
     let (world, rest) = world_at(alloc, counts, bytes)?;
     if !rest.is_empty() {
@@ -38,7 +38,7 @@ fn world_at<'a>(
     counts: &[u32],
     bytes: &'a [u8],
 ) -> Result<(PlainWorld, &'a [u8]), ValueFault>
-    ensures { Gives BadValue (λ x. (world_record x.0, x.1.now)) result (world_record_at counts.now bytes.now) }
+    ensures { Decodes BadValue (λ x. (world_record x.0, x.1.now)) result (world_record_at counts.now bytes.now) }
 {
     let (id, rest) = id_at(bytes).ok_or(ValueFault::BadValue)?;
     let (singles, rest) = singles_at(rest).ok_or(ValueFault::BadValue)?;
@@ -136,7 +136,7 @@ fn rows_at<'a>(
     counts: &[u32],
     bytes: &'a [u8],
 ) -> Result<(Rows, &'a [u8]), ValueFault>
-    ensures { Gives BadValue (λ x. ((x.0.views, (map object_record x.0.objects, (x.0.known, (x.0.subscriptions, map plain_message x.0.pending)))), x.1.now)) result
+    ensures { Decodes BadValue (λ x. ((x.0.views, (map object_record x.0.objects, (x.0.known, (x.0.subscriptions, map plain_message x.0.pending)))), x.1.now)) result
         (rows_at counts.now bytes.now) }
 {
     let (views, rest) = views_at(alloc, bytes)?;
@@ -155,14 +155,14 @@ fn rows_at<'a>(
 }
 
 fn views_at(alloc: Global, bytes: &[u8]) -> Result<(Numbers, &[u8]), ValueFault>
-    ensures { Gives BadValue (λ x. (x.0, x.1.now)) result (list_at (λ _. number_at w32) bytes.now) }
+    ensures { Decodes BadValue (λ x. (x.0, x.1.now)) result (list_at (λ _. number_at w32) bytes.now) }
 {
     let (count, rest) = u32_at(bytes).ok_or(ValueFault::BadValue)?;
     views_of(alloc, count, rest)
 }
 
 fn views_of(alloc: Global, count: u32, bytes: &[u8]) -> Result<(Numbers, &[u8]), ValueFault>
-    ensures { Gives BadValue (λ x. (x.0, x.1.now)) result (items_at (λ _. number_at w32) [] count bytes.now) }
+    ensures { Decodes BadValue (λ x. (x.0, x.1.now)) result (items_at (λ _. number_at w32) [] count bytes.now) }
 {
     let mut views = List::new(alloc);
     let mut rest = bytes;
@@ -179,7 +179,7 @@ fn objects_at<'a>(
     counts: &[u32],
     bytes: &'a [u8],
 ) -> Result<(PlainObjects, &'a [u8]), ValueFault>
-    ensures { Gives BadValue (λ x. (map object_record x.0, x.1.now)) result (list_at (λ _. object_record_at counts.now) bytes.now) }
+    ensures { Decodes BadValue (λ x. (map object_record x.0, x.1.now)) result (list_at (λ _. object_record_at counts.now) bytes.now) }
 {
     let (count, rest) = u32_at(bytes).ok_or(ValueFault::BadValue)?;
     objects_of(alloc, counts, count, rest)
@@ -191,7 +191,7 @@ fn objects_of<'a>(
     count: u32,
     bytes: &'a [u8],
 ) -> Result<(PlainObjects, &'a [u8]), ValueFault>
-    ensures { Gives BadValue (λ x. (map object_record x.0, x.1.now)) result (items_at (λ _. object_record_at counts.now) [] count bytes.now) }
+    ensures { Decodes BadValue (λ x. (map object_record x.0, x.1.now)) result (items_at (λ _. object_record_at counts.now) [] count bytes.now) }
 {
     let mut objects = List::new(alloc);
     let mut rest = bytes;
@@ -209,7 +209,7 @@ fn object_at<'a>(
     counts: &[u32],
     bytes: &'a [u8],
 ) -> Result<(PlainObject, &'a [u8]), ValueFault>
-    ensures { Gives BadValue (λ x. (object_record x.0, x.1.now)) result (object_record_at counts.now bytes.now) }
+    ensures { Decodes BadValue (λ x. (object_record x.0, x.1.now)) result (object_record_at counts.now bytes.now) }
 {
     let (id, rest) = u32_at(bytes).ok_or(ValueFault::BadValue)?;
     let (class, rest) = u16_at(rest).ok_or(ValueFault::BadValue)?;
@@ -224,7 +224,7 @@ fn fields_at<'a>(
     class: u16,
     bytes: &'a [u8],
 ) -> Result<(Values, &'a [u8]), ValueFault>
-    ensures { Gives BadValue (λ x. (plain_values x.0, x.1.now)) result (fields_at (slice_get counts.now class) bytes.now) }
+    ensures { Decodes BadValue (λ x. (plain_values x.0, x.1.now)) result (fields_at (slice_get counts.now class) bytes.now) }
 {
     match counts.get(class as usize) {
         Some(count) => values_at(alloc, *count, bytes),
@@ -233,7 +233,7 @@ fn fields_at<'a>(
 }
 
 fn values_at(alloc: Global, count: u32, bytes: &[u8]) -> Result<(Values, &[u8]), ValueFault>
-    ensures { Gives BadValue (λ x. (plain_values x.0, x.1.now)) result (values_at count bytes.now) }
+    ensures { Decodes BadValue (λ x. (plain_values x.0, x.1.now)) result (values_at count bytes.now) }
 {
     let mut values = List::new(alloc);
     let mut rest = bytes;
@@ -246,7 +246,7 @@ fn values_at(alloc: Global, count: u32, bytes: &[u8]) -> Result<(Values, &[u8]),
 }
 
 fn known_names_at(alloc: Global, bytes: &[u8]) -> Result<(KnownNames, &[u8]), ValueFault>
-    ensures { Gives BadValue (λ x. (x.0, x.1.now)) result (list_at (λ _. known_at) bytes.now) }
+    ensures { Decodes BadValue (λ x. (x.0, x.1.now)) result (list_at (λ _. known_at) bytes.now) }
 {
     let (count, rest) = u32_at(bytes).ok_or(ValueFault::BadValue)?;
     known_names_of(alloc, count, rest)
@@ -257,7 +257,7 @@ fn known_names_of(
     count: u32,
     bytes: &[u8],
 ) -> Result<(KnownNames, &[u8]), ValueFault>
-    ensures { Gives BadValue (λ x. (x.0, x.1.now)) result (items_at (λ _. known_at) [] count bytes.now) }
+    ensures { Decodes BadValue (λ x. (x.0, x.1.now)) result (items_at (λ _. known_at) [] count bytes.now) }
 {
     let mut names = List::new(alloc);
     let mut rest = bytes;
@@ -271,7 +271,7 @@ fn known_names_of(
 
 #[tactic(auto, unfolding(crate::specs::Reading::known_at))]
 fn known_at(alloc: Global, bytes: &[u8]) -> Result<(Known, &[u8]), ValueFault>
-    ensures { Gives BadValue (λ x. (x.0, x.1.now)) result (known_at bytes.now) }
+    ensures { Decodes BadValue (λ x. (x.0, x.1.now)) result (known_at bytes.now) }
 {
     let (name, rest) = owned_text_at(alloc, bytes)?;
     let (object, rest) = u32_at(rest).ok_or(ValueFault::BadValue)?;
@@ -279,7 +279,7 @@ fn known_at(alloc: Global, bytes: &[u8]) -> Result<(Known, &[u8]), ValueFault>
 }
 
 fn subscriptions_at(alloc: Global, bytes: &[u8]) -> Result<(Subscriptions, &[u8]), ValueFault>
-    ensures { Gives BadValue (λ x. (x.0, x.1.now)) result (list_at (λ _. subscription_at) bytes.now) }
+    ensures { Decodes BadValue (λ x. (x.0, x.1.now)) result (list_at (λ _. subscription_at) bytes.now) }
 {
     let (count, rest) = u32_at(bytes).ok_or(ValueFault::BadValue)?;
     subscriptions_of(alloc, count, rest)
@@ -290,7 +290,7 @@ fn subscriptions_of(
     count: u32,
     bytes: &[u8],
 ) -> Result<(Subscriptions, &[u8]), ValueFault>
-    ensures { Gives BadValue (λ x. (x.0, x.1.now)) result (items_at (λ _. subscription_at) [] count bytes.now) }
+    ensures { Decodes BadValue (λ x. (x.0, x.1.now)) result (items_at (λ _. subscription_at) [] count bytes.now) }
 {
     let mut subscriptions = List::new(alloc);
     let mut rest = bytes;
@@ -304,7 +304,7 @@ fn subscriptions_of(
 
 #[tactic(auto, unfolding(crate::specs::Reading::subscription_at))]
 fn subscription_at(alloc: Global, bytes: &[u8]) -> Result<(Subscription, &[u8]), ValueFault>
-    ensures { Gives BadValue (λ x. (x.0, x.1.now)) result (subscription_at bytes.now) }
+    ensures { Decodes BadValue (λ x. (x.0, x.1.now)) result (subscription_at bytes.now) }
 {
     let (scope, rest) = owned_text_at(alloc, bytes)?;
     let (event, rest) = owned_text_at(alloc, rest)?;
@@ -320,14 +320,14 @@ fn subscription_at(alloc: Global, bytes: &[u8]) -> Result<(Subscription, &[u8]),
 }
 
 fn messages_at(alloc: Global, bytes: &[u8]) -> Result<(Messages, &[u8]), ValueFault>
-    ensures { Gives BadValue (λ x. (map plain_message x.0, x.1.now)) result (list_at (λ _. message_at) bytes.now) }
+    ensures { Decodes BadValue (λ x. (map plain_message x.0, x.1.now)) result (list_at (λ _. message_at) bytes.now) }
 {
     let (count, rest) = u32_at(bytes).ok_or(ValueFault::BadValue)?;
     messages_of(alloc, count, rest)
 }
 
 fn messages_of(alloc: Global, count: u32, bytes: &[u8]) -> Result<(Messages, &[u8]), ValueFault>
-    ensures { Gives BadValue (λ x. (map plain_message x.0, x.1.now)) result (items_at (λ _. message_at) [] count bytes.now) }
+    ensures { Decodes BadValue (λ x. (map plain_message x.0, x.1.now)) result (items_at (λ _. message_at) [] count bytes.now) }
 {
     let mut messages = List::new(alloc);
     let mut rest = bytes;
@@ -341,7 +341,7 @@ fn messages_of(alloc: Global, count: u32, bytes: &[u8]) -> Result<(Messages, &[u
 
 #[tactic(auto, unfolding(crate::specs::Reading::message_at))]
 fn message_at(alloc: Global, bytes: &[u8]) -> Result<(Message, &[u8]), ValueFault>
-    ensures { Gives BadValue (λ x. (plain_message x.0, x.1.now)) result (message_at bytes.now) }
+    ensures { Decodes BadValue (λ x. (plain_message x.0, x.1.now)) result (message_at bytes.now) }
 {
     let (time, rest) = u64_at(bytes).ok_or(ValueFault::BadValue)?;
     let (number, rest) = u64_at(rest).ok_or(ValueFault::BadValue)?;
@@ -359,7 +359,7 @@ fn message_at(alloc: Global, bytes: &[u8]) -> Result<(Message, &[u8]), ValueFaul
 }
 
 fn arguments_at(alloc: Global, bytes: &[u8]) -> Result<(Values, &[u8]), ValueFault>
-    ensures { Gives BadValue (λ x. (plain_values x.0, x.1.now)) result (headed_at byte_at values_at bytes.now) }
+    ensures { Decodes BadValue (λ x. (plain_values x.0, x.1.now)) result (headed_at byte_at values_at bytes.now) }
 {
     let (count, rest) = u8_at(bytes).ok_or(ValueFault::BadValue)?;
     values_at(alloc, u32::from(count), rest)

@@ -1,5 +1,5 @@
 //! Worlds of snapshots.
-ghost use Rattle.byte_fields.specs.Fields.{Gives};
+ghost use Rattle.byte_fields.specs.Fields.{Decodes};
 ghost use Rattle.model_check.specs.Methods.{field_counts};
 ghost use Rattle.model_lang.specs.TreeView.{program_tree};
 ghost use Rattle.world_plain.specs.World.{WorldRecord, world_record};
@@ -28,7 +28,7 @@ pub fn unsnap(
 ) -> Result<PlainWorld, SnapFault>
     ensures answer { Unsnaps result (field_counts (program_tree program.now)) id.now.0 bytes.now }
     // The same by the world that the bytes spell.
-    ensures read { Gives SnapFault.Bad world_record result (snapshot_world (field_counts (program_tree program.now)) id.now.0 bytes.now) }
+    ensures read { Decodes SnapFault.Bad world_record result (snapshot_world (field_counts (program_tree program.now)) id.now.0 bytes.now) }
     // What is spelled so is read, unless memory runs out.
     ensures only { (w : WorldRecord) → IsSnapshot (field_counts (program_tree program.now)) id.now.0 bytes.now w →
         ReadsWorld result w }

@@ -10,19 +10,19 @@ use Rattle.tea_io.specs.declared.files.FileFault.TheVariants.{Failed, TooLarge, 
 pub data Content : Type 0 where
   Untold : Content
   Absent : Content
-  Known : List ℕ → Content
+  Present : List ℕ → Content
 
 -- these bytes may stand there
 abbrev pub MayBe : Content → List ℕ → Type 0
 MayBe Untold bytes = ⊤
 MayBe Absent bytes = ⊥
-MayBe (Known held) bytes = bytes ≡ held
+MayBe (Present held) bytes = bytes ≡ held
 
 -- this may be the length of what stands there
 abbrev pub MayBeLong : Content → ℕ → Type 0
 MayBeLong Untold len = ⊤
 MayBeLong Absent len = ⊥
-MayBeLong (Known held) len = len ≡ length held
+MayBeLong (Present held) len = len ≡ length held
 
 -- a length is told in this fault only where it is above the limit
 abbrev pub IsTooLargeFor : Content → ℕ → FileFault → Type 0
@@ -39,17 +39,17 @@ IsNotTooLarge WantOfMemory = ⊤
 -- bytes that were put there stand there; where the content was told, it still is
 abbrev pub Holds : Content → Content → List ℕ → Type 0
 Holds Untold new bytes = MayBe new bytes
-Holds Absent new bytes = new ≡ Known bytes
-Holds (Known held) new bytes = new ≡ Known bytes
+Holds Absent new bytes = new ≡ Present bytes
+Holds (Present held) new bytes = new ≡ Present bytes
 
 -- the list of calls has grown by this one, which may be missing after want of memory
-abbrev pub Asks
+abbrev pub AsksFiles
     : {T : Type 0} → Option (List FileCall) → Option (List FileCall) → FileCall → Result T FileFault
     → Type 0
-Asks old new call (Ok value) = new ≡ grown old (call ∷ [])
-Asks old new call (Err Failed) = new ≡ grown old (call ∷ [])
-Asks old new call (Err (TooLarge len)) = new ≡ grown old (call ∷ [])
-Asks old new call (Err WantOfMemory) = (new ≡ old) ⊎ (new ≡ grown old (call ∷ []))
+AsksFiles old new call (Ok value) = new ≡ grown old (call ∷ [])
+AsksFiles old new call (Err Failed) = new ≡ grown old (call ∷ [])
+AsksFiles old new call (Err (TooLarge len)) = new ≡ grown old (call ∷ [])
+AsksFiles old new call (Err WantOfMemory) = (new ≡ old) ⊎ (new ≡ grown old (call ∷ []))
 
 -- the count of faults does not fall, and `Failed` comes only where it rose
 pub record FileCause {T : Type 0} (before now : ℕ) (result : Result T FileFault) : Type 0 where

@@ -1,6 +1,6 @@
 -- What a link says, what it was sent, and why.
 use Rattle.std.specs.Prelude.{◌≡◌, ℕ, ⊤, ◌≤◌, ◌⊎◌, List, [], ◌∷◌, Option, Result, Ok, Err, IsErrOf}
-use Rattle.tea_io.specs.Told.{grown, Gives, HasNoMore, Rose}
+use Rattle.tea_io.specs.Told.{grown, TakesFirst, HasNoMore, Rose}
 use Rattle.tea_io.specs.declared.link.Heard.{Heard}
 use Rattle.tea_io.specs.declared.link.Heard.TheVariants.{Frame, Quiet, End, Failed, WantOfMemory}
 use Rattle.tea_io.specs.declared.link.LinkFault.{LinkFault}
@@ -21,20 +21,20 @@ abbrev pub only_faults : ℕ → Counts
 only_faults faults = record { faults = faults; quiets = 0; ends = 0 }
 
 -- what a receive adds to what was heard: want of memory is not noted
-abbrev pub noted : Heard → List Heard
-noted (Frame bytes) = Frame bytes ∷ []
-noted Quiet = Quiet ∷ []
-noted End = End ∷ []
-noted Failed = Failed ∷ []
-noted WantOfMemory = []
+abbrev pub note_of : Heard → List Heard
+note_of (Frame bytes) = Frame bytes ∷ []
+note_of Quiet = Quiet ∷ []
+note_of End = End ∷ []
+note_of Failed = Failed ∷ []
+note_of WantOfMemory = []
 
 -- a frame is the first of those to come, an end comes where none is left, and nothing else takes one
-abbrev pub Takes : Option (List (List ℕ)) → Option (List (List ℕ)) → Heard → Type 0
-Takes before now (Frame bytes) = Gives before now bytes
-Takes before now Quiet = now ≡ before
-Takes before now End = HasNoMore before × (now ≡ before)
-Takes before now Failed = now ≡ before
-Takes before now WantOfMemory = now ≡ before
+abbrev pub TakesFrame : Option (List (List ℕ)) → Option (List (List ℕ)) → Heard → Type 0
+TakesFrame before now (Frame bytes) = TakesFirst before now bytes
+TakesFrame before now Quiet = now ≡ before
+TakesFrame before now End = HasNoMore before × (now ≡ before)
+TakesFrame before now Failed = now ≡ before
+TakesFrame before now WantOfMemory = now ≡ before
 
 -- no count falls
 pub record NoneFalls (before now : Counts) : Type 0 where
@@ -43,12 +43,12 @@ pub record NoneFalls (before now : Counts) : Type 0 where
   pub ends : before.ends ≤ now.ends
 
 -- the count that rises with what is heard
-abbrev pub Counted : Counts → Counts → Heard → Type 0
-Counted before now (Frame bytes) = ⊤
-Counted before now Quiet = Rose before.quiets now.quiets
-Counted before now End = Rose before.ends now.ends
-Counted before now Failed = Rose before.faults now.faults
-Counted before now WantOfMemory = ⊤
+abbrev pub CountRises : Counts → Counts → Heard → Type 0
+CountRises before now (Frame bytes) = ⊤
+CountRises before now Quiet = Rose before.quiets now.quiets
+CountRises before now End = Rose before.ends now.ends
+CountRises before now Failed = Rose before.faults now.faults
+CountRises before now WantOfMemory = ⊤
 
 -- a frame was sent; where the call failed it was sent whole or not at all; for want of memory it
 -- was not

@@ -7,7 +7,7 @@ use Rattle.tea_io.specs.declared.files.FileFault.{FileFault}
 use Rattle.tea_io.specs.declared.files.FileFault.TheVariants.{Failed, TooLarge, WantOfMemory}
 use Rattle.tea_io.specs.declared.mem_files.NamedBlob.{NamedBlob}
 use Rattle.tea_io.specs.Told.{count_up}
-use Rattle.tea_io.specs.Files.{Content, Absent, Known}
+use Rattle.tea_io.specs.Files.{Content, Absent, Present}
 use Rattle.tea_io.specs.Calls.{fails_at}
 
 -- files in memory: what is held, of two files of one name the first; the calls so far; which
@@ -26,17 +26,17 @@ bytes_of (file ∷ files) name =
     if bytes_eq file.name name then Some file.bytes else bytes_of files name
 
 -- nothing is left untold
-abbrev pub told : Option (List ℕ) → Content
-told None = Absent
-told (Some bytes) = Known bytes
+abbrev pub content_of_bytes : Option (List ℕ) → Content
+content_of_bytes None = Absent
+content_of_bytes (Some bytes) = Present bytes
 
 -- what stands under a name
 abbrev pub content_of : MemFilesState → List ℕ → Content
-content_of files name = told (bytes_of files.held name)
+content_of files name = content_of_bytes (bytes_of files.held name)
 
 -- a file of this name in front of the others
-abbrev pub put : List ℕ → List ℕ → List NamedBlob → List NamedBlob
-put name bytes files = record { name = name; bytes = bytes } ∷ files
+abbrev pub with_file : List ℕ → List ℕ → List NamedBlob → List NamedBlob
+with_file name bytes files = record { name = name; bytes = bytes } ∷ files
 
 -- bytes are given up to the limit
 abbrev pub within_limit : Option (List ℕ) → ℕ → Result (List ℕ) FileFault
@@ -59,19 +59,19 @@ abbrev pub IsAnswer : {T : Type 0} → Result T FileFault → Result T FileFault
 IsAnswer answer result = (result ≡ answer) ⊎ (result ≡ Err WantOfMemory)
 
 -- a call more was made
-abbrev pub called : MemFilesState → FileCall → MemFilesState
-called files call =
+abbrev pub files_with_call : MemFilesState → FileCall → MemFilesState
+files_with_call files call =
     record files { asked = files.asked ++ call ∷ []; next_call = count_up files.next_call }
 
 -- a call more was made, and failed
-abbrev pub called_in_vain : MemFilesState → FileCall → MemFilesState
-called_in_vain files call = record (called files call) { faults = count_up files.faults }
+abbrev pub files_with_failure : MemFilesState → FileCall → MemFilesState
+files_with_failure files call = record (files_with_call files call) { faults = count_up files.faults }
 
 -- what a call leaves, where `held` is held after it if it is answered by Ok
-abbrev pub after
+abbrev pub files_after
     : {T : Type 0} → Result T FileFault → MemFilesState → FileCall → List NamedBlob
     → MemFilesState
-after (Ok value) files call held = record (called files call) { held = held }
-after (Err Failed) files call held = called_in_vain files call
-after (Err (TooLarge len)) files call held = called files call
-after (Err WantOfMemory) files call held = files
+files_after (Ok value) files call held = record (files_with_call files call) { held = held }
+files_after (Err Failed) files call held = files_with_failure files call
+files_after (Err (TooLarge len)) files call held = files_with_call files call
+files_after (Err WantOfMemory) files call held = files

@@ -5,7 +5,7 @@ use Rattle.tea_io.specs.declared.link.Heard.TheVariants.{Frame, Quiet, End, Fail
 use Rattle.tea_io.specs.declared.link.LinkFault.{LinkFault}
 use Rattle.tea_io.specs.declared.link.LinkFault.TheVariants as fault
 use Rattle.tea_io.specs.Told.{count_up}
-use Rattle.tea_io.specs.Links.{Counts, noted}
+use Rattle.tea_io.specs.Links.{Counts, note_of}
 use Rattle.tea_io.specs.Calls.{fails_at}
 
 -- a link in memory: the frames to come, what was heard, the frames that were sent, which calls fail
@@ -32,29 +32,29 @@ recv_answer link =
     else next_of link.coming
 
 -- the frames without the first
-abbrev pub behind_first : List (List ℕ) → List (List ℕ)
-behind_first [] = []
-behind_first (frame ∷ frames) = frames
+abbrev pub frames_behind_first : List (List ℕ) → List (List ℕ)
+frames_behind_first [] = []
+frames_behind_first (frame ∷ frames) = frames
 
 -- a receive more was made, and noted
-abbrev pub received : MemLinkState → Heard → MemLinkState
-received link heard =
-    record link { heard = link.heard ++ noted heard; next_call = count_up link.next_call }
+abbrev pub link_with_note : MemLinkState → Heard → MemLinkState
+link_with_note link heard =
+    record link { heard = link.heard ++ note_of heard; next_call = count_up link.next_call }
 
 -- what a receive leaves
 abbrev pub after_recv : Heard → MemLinkState → MemLinkState
 after_recv (Frame bytes) link =
-    record (received link (Frame bytes)) { coming = behind_first link.coming }
+    record (link_with_note link (Frame bytes)) { coming = frames_behind_first link.coming }
 after_recv Quiet link =
-    record (received link Quiet) {
+    record (link_with_note link Quiet) {
       counts = record (link.counts) { quiets = count_up link.counts.quiets };
     }
 after_recv End link =
-    record (received link End) {
+    record (link_with_note link End) {
       counts = record (link.counts) { ends = count_up link.counts.ends };
     }
 after_recv Failed link =
-    record (received link Failed) {
+    record (link_with_note link Failed) {
       counts = record (link.counts) { faults = count_up link.counts.faults };
     }
 after_recv WantOfMemory link = link

@@ -22,9 +22,9 @@ pub record MemNetState : Type 0 where
   pub lent : ℕ
   pub link_counts : Counts
 
--- no call of this link was counted yet
-abbrev pub IsNew : MemLinkState → Type 0
-IsNew link = link.counts ≡ no_counts
+-- all counts of this link are 0
+abbrev pub HasNoCounts : MemLinkState → Type 0
+HasNoCounts link = link.counts ≡ no_counts
 
 -- what a call answers that makes no link
 abbrev pub listen_answer : MemNetState → Result (Unit {0}) NetFault
@@ -41,27 +41,27 @@ link_answer net =
     if fails_at net.failing net.next_call then Err Failed else first_link net.coming
 
 -- the links without the first
-abbrev pub behind_first : List MemLinkState → List MemLinkState
-behind_first [] = []
-behind_first (link ∷ links) = links
+abbrev pub links_behind_first : List MemLinkState → List MemLinkState
+links_behind_first [] = []
+links_behind_first (link ∷ links) = links
 
 -- a call more was made
-abbrev pub called : MemNetState → NetCall → MemNetState
-called net call =
+abbrev pub net_with_call : MemNetState → NetCall → MemNetState
+net_with_call net call =
     record net { asked = net.asked ++ call ∷ []; next_call = count_up net.next_call }
 
 -- what a call leaves whose success changes the net so
-abbrev pub after
+abbrev pub net_after
     : {T : Type 0} → (MemNetState → MemNetState) → Result T NetFault → MemNetState → NetCall
     → MemNetState
-after change (Ok value) net call = change (called net call)
-after change (Err Failed) net call = record (called net call) { faults = count_up net.faults }
-after change (Err WantOfMemory) net call = net
+net_after change (Ok value) net call = change (net_with_call net call)
+net_after change (Err Failed) net call = record (net_with_call net call) { faults = count_up net.faults }
+net_after change (Err WantOfMemory) net call = net
 
 -- one that listens changes nothing more
-abbrev pub unchanged : MemNetState → MemNetState
-unchanged net = net
+abbrev pub same_net : MemNetState → MemNetState
+same_net net = net
 
 -- one that gives a link has one more out
 abbrev pub without_first : MemNetState → MemNetState
-without_first net = record net { coming = behind_first net.coming; lent = net.lent + 1 }
+without_first net = record net { coming = links_behind_first net.coming; lent = net.lent + 1 }

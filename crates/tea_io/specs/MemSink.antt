@@ -12,9 +12,9 @@ pub record MemSinkState : Type 0 where
   pub wants : ℕ
 
 -- what a write leaves: a call that fails or wants memory writes nothing, and is counted
-abbrev pub after : {T : Type 0} → Result T SinkFault → MemSinkState → List ℕ → MemSinkState
-after (Ok value) sink piece =
+abbrev pub sink_after : {T : Type 0} → Result T SinkFault → MemSinkState → List ℕ → MemSinkState
+sink_after (Ok value) sink piece =
     record sink { written = sink.written ++ piece; next_call = count_up sink.next_call }
-after (Err Failed) sink piece =
+sink_after (Err Failed) sink piece =
     record sink { next_call = count_up sink.next_call; faults = count_up sink.faults }
-after (Err WantOfMemory) sink piece = record sink { wants = count_up sink.wants }
+sink_after (Err WantOfMemory) sink piece = record sink { wants = count_up sink.wants }

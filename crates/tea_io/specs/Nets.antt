@@ -20,12 +20,12 @@ plus a b = record {
 }
 
 -- the list of calls has grown by this one, which may be missing after want of memory
-abbrev pub Asks
+abbrev pub AsksNet
     : {T : Type 0} → Option (List NetCall) → Option (List NetCall) → NetCall → Result T NetFault
     → Type 0
-Asks before now call (Ok value) = now ≡ grown before (call ∷ [])
-Asks before now call (Err Failed) = now ≡ grown before (call ∷ [])
-Asks before now call (Err WantOfMemory) = (now ≡ before) ⊎ (now ≡ grown before (call ∷ []))
+AsksNet before now call (Ok value) = now ≡ grown before (call ∷ [])
+AsksNet before now call (Err Failed) = now ≡ grown before (call ∷ [])
+AsksNet before now call (Err WantOfMemory) = (now ≡ before) ⊎ (now ≡ grown before (call ∷ []))
 
 -- the count of faults does not fall, and `Failed` comes only where it rose
 pub record NetCause {T : Type 0} (before now : ℕ) (result : Result T NetFault) : Type 0 where

@@ -8,9 +8,9 @@ grown (Some told) more = Some (told ++ more)
 
 -- the first of what is told to come is this one, and the rest is still to come; what is not told
 -- stays so
-abbrev pub Gives : {A : Type 0} → Option (List A) → Option (List A) → A → Type 0
-Gives None now first = now ≡ None
-Gives (Some told) now first = (rest : _) × (told ≡ first ∷ rest) × (now ≡ Some rest)
+abbrev pub TakesFirst : {A : Type 0} → Option (List A) → Option (List A) → A → Type 0
+TakesFirst None now first = now ≡ None
+TakesFirst (Some told) now first = (rest : _) × (told ≡ first ∷ rest) × (now ≡ Some rest)
 
 -- nothing is left to come, where that is told
 abbrev pub HasNoMore : {A : Type 0} → Option (List A) → Type 0

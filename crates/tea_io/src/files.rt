@@ -5,9 +5,8 @@ ghost use Rattle.tea_io.specs.declared.files.FileCall.{FileCall};
 ghost use Rattle.tea_io.specs.declared.files.FileCall.TheVariants.{Read, Write};
 ghost use Rattle.tea_io.specs.declared.files.FileFault.TheVariants.{WantOfMemory};
 ghost use Rattle.tea_io.specs.Files.{Content, MayBe, IsTooLargeFor, IsNotTooLarge, Holds};
-ghost use Rattle.tea_io.specs.Files.{Asks, FileCause};
+ghost use Rattle.tea_io.specs.Files.{AsksFiles, FileCause};
 
-use std::alloc::{AllocError, AllocFailed};
 use tea_base::{Blob, List, Text};
 
 /// Why a call of files was not answered.
@@ -19,22 +18,6 @@ pub enum FileFault {
     TooLarge { len: u64 },
     /// An allocation was refused.
     WantOfMemory,
-}
-
-impl From<AllocError> for FileFault {
-    ghost from_gives = { λ _ fault. fault ≡ WantOfMemory };
-
-    fn from(_: AllocError) -> Self {
-        FileFault::WantOfMemory
-    }
-}
-
-impl<T: Drop> From<AllocFailed<T>> for FileFault {
-    ghost from_gives = { λ _ fault. fault ≡ WantOfMemory };
-
-    fn from(_: AllocFailed<T>) -> Self {
-        FileFault::WantOfMemory
-    }
 }
 
 impl From<tea_base::WantOfMemory> for FileFault {
@@ -76,7 +59,7 @@ pub trait Files {
         ensures within { IfOk result (λ blob. length blob ≤ limit) }
         ensures too_large { IfErr result (IsTooLargeFor (held self.old name.now) limit) }
         ensures same { (other : List ℕ) → held self.new other ≡ held self.old other }
-        ensures asked { Asks (asked self.old) (asked self.new) (Read name.now) result }
+        ensures asked { AsksFiles (asked self.old) (asked self.new) (Read name.now) result }
         ensures cause { FileCause (faults self.old) (faults self.new) result };
 
     /// Puts bytes under a name. What is held under all other names stays, whatever the answer. A
@@ -89,6 +72,6 @@ pub trait Files {
         ensures refused { result ≡ Err WantOfMemory
             → held self.new name.now ≡ held self.old name.now }
         ensures no_limit { IfErr result IsNotTooLarge }
-        ensures asked { Asks (asked self.old) (asked self.new) (Write name.now) result }
+        ensures asked { AsksFiles (asked self.old) (asked self.new) (Write name.now) result }
         ensures cause { FileCause (faults self.old) (faults self.new) result };
 }

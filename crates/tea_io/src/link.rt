@@ -3,9 +3,8 @@ ghost use Rattle.std.specs.Prelude.{◌≡◌, ℕ, List, Option};
 ghost use Rattle.tea_io.specs.declared.link.Heard.{Heard};
 ghost use Rattle.tea_io.specs.declared.link.LinkFault.TheVariants.{WantOfMemory};
 ghost use Rattle.tea_io.specs.Told.{grown};
-ghost use Rattle.tea_io.specs.Links.{Counts, noted, Takes, NoneFalls, Counted, Sends, SendCause};
+ghost use Rattle.tea_io.specs.Links.{Counts, note_of, TakesFrame, NoneFalls, CountRises, Sends, SendCause};
 
-use std::alloc::{AllocError, AllocFailed};
 use tea_base::Blob;
 
 /// What a receive tells.
@@ -30,22 +29,6 @@ pub enum LinkFault {
     Failed,
     /// An allocation was refused. Nothing was sent.
     WantOfMemory,
-}
-
-impl From<AllocError> for LinkFault {
-    ghost from_gives = { λ _ fault. fault ≡ WantOfMemory };
-
-    fn from(_: AllocError) -> Self {
-        LinkFault::WantOfMemory
-    }
-}
-
-impl<T: Drop> From<AllocFailed<T>> for LinkFault {
-    ghost from_gives = { λ _ fault. fault ≡ WantOfMemory };
-
-    fn from(_: AllocFailed<T>) -> Self {
-        LinkFault::WantOfMemory
-    }
 }
 
 impl From<tea_base::WantOfMemory> for LinkFault {
@@ -73,11 +56,11 @@ pub trait Link {
 
     /// What comes next.
     fn recv(&mut self) -> Heard
-        ensures heard { heard self.new ≡ grown (heard self.old) (noted result) }
-        ensures coming { Takes (coming self.old) (coming self.new) result }
+        ensures heard { heard self.new ≡ grown (heard self.old) (note_of result) }
+        ensures coming { TakesFrame (coming self.old) (coming self.new) result }
         ensures sent { sent self.new ≡ sent self.old }
         ensures later { NoneFalls (counts self.old) (counts self.new) }
-        ensures cause { Counted (counts self.old) (counts self.new) result };
+        ensures cause { CountRises (counts self.old) (counts self.new) result };
 
     /// Sends a frame. Where the call fails, it was sent whole or not at all.
     fn send(&mut self, frame: &[u8]) -> Result<(), LinkFault>

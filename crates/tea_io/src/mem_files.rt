@@ -3,9 +3,9 @@ ghost use Rattle.std.specs.Prelude.{◌≡◌, ◌≢◌, ◌≤◌, ℕ, List, 
 ghost use Rattle.std.specs.Prelude.{IfOk, IfErr, OnOk, OnErr, AllPairs};
 ghost use Rattle.std.specs.Option.{option_copied};
 ghost use Rattle.tea_io.specs.declared.files.FileCall.TheVariants.{Read, Write};
-ghost use Rattle.tea_io.specs.Files.{MayBe, IsTooLargeFor, IsNotTooLarge, Holds, Asks, FileCause};
-ghost use Rattle.tea_io.specs.MemFiles.{bytes_of, content_of, within_limit, put, called};
-ghost use Rattle.tea_io.specs.MemFiles.{called_in_vain, after, read_answer, write_answer, IsAnswer};
+ghost use Rattle.tea_io.specs.Files.{MayBe, IsTooLargeFor, IsNotTooLarge, Holds, AsksFiles, FileCause};
+ghost use Rattle.tea_io.specs.MemFiles.{bytes_of, content_of, within_limit, with_file, files_with_call};
+ghost use Rattle.tea_io.specs.MemFiles.{files_with_failure, files_after, read_answer, write_answer, IsAnswer};
 
 use crate::calls::is_failing;
 use crate::files::{FileCall, FileFault, Files};
@@ -96,7 +96,7 @@ impl MemFiles {
 
     /// Notes and counts a call.
     fn note(&mut self, call: FileCall) -> Result<(), WantOfMemory>
-        ensures ok { OnOk result (self.new ≡ called self.old call) }
+        ensures ok { OnOk result (self.new ≡ files_with_call self.old call) }
         ensures err { OnErr result (self.new ≡ self.old) }
     {
         self.asked.push(call)?;
@@ -106,7 +106,7 @@ impl MemFiles {
 
     /// Notes and counts a call that fails, and its fault.
     fn note_failed(&mut self, call: FileCall) -> Result<(), WantOfMemory>
-        ensures ok { OnOk result (self.new ≡ called_in_vain self.old call) }
+        ensures ok { OnOk result (self.new ≡ files_with_failure self.old call) }
         ensures later { self.old.faults ≤ self.new.faults }
         ensures err { OnErr result (self.new ≡ self.old) }
     {
@@ -128,14 +128,14 @@ impl Files for MemFiles {
         ensures within { IfOk result (λ blob. length blob ≤ limit) }
         ensures too_large { IfErr result (IsTooLargeFor (content_of self.old name.now) limit) }
         ensures same { (other : List ℕ) → content_of self.new other ≡ content_of self.old other }
-        ensures asked { Asks (Some self.old.asked) (Some self.new.asked) (Read name.now) result }
+        ensures asked { AsksFiles (Some self.old.asked) (Some self.new.asked) (Read name.now) result }
         ensures cause { FileCause self.old.faults self.new.faults result }
 
         // What it answers but for want of memory, and all that it leaves.
         ensures answer { IsAnswer (read_answer self.old name.now limit) result }
-        ensures leaves { self.new ≡ after result self.old (Read name.now) self.old.held }
+        ensures leaves { self.new ≡ files_after result self.old (Read name.now) self.old.held }
     {
-        let call = FileCall::Read(name.clone()?);
+        let call = FileCall::Read(name.try_clone()?);
         match self.answer(name, limit) {
             Ok(blob) => {
                 self.note(call)?;
@@ -161,26 +161,27 @@ impl Files for MemFiles {
         ensures refused { result ≡ Err FileFault.WantOfMemory
             → content_of self.new name.now ≡ content_of self.old name.now }
         ensures no_limit { IfErr result IsNotTooLarge }
-        ensures asked { Asks (Some self.old.asked) (Some self.new.asked) (Write name.now) result }
+        ensures asked { AsksFiles (Some self.old.asked) (Some self.new.asked) (Write name.now) result }
         ensures cause { FileCause self.old.faults self.new.faults result }
 
         // What it answers but for want of memory, and all that it leaves.
         ensures answer { IsAnswer (write_answer self.old) result }
         ensures leaves { self.new
-            ≡ after result self.old (Write name.now) (put name.now bytes.now self.old.held) }
+            ≡ files_after result self.old (Write name.now) (with_file name.now bytes.now self.old.held) }
     {
-        let call = FileCall::Write(name.clone()?);
+        let call = FileCall::Write(name.try_clone()?);
         if is_failing(self.failing.as_slice(), self.next_call) {
             self.note_failed(call)?;
             return Err(FileFault::Failed);
         }
         let file = NamedBlob {
-            name: name.clone()?,
+            name: name.try_clone()?,
             bytes: Blob::copy(self.alloc, bytes)?,
         };
         // Room for the note comes first: once the file is in, nothing is refused.
-        self.asked.reserve(1)?;
-        self.held.insert(0, file)?;
+        if self.asked.reserve(1).is_err() || self.held.insert(0, file).is_err() {
+            return Err(FileFault::WantOfMemory);
+        }
         self.asked.push_reserved(call);
         self.next_call = self.next_call.saturating_add(1);
         Ok(())

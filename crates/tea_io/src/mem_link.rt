@@ -2,14 +2,14 @@
 ghost use Rattle.std.specs.Prelude.{◌≡◌, ◌≤◌, [], Some, Err, length};
 ghost use Rattle.tea_io.specs.Told.{grown};
 ghost use Rattle.tea_io.specs.Calls.{IsAnswerOr};
-ghost use Rattle.tea_io.specs.Links.{no_counts, noted, Takes, NoneFalls, Counted, Sends, SendCause};
+ghost use Rattle.tea_io.specs.Links.{no_counts, note_of, TakesFrame, NoneFalls, CountRises, Sends, SendCause};
 ghost use Rattle.tea_io.specs.MemLink.{recv_answer, after_recv, send_answer, after_send};
 
 use crate::calls::is_failing;
 use crate::link::{Heard, Link, LinkFault};
 use std::alloc::Global;
 use std::marker::Model;
-use tea_base::{Blob, List, Numbers};
+use tea_base::{Blob, List, Numbers, push};
 
 /// Frames in order.
 pub type Blobs = List<Blob>;
@@ -126,11 +126,11 @@ impl Link for MemLink {
     ghost counts = { λ link. link.counts };
 
     fn recv(&mut self) -> Heard
-        ensures heard { Some self.new.heard ≡ grown (Some self.old.heard) (noted result) }
-        ensures coming { Takes (Some self.old.coming) (Some self.new.coming) result }
+        ensures heard { Some self.new.heard ≡ grown (Some self.old.heard) (note_of result) }
+        ensures coming { TakesFrame (Some self.old.coming) (Some self.new.coming) result }
         ensures sent { Some self.new.sent ≡ Some self.old.sent }
         ensures later { NoneFalls self.old.counts self.new.counts }
-        ensures cause { Counted self.old.counts self.new.counts result }
+        ensures cause { CountRises self.old.counts self.new.counts result }
 
         // What it answers but for want of memory, and all that it leaves.
         ensures answer { IsAnswerOr Heard.WantOfMemory (recv_answer self.old) result }
@@ -187,7 +187,7 @@ impl Link for MemLink {
             return Err(LinkFault::Failed);
         }
         let copy = Blob::copy(self.alloc, frame)?;
-        self.sent.push(copy)?;
+        push(&mut self.sent, copy)?;
         self.next_call = self.next_call.saturating_add(1);
         Ok(())
     }

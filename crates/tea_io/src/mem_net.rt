@@ -1,12 +1,12 @@
 //! A net in memory.
 ghost use Rattle.std.specs.Prelude.{◌≡◌, ℕ, ◌+◌, ◌<◌, ◌≤◌, [], ◌∷◌, All, Some, Err, IfOk, OnOk, OnErr};
 ghost use Rattle.std.specs.Prelude.{vec_len, vec_capacity};
-ghost use Rattle.tea_io.specs.Told.{grown, Gives};
+ghost use Rattle.tea_io.specs.Told.{grown, TakesFirst};
 ghost use Rattle.tea_io.specs.Calls.{IsAnswerOr};
 ghost use Rattle.tea_io.specs.Links.{no_counts};
-ghost use Rattle.tea_io.specs.Nets.{plus, Asks, NetCause};
+ghost use Rattle.tea_io.specs.Nets.{plus, AsksNet, NetCause};
 ghost use Rattle.tea_io.specs.declared.net.NetCall.TheVariants.{Listen, Accept, Connect};
-ghost use Rattle.tea_io.specs.MemNet.{IsNew, listen_answer, link_answer, after, unchanged};
+ghost use Rattle.tea_io.specs.MemNet.{HasNoCounts, listen_answer, link_answer, net_after, same_net};
 ghost use Rattle.tea_io.specs.MemNet.{without_first};
 
 use crate::calls::is_failing;
@@ -14,7 +14,7 @@ use crate::mem_link::{MemLink, MemLinks};
 use crate::net::{Net, NetCall, NetFault};
 use std::alloc::Global;
 use std::marker::Model;
-use tea_base::{Numbers, Text};
+use tea_base::{Numbers, Text, push};
 
 /// A net whose links to come are kept in memory, with those that were given back. The calls whose
 /// numbers it was given fail, and so does one for a link where none is left. They are counted from
@@ -32,7 +32,7 @@ pub struct MemNet {
     link_quiets: u64,
     link_ends: u64,
     ghost room: { vec_len over + lent ≤ vec_capacity over },
-    ghost fresh: { All IsNew coming.items },
+    ghost fresh: { All HasNoCounts coming.items },
 }
 
 impl Model for MemNet {
@@ -53,10 +53,10 @@ impl Model for MemNet {
 }
 
 impl MemNet {
-    /// A net that gives these links, of which none was called yet, and whose calls of these numbers
-    /// fail. Takes no memory.
+    /// A net that gives these links, whose counts are 0, and whose calls of these numbers fail. Takes
+    /// no memory.
     pub fn new(alloc: Global, coming: MemLinks, fail: Numbers) -> MemNet
-        requires { All IsNew coming }
+        requires { All HasNoCounts coming }
         ensures coming { result.coming ≡ coming }
         ensures over { result.over ≡ [] }
         ensures asked { result.asked ≡ [] }
@@ -96,18 +96,19 @@ impl MemNet {
 
     /// The next link, for this call.
     fn give(&mut self, call: NetCall) -> Result<MemLink, NetFault>
-        ensures given { IfOk result (λ conn. Gives (Some self.old.coming) (Some self.new.coming) conn) }
-        ensures fresh { IfOk result IsNew }
+        ensures given { IfOk result (λ conn. TakesFirst (Some self.old.coming) (Some self.new.coming) conn) }
+        ensures fresh { IfOk result HasNoCounts }
         ensures cause { NetCause self.old.faults self.new.faults result }
         ensures answer { IsAnswerOr (Err NetFault.WantOfMemory) (link_answer self.old) result }
-        ensures leaves { self.new ≡ after without_first result self.old call }
+        ensures leaves { self.new ≡ net_after without_first result self.old call }
     {
         let Some(lent) = self.lent.checked_add(1) else {
             return Err(NetFault::WantOfMemory);
         };
         // Room for the link when it comes back, and for the note: then nothing is refused.
-        self.over.reserve(lent)?;
-        self.asked.reserve(1)?;
+        if self.over.reserve(lent).is_err() || self.asked.reserve(1).is_err() {
+            return Err(NetFault::WantOfMemory);
+        }
         self.asked.push_reserved(call);
         let number = self.next_call;
         self.next_call = self.next_call.saturating_add(1);
@@ -140,15 +141,15 @@ impl Net for MemNet {
         ensures over { Some self.new.over ≡ Some self.old.over }
         ensures lent { self.new.lent ≡ self.old.lent }
         ensures counts { self.new.link_counts ≡ self.old.link_counts }
-        ensures asked { Asks (Some self.old.asked) (Some self.new.asked) (Listen address.now) result }
+        ensures asked { AsksNet (Some self.old.asked) (Some self.new.asked) (Listen address.now) result }
         ensures cause { NetCause self.old.faults self.new.faults result }
 
         // What it answers but for want of memory, and all that it leaves.
         ensures answer { IsAnswerOr (Err NetFault.WantOfMemory) (listen_answer self.old) result }
-        ensures leaves { self.new ≡ after unchanged result self.old (Listen address.now) }
+        ensures leaves { self.new ≡ net_after same_net result self.old (Listen address.now) }
     {
-        let call = NetCall::Listen(address.clone()?);
-        self.asked.push(call)?;
+        let call = NetCall::Listen(address.try_clone()?);
+        push(&mut self.asked, call)?;
         let number = self.next_call;
         self.next_call = self.next_call.saturating_add(1);
         if is_failing(self.failing.as_slice(), number) {
@@ -159,39 +160,39 @@ impl Net for MemNet {
     }
 
     fn accept(&mut self) -> Result<MemLink, NetFault>
-        ensures given { IfOk result (λ conn. Gives (Some self.old.coming) (Some self.new.coming) conn) }
+        ensures given { IfOk result (λ conn. TakesFirst (Some self.old.coming) (Some self.new.coming) conn) }
         ensures kept { OnErr result (Some self.new.coming ≡ Some self.old.coming) }
         ensures fresh { IfOk result (λ conn. conn.counts ≡ no_counts) }
         ensures over { Some self.new.over ≡ Some self.old.over }
         ensures lent { OnOk result (self.new.lent ≡ self.old.lent + 1) }
         ensures none_lent { OnErr result (self.new.lent ≡ self.old.lent) }
         ensures counts { self.new.link_counts ≡ self.old.link_counts }
-        ensures asked { Asks (Some self.old.asked) (Some self.new.asked) Accept result }
+        ensures asked { AsksNet (Some self.old.asked) (Some self.new.asked) Accept result }
         ensures cause { NetCause self.old.faults self.new.faults result }
 
         // What it answers but for want of memory, and all that it leaves.
         ensures answer { IsAnswerOr (Err NetFault.WantOfMemory) (link_answer self.old) result }
-        ensures leaves { self.new ≡ after without_first result self.old Accept }
+        ensures leaves { self.new ≡ net_after without_first result self.old Accept }
     {
         self.give(NetCall::Accept)
     }
 
     fn connect(&mut self, address: &Text) -> Result<MemLink, NetFault>
-        ensures given { IfOk result (λ conn. Gives (Some self.old.coming) (Some self.new.coming) conn) }
+        ensures given { IfOk result (λ conn. TakesFirst (Some self.old.coming) (Some self.new.coming) conn) }
         ensures kept { OnErr result (Some self.new.coming ≡ Some self.old.coming) }
         ensures fresh { IfOk result (λ conn. conn.counts ≡ no_counts) }
         ensures over { Some self.new.over ≡ Some self.old.over }
         ensures lent { OnOk result (self.new.lent ≡ self.old.lent + 1) }
         ensures none_lent { OnErr result (self.new.lent ≡ self.old.lent) }
         ensures counts { self.new.link_counts ≡ self.old.link_counts }
-        ensures asked { Asks (Some self.old.asked) (Some self.new.asked) (Connect address.now) result }
+        ensures asked { AsksNet (Some self.old.asked) (Some self.new.asked) (Connect address.now) result }
         ensures cause { NetCause self.old.faults self.new.faults result }
 
         // What it answers but for want of memory, and all that it leaves.
         ensures answer { IsAnswerOr (Err NetFault.WantOfMemory) (link_answer self.old) result }
-        ensures leaves { self.new ≡ after without_first result self.old (Connect address.now) }
+        ensures leaves { self.new ≡ net_after without_first result self.old (Connect address.now) }
     {
-        let call = NetCall::Connect(address.clone()?);
+        let call = NetCall::Connect(address.try_clone()?);
         self.give(call)
     }
 

@@ -3,7 +3,7 @@ ghost use Rattle.std.specs.Prelude.{◌≡◌, ◌↔◌, [], Some, OnOk, OnErr,
 ghost use Rattle.tea_io.specs.Told.{grown};
 ghost use Rattle.tea_io.specs.Sink.{GrowsWithin, SinkCause, SinkWant};
 ghost use Rattle.tea_io.specs.Calls.{fails_at};
-ghost use Rattle.tea_io.specs.MemSink.{after};
+ghost use Rattle.tea_io.specs.MemSink.{sink_after};
 
 use crate::calls::is_failing;
 use crate::sink::{Sink, SinkFault};
@@ -87,7 +87,7 @@ impl Sink for MemSink {
         // A call fails exactly where its number stands in the list.
         ensures fails { IsErrOf result SinkFault.Failed
             ↔ IsTrue (fails_at self.old.failing self.old.next_call) }
-        ensures leaves { self.new ≡ after result self.old bytes.now }
+        ensures leaves { self.new ≡ sink_after result self.old bytes.now }
     {
         if is_failing(self.failing.as_slice(), self.next_call) {
             self.next_call = self.next_call.saturating_add(1);

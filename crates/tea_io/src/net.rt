@@ -3,12 +3,11 @@ ghost use Rattle.std.specs.Prelude.{◌≡◌, ℕ, ◌+◌, ◌<◌, [], ◌∷
 ghost use Rattle.tea_io.specs.declared.net.NetCall.{NetCall};
 ghost use Rattle.tea_io.specs.declared.net.NetCall.TheVariants.{Listen, Accept, Connect};
 ghost use Rattle.tea_io.specs.declared.net.NetFault.TheVariants.{WantOfMemory};
-ghost use Rattle.tea_io.specs.Told.{grown, Gives};
+ghost use Rattle.tea_io.specs.Told.{grown, TakesFirst};
 ghost use Rattle.tea_io.specs.Links.{Counts, no_counts};
-ghost use Rattle.tea_io.specs.Nets.{plus, Asks, NetCause};
+ghost use Rattle.tea_io.specs.Nets.{plus, AsksNet, NetCause};
 
 use crate::link::Link;
-use std::alloc::{AllocError, AllocFailed};
 use tea_base::{List, Text};
 
 /// A call of a net that was made, with its address.
@@ -32,22 +31,6 @@ pub enum NetFault {
     Failed,
     /// An allocation was refused.
     WantOfMemory,
-}
-
-impl From<AllocError> for NetFault {
-    ghost from_gives = { λ _ fault. fault ≡ WantOfMemory };
-
-    fn from(_: AllocError) -> Self {
-        NetFault::WantOfMemory
-    }
-}
-
-impl<T: Drop> From<AllocFailed<T>> for NetFault {
-    ghost from_gives = { λ _ fault. fault ≡ WantOfMemory };
-
-    fn from(_: AllocFailed<T>) -> Self {
-        NetFault::WantOfMemory
-    }
 }
 
 impl From<tea_base::WantOfMemory> for NetFault {
@@ -87,31 +70,31 @@ pub trait Net {
         ensures over { over self.new ≡ over self.old }
         ensures lent { lent self.new ≡ lent self.old }
         ensures counts { link_counts self.new ≡ link_counts self.old }
-        ensures asked { Asks (asked self.old) (asked self.new) (Listen address.now) result }
+        ensures asked { AsksNet (asked self.old) (asked self.new) (Listen address.now) result }
         ensures cause { NetCause (faults self.old) (faults self.new) result };
 
     /// The next link of those that connect to the address at which it listens.
     fn accept(&mut self) -> Result<Self::Conn, NetFault>
-        ensures given { IfOk result (λ conn. Gives (coming self.old) (coming self.new) conn) }
+        ensures given { IfOk result (λ conn. TakesFirst (coming self.old) (coming self.new) conn) }
         ensures kept { OnErr result (coming self.new ≡ coming self.old) }
         ensures fresh { IfOk result (λ conn. Self.Conn.counts conn ≡ no_counts) }
         ensures over { over self.new ≡ over self.old }
         ensures lent { OnOk result (lent self.new ≡ lent self.old + 1) }
         ensures none_lent { OnErr result (lent self.new ≡ lent self.old) }
         ensures counts { link_counts self.new ≡ link_counts self.old }
-        ensures asked { Asks (asked self.old) (asked self.new) Accept result }
+        ensures asked { AsksNet (asked self.old) (asked self.new) Accept result }
         ensures cause { NetCause (faults self.old) (faults self.new) result };
 
     /// A link to an address.
     fn connect(&mut self, address: &Text) -> Result<Self::Conn, NetFault>
-        ensures given { IfOk result (λ conn. Gives (coming self.old) (coming self.new) conn) }
+        ensures given { IfOk result (λ conn. TakesFirst (coming self.old) (coming self.new) conn) }
         ensures kept { OnErr result (coming self.new ≡ coming self.old) }
         ensures fresh { IfOk result (λ conn. Self.Conn.counts conn ≡ no_counts) }
         ensures over { over self.new ≡ over self.old }
         ensures lent { OnOk result (lent self.new ≡ lent self.old + 1) }
         ensures none_lent { OnErr result (lent self.new ≡ lent self.old) }
         ensures counts { link_counts self.new ≡ link_counts self.old }
-        ensures asked { Asks (asked self.old) (asked self.new) (Connect address.now) result }
+        ensures asked { AsksNet (asked self.old) (asked self.new) (Connect address.now) result }
         ensures cause { NetCause (faults self.old) (faults self.new) result };
 
     /// Takes back a link that this net gave and that is no longer used. Takes no memory.

@@ -4,8 +4,6 @@ ghost use Rattle.tea_io.specs.declared.sink.SinkFault.TheVariants.{WantOfMemory}
 ghost use Rattle.tea_io.specs.Told.{grown};
 ghost use Rattle.tea_io.specs.Sink.{GrowsWithin, SinkCause, SinkWant};
 
-use std::alloc::AllocError;
-
 /// Why a piece was not written whole.
 #[derive(Clone, Copy, Debug, PartialEq, Eq)]
 pub enum SinkFault {
@@ -15,10 +13,10 @@ pub enum SinkFault {
     WantOfMemory,
 }
 
-impl From<AllocError> for SinkFault {
+impl From<tea_base::WantOfMemory> for SinkFault {
     ghost from_gives = { λ _ fault. fault ≡ WantOfMemory };
 
-    fn from(_: AllocError) -> Self {
+    fn from(_: tea_base::WantOfMemory) -> Self {
         SinkFault::WantOfMemory
     }
 }

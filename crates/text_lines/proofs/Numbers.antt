@@ -7,7 +7,7 @@ use Rattle.std.proofs.lemmas.Bool.Decides.{nat_tests}
 use Rattle.std.specs.Str.{bytes_eq}
 use Rattle.std.specs.Str.Parse.{AllDigits, digits_value, ParsesUnsigned}
 use Rattle.std.specs.Fmt.{decimal, digits}
-use Rattle.text_lines.specs.Lines.{Word, spelled_by, IsPlain}
+use Rattle.text_lines.specs.Lines.{LineWord, spelled_by, IsPlain}
 
 own : IsNumeralModel (AllDigits 10) (digits_value 10)
 own = numerals_by_value (AllDigits 10) tells_digits
@@ -24,7 +24,7 @@ IsPlain-decimal zero small = record { nonempty = lit< tt; no_plus = λ e. omega 
 IsPlain-decimal (suc n) small = IsPlain-decimal-positive (suc n) (omega arith) small
 
 -- what `parse` reads of a plain word is what the word spells
-pub spelled-parsed : {E : Type 0} (word : Word) (n : ℕ) (result : Result ℕ E) → ParsesUnsigned 64 10 word result → IsPlain word → result ≡ Ok n → (word ≡ decimal n) × (n < 2 ^ 64)
+pub spelled-parsed : {E : Type 0} (word : LineWord) (n : ℕ) (result : Result ℕ E) → ParsesUnsigned 64 10 word result → IsPlain word → result ≡ Ok n → (word ≡ decimal n) × (n < 2 ^ 64)
 spelled-parsed word n result parses plain ok =
     let read = rw ok at (parse_plain own 64 word result parses plain.no_plus) in
     let same : n ≡ digits_value 10 word = read.1 in
@@ -32,12 +32,12 @@ spelled-parsed word n result parses plain ok =
     (rw same (sym text), rw same read.0.2)
 
 -- a word that spells a number reads as it
-pub spelled_by-decimal : (n : ℕ) (word : Word) → word ≡ decimal n → n < 2 ^ 64 → spelled_by word ≡ Some n
+pub spelled_by-decimal : (n : ℕ) (word : LineWord) → word ≡ decimal n → n < 2 ^ 64 → spelled_by word ≡ Some n
 spelled_by-decimal n word spells small =
     let value : digits_value 10 word ≡ n = ap (digits_value 10) spells ∙ digits_value-decimal own n small in
     let same : bytes_eq (decimal n) word ≡ true = (bytes_eq-Decides (decimal n) word).1 (sym spells) in
     rw (value, same) (grind (arith, nat_tests))
 
 -- and another word as none
-pub spelled_by-none : (word : Word) → ((n : ℕ) → n < 2 ^ 64 → word ≡ decimal n → ⊥) → spelled_by word ≡ None
+pub spelled_by-none : (word : LineWord) → ((n : ℕ) → n < 2 ^ 64 → word ≡ decimal n → ⊥) → spelled_by word ≡ None
 spelled_by-none word none = grind (arith, nat_tests, bytes_eq-Decides (decimal (digits_value 10 word)) word, none (digits_value 10 word))

@@ -5,8 +5,8 @@ use Rattle.std.specs.Str.{bytes_eq}
 use Rattle.std.specs.Str.Parse.{digits_value}
 use Rattle.std.specs.Fmt.{decimal}
 
-abbrev pub Word : Type 0
-Word = List ℕ
+abbrev pub LineWord : Type 0
+LineWord = List ℕ
 
 abbrev pub is_empty : List ℕ → Bool
 is_empty bytes = length bytes == 0
@@ -16,15 +16,15 @@ abbrev pub ends_in_space : List ℕ → Bool
 ends_in_space line = slice_index line 0 == 32 || slice_index line (length line - 1) == 32
 
 -- the parts of a line between spaces that are not empty
-abbrev pub parts_of : List ℕ → List Word
-parts_of line = filter (λ word. not (is_empty word)) (slice_split (λ byte. byte == 32) line)
+abbrev pub nonempty_parts : List ℕ → List LineWord
+nonempty_parts line = filter (λ word. not (is_empty word)) (slice_split (λ byte. byte == 32) line)
 
 -- words are divided by one or more spaces; a line that begins or ends with a space has none
-abbrev pub words_of : List ℕ → List Word
-words_of line = if ends_in_space line then [] else parts_of line
+abbrev pub words_of : List ℕ → List LineWord
+words_of line = if ends_in_space line then [] else nonempty_parts line
 
 -- the number below 2 ^ 64 that a word spells: the word is its text in decimal
-abbrev pub spelled_by : Word → Option ℕ
+abbrev pub spelled_by : LineWord → Option ℕ
 spelled_by word = let number = digits_value 10 word in
     if bytes_eq (decimal number) word && nat_lt number (2 ^ 64) then Some number else None
 
@@ -32,11 +32,11 @@ abbrev pub in_range : ℕ → ℕ → ℕ → Option ℕ
 in_range low high number = if nat_le low number && nat_le number high then Some number else None
 
 -- the number from low to high that a word spells
-abbrev pub number_of_word : ℕ → ℕ → Word → Option ℕ
+abbrev pub number_of_word : ℕ → ℕ → LineWord → Option ℕ
 number_of_word low high word = option_and_then (in_range low high) (spelled_by word)
 
 -- the word is not empty, has no plus, and no zero before its last digit
-pub record IsPlain (word : Word) : Type 0 where
+pub record IsPlain (word : LineWord) : Type 0 where
   pub nonempty : 0 < length word
   pub no_plus : slice_index word 0 ≢ 43
   pub no_zero : slice_index word 0 ≡ 48 → length word ≡ 1
@@ -47,5 +47,5 @@ spaced [] = []
 spaced (number ∷ numbers) = 32 ∷ (decimal number ++ spaced numbers)
 
 -- a word, and numbers
-abbrev pub numbered : Word → List ℕ → List ℕ
+abbrev pub numbered : LineWord → List ℕ → List ℕ
 numbered word numbers = word ++ spaced numbers

@@ -1,6 +1,6 @@
 //! Frames. Times are in microseconds since the session's founding.
 use crate::start::{Base, Want};
-use tea_base::{Blob, Entry, SessionId};
+use tea_base::{Blob, Entry, List, SessionId};
 
 /// What a view sends.
 #[derive(Clone, Debug, Drop)]
@@ -55,3 +55,9 @@ pub enum ServerFrame {
     },
     Alive,
 }
+
+/// Frames of a view, in order.
+pub type ClientFrames = List<ClientFrame>;
+
+/// Frames of a reflector, in order.
+pub type ServerFrames = List<ServerFrame>;

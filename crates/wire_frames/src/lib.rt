@@ -12,7 +12,7 @@ mod start;
 mod writing;
 
 pub use fault::FrameFault;
-pub use frame::{ClientFrame, ServerFrame};
+pub use frame::{ClientFrame, ClientFrames, ServerFrame, ServerFrames};
 pub use laws::{
     again_client, again_server, frames_are_read, one_client, one_server, typed_client, typed_server,
 };

@@ -7,7 +7,7 @@ use Rattle.model_value.specs.Plain.{PlainValue, int}
 use Rattle.model_value.specs.Payload.{PlainPayload, whole_payload}
 use Rattle.world_plain.specs.Messages.{PlainMessage}
 use Rattle.world_plain.specs.World.{WorldRecord}
-use Rattle.world_plain.specs.Valid.{most_views}
+use Rattle.tea_base.specs.Limits.{most_here}
 use Rattle.model_lang.specs.Tree.{Name, ProgramTree}
 use Rattle.model_eval.specs.declared.fault.Fault.TheVariants.{Full}
 use Rattle.model_eval.specs.Running.{Outcome, Gives, Faults}
@@ -79,7 +79,7 @@ came-by_world : (program : ProgramTree) (view : ℕ) → IsByWorld (after_join p
 came-by_world program view s =
     let w : WorldRecord = s.world in
     let here : WorldRecord = record w { views = with_view view w.views } in
-    let few : Bool = nat_lt (length w.views) most_views in
+    let few : Bool = nat_lt (length w.views) most_here in
     either-by_world (nat_eq view 0 || is_view_here view w.views) (λ u. u) (λ u. if few then after_telling_of program view_join view (scene_with_world u here) else scene_with_world u (with_fault Full w)) s refl
     (either-by_world few (λ u. after_telling_of program view_join view (scene_with_world u here)) (λ u. scene_with_world u (with_fault Full w)) s
     (told_of-by_world program view_join view (scene_with_world s here)) refl)

@@ -5,8 +5,8 @@ use Rattle.tea_base.specs.declared.entry.Entry.{Entry}
 use Rattle.tea_base.specs.declared.entry.What.{What}
 use Rattle.tea_base.specs.declared.entry.What.TheVariants.{Join, Exit, Event}
 use Rattle.world_plain.specs.World.{WorldRecord}
-use Rattle.world_plain.specs.Valid.{Valid, RiseFrom, most_views}
-use Rattle.tea_base.specs.Limits.{time_limit}
+use Rattle.world_plain.specs.Valid.{Valid, RiseFrom}
+use Rattle.tea_base.specs.Limits.{time_limit, most_here}
 use Rattle.model_value.specs.Plain.{int}
 use Rattle.model_value.specs.Payload.{PlainPayload, whole_payload}
 use Rattle.model_value.proofs.PayloadCodec.{payload_of-in_bounds}
@@ -17,7 +17,7 @@ use Rattle.world.specs.Worlds.{Scene, scene_with_world, with_next_turn, with_fau
 use Rattle.world.proofs.Running.{Fits, with_count-valid, counted-valid, begun-valid, informed-valid}
 use Rattle.world.proofs.Advancing.{advance-valid}
 
-views-valid : (counts : List ℕ) (views : List ℕ) (w : WorldRecord) → RiseFrom 0 views → length views ≤ most_views → Valid counts w → Valid counts (record w { views = views })
+views-valid : (counts : List ℕ) (views : List ℕ) (w : WorldRecord) → RiseFrom 0 views → length views ≤ most_here → Valid counts w → Valid counts (record w { views = views })
 views-valid counts views w rise few v = record {
   clock = v.clock;
   views = record {
@@ -58,21 +58,21 @@ length-with view (x ∷ xs) = length_if (nat_lt view x) view x xs (with_view vie
 told_of-valid : (counts : List ℕ) (program : ProgramTree) (event : Name) (view : ℕ) (s : Scene) → Fits counts program → Valid counts s.world → Valid counts (after_telling_of program event view s).world
 told_of-valid counts program event view s fits v = informed-valid counts program (session_scope s.world) event (int (pos view)) s fits (int-in_bounds (pos view)) v
 
-came_if : (counts : List ℕ) (program : ProgramTree) (none here few : Bool) (view : ℕ) (s : Scene) → Fits counts program → none ≡ nat_eq view 0 → here ≡ is_view_here view s.world.views → few ≡ nat_lt (length s.world.views) most_views → Valid counts s.world
+came_if : (counts : List ℕ) (program : ProgramTree) (none here few : Bool) (view : ℕ) (s : Scene) → Fits counts program → none ≡ nat_eq view 0 → here ≡ is_view_here view s.world.views → few ≡ nat_lt (length s.world.views) most_here → Valid counts s.world
     → Valid counts (if none || here then s else (if few then after_telling_of program view_join view (scene_with_world s (record (s.world) { views = with_view view s.world.views })) else scene_with_world s (with_fault Full s.world))).world
 came_if counts program true here few view s fits n h f v = v
 came_if counts program false true few view s fits n h f v = v
 came_if counts program false false true view s fits n h f v =
     let w = s.world in
     let above : ¬ (view ≡ 0) = eqb-false view 0 (sym n) in
-    let room : length w.views < most_views = ltb-true (length w.views) most_views (sym f) in
+    let room : length w.views < most_here = ltb-true (length w.views) most_here (sym f) in
     told_of-valid counts program view_join view (scene_with_world s (record w { views = with_view view w.views })) fits
     (views-valid counts (with_view view w.views) w (rise-with 0 view w.views (omega (arith, above)) (sym h) v.views.rise) (omega (arith, length-with view w.views, room)) v)
 came_if counts program false false false view s fits n h f v = counted-valid counts Full s.world v
 
 pub came-valid : (counts : List ℕ) (program : ProgramTree) (view : ℕ) (s : Scene) → Fits counts program → Valid counts s.world → Valid counts (after_join program view s).world
 came-valid counts program view s fits v =
-    came_if counts program (nat_eq view 0) (is_view_here view s.world.views) (nat_lt (length s.world.views) most_views) view s fits refl refl refl v
+    came_if counts program (nat_eq view 0) (is_view_here view s.world.views) (nat_lt (length s.world.views) most_here) view s fits refl refl refl v
 
 -- ---- a view that goes
 

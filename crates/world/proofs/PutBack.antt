@@ -10,13 +10,14 @@ use Rattle.world_plain.specs.World.{ObjectRecord, WorldRecord, object_weight, to
 use Rattle.world_plain.specs.declared.message.Message.{Message}
 use Rattle.world_plain.specs.declared.message.Subscription.{Subscription}
 use Rattle.world_plain.specs.declared.world.PlainObject.{PlainObject}
-use Rattle.world_plain.specs.Valid.{Valid, RiseFrom, ObjectFits, ObjectsFit, SubscriptionFits, SubscriptionsFit, IsNew, SubscriptionsDiffer, Precedes, PrecedesAll, AreInOrder, IsUnused, NumbersDiffer, MessageFits, MessagesFit, most_objects, most_pending}
+use Rattle.world_plain.specs.Valid.{Valid, RiseFrom, ObjectFits, ObjectsFit, SubscriptionFits, SubscriptionsFit, DiffersFromAll, SubscriptionsDiffer, Precedes, PrecedesAll, AreInOrder, IsUnused, NumbersDiffer, MessageFits, MessagesFit, most_objects, most_pending}
 use Rattle.object_store.specs.Store.{IsAboveAll, AreFields}
 use Rattle.object_store.proofs.Objects.{AreFields-light}
 use Rattle.pubsub.specs.Topics.{IsLightSubscription, is_subscribed}
 use Rattle.world_plain.specs.ValidTest.{same_subscription}
 use Rattle.pubsub.proofs.Subscriptions.{same-true, IsLight-fits}
-use Rattle.message_queue.specs.Queue.{IsLightMessage, precedes, inserted}
+use Rattle.message_queue.specs.Queue.{IsLightMessage, insert_in_order}
+use Rattle.world_plain.specs.ValidTest.{is_due_before}
 use Rattle.message_queue.proofs.Order.{IsLight-fits as IsLightMessage-fits}
 
 -- ---- lists
@@ -79,7 +80,7 @@ next-object w before items i x fields v inside is same e =
 not-same : (s t : Subscription) → ¬ (t ≡ s) → same_subscription t s ≡ false
 not-same s t h = false_from_ne_true (same_subscription t s) (λ e. h (same-true t s e))
 
-new-among : (before behind : List Subscription) (s t : Subscription) → IsNew t (before ++ s ∷ behind) → ¬ (t ≡ s)
+new-among : (before behind : List Subscription) (s t : Subscription) → DiffersFromAll t (before ++ s ∷ behind) → ¬ (t ≡ s)
 new-among [] behind s t h = h.0
 new-among (u ∷ before) behind s t h = new-among before behind s t h.1
 
@@ -134,14 +135,14 @@ precedes-among [] behind n m h = h.0
 precedes-among (k ∷ before) behind n m h = precedes-among before behind n m h.1
 
 -- what is preceded precedes nothing of it
-follows : (n m : PlainMessage) → Precedes n m → precedes m n ≡ false
+follows : (n m : PlainMessage) → Precedes n m → is_due_before m n ≡ false
 follows n m (inl later) =
     rw (le-ltb m.time n.time (omega (arith, later)), ne_eqb m.time n.time (λ e. absurd (omega (arith, later, e)))) refl
 follows n m (inr h) =
     rw (le-ltb m.time n.time (omega (arith, h.0)), le-ltb m.number n.number (omega (arith, h.1))) (and_right (nat_eq m.time n.time) false refl)
 
 -- in order, it is inserted as the last
-inserted-last : (before behind : List PlainMessage) (m : PlainMessage) → AreInOrder (before ++ m ∷ behind) → inserted m before ≡ before ++ m ∷ []
+inserted-last : (before behind : List PlainMessage) (m : PlainMessage) → AreInOrder (before ++ m ∷ behind) → insert_in_order m before ≡ before ++ m ∷ []
 inserted-last [] behind m h = refl
 inserted-last (n ∷ before) behind m h =
     rw (follows n m (precedes-among before behind n m h.0)) (ap (λ (ms : List PlainMessage). n ∷ ms) (inserted-last before behind m h.1))
@@ -153,7 +154,7 @@ pub record IsNextMessage (w : WorldRecord) (before behind : List PlainMessage) (
   pub unused : IsUnused m.number before
   pub few : length before < most_pending
   pub light : IsLightMessage m
-  pub last : inserted m before ≡ before ++ m ∷ []
+  pub last : insert_in_order m before ≡ before ++ m ∷ []
 
 message-between : (counts : List ℕ) (w : WorldRecord) (before behind : List PlainMessage) (m : PlainMessage) → Valid counts w → before ++ m ∷ behind ≡ w.pending → IsNextMessage w before behind m
 message-between counts w before behind m v e =

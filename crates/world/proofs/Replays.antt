@@ -10,8 +10,8 @@ use Rattle.tea_base.proofs.LogLaws.{TimesRise-legal}
 use Rattle.model_value.specs.Plain.{PlainValue, nil, int}
 use Rattle.world_plain.specs.Messages.{PlainMessage}
 use Rattle.model_value.specs.Payload.{PlainPayload, whole_payload}
-use Rattle.world_plain.specs.Valid.{Valid, most_views}
-use Rattle.tea_base.specs.Limits.{time_limit}
+use Rattle.world_plain.specs.Valid.{Valid}
+use Rattle.tea_base.specs.Limits.{time_limit, most_here}
 use Rattle.world_plain.specs.World.{WorldRecord}
 use Rattle.model_value.proofs.PayloadCodec.{payload_of-in_bounds}
 use Rattle.model_check.specs.Methods.{method_named}
@@ -54,8 +54,8 @@ module _ (program : ProgramTree) (fits : Fits (field_counts program) program) wh
       let w : WorldRecord = s.world in
       let with : Scene = scene_with_world s (record w { views = with_view view w.views }) in
       let full : Scene = scene_with_world s (with_fault Full w) in
-      either (nat_eq view 0 || is_view_here view w.views) w s (if nat_lt (length w.views) most_views then after_telling_of program view_join view with else full) (here w)
-      (either (nat_lt (length w.views) most_views) w (after_telling_of program view_join view with) full
+      either (nat_eq view 0 || is_view_here view w.views) w s (if nat_lt (length w.views) most_here then after_telling_of program view_join view with else full) (here w)
+      (either (nat_lt (length w.views) most_here) w (after_telling_of program view_join view with) full
       (stays-on w with.world (after_telling_of program view_join view with).world (record { id = refl; time = refl }) (told_of-stays view_join view with)) (record { id = refl; time = refl }))
 
   went-stays : (view : ℕ) (s : Scene) → Stays s.world (after_exit program view s).world

@@ -20,9 +20,9 @@ abbrev pub scene : State → Scene
 scene state = record { world = world_of state; published = map plain_outgoing state.published }
 
 -- the message that is due, and the world without it
-abbrev pub Takes : Option Message → ℕ → Scene → Scene → Type 0
-Takes None t before after = (due t before.world.pending ≡ None) × (after ≡ before)
-Takes (Some m) t before after =
+abbrev pub TakesDue : Option Message → ℕ → Scene → Scene → Type 0
+TakesDue None t before after = (due t before.world.pending ≡ None) × (after ≡ before)
+TakesDue (Some m) t before after =
     (rest : List PlainMessage) × (due t before.world.pending ≡ Some (plain_message m, rest)) × (after ≡ scene_with_world before (record (before.world) { pending = rest }))
 
 -- each message is of a later time
@@ -51,7 +51,7 @@ coded_view classes =
     (λ _. refl)
 
 -- what is so of every World: its program is one, its world is valid where it is not broken, and where it is nothing is published
-pub record IsSound (w : WorldView) : Type 0 where
+pub record IsSoundWorld (w : WorldView) : Type 0 where
   pub program : IsProgram (program_tree w.program)
   pub valid : w.broken ≡ false → Valid (field_counts (program_tree w.program)) w.scene.world
   pub quiet : w.broken ≡ true → w.scene.published ≡ []

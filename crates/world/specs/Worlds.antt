@@ -11,7 +11,8 @@ use Rattle.model_value.specs.Plain.{PlainValue, nil, int}
 use Rattle.model_value.specs.Payload.{PlainPayload, whole_payload}
 use Rattle.world_plain.specs.Messages.{PlainMessage, PlainOutgoing}
 use Rattle.world_plain.specs.World.{WorldRecord}
-use Rattle.world_plain.specs.Valid.{most_turns, most_views, most_pending}
+use Rattle.tea_base.specs.Limits.{most_here}
+use Rattle.world_plain.specs.Valid.{most_turns, most_pending}
 use Rattle.model_lang.specs.Tree.{Name, ClassTree, ProgramTree, root_name}
 use Rattle.model_eval.specs.declared.fault.Fault.{Fault}
 use Rattle.model_eval.specs.declared.fault.Fault.TheVariants as fault
@@ -198,7 +199,7 @@ abbrev pub after_join : ProgramTree → ℕ → Scene → Scene
 after_join program view s =
     let w = s.world in
     if nat_eq view 0 || is_view_here view w.views then s
-    else (if nat_lt (length w.views) most_views then after_telling_of program view_join view (scene_with_world s (record w { views = with_view view w.views }))
+    else (if nat_lt (length w.views) most_here then after_telling_of program view_join view (scene_with_world s (record w { views = with_view view w.views }))
     else scene_with_world s (with_fault fault.Full w))
 
 abbrev pub after_exit : ProgramTree → ℕ → Scene → Scene

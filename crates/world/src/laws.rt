@@ -16,7 +16,7 @@ ghost use Rattle.world.specs.contracts.world.World as world;
 use model_check::checked_crosses_threads;
 
 /// The first world of a session is valid, of that session, and at time 0.
-pub fn first_stands()
+pub fn first_world_is_valid()
     ensures valid { (program : ProgramTree) (id : List ℕ) → IsProgram program → Valid (field_counts program) (first_scene program id).world }
     ensures session { (program : ProgramTree) (id : List ℕ) → IsProgram program → (first_scene program id).world.id ≡ id }
     ensures time { (program : ProgramTree) (id : List ℕ) → IsProgram program → (first_scene program id).world.time ≡ 0 }
@@ -47,7 +47,7 @@ pub fn at_rest_stays()
 {}
 
 /// An entry leaves a valid world of the same session, at the entry's time.
-pub fn external_stands()
+pub fn external_keeps_valid()
     ensures valid { (program : ProgramTree) (e : Entry) (a : Scene) → IsProgram program → Valid (field_counts program) a.world → e.time < time_limit → Valid (field_counts program) (external program e a).world }
     ensures session { (program : ProgramTree) (e : Entry) (a : Scene) → IsProgram program → (external program e a).world.id ≡ a.world.id }
     ensures time { (program : ProgramTree) (e : Entry) (a : Scene) → IsProgram program → Valid (field_counts program) a.world → a.world.time ≤ e.time → (external program e a).world.time ≡ e.time }
@@ -81,7 +81,7 @@ pub fn resumed_follows()
 {}
 
 /// A world that is taken up and goes on to t is a valid world of its session at t, whether it follows the log or not.
-pub fn resumed_stands()
+pub fn resumed_world_is_valid()
     ensures valid { (program : ProgramTree) (w : WorldRecord) (entries : List Entry) (t : ℕ) → IsProgram program → Valid (field_counts program) w → IsLegal entries → w.time ≤ t → t < time_limit → Valid (field_counts program) (replay_on program w entries t).world }
     ensures session { (program : ProgramTree) (w : WorldRecord) (entries : List Entry) (t : ℕ) → IsProgram program → Valid (field_counts program) w → IsLegal entries → w.time ≤ t → t < time_limit → (replay_on program w entries t).world.id ≡ w.id }
     ensures time { (program : ProgramTree) (w : WorldRecord) (entries : List Entry) (t : ℕ) → IsProgram program → Valid (field_counts program) w → IsLegal entries → w.time ≤ t → t < time_limit → (replay_on program w entries t).world.time ≡ t }

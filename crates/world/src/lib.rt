@@ -11,8 +11,8 @@ mod world;
 
 pub use fault::WorldFault;
 pub use laws::{
-    advance_rests, advance_steps, advance_twice, at_rest_stays, external_after, external_stands,
-    first_stands, replay_folds, replay_follows, resumed_follows, resumed_stands,
-    world_crosses_threads, world_decides,
+    advance_rests, advance_steps, advance_twice, at_rest_stays, external_after,
+    external_keeps_valid, first_world_is_valid, replay_folds, replay_follows, resumed_follows,
+    resumed_world_is_valid, world_crosses_threads, world_decides,
 };
 pub use world::World;

@@ -4,10 +4,10 @@ ghost use Rattle.world_plain.specs.Messages.{plain_message};
 ghost use Rattle.model_value.specs.View.{plain, plain_values};
 ghost use Rattle.model_lang.specs.TreeView.{program_tree};
 ghost use Rattle.world.specs.Worlds.{after_method, after_telling, with_fault, with_count, bad_event, with_next_turn, at_later_time, scene_with_world, fault_number};
-ghost use Rattle.world.specs.View.{scene, Takes};
+ghost use Rattle.world.specs.View.{scene, TakesDue};
 
 use model_check::Checked;
-use model_eval::{Budget, Call, Event, Fault, State, Stop, run_method, tell_models};
+use model_eval::{Budget, Call, EvalStop, Event, Fault, State, run_method, tell_models};
 use std::alloc::Global;
 use tea_base::WantOfMemory;
 use world_plain::{MOST_TURNS, Message};
@@ -28,11 +28,11 @@ pub fn run(
     let mut budget = Budget::new();
     match run_method(alloc, program, call, state, &mut budget) {
         Ok(_) => Ok(()),
-        Err(Stop::Fault(fault)) => {
+        Err(EvalStop::Fault(fault)) => {
             count(state, fault);
             Ok(())
         }
-        Err(Stop::WantOfMemory) => Err(WantOfMemory),
+        Err(EvalStop::WantOfMemory) => Err(WantOfMemory),
     }
 }
 
@@ -50,11 +50,11 @@ pub fn inform(
     let mut budget = Budget::new();
     match tell_models(alloc, program, event, state, &mut budget) {
         Ok(()) => Ok(()),
-        Err(Stop::Fault(fault)) => {
+        Err(EvalStop::Fault(fault)) => {
             count(state, fault);
             Ok(())
         }
-        Err(Stop::WantOfMemory) => Err(WantOfMemory),
+        Err(EvalStop::WantOfMemory) => Err(WantOfMemory),
     }
 }
 
@@ -112,7 +112,7 @@ pub fn move_to(state: &mut State, time: u64)
 
 /// Takes the least pending message, if its time is at most this one.
 pub fn take_due(state: &mut State, time: u64) -> Option<Message>
-    ensures { Takes result time (scene state.old) (scene state.new) }
+    ensures { TakesDue result time (scene state.old) (scene state.new) }
 {
     let (due, _) = state.pending.least()?;
     if due > time {

@@ -7,7 +7,7 @@ ghost use Rattle.tea_base.specs.Limits.{time_limit};
 ghost use Rattle.world_plain.specs.World.{world_record};
 ghost use Rattle.model_lang.specs.TreeView.{program_tree};
 ghost use Rattle.world.specs.Worlds.{field_counts, first_scene as first_of, advance as advanced, external as entered_by, take_up};
-ghost use Rattle.world.specs.View.{Moves, Copies, IsSound};
+ghost use Rattle.world.specs.View.{Moves, Copies, IsSoundWorld};
 
 use crate::fault::WorldFault;
 use crate::{opening, resuming, simulation};
@@ -37,7 +37,7 @@ impl Model for World {
     ghost use Rattle.std.specs.Arc.{arc_value};
     ghost use Rattle.std.specs.Coded.{codes};
     ghost use Rattle.model_lang.specs.contracts.tree.Stmt as stmt;
-    ghost use Rattle.world.specs.View.{WorldView, coded_view, scene, IsSound};
+    ghost use Rattle.world.specs.View.{WorldView, coded_view, scene, IsSoundWorld};
 
     ghost Value = { WorldView };
 
@@ -45,7 +45,7 @@ impl Model for World {
 
     ghost view = { λ w. record { program = arc_value w.program; scene = scene w.state; broken = w.broken } };
 
-    ghost invariant = { λ w. IsSound (record { program = arc_value w.program; scene = scene w.state; broken = w.broken }) };
+    ghost invariant = { λ w. IsSoundWorld (record { program = arc_value w.program; scene = scene w.state; broken = w.broken }) };
 }
 
 impl World {
@@ -171,7 +171,7 @@ impl World {
     pub fn take_out(&mut self) -> Published
         ensures published { map plain_outgoing result ≡ self.old.scene.published }
         ensures rest { self.new ≡ record (self.old) { scene = record (self.old.scene) { published = [] } } }
-        ensures sound { IsSound self.new }
+        ensures sound { IsSoundWorld self.new }
     {
         mem::replace(&mut self.state.published, List::new(self.alloc))
     }
@@ -179,7 +179,7 @@ impl World {
     /// The world's time, in microseconds of TeaTime. Takes no memory.
     pub fn time(&self) -> u64
         ensures time { result ≡ self.now.scene.world.time }
-        ensures sound { IsSound self.now }
+        ensures sound { IsSoundWorld self.now }
     {
         self.state.time
     }
@@ -187,7 +187,7 @@ impl World {
     /// Whether the world is broken. Takes no memory.
     pub fn broken(&self) -> bool
         ensures broken { result ≡ self.now.broken }
-        ensures sound { IsSound self.now }
+        ensures sound { IsSoundWorld self.now }
     {
         self.broken
     }

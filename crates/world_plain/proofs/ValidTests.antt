@@ -10,8 +10,8 @@ use Rattle.tea_base.specs.Order.{comes_before}
 use Rattle.model_value.specs.Plain.{PlainValue, InBounds, AllInBounds, is_in_bounds, TextFits, text_weight, most_weight, weight, depth, most_depth}
 use Rattle.world_plain.specs.Messages.{PlainMessage}
 use Rattle.world_plain.specs.World.{ObjectRecord, WorldRecord, world_weight, most_world_weight}
-use Rattle.world_plain.specs.Valid.{RiseFrom, EachBefore, object_at, IsHeld, ObjectFits, NameFits, SubscriptionFits, Precedes, MessageFits, ValidClock, ValidViews, ValidObjects, ValidNames, ValidSubscriptions, ValidMessages, Valid, most_turns, most_views, most_objects, most_pending, most_parameters}
-use Rattle.tea_base.specs.Limits.{time_limit}
+use Rattle.world_plain.specs.Valid.{RiseFrom, EachBefore, object_at, IsHeld, ObjectFits, NameFits, SubscriptionFits, Precedes, MessageFits, ValidClock, ValidViews, ValidObjects, ValidNames, ValidSubscriptions, ValidMessages, Valid, most_turns, most_objects, most_pending, most_parameters}
+use Rattle.tea_base.specs.Limits.{time_limit, most_here}
 use Rattle.world_plain.specs.ValidTest.{is_rising, each_pair, is_fit_text, holds_object, is_number, is_fit_object, is_fit_name, is_fit_subscription, same_subscription, is_due_before, is_fit_message, is_valid_clock, is_valid_views, is_valid_objects, is_valid_names, is_valid_subscriptions, is_valid_messages, is_valid}
 use Rattle.world_plain.specs.declared.message.Subscription.{Subscription}
 use Rattle.world_plain.specs.declared.world.Known.{Known}
@@ -122,7 +122,7 @@ clock-Decides w =
 views-Decides : (w : WorldRecord) → Decides (is_valid_views w) (ValidViews w.views)
 views-Decides w =
     Decides-like (is_valid_views w) (λ h. record { rise = h.0; few = h.1 }) (λ v. (v.rise, v.few))
-    (Decides-and (is_rising 0 w.views) (nat_le (length w.views) most_views) (Decides-rising 0 w.views) (Decides-le (length w.views) most_views))
+    (Decides-and (is_rising 0 w.views) (nat_le (length w.views) most_here) (Decides-rising 0 w.views) (Decides-le (length w.views) most_here))
 
 objects-Decides : (counts : List ℕ) (w : WorldRecord) → Decides (is_valid_objects counts w) (ValidObjects counts w.next_object w.objects)
 objects-Decides counts w =

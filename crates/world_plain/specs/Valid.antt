@@ -1,7 +1,7 @@
 -- Which worlds are valid for a program, by the number of fields of each of its classes.
 use Rattle.std.specs.Prelude.{◌≡◌, ◌⊎◌, ◌≤◌, ◌<◌, ◌^◌, ℕ, Bool, true, false, List, [], ◌∷◌, map, length, Option, Some, None, nat_eq, slice_get}
 use Rattle.std.specs.List.{AllByRecursion}
-use Rattle.tea_base.specs.Limits.{time_limit}
+use Rattle.tea_base.specs.Limits.{time_limit, most_here}
 use Rattle.tea_base.specs.Order.{IsBefore}
 use Rattle.model_value.specs.Plain.{AllInBounds, TextFits}
 use Rattle.world_plain.specs.Messages.{PlainMessage}
@@ -11,9 +11,6 @@ use Rattle.world_plain.specs.declared.world.Known.{Known}
 
 abbrev pub most_turns : ℕ
 most_turns = 1024
-
-abbrev pub most_views : ℕ
-most_views = 1024
 
 abbrev pub most_objects : ℕ
 most_objects = 4096
@@ -44,7 +41,7 @@ pub record ValidClock (time turns : ℕ) : Type 0 where
 -- views rise and are not 0
 pub record ValidViews (views : List ℕ) : Type 0 where
   pub rise : RiseFrom 0 views
-  pub few : length views ≤ most_views
+  pub few : length views ≤ most_here
 
 -- ---- objects
 
@@ -101,8 +98,8 @@ SubscriptionFits objects s = TextFits s.scope × TextFits s.event × TextFits s.
 abbrev pub SubscriptionsFit : List ObjectRecord → List Subscription → Type 0
 SubscriptionsFit objects = AllByRecursion (SubscriptionFits objects)
 
-abbrev pub IsNew : Subscription → List Subscription → Type 0
-IsNew s = AllByRecursion (λ t. ¬ (s ≡ t))
+abbrev pub DiffersFromAll : Subscription → List Subscription → Type 0
+DiffersFromAll s = AllByRecursion (λ t. ¬ (s ≡ t))
 
 abbrev pub SubscriptionsDiffer : List Subscription → Type 0
 SubscriptionsDiffer = EachBefore (λ s t. ¬ (s ≡ t))

@@ -5,8 +5,8 @@ use Rattle.tea_base.specs.Order.{comes_before}
 use Rattle.model_value.specs.Plain.{is_in_bounds, text_weight, most_weight}
 use Rattle.world_plain.specs.Messages.{PlainMessage}
 use Rattle.world_plain.specs.World.{ObjectRecord, WorldRecord, world_weight, most_world_weight}
-use Rattle.world_plain.specs.Valid.{object_at, most_turns, most_views, most_objects, most_pending, most_parameters}
-use Rattle.tea_base.specs.Limits.{time_limit}
+use Rattle.world_plain.specs.Valid.{object_at, most_turns, most_objects, most_pending, most_parameters}
+use Rattle.tea_base.specs.Limits.{time_limit, most_here}
 use Rattle.world_plain.specs.declared.message.Subscription.{Subscription}
 use Rattle.world_plain.specs.declared.world.Known.{Known}
 
@@ -66,7 +66,7 @@ abbrev pub is_valid_clock : WorldRecord → Bool
 is_valid_clock w = nat_lt w.time time_limit && nat_le w.turns most_turns
 
 abbrev pub is_valid_views : WorldRecord → Bool
-is_valid_views w = is_rising 0 w.views && nat_le (length w.views) most_views
+is_valid_views w = is_rising 0 w.views && nat_le (length w.views) most_here
 
 abbrev pub is_valid_objects : List ℕ → WorldRecord → Bool
 is_valid_objects counts w =

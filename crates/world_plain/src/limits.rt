@@ -4,7 +4,7 @@
 pub const MOST_TURNS: u32 = 1024;
 
 /// The most views that are here.
-pub const MOST_VIEWS: usize = 1024;
+pub const MOST_VIEWS: usize = tea_base::MOST_HERE as usize;
 
 /// The most objects.
 pub const MOST_OBJECTS: usize = 4096;

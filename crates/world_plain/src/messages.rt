@@ -62,14 +62,14 @@ pub fn messages_fit(world: &PlainWorld, messages: &[Message]) -> bool
     ensures { IsTrue result ↔ MessagesFit world.now.time world.now.next_number (map object_record world.now.objects) (map plain_message messages.now) }
 {
     for message in messages {
-        if !message_fits(world, message) {
+        if !is_valid_message(world, message) {
             return false;
         }
     }
     true
 }
 
-fn message_fits(world: &PlainWorld, message: &Message) -> bool
+fn is_valid_message(world: &PlainWorld, message: &Message) -> bool
     requires { HaveRisingIds (map object_record world.now.objects) }
     ensures { IsTrue result ↔ MessageFits world.now.time world.now.next_number (map object_record world.now.objects) (plain_message message.now) }
 {

@@ -27,14 +27,14 @@ pub fn objects_fit(objects: &[PlainObject], next: u32, counts: &[u32]) -> bool
     ensures { IsTrue result ↔ ObjectsFit counts.now next (map object_record objects.now) }
 {
     for object in objects {
-        if !object_fits(object, next, counts) {
+        if !is_valid_object(object, next, counts) {
             return false;
         }
     }
     true
 }
 
-fn object_fits(object: &PlainObject, next: u32, counts: &[u32]) -> bool
+fn is_valid_object(object: &PlainObject, next: u32, counts: &[u32]) -> bool
     ensures { IsTrue result ↔ ObjectFits counts.now next (object_record object.now) }
 {
     object.id < next && has_its_fields(object, counts) && are_in_bounds(object.fields.as_slice())

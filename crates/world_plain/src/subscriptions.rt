@@ -1,6 +1,6 @@
 //! What is asked of the subscriptions of a world.
 ghost use Rattle.std.specs.Prelude.{◌≡◌, ◌↔◌, map, IsTrue};
-ghost use Rattle.world_plain.specs.Valid.{IsNew, SubscriptionsDiffer, SubscriptionFits, SubscriptionsFit};
+ghost use Rattle.world_plain.specs.Valid.{DiffersFromAll, SubscriptionsDiffer, SubscriptionFits, SubscriptionsFit};
 ghost use Rattle.world_plain.specs.World.{object_record};
 ghost use Rattle.world_plain.specs.Ids.{HaveRisingIds};
 
@@ -23,7 +23,7 @@ pub fn subscriptions_differ(subscriptions: &[Subscription]) -> bool
 
 /// Whether a subscription is none of the others.
 fn is_new(subscription: &Subscription, others: &[Subscription]) -> bool
-    ensures { IsTrue result ↔ IsNew subscription.now others.now }
+    ensures { IsTrue result ↔ DiffersFromAll subscription.now others.now }
 {
     for other in others {
         if is_same(subscription, other) {
@@ -48,14 +48,14 @@ pub fn subscriptions_fit(subscriptions: &[Subscription], objects: &[PlainObject]
     ensures { IsTrue result ↔ SubscriptionsFit (map object_record objects.now) subscriptions.now }
 {
     for subscription in subscriptions {
-        if !subscription_fits(subscription, objects) {
+        if !is_valid_subscription(subscription, objects) {
             return false;
         }
     }
     true
 }
 
-fn subscription_fits(subscription: &Subscription, objects: &[PlainObject]) -> bool
+fn is_valid_subscription(subscription: &Subscription, objects: &[PlainObject]) -> bool
     requires { HaveRisingIds (map object_record objects.now) }
     ensures { IsTrue result ↔ SubscriptionFits (map object_record objects.now) subscription.now }
 {

@@ -35,7 +35,7 @@ fn reset(alloc: Global) -> Result<Entry, Fail>
 }
 
 /// Each published number, with its time, its scope and its event.
-fn told(alloc: Global, published: &Published) -> Result<String, Fail> {
+fn published_text(alloc: Global, published: &Published) -> Result<String, Fail> {
     let mut text = String::new(alloc);
     for one in published.as_slice() {
         let Value::Int(count) = one.value else {
@@ -54,7 +54,7 @@ fn what_models_publish_is_taken_once(rt: HostRuntime) -> Result<(), Fail> {
     world.external(&reset(alloc)?)?;
     world.advance(3_000_000)?;
     assert_eq!(rt;
-        told(alloc, &world.take_out())?.as_str(),
+        published_text(alloc, &world.take_out())?.as_str(),
         "1000000 counter changed 1; 2000000 counter changed 2; 2500000 counter changed 0; 3000000 counter changed 1; "
     );
     assert!(rt; world.take_out().is_empty());

@@ -4,7 +4,7 @@ ghost use Rattle.tea_base.specs.Readings.{payload_bytes, view_event, is_here, la
 ghost use Rattle.tea_base.specs.Limits.{most_payload, most_bytes, most_open_entries, end_of_time};
 ghost use Rattle.reflector_core.specs.SessionState.{UsesAtMost};
 ghost use Rattle.reflector_core.specs.declared.request.Reply.{Reply};
-ghost use Rattle.reflector_core.specs.Answer.{with_reply, MayWantMemory, capped, is_closed, repeats, stamps, send_event};
+ghost use Rattle.reflector_core.specs.Answer.{with_reply, MayWantMemory, reply_length, is_closed, repeats, stamps, send_event};
 
 use crate::request::{Refusal, Reply};
 use crate::session::Session;
@@ -13,7 +13,7 @@ use tea_base::{END_OF_TIME, MOST_BYTES, MOST_PAYLOAD, WantOfMemory};
 
 /// A length as a reply gives it.
 pub(super) fn capped(len: usize) -> u32
-    ensures { result ≡ capped len }
+    ensures { result ≡ reply_length len }
 {
     len.min(u32::MAX as usize) as u32
 }

@@ -2,7 +2,7 @@ use Rattle.std.proofs.Common.{rules, ◌≡◌, true, Some, sym, subst}
 use Rattle.std.specs.Prelude.{slice_get, bytes_eq}
 use Rattle.std.proofs.lemmas.Option.{slice_get_read}
 use Rattle.model_lang.specs.declared.tree.Method.{Method}
-use Rattle.model_check.proofs.Standing.{method_at}
+use Rattle.model_check.proofs.Resolving.{method_at}
 use Rattle.model_check.proofs.checked.method_place.Goals as goal
 
 pub returns-then-is_name : goal.returns-then-is_name

@@ -7,7 +7,7 @@ use Rattle.model_lang.specs.TreeView.{expression_tree, expression_trees}
 use Rattle.model_lang.specs.declared.tree.Expr.{Expr, the_lemmas}
 use Rattle.model_lang.specs.declared.tree.Class.{Class}
 use Rattle.model_check.specs.declared.solved.SolvedExpr.{the_lemmas as solved_lemmas}
-use Rattle.model_check.specs.Answer.{Solves, Refuses}
+use Rattle.model_check.specs.Answer.{Solves, IsFirstFault}
 use Rattle.model_check.specs.Faults.{first_of, faults_of_builtin, faults_of_expression, faults_of_expressions}
 use Rattle.model_check.specs.SolvedTree.{solved_expressions_of}
 use Rattle.model_check.specs.SolvedView.{solved_expression}
@@ -40,7 +40,7 @@ expression-returns-in_err-name-in-Builtin t c =
     let result = c.from_residual-in_err-name-in-Builtin.result in
     let fault = c.in_err-name-in-Builtin.field-0.0 in
     let refused : result ≡ Err fault = search rules in
-    let here = subst (λ (n : ℕ). Refuses fault (faults_of_builtin name n)) (sym count) c.in_err-name-in-Builtin.ensures in
+    let here = subst (λ (n : ℕ). IsFirstFault fault (faults_of_builtin name n)) (sym count) c.in_err-name-in-Builtin.ensures in
     subst (λ (e : Expression). Solves result (faults_of_expression classes fields scope e) (λ s. solved_expression s ≡ solve_expression classes fields scope e)) (sym whole) (refused_before result fault (faults_of_builtin name (how_many args)) (faults_of_expressions classes fields scope args) (λ s. solved_expression s ≡ solve_expression classes fields scope (builtin name args)) refused here)
 
 pub expression-returns-in_err-args-in-Builtin : goal.expression-returns-in_err-args-in-Builtin
@@ -56,7 +56,7 @@ expression-returns-in_err-args-in-Builtin t c =
     let fault = c.in_err-args-in-Builtin.field-0.0 in
     let refused : result ≡ Err fault = search rules in
     let front = subst (λ (n : ℕ). first_of (faults_of_builtin name n) ≡ None) (sym count) c.in_ok-name-in-Builtin.ensures.0 in
-    let here = subst (λ (es : List Expr). Refuses fault (faults_of_expressions classes fields scope (expression_trees es))) c.deref-in-Builtin.ensures.value c.in_err-args-in-Builtin.ensures in
+    let here = subst (λ (es : List Expr). IsFirstFault fault (faults_of_expressions classes fields scope (expression_trees es))) c.deref-in-Builtin.ensures.value c.in_err-args-in-Builtin.ensures in
     subst (λ (e : Expression). Solves result (faults_of_expression classes fields scope e) (λ s. solved_expression s ≡ solve_expression classes fields scope e)) (sym whole) (refused_behind result fault (faults_of_builtin name (how_many args)) (faults_of_expressions classes fields scope args) (λ s. solved_expression s ≡ solve_expression classes fields scope (builtin name args)) refused front here)
 
 pub expression-returns-in_ok-args-in-Builtin : goal.expression-returns-in_ok-args-in-Builtin

@@ -4,7 +4,7 @@ use Rattle.model_lang.specs.Tree.{Name, Statement, when, else_block}
 use Rattle.model_lang.specs.TreeView.{expression_tree, statement_tree, statement_trees}
 use Rattle.model_lang.specs.declared.tree.Stmt.{the_lemmas}
 use Rattle.model_lang.specs.declared.tree.Class.{Class}
-use Rattle.model_check.specs.Answer.{Solves, Refuses}
+use Rattle.model_check.specs.Answer.{Solves, IsFirstFault}
 use Rattle.model_check.specs.Faults.{first_of, faults_of_expression, faults_of_statement, faults_of_statements}
 use Rattle.model_check.specs.SolvedView.{solved_statement}
 use Rattle.model_check.specs.Solving.{solve_statement}
@@ -54,5 +54,5 @@ statement-returns-in_err-block-in-Some-clause-solved t c =
     let before = faults_of_expression classes fields scope test ++ faults_of_statements classes fields scope yes in
     let front : first_of before ≡ None =
     first_behind (faults_of_expression classes fields scope test) (faults_of_statements classes fields scope yes) c.in_ok-test-in-If.ensures.0 ∙ c.in_ok-yes-in-If.ensures.solved.0 in
-    let here = subst (λ (ns : List Name). Refuses fault (faults_of_statements classes fields ns no)) c.in_ok-yes-in-If.ensures.scope c.in_err-block-in-Some.ensures.solved in
+    let here = subst (λ (ns : List Name). IsFirstFault fault (faults_of_statements classes fields ns no)) c.in_ok-yes-in-If.ensures.scope c.in_err-block-in-Some.ensures.solved in
     subst (λ (s : Statement). Solves result (faults_of_statement classes fields scope s) (λ t. solved_statement t ≡ solve_statement classes fields scope s)) (sym whole) (refused_behind result fault before (faults_of_statements classes fields scope no) (λ t. solved_statement t ≡ solve_statement classes fields scope (when test yes (else_block no))) refused front here)

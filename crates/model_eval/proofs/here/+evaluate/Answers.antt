@@ -9,7 +9,7 @@ use Rattle.model_lang.specs.Tree.{Name}
 use Rattle.model_eval.specs.Answer.{Answers, HasInit, running, starts_by}
 use Rattle.model_eval.proofs.InitLaws.{without-init, with-init}
 use Rattle.model_eval.proofs.Published.{answered-alone, published-gives, published-stops}
-use Rattle.model_eval.proofs.Standing.{started}
+use Rattle.model_eval.proofs.Resolving.{started}
 use Rattle.model_eval.proofs.Fields.{class_of-is}
 use Rattle.model_eval.proofs.here.+evaluate.Goals as goal
 

@@ -2,7 +2,7 @@ use Rattle.std.proofs.Common.{◌≡◌, ◌+◌, ◌-◌, ◌*◌, [], drop}
 use Rattle.model_value.specs.View.{plain, plain_values}
 use Rattle.model_check.specs.SolvedView.{solved_expression, solved_expressions, solved_statements}
 use Rattle.model_eval.specs.Publishing.{run_handlers}
-use Rattle.model_eval.specs.Slots.{evaluated, in_turn, looped}
+use Rattle.model_eval.specs.Slots.{evaluate_all, in_turn, loop_turns}
 use Rattle.model_eval.specs.Answer.{evaluates_by, executes_by, running, starts_by}
 use Rattle.model_eval.proofs.here.+evaluate.Given as goal
 
@@ -82,7 +82,7 @@ decreases-Here::statement_row l = 16 * l.self.now.starter.room + 11
 abbrev pub invariant-Here::evaluate_all-loop-expr : goal.invariant-Here::evaluate_all-loop-expr
 invariant-Here::evaluate_all-loop-expr l =
     let ev = evaluates_by l.self.starter in
-    evaluated ev l.self.object (solved_expressions (drop l.expr-index l.exprs)) (plain_values l.locals) (plain_values l.values) (running l.state l.budget) ≡ evaluated ev l.self.object (solved_expressions l.exprs) (plain_values l.locals) [] (running l.fn.state l.fn.budget)
+    evaluate_all ev l.self.object (solved_expressions (drop l.expr-index l.exprs)) (plain_values l.locals) (plain_values l.values) (running l.state l.budget) ≡ evaluate_all ev l.self.object (solved_expressions l.exprs) (plain_values l.locals) [] (running l.fn.state l.fn.budget)
 
 abbrev pub invariant-Here::run_in_turn-loop-stmt : goal.invariant-Here::run_in_turn-loop-stmt
 invariant-Here::run_in_turn-loop-stmt l =
@@ -93,7 +93,7 @@ abbrev pub invariant-Here::run_loop-loop-turn : goal.invariant-Here::run_loop-lo
 invariant-Here::run_loop-loop-turn l =
     let ev = evaluates_by l.self.starter in
     let ex = executes_by l.self.starter in
-    looped (l.turns - l._turn) ev ex l.self.object (solved_expression l.test) (solved_statements l.body) (plain_values l.locals.items) (running l.state l.budget) ≡ looped l.turns ev ex l.self.object (solved_expression l.test) (solved_statements l.body) (plain_values l.fn.locals.items) (running l.fn.state l.fn.budget)
+    loop_turns (l.turns - l._turn) ev ex l.self.object (solved_expression l.test) (solved_statements l.body) (plain_values l.locals.items) (running l.state l.budget) ≡ loop_turns l.turns ev ex l.self.object (solved_expression l.test) (solved_statements l.body) (plain_values l.fn.locals.items) (running l.fn.state l.fn.budget)
 
 abbrev pub invariant-Starter::tell_all-loop-handler : goal.invariant-Starter::tell_all-loop-handler
 invariant-Starter::tell_all-loop-handler l =

@@ -1,12 +1,12 @@
 use Rattle.std.proofs.Common.{◌≡◌, ℕ, true, sym, ap₂, ◌∙◌, refl}
 use Rattle.model_value.specs.Plain.{PlainValue, nil}
 use Rattle.model_eval.specs.Running.{Running, Gives, with_world}
-use Rattle.model_eval.specs.Objects.{destroyed, is_held, without_object}
+use Rattle.model_eval.specs.Objects.{destroy, is_held, without_object}
 use Rattle.model_eval.specs.Answer.{running}
 use Rattle.model_eval.proofs.InitLaws.{plain-Nil}
 use Rattle.model_eval.proofs.objects.destroy.Goals as goal
 
-there : (id : ℕ) (r : Running) → is_held id r.world ≡ true → destroyed id r ≡ Gives nil (with_world r (without_object id r.world))
+there : (id : ℕ) (r : Running) → is_held id r.world ≡ true → destroy id r ≡ Gives nil (with_world r (without_object id r.world))
 there id r held = rw held refl
 
 pub returns : goal.returns

@@ -1,5 +1,5 @@
 use Rattle.std.proofs.Common.{◌≡◌, ◌-◌, length, refl, sym, ◌∙◌, subst, Some, arith}
-use Rattle.model_lang.specs.Answer.{Reads}
+use Rattle.model_lang.specs.Answer.{ParsesPart}
 use Rattle.model_lang.specs.TreeView.{expression_tree}
 use Rattle.model_lang.specs.Reader.{read_operator_line, read_unary, read_prim}
 use Rattle.model_lang.proofs.Turns.{line_begins, tightest_sides}
@@ -7,7 +7,7 @@ use Rattle.model_lang.proofs.expression.+line.Goals as goal
 
 pub inner-returns-in-None : goal.inner-returns-in-None
 inner-returns-in-None t c =
-    subst (λ m. Reads expression_tree c.unary.result m) (sym (tightest_sides (read_unary c.args.room) c.args.line c.args.tokens.now (sym c.tighter.ensures ∙ c.in-None.is))) c.unary.ensures
+    subst (λ m. ParsesPart expression_tree c.unary.result m) (sym (tightest_sides (read_unary c.args.room) c.args.line c.args.tokens.now (sym c.tighter.ensures ∙ c.in-None.is))) c.unary.ensures
 
 pub line-loop-turn-init : goal.line-loop-turn-init
 line-loop-turn-init t c = line_begins (read_unary c.args.room) c.args.line c.args.tokens.now (expression_tree c.in_ok-left.left) c.in_ok-left.rest.now c.in_ok-left.ensures

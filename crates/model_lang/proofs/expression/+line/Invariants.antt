@@ -29,14 +29,14 @@ decreases-builtin_or_local l = 32 * l.room + 16
 abbrev pub decreases-create : goal.decreases-create
 decreases-create l = 32 * l.room + 16
 
-abbrev pub decreases-opened : goal.decreases-opened
-decreases-opened l = 32 * l.room + 16
+abbrev pub decreases-bracket_prim : goal.decreases-bracket_prim
+decreases-bracket_prim l = 32 * l.room + 16
 
 abbrev pub decreases-future : goal.decreases-future
 decreases-future l = 32 * l.room + 17
 
-abbrev pub decreases-worded : goal.decreases-worded
-decreases-worded l = 32 * l.room + 17
+abbrev pub decreases-word_prim : goal.decreases-word_prim
+decreases-word_prim l = 32 * l.room + 17
 
 abbrev pub decreases-suffix : goal.decreases-suffix
 decreases-suffix l = 32 * l.room + 18

@@ -1,6 +1,6 @@
 use Rattle.std.proofs.Common.{◌≡◌, Some, None, sym, ap, ◌∙◌}
 use Rattle.model_lang.specs.TreeView.{program_tree}
-use Rattle.model_lang.specs.Bounds.{passed}
+use Rattle.model_lang.specs.Bounds.{first_excess}
 use Rattle.model_lang.proofs.SoundPrograms.{program_sound}
 use Rattle.model_lang.proofs.Whole.{are_spelled, are_no_program, many_members}
 use Rattle.model_lang.proofs.parsing.whole.Goals as goal
@@ -14,11 +14,11 @@ pub returns-in-Some-clause-reading : goal.returns-in-Some-clause-reading
 returns-in-Some-clause-reading c =
     let ts = c.args.tokens.now in
     let tree = program_tree c.in-Ok.classes.items in
-    let over : passed tree ≡ Some (c.in-Some.what, c.in-Some.count) = ap (λ cs. passed (program_tree cs)) (sym c.deref.ensures.value) ∙ sym c.passed.ensures ∙ c.in-Some.is in
+    let over : first_excess tree ≡ Some (c.in-Some.what, c.in-Some.count) = ap (λ cs. first_excess (program_tree cs)) (sym c.deref.ensures.value) ∙ sym c.first_excess.ensures ∙ c.in-Some.is in
     many_members ts tree c.in-Some.what c.in-Some.count (c.stays_low.ensures.0 c.if-not-stays_low.false) (c.stays_low-2.ensures.0 c.if-not-stays_low-2.false) (program_sound ts tree c.in-Ok.ensures) over
 
 pub returns-in-None-clause-reading : goal.returns-in-None-clause-reading
 returns-in-None-clause-reading c =
     let tree = program_tree c.in-Ok.classes.items in
-    let none : passed tree ≡ None = ap (λ cs. passed (program_tree cs)) (sym c.deref.ensures.value) ∙ sym c.passed.ensures ∙ c.in-None.is in
+    let none : first_excess tree ≡ None = ap (λ cs. first_excess (program_tree cs)) (sym c.deref.ensures.value) ∙ sym c.first_excess.ensures ∙ c.in-None.is in
     are_spelled c.args.tokens.now tree (c.stays_low.ensures.0 c.if-not-stays_low.false) (c.stays_low-2.ensures.0 c.if-not-stays_low-2.false) c.in-Ok.ensures none

@@ -9,8 +9,8 @@ decreases-block l = 5 * l.room
 abbrev pub decreases-otherwise : goal.decreases-otherwise
 decreases-otherwise l = 5 * l.room + 1
 
-abbrev pub decreases-looping : goal.decreases-looping
-decreases-looping l = 5 * l.room + 1
+abbrev pub decreases-while_statement : goal.decreases-while_statement
+decreases-while_statement l = 5 * l.room + 1
 
 abbrev pub decreases-choice : goal.decreases-choice
 decreases-choice l = 5 * l.room + 2

@@ -1,7 +1,7 @@
 use Rattle.std.proofs.Common.{drop}
 use Rattle.std.specs.Prelude.{◌↔◌}
-use Rattle.world_plain.specs.Valid.{IsNew}
+use Rattle.world_plain.specs.Valid.{DiffersFromAll}
 use Rattle.world_plain.proofs.subscriptions.is_new.Given as goal
 
 abbrev pub invariant-loop-other : goal.invariant-loop-other
-invariant-loop-other l = IsNew l.subscription l.others ↔ IsNew l.subscription (drop l.other-index l.others)
+invariant-loop-other l = DiffersFromAll l.subscription l.others ↔ DiffersFromAll l.subscription (drop l.other-index l.others)

@@ -3,7 +3,7 @@ use Rattle.std.specs.Prelude.{slice_get}
 use Rattle.std.proofs.lemmas.Option.{gets}
 use Rattle.std.proofs.lemmas.Grind.{common_steps}
 use Rattle.model_lang.specs.Bounds.{most_members}
-use Rattle.model_check.proofs.Standing.{has_few_fields, field_count_at}
+use Rattle.model_check.proofs.Resolving.{has_few_fields, field_count_at}
 use Rattle.model_check.proofs.checked.Checked.fields.Goals as goal
 
 pub overflow_cast-result : goal.overflow_cast-result

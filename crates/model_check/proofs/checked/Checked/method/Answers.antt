@@ -6,8 +6,8 @@ use Rattle.model_lang.specs.TreeView.{class_tree, program_tree}
 use Rattle.model_lang.specs.declared.tree.Class.{Class}
 use Rattle.model_check.specs.Methods.{method_named}
 use Rattle.model_check.specs.SolvedView.{solved_method}
-use Rattle.model_check.specs.Stands.{StandForProgram}
-use Rattle.model_check.proofs.Standing.{class_is_solved, finds_no_method, finds_at}
+use Rattle.model_check.specs.Resolution.{ResolvesProgram}
+use Rattle.model_check.proofs.Resolving.{class_is_solved, finds_no_method, finds_at}
 use Rattle.model_check.proofs.checked.Checked.method.Goals as goal
 
 pub returns-in_err-solved : goal.returns-in_err-solved
@@ -19,7 +19,7 @@ returns-in_err-solved c =
     let here : slice_get cs n ≡ Some class = grind (arith, common_steps, gets) in
     let none : slice_get held n ≡ None = grind (arith, common_steps, gets) in
     let at : slice_get (program_tree cs) n ≡ Some (class_tree class) = slice_get-map class_tree cs n ∙ ap (option_map class_tree) here in
-    let stands = subst (λ (program : List Class). StandForProgram (program_tree program) (map (λ methods. map solved_method methods.items) held)) c.self.view_is c.self.invariant.stands in
+    let stands = subst (λ (program : List Class). ResolvesProgram (program_tree program) (map (λ methods. map solved_method methods.items) held)) c.self.view_is c.self.invariant.stands in
     absurd (class_is_solved (program_tree cs) (map (λ methods. map solved_method methods.items) held) n (class_tree class) stands at (slice_get-map (λ methods. map solved_method methods.items) held n ∙ ap (option_map (λ methods. map solved_method methods.items)) none))
 
 pub returns-in_err-place : goal.returns-in_err-place
@@ -45,7 +45,7 @@ returns c =
     let at : slice_get (program_tree cs) n ≡ Some (class_tree class) = slice_get-map class_tree cs n ∙ ap (option_map class_tree) here in
     let own : slice_get (map (λ methods. map solved_method methods.items) held) n ≡ Some (map solved_method methods.items) =
     slice_get-map (λ methods. map solved_method methods.items) held n ∙ ap (option_map (λ methods. map solved_method methods.items)) beside in
-    let stands = subst (λ (program : List Class). StandForProgram (program_tree program) (map (λ methods. map solved_method methods.items) held)) c.self.view_is c.self.invariant.stands in
+    let stands = subst (λ (program : List Class). ResolvesProgram (program_tree program) (map (λ methods. map solved_method methods.items) held)) c.self.view_is c.self.invariant.stands in
     let named = rw c.deref-2.ensures.value at c.in_ok-place.ensures in
     let got : option_copied c.get-3.result ≡ slice_get methods.items place = grind (arith, common_steps, gets) in
     finds_at c.get-3.result (program_tree cs) (map (λ methods. map solved_method methods.items) held) n x (class_tree class) methods.items place (method_named x (class_tree class).methods) stands at own refl named got

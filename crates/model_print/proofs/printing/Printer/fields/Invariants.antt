@@ -1,8 +1,8 @@
 use Rattle.std.proofs.Common.{◌≡◌, drop}
-use Rattle.model_lang.specs.Grammar.{spelled_fields}
+use Rattle.model_lang.specs.Grammar.{fields_spelling}
 use Rattle.model_print.specs.Printing.{with_tokens}
 use Rattle.model_print.proofs.printing.Printer.fields.Given as goal
 
 -- what is printed, and the fields that are left
 abbrev pub invariant-loop-name : goal.invariant-loop-name
-invariant-loop-name l = with_tokens l.self (spelled_fields (drop l.name-index l.names)) ≡ with_tokens l.fn.self (spelled_fields l.names)
+invariant-loop-name l = with_tokens l.self (fields_spelling (drop l.name-index l.names)) ≡ with_tokens l.fn.self (fields_spelling l.names)

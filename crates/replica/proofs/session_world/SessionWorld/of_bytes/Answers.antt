@@ -2,8 +2,7 @@ use Rattle.std.proofs.Common.{rules, arith, Err}
 use Rattle.model_lang.specs.TreeView.{program_tree}
 use Rattle.world.specs.Worlds.{field_counts}
 use Rattle.snapshot_codec.specs.Answer.{IsOfOther, Unsnaps}
-use Rattle.snapshot_codec.proofs.Snapshots.{none_other}
-use Rattle.replica.proofs.WorldTests.{none-spelled}
+use Rattle.snapshot_codec.proofs.Snapshots.{none_other, none-spelled}
 use Rattle.replica.proofs.session_world.SessionWorld.of_bytes.Goals as goal
 
 pub returns-in-Err-OtherSession : goal.returns-in-Err-OtherSession

@@ -1,6 +1,6 @@
 use Rattle.std.proofs.Common.{rules, ◌∙◌, ap, subst}
 use Rattle.std.specs.Arc.{arc_value}
-use Rattle.replica.specs.SessionWorlds.{SessionWorldView, IsSoundWorld}
+use Rattle.replica.specs.SessionWorlds.{SessionWorldView, IsSoundSessionWorld}
 use Rattle.replica.proofs.OwnWorlds.{sound-seen, broken-time}
 use Rattle.replica.proofs.session_world.SessionWorld.time.Goals as goal
 
@@ -9,4 +9,4 @@ returns-then-broken-clause-time c =
     broken-time (arc_value c.self.inside.program) c.self.inside.id.0 c.self.inside.world c.self.invariant (search rules) ∙ ap (λ (w : SessionWorldView). w.world.time) c.self.view_is
 
 pub returns-clause-sound : goal.returns-clause-sound
-returns-clause-sound c = subst IsSoundWorld c.self.view_is (sound-seen (arc_value c.self.inside.program) c.self.inside.id.0 c.self.inside.world c.self.invariant c.broken.ensures.sound)
+returns-clause-sound c = subst IsSoundSessionWorld c.self.view_is (sound-seen (arc_value c.self.inside.program) c.self.inside.id.0 c.self.inside.world c.self.invariant c.broken.ensures.sound)

@@ -5,13 +5,13 @@ use Rattle.model_lang.specs.Program.{IsProgram}
 use Rattle.model_lang.specs.TreeView.{program_tree}
 use Rattle.model_lang.specs.declared.tree.Class.{Class}
 use Rattle.world.specs.Worlds.{Scene, first_scene, field_counts}
-use Rattle.world.specs.View.{scene, IsSound}
+use Rattle.world.specs.View.{scene, IsSoundWorld}
 use Rattle.world.proofs.FirstWorld.{first-valid}
 use Rattle.world.proofs.Replays.{first-begins}
 use Rattle.world.proofs.Turn.{program-fits}
 use Rattle.world.proofs.world.World.first.Goals as goal
 
-sound : (program : List Class) (id : List ℕ) (s : Scene) → IsProgram (program_tree program) → s ≡ first_scene (program_tree program) id → IsSound (record { program = program; scene = s; broken = false })
+sound : (program : List Class) (id : List ℕ) (s : Scene) → IsProgram (program_tree program) → s ≡ first_scene (program_tree program) id → IsSoundWorld (record { program = program; scene = s; broken = false })
 sound program id s p e = record {
   program = p;
   valid = λ _. subst (λ (u : Scene). Valid (field_counts (program_tree program)) u.world) (sym e) (first-valid (program_tree program) id (program-fits (program_tree program) p));

@@ -3,7 +3,7 @@ use Rattle.std.proofs.lemmas.Iterator.{YieldsList-from_chars}
 use Rattle.std.proofs.lemmas.Iterator.Consumers.{YieldsList-end}
 use Rattle.std.proofs.lemmas.List.{flat_map_more}
 use Rattle.model_tokens.specs.Spelling.{spelled_character}
-use Rattle.model_print.proofs.printing.push_characters.Goals as goal
+use Rattle.model_tokens.proofs.writing.push_characters.Goals as goal
 
 pub loop-character-init : goal.loop-character-init
 loop-character-init c = sym (append-nil (string_bytes c.args.out.now))

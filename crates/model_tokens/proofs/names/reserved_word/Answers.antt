@@ -3,7 +3,7 @@ use Rattle.std.proofs.lemmas.Slice.Eq.{text_from_reads}
 use Rattle.model_tokens.specs.Spelling.{spelled_word}
 use Rattle.model_tokens.specs.declared.token.Word.TheVariants as word
 use Rattle.model_tokens.proofs.NameLaws.{among_is}
-use Rattle.model_tokens.proofs.names.reserved.Goals as goal
+use Rattle.model_tokens.proofs.names.reserved_word.Goals as goal
 
 pub returns-in-return : goal.returns-in-return
 returns-in-return c = among_is word.Return c.args.name.now (text_from_reads c.args.name.now (spelled_word word.Return) (search rules) (search rules))

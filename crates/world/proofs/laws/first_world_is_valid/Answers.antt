@@ -1,7 +1,7 @@
 use Rattle.world.proofs.FirstWorld.{first-valid}
 use Rattle.world.proofs.Replays.{first-id, first-begins}
 use Rattle.world.proofs.Turn.{program-fits}
-use Rattle.world.proofs.laws.first_stands.Goals as goal
+use Rattle.world.proofs.laws.first_world_is_valid.Goals as goal
 
 pub returns-clause-valid : goal.returns-clause-valid
 returns-clause-valid c = λ program id p. first-valid program id (program-fits program p)
