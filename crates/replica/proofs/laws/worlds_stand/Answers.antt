@@ -6,13 +6,13 @@ use Rattle.replica.proofs.laws.worlds_stand.Goals as goal
 
 pub returns : goal.returns
 returns c = λ program id p. record {
-  first_time = c.first_stands.ensures.time program id p;
-  first_valid = own-passes program id _ (c.first_stands.ensures.valid program id p) (c.first_stands.ensures.session program id p);
+  first_time = c.first_world_is_valid.ensures.time program id p;
+  first_valid = own-passes program id _ (c.first_world_is_valid.ensures.valid program id p) (c.first_world_is_valid.ensures.session program id p);
   valid_time = λ w passes. (passes-own program id w passes).valid.clock.time_fits;
-  external_time = λ w e passes le. c.external_stands.ensures.time program e (take_up w) p (passes-own program id w passes).valid le;
+  external_time = λ w e passes le. c.external_keeps_valid.ensures.time program e (take_up w) p (passes-own program id w passes).valid le;
   external_valid = λ w e passes lt below.
       let own = passes-own program id w passes in
-      own-passes program id _ (c.external_stands.ensures.valid program e (take_up w) p own.valid below) (c.external_stands.ensures.session program e (take_up w) p ∙ own.session);
+      own-passes program id _ (c.external_keeps_valid.ensures.valid program e (take_up w) p own.valid below) (c.external_keeps_valid.ensures.session program e (take_up w) p ∙ own.session);
   external_after = λ w s e passes le later below.
       sym (c.world_decides.ensures.external program e (advance program s (take_up w)))
       ∙ ap (λ (a : Scene). a.world) (c.external_after.ensures program s e (take_up w) p (passes-own program id w passes).valid later below);

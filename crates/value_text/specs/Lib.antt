@@ -1,0 +1,3 @@
+pub mod ValueText
+pub mod Reading
+pub mod Answer

@@ -1,0 +1,4 @@
+pub mod Words
+pub mod PlainLine
+pub mod ViewScript
+pub mod Answer

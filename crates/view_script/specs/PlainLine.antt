@@ -1,0 +1,78 @@
+-- The lines of a script as plain data, and what each script keeps.
+use Rattle.std.specs.Prelude.{ℕ, ◌<◌, ◌≤◌, ◌+◌, nat_le, Bool, List, [], ◌∷◌, map, length}
+use Rattle.std.specs.List.{AllByRecursion}
+use Rattle.tea_base.specs.Limits.{time_limit, most_payload}
+use Rattle.model_value.specs.Plain.{PlainValue, InBounds}
+use Rattle.model_value.specs.Payload.{payload_spelling}
+use Rattle.model_value.specs.View.{plain}
+use Rattle.view_bridge.specs.declared.topic.Handling.{Handling}
+use Rattle.view_script.specs.declared.line.ViewLine.{ViewLine}
+use Rattle.view_script.specs.declared.line.ViewLine.TheVariants as line
+
+pub data PlainLine : Type 0 where
+  -- a scope, an event and a value
+  Publish : List ℕ → List ℕ → PlainValue → PlainLine
+  -- a scope and an event
+  Watch : List ℕ → List ℕ → Handling → PlainLine
+  Wait : ℕ → PlainLine
+  Settle : PlainLine
+  Snap : PlainLine
+  Cut : PlainLine
+  Quit : PlainLine
+
+-- a line in memory, with its value as a plain tree
+abbrev pub plain_line : ViewLine → PlainLine
+plain_line (line.Publish scope event value) = Publish scope event (plain value)
+plain_line (line.Watch scope event handling) = Watch scope event handling
+plain_line (line.Wait time) = Wait time
+plain_line line.Settle = Settle
+plain_line line.Snap = Snap
+plain_line line.Cut = Cut
+plain_line line.Quit = Quit
+
+abbrev pub plain_lines : List ViewLine → List PlainLine
+plain_lines = map plain_line
+
+-- ---- what a script keeps
+
+-- how many bytes the payload of an event has
+abbrev pub payload_length : List ℕ → List ℕ → PlainValue → ℕ
+payload_length scope event value = length (payload_spelling (record { scope = scope; event = event; value = value }))
+
+-- whether it has no more than an event may carry
+abbrev pub payload_fits : List ℕ → List ℕ → PlainValue → Bool
+payload_fits scope event value = nat_le (payload_length scope event value) most_payload
+
+-- an event's value is in bounds and its payload not too long, and a time is not too late
+abbrev pub LineFits : PlainLine → Type 0
+LineFits (Publish scope event value) = InBounds value × (payload_length scope event value ≤ most_payload)
+LineFits (Watch scope event handling) = Unit {0}
+LineFits (Wait time) = time < time_limit
+LineFits Settle = Unit {0}
+LineFits Snap = Unit {0}
+LineFits Cut = Unit {0}
+LineFits Quit = Unit {0}
+
+-- a line that publishes counts 1, and any other 0
+abbrev pub publishes : PlainLine → ℕ
+publishes (Publish scope event value) = 1
+publishes (Watch scope event handling) = 0
+publishes (Wait time) = 0
+publishes Settle = 0
+publishes Snap = 0
+publishes Cut = 0
+publishes Quit = 0
+
+-- how many lines publish
+abbrev pub publish_count : List PlainLine → ℕ
+publish_count [] = 0
+publish_count (line ∷ lines) = publishes line + publish_count lines
+
+-- the most lines that may publish
+abbrev pub most_publishes : ℕ
+most_publishes = 1048576
+
+-- what is true of the lines of each script
+pub record IsViewScript (lines : List PlainLine) : Type 0 where
+  pub fit : AllByRecursion LineFits lines
+  pub few : publish_count lines ≤ most_publishes

@@ -1,0 +1,33 @@
+//! What a view does at a line.
+use model_value::Value;
+use tea_base::Text;
+use view_bridge::Handling;
+
+/// What a view does at a line of a script.
+#[derive(Drop)]
+pub enum ViewLine {
+    /// It sends an event of this name, with this value, to the models that handle it in this scope.
+    Publish {
+        scope: Text,
+        event: Text,
+        value: Value,
+    },
+    /// It subscribes to the events of this name in this scope.
+    Watch {
+        scope: Text,
+        event: Text,
+        handling: Handling,
+    },
+    /// It waits until a time, in microseconds of TeaTime since the session's founding.
+    Wait {
+        time: u64,
+    },
+    /// It waits until what it sent was handled.
+    Settle,
+    /// It writes a snapshot.
+    Snap,
+    /// It cuts its connection.
+    Cut,
+    /// It ends.
+    Quit,
+}
