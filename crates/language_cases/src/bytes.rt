@@ -93,7 +93,10 @@ fn payload_text(alloc: Global, digits: &[u8]) -> Result<String, ValueFault> {
 }
 
 /// What was read, or that it is bad.
-fn read_or_bad(alloc: Global, read: Result<String, ValueFault>) -> Result<String, WantOfMemory> {
+pub(crate) fn read_or_bad(
+    alloc: Global,
+    read: Result<String, ValueFault>,
+) -> Result<String, WantOfMemory> {
     match read {
         Ok(text) => Ok(text),
         Err(ValueFault::BadValue) => Ok(String::from_str(alloc, "bad")?),

@@ -8,6 +8,7 @@
 //! | `canonical` | a program | its canonical text, or why it is refused |
 //! | `decode` | bytes of a value | the value, its weight and its depth |
 //! | `payload` | bytes of a payload | its scope, its event and its value |
+//! | `text` | the text of a value | the bytes of the value, and its text |
 //!
 //! Bytes stand in hexadecimal digits.
 #![tactic(auto)]
@@ -18,6 +19,7 @@ mod evaluation;
 mod opening;
 mod spelling;
 mod stopped;
+mod texts;
 mod world_text;
 
 use case_lines::{CaseKind, print_files};
@@ -33,6 +35,7 @@ enum LanguageCases {
     Canonical,
     Decode,
     Payload,
+    Text,
 }
 
 impl CaseKind for LanguageCases {
@@ -43,6 +46,7 @@ impl CaseKind for LanguageCases {
             "canonical" => Some(LanguageCases::Canonical),
             "decode" => Some(LanguageCases::Decode),
             "payload" => Some(LanguageCases::Payload),
+            "text" => Some(LanguageCases::Text),
             _ => None,
         }
     }
@@ -54,6 +58,7 @@ impl CaseKind for LanguageCases {
             LanguageCases::Canonical => canonical::canonical(alloc, case),
             LanguageCases::Decode => bytes::decoded(alloc, case),
             LanguageCases::Payload => bytes::payload_read(alloc, case),
+            LanguageCases::Text => texts::text_read(alloc, case),
         }
     }
 }

@@ -1,0 +1,30 @@
+//! Values, read from their texts and printed again.
+ghost use Rattle.model_value.specs.Plain.{InBounds};
+ghost use Rattle.model_value.specs.View.{plain};
+
+use crate::bytes::read_or_bad;
+use model_value::{Value, ValueFault, encode};
+use std::alloc::Global;
+use tea_base::WantOfMemory;
+use value_text::{push_value, read_value};
+
+/// The bytes of a value, and its text.
+fn value_line(alloc: Global, value: &Value) -> Result<String, WantOfMemory>
+    requires { InBounds (plain value.now) }
+{
+    let mut out = hex::encode(alloc, encode(alloc, value)?.bytes())?;
+    out.push(' ')?;
+    push_value(&mut out, value)?;
+    Ok(out)
+}
+
+/// The same of the value that has this text.
+fn value_read(alloc: Global, text: &[u8]) -> Result<String, ValueFault> {
+    let value = read_value(alloc, text)?;
+    Ok(value_line(alloc, &value)?)
+}
+
+/// The bytes of the value that has this text, and its text.
+pub(crate) fn text_read(alloc: Global, text: &[u8]) -> Result<String, WantOfMemory> {
+    read_or_bad(alloc, value_read(alloc, text))
+}
