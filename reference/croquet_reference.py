@@ -9,7 +9,7 @@ is proved of it.
 
 prints each line of FILE with what it comes to. The kinds are evaluate, run,
 canonical, decode, payload (language) and scripts, logs, programs, worlds,
-snapshots, resumed (commands).
+snapshots, resumed, views (commands).
 """
 import hashlib
 import heapq
@@ -1928,6 +1928,542 @@ def whole_replay(case):
     return replayed(World.first(case.program, case.id), case.entries, case.times[-1])
 
 
+# ---------------------------------------------------------------- frames
+
+def framed(tag, *fields):
+    return number(tag, 1) + b"".join(fields)
+
+
+def bytes_field(source):
+    return number(len(source), 4) + source
+
+
+LEAVE, ALIVE = framed(4), framed(5)
+
+
+def frame_time(reader):
+    time = reader.number(8)
+    need(time < TIME_LIMIT)
+    return time
+
+
+def read_base(reader):
+    flag = reader.number(1)
+    need(flag <= 1)
+    return (frame_time(reader), reader.bytes(reader.number(4))) if flag else None
+
+
+def read_entry(reader):
+    seq, time, view, kind = reader.number(4), frame_time(reader), reader.number(4), reader.number(1)
+    need(1 <= kind <= 3)
+    if kind < 3:
+        return Entry(seq, time, view, ["join", "exit"][kind - 1])
+    return Entry(seq, time, view, "event", reader.number(4), reader.bytes(reader.number(4)))
+
+
+def numbers_of(*sizes):
+    return lambda reader: tuple(reader.number(size) for size in sizes)
+
+
+SERVER_FRAMES = {
+    65: ("sync", lambda reader: (*numbers_of(4, 4, 4)(reader), read_base(reader))),
+    66: ("recv", lambda reader: (read_entry(reader),)),
+    67: ("tick", lambda reader: (frame_time(reader),)),
+    68: ("done", lambda reader: (*numbers_of(4, 4)(reader), frame_time(reader))),
+    69: ("snapped", lambda reader: (frame_time(reader),)),
+    70: ("refused", numbers_of(1, 1, 8, 8)),
+    71: ("alive", numbers_of())}
+
+
+def read_server(source):
+    """The name of a server frame, and its fields."""
+    reader = Reader(source)
+    tag = reader.number(1)
+    need(tag in SERVER_FRAMES)
+    name, fields = SERVER_FRAMES[tag]
+    frame = (name, fields(reader))
+    reader.end()
+    return frame
+
+
+# ---------------------------------------------------------------- replica
+
+class BadBase(Exception):
+    """A base that a fresh join can not begin with."""
+
+
+def peer(condition):
+    """What the reflector of a session owes."""
+    if not condition:
+        raise Ended("peer", 10)
+
+
+class Replica:
+    def __init__(self, program, id_, view):
+        self.program, self.id, self.view = program, id_, view
+        self.world = World.first(program, id_)
+        self.seen = 0
+        self.payloads = []  # of all events that were published
+        self.acknowledged = 0
+        self.given = 0
+        self.wanted = None  # the join that is awaited
+        self.synced = False  # since the last join
+
+    def join(self, wanted):
+        self.wanted, self.synced = wanted, False
+        self.given = self.acknowledged
+        want = {"fresh": b"\0", "whole": b"\1", "resume": b"\2" + number(self.world.time, 8)}
+        return framed(1, self.id, number(self.view, 4), want[wanted])
+
+    def publish(self, scope, event, value):
+        self.payloads.append(payload(scope, event, value))
+
+    def unsent(self):
+        """The SENDs of the events that were not given since the last Sync."""
+        if not self.synced:
+            return []
+        first, self.given = self.given, len(self.payloads)
+        return [framed(2, number(k + 1, 4), bytes_field(self.payloads[k]))
+                for k in range(first, self.given)]
+
+    def settled(self):
+        return self.acknowledged == len(self.payloads)
+
+    def take(self, name, fields):
+        if name == "refused":
+            about, code, kept, _ = fields
+            if about != 3:
+                raise Ended(f"refused {code} {kept}", 7)
+        elif name == "sync":
+            peer(self.wanted is not None)
+            self.take_sync(*fields)
+        elif name != "alive":
+            peer(self.synced)
+            getattr(self, f"take_{name}")(*fields)
+
+    def take_sync(self, _joined, last, from_, base):
+        peer(self.acknowledged <= last <= len(self.payloads))
+        if self.wanted == "resume":
+            peer(from_ == self.seen)
+        elif base is None:
+            peer(from_ == 0)
+        if base is not None:
+            peer(self.wanted == "fresh")
+            self.world = self.world_of(base)
+        elif self.wanted != "resume":
+            self.world = World.first(self.program, self.id)
+        self.seen, self.wanted, self.synced = from_, None, True
+
+    def world_of(self, base):
+        time, source = base
+        try:
+            world = read_snapshot(self.program, self.id, source)
+        except Bad:
+            raise BadBase() from None
+        if world.time != time:
+            raise BadBase()
+        return world
+
+    def take_recv(self, entry):
+        peer(entry.seq == self.seen + 1 and entry.time > self.world.time)
+        self.world.external(entry)
+        self.seen += 1
+
+    def take_tick(self, time):
+        peer(time >= self.world.time)
+        self.world.advance(time)
+
+    def take_done(self, number_, _seq, _time):
+        peer(number_ == self.acknowledged + 1 and not self.settled())
+        self.acknowledged = number_
+        self.given = max(self.given, number_)
+
+    def take_snapped(self, _time):
+        pass
+
+    def take_out(self):
+        out, self.world.published = self.world.published, []
+        return out
+
+
+# ---------------------------------------------------------------- view scripts
+
+TEXT_LITERAL = r'"(?:[^"\\\x00-\x1f\x7f]|\\["\\n]|\\x(?:0[0-9b-f]|1[0-9a-f]|7f))*"'
+VALUE_TOKEN = re.compile(rf'nil|true|false|-?[0-9]+|#[0-9]+|[\[\],]|{TEXT_LITERAL}', re.ASCII)
+DECIMAL = re.compile(r"0|[1-9][0-9]*", re.ASCII)
+
+
+def script_words(line):
+    """The words of a line: spaces divide them, but for those between quotes."""
+    words = re.findall(r'(?:"(?:[^"\\]|\\.)*"|[^" ])+| +', line, re.DOTALL)
+    if "".join(words) != line or line.startswith(" ") or line.endswith(" "):
+        raise Bad()
+    return [word for word in words if not word.startswith(" ")]
+
+
+def literal(word):
+    need(re.fullmatch(TEXT_LITERAL, word, re.DOTALL))
+    escapes = {"n": "\n", '"': '"', "\\": "\\"}
+    return re.sub(r"\\(x..|.)", lambda m: escapes.get(m[1]) or chr(int(m[1][1:], 16)), word[1:-1])
+
+
+def decimal(word, limit):
+    need(DECIMAL.fullmatch(word) and len(word) <= 20 and int(word) < limit)
+    return int(word)
+
+
+def value_of(word):
+    """The value in bounds of a value text."""
+    tokens = VALUE_TOKEN.findall(word)
+    need("".join(tokens) == word)
+    v = value_from(tokens)
+    need(not tokens and in_bounds(v))
+    return v
+
+
+def value_from(tokens, deep=0):
+    need(tokens and deep <= MOST_LIST_DEPTH)
+    token = tokens.pop(0)
+    if token in ("nil", "true", "false"):
+        return {"nil": None, "true": True, "false": False}[token]
+    if token[0] == '"':
+        return literal(token)
+    if token[0] == "#":
+        return Ref(decimal(token[1:], 2**32))
+    if token != "[":
+        v = number_of(token)
+        need(v is not None)
+        return v
+    return List(items_from(tokens, deep + 1))
+
+
+def items_from(tokens, deep):
+    """The items of a list behind its opening bracket."""
+    if tokens[:1] == ["]"]:
+        tokens.pop(0)
+        return []
+    items = []
+    while True:
+        items.append(value_from(tokens, deep))
+        need(tokens)
+        sign = tokens.pop(0)
+        if sign == "]":
+            return items
+        need(sign == ",")
+
+
+def read_view_line(line):
+    name, *words = script_words(line)
+    if name == "publish":
+        need(len(words) == 3)
+        event = (literal(words[0]), literal(words[1]), value_of(words[2]))
+        need(len(payload(*event)) <= MOST_PAYLOAD)
+        return (name, *event)
+    if name == "watch":
+        need(len(words) == 3 and words[2] in ("queued", "once"))
+        return (name, literal(words[0]), literal(words[1]), words[2])
+    if name == "wait":
+        need(len(words) == 1)
+        return (name, decimal(words[0], TIME_LIMIT))
+    need(name in ("settle", "snap", "cut", "quit") and not words)
+    return (name,)
+
+
+MOST_PUBLISHED = 2**20
+
+
+def read_view_script(source):
+    try:
+        need(len(source) <= SCRIPT_BYTES)
+        lines = source.decode("utf-8").split("\n")
+        ended = [line.removesuffix("\r") for line in lines[:-1]] + lines[-1:]
+        read = [read_view_line(line) for line in ended if line and not line.startswith("#")]
+        need(sum(line[0] == "publish" for line in read) <= MOST_PUBLISHED)
+    except (Bad, UnicodeDecodeError):
+        raise Ended("input script", 3) from None
+    return read
+
+
+# ---------------------------------------------------------------- links in memory
+
+class Failed(Exception):
+    """A call of the outside that fails."""
+
+
+class Calls:
+    """Calls that are numbered from 1."""
+
+    def __init__(self, failing):
+        self.failing = set(failing)
+        self.made = 0
+
+    def call(self):
+        self.made += 1
+        if self.made in self.failing:
+            raise Failed()
+
+
+QUIET, LINK_END = object(), object()
+
+
+class Link(Calls):
+    def __init__(self, frames, failing, quiet):
+        super().__init__(failing)
+        self.frames, self.quiet = list(frames), quiet
+        self.heard, self.sent = 0, []
+
+    def recv(self):
+        """The next frame; QUIET or LINK_END."""
+        self.heard += 1
+        self.call()
+        if any(self.made in numbers for numbers in self.quiet):
+            return QUIET
+        return self.frames.pop(0) if self.frames else LINK_END
+
+    def send(self, frame):
+        self.call()
+        self.sent.append(frame)
+
+
+class Net(Calls):
+    def __init__(self, links, failing):
+        super().__init__(failing)
+        self.coming, self.over = list(links), []
+
+    def connect(self):
+        self.call()
+        if not self.coming:
+            raise Failed()
+        return self.coming.pop(0)
+
+
+class Output(Calls):
+    def __init__(self, failing, wanting):
+        super().__init__(failing)
+        self.wanting, self.lines = wanting, []
+        self.tried = 0
+
+    def write(self, line):
+        self.tried += 1
+        if self.tried == self.wanting:
+            raise Ended("memory", 8)
+        try:
+            self.call()
+        except Failed:
+            raise Ended(None, 5) from None
+        self.lines.append(line)
+
+
+# ---------------------------------------------------------------- the run of a view
+
+MOST_QUIET = 6_000
+RECEIVES_TO_ALIVE = 1_000
+
+
+class ViewRun:
+    def __init__(self, replica, net, out):
+        self.replica, self.net, self.out = replica, net, out
+        self.link = None
+        self.topics = {}  # (scope, event) to queued or once
+
+    # -- the link
+
+    def connect(self, wanted):
+        """Leaves the link, and joins over a new one."""
+        self.drop()
+        self.link = self.net.connect()
+        self.quiets = self.receives = 0
+        self.send(self.replica.join(wanted))
+
+    def drop(self):
+        if self.link is not None:
+            self.net.over.append(self.link)
+            self.link = None
+
+    def send(self, frame):
+        self.link.send(frame)
+        self.receives = 0
+
+    def send_unsent(self):
+        for frame in self.replica.unsent():
+            self.send(frame)
+
+    def receive(self):
+        """The name and the fields of the frame that comes; None where it is quiet."""
+        heard, frame = self.link.recv(), None
+        self.receives += 1
+        if heard is LINK_END:
+            raise Ended("ended", 9)
+        self.quiets = self.quiets + 1 if heard is QUIET else 0
+        if self.quiets == MOST_QUIET:
+            raise Ended("ended", 9)
+        if heard is not QUIET:
+            frame = self.take(heard)
+        if self.receives == RECEIVES_TO_ALIVE:
+            self.send(ALIVE)
+        return frame
+
+    def take(self, heard):
+        try:
+            frame = read_server(heard)
+        except Bad:
+            raise Ended("peer", 10) from None
+        self.replica.take(*frame)
+        return frame
+
+    def receive_until(self, is_last):
+        """The frame with which it is so."""
+        while True:
+            frame = self.receive()
+            if frame is not None and is_last(*frame):
+                return frame
+
+    def synced(self):
+        """The seq of the Join, and from where the entries follow."""
+        _, (joined, _, from_, _) = self.receive_until(lambda name, _: name == "sync")
+        return joined, from_
+
+    # -- the lines
+
+    def run(self, script):
+        try:
+            self.begin()
+            for line in script:
+                if line[0] == "quit":
+                    break
+                own = getattr(self, f"do_{line[0]}")(*line[1:])
+                self.update()
+                if own is not None:
+                    self.out.write(own)
+            self.send(LEAVE)
+            self.out.write(self.last_line())
+        except Failed:
+            raise Ended("net-fault", 6) from None
+        finally:
+            self.drop()
+
+    def begin(self):
+        try:
+            self.connect("fresh")
+            self.synced()
+        except BadBase:
+            self.connect("whole")
+            self.synced()
+
+    def last_line(self):
+        world = self.replica.world
+        return (f"view {self.replica.view} time {world.time} seq {self.replica.seen} "
+                f"digest {hashlib.sha256(world.snapshot()).hexdigest()}")
+
+    def update(self):
+        """Prints what models published, of the topics that are watched."""
+        watched = [event for event in self.replica.take_out() if event[1:3] in self.topics]
+        last = {event[1:3]: place for place, event in enumerate(watched)}
+        for place, (time, scope, event, v) in enumerate(watched):
+            topic = scope, event
+            if self.topics[topic] == "queued" or last[topic] == place:
+                self.out.write(f"event {time} {value_text(scope)} {value_text(event)} "
+                               f"{value_text(v)}")
+
+    def do_publish(self, scope, event, v):
+        self.replica.publish(scope, event, v)
+        self.send_unsent()
+
+    def do_watch(self, scope, event, handling):
+        self.topics[scope, event] = handling
+
+    def do_wait(self, time):
+        while self.replica.world.time < time:
+            self.receive()
+        return f"time {self.replica.world.time}"
+
+    def do_settle(self):
+        self.send_unsent()
+        while not self.replica.settled():
+            self.receive()
+        return f"settled {self.replica.acknowledged}"
+
+    def do_snap(self):
+        world = self.replica.world
+        self.send(framed(3, number(world.time, 8), bytes_field(world.snapshot())))
+        name, fields = self.receive_until(
+            lambda name, fields: name == "snapped" or name == "refused" and fields[0] == 3)
+        if name == "snapped":
+            return f"snapped {fields[0]}"
+        return f"snap-refused {fields[1]} {fields[2]}"
+
+    def do_cut(self):
+        self.connect("resume")
+        joined, from_ = self.synced()
+        self.send_unsent()
+        return f"rejoined {joined} {from_}"
+
+
+# ---------------------------------------------------------------- the command join
+
+ADDRESS = re.compile(r"(?:localhost|([^.:]+)\.([^.:]+)\.([^.:]+)\.([^.:]+)):([^.:]+)", re.DOTALL)
+
+
+def check_address(address):
+    match = ADDRESS.fullmatch(address)
+    try:
+        need(match)
+        for part in match.groups()[:4]:
+            need(part is None or decimal(part, 256) >= 0)
+        need(decimal(match.group(5), 65_536) >= 1)
+    except Bad:
+        raise Ended("input address", 3) from None
+
+
+def check_join_words(name, address, view):
+    try:
+        need(name and address and len(name) <= 255)
+        need(not name.startswith(b"-") and not address.startswith("-"))
+        need(decimal(view, 2**32) >= 1)
+    except Bad:
+        raise Ended("usage", 1) from None
+
+
+@dataclass
+class Joining:
+    """A case of `join`: its words and files, and the outside."""
+    name: bytes
+    view: str
+    address: str
+    source: bytes
+    script: bytes
+    failing_files: list
+    net: Net
+    out: Output
+
+    def read(self, place):
+        """The file of this place among those that are read."""
+        if place in self.failing_files:
+            raise Ended("read-fault", 4)
+        return [self.source, self.script][place - 1]
+
+    def run(self):
+        check_join_words(self.name, self.address, self.view)
+        source = self.read(1)
+        program = read_program(source)
+        check_address(self.address)
+        script = read_view_script(self.read(2))
+        replica = Replica(program, session_id(self.name, source), int(self.view))
+        ViewRun(replica, self.net, self.out).run(script)
+
+
+def told(out, ended):
+    """What is printed, and the status in square brackets."""
+    if ended.line is not None:
+        try:
+            out.write(ended.line)
+        except Ended as other:
+            if other.status == 8:
+                return told(out, other)
+            ended = other
+    return " / ".join(out.lines) + (" " if out.lines else "") + f"[{ended.status}]"
+
+
 # ---------------------------------------------------------------- cases
 
 def lines_of(script):
@@ -2063,10 +2599,63 @@ def resumed_case(line):
     return world_line(world) + (" same" if world.snapshot() == whole.snapshot() else " differs")
 
 
+def numbers_in(word):
+    """`N` or `N-M`."""
+    first, _, last = word.partition("-")
+    return range(int(first), int(last or first) + 1)
+
+
+def read_link(part):
+    """Frames, `fail N`, `quiet N` and `quiet N-M`; `''` is the empty frame, `-` alone no word."""
+    frames, faults = [], {"fail": [], "quiet": []}
+    words = iter([] if part == "-" else part.split(" "))
+    for word in words:
+        if word in faults:
+            faults[word].append(numbers_in(next(words)))
+        else:
+            frames.append(b"" if word == "''" else bytes.fromhex(word))
+    return Link(frames, [k for numbers in faults["fail"] for k in numbers], faults["quiet"])
+
+
+JOIN_OPTIONS = ["fail net ", "fail file ", "fail output ", "want output "]
+
+
+def read_joining(case):
+    head, source, *rest = case.split(b" | ")
+    name, view, script = head.split(b" ", 2)
+    address, links, faults = "localhost:8080", [], {option: [] for option in JOIN_OPTIONS}
+    for part in (part.decode() for part in rest):
+        option = next((option for option in JOIN_OPTIONS if part.startswith(option)), None)
+        if option is not None:
+            faults[option].append(int(part.removeprefix(option)))
+        elif part.startswith("address "):
+            address = part.removeprefix("address ")
+        else:
+            links.append(read_link(part))
+    script = b"" if script == b"-" else script.replace(b" / ", b"\n")
+    return Joining(name, view.decode(), address, source, script, faults["fail file "],
+                   Net(links, faults["fail net "]),
+                   Output(faults["fail output "], next(iter(faults["want output "]), 0)))
+
+
+def views_case(case):
+    joining = read_joining(case)
+    net = joining.net
+    try:
+        joining.run()
+        outcome = " / ".join(joining.out.lines)
+    except Ended as ended:
+        outcome = told(joining.out, ended)
+    for link in net.over:
+        sent = [frame.hex() for frame in link.sent]
+        outcome += " > " + " ".join([*sent, f"heard {link.heard}"])
+    return f"{outcome} ; {len(net.over)} back of {net.made} asked"
+
+
 KINDS = {"evaluate": evaluate_case, "run": run_case, "canonical": canonical_case,
          "decode": decode_case, "payload": payload_case, "scripts": scripts_case,
          "logs": logs_case, "programs": programs_case, "worlds": worlds_case,
-         "snapshots": snapshots_case, "resumed": resumed_case}
+         "snapshots": snapshots_case, "resumed": resumed_case, "views": views_case}
 WITH_STATUS = {"scripts", "logs", "programs", "worlds", "snapshots", "resumed"}
 
 

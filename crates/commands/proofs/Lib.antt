@@ -6,6 +6,7 @@ pub mod ProgramLaws
 pub mod ScriptLaws
 pub mod SomeVerdict
 pub mod StampLaws
+pub mod VisitLaws
 pub mod WaitLaws
 pub mod WordLaws
 pub mod WorldLaws

@@ -1,5 +1,5 @@
 -- One verdict comes of a command, as long as its steps were told the same.
-use Rattle.std.proofs.Common.{◌≡◌, ◌⊎◌, inl, inr, ℕ, List, [], ◌∷◌, length, Option, Some, None, refl, sym, ap, subst, ◌∙◌}
+use Rattle.std.proofs.Common.{◌≡◌, ◌⊎◌, inl, inr, ℕ, Bool, true, false, encode_utf8_all, List, [], ◌∷◌, length, Option, Some, None, refl, sym, ap, subst, ◌∙◌}
 use Rattle.std.proofs.lemmas.Option.{same_Some}
 use Rattle.byte_fields.specs.Fields.{whole}
 use Rattle.byte_fields.proofs.Codecs.{whole_again}
@@ -19,15 +19,20 @@ use Rattle.snapshot_codec.specs.Answer.{IsSnapshot}
 use Rattle.snapshot_codec.specs.Reading.{world_record_at}
 use Rattle.snapshot_codec.proofs.Fitting.{world-fits}
 use Rattle.snapshot_codec.proofs.WorldCodec.{world_codec}
+use Rattle.run_steps.specs.Steps.{Ask, Step, Loads, Puts, Prints, Connects, Returns, Hears, Sends}
 use Rattle.commands.specs.declared.outcome.Input.{Input}
 use Rattle.commands.specs.declared.outcome.Input.TheVariants as input
 use Rattle.commands.specs.declared.outcome.Refusal.TheVariants as refusal
+use Rattle.view_script.specs.PlainLine.{PlainLine}
+use Rattle.view_script.specs.ViewScript.{view_script_of}
+use Rattle.commands.specs.Address.{is_address}
 use Rattle.commands.specs.declared.words.ReplayRequest.{ReplayRequest}
+use Rattle.commands.specs.declared.words.JoinRequest.{JoinRequest}
 use Rattle.commands.specs.declared.words.Command.{Command}
-use Rattle.commands.specs.declared.words.Command.TheVariants.{Stamp, Check, Replay}
+use Rattle.commands.specs.declared.words.Command.TheVariants.{Stamp, Check, Replay, Join}
 use Rattle.commands.specs.PrintedText.{syntax_line}
 use Rattle.commands.specs.Script.{script_of}
-use Rattle.commands.specs.Verdict.{Ask, Step, Loads, Puts, Prints, Closing, ByRefusal, ByWant, Verdict, AreAlike, AreDoneAlike, Coming, Free, IsLineOf, IsOneVerdict, IsFunction, IsRefused, IsRefusedBy, OfFile, OfGiven, OfLog, OfProgram, OfScript, OfSnapshot, OfTree, OfWords, Only, Starts, ask_log, ask_program, ask_script, ask_snapshot, before, at_once, count_verdict, resumed_verdict, session_of, stamp_verdict}
+use Rattle.commands.specs.Verdict.{Closing, ByRefusal, ByVisit, ByWant, Verdict, AreAlike, AreDoneAlike, Coming, Free, IsLineOf, IsOneVerdict, IsFunction, IsRefused, IsRefusedBy, OfAddress, OfFile, OfGiven, OfJoin, OfLog, OfProgram, OfScript, OfSnapshot, OfTree, OfView, OfViewScript, OfWords, Only, Starts, ask_log, ask_program, ask_script, ask_snapshot, before, at_once, count_verdict, resumed_verdict, session_of, stamp_verdict, visit_to}
 
 -- what `model_lang::one_reading` says
 abbrev pub IsOneReading : Type 0
@@ -50,6 +55,10 @@ step_alike : (step : Step) (alike : Type 0) → alike → AreDoneAlike step step
 step_alike (Loads ask given) alike holds = (refl, λ (same : given ≡ given). holds)
 step_alike (Puts name bytes) alike holds = (refl, holds)
 step_alike (Prints text) alike holds = (refl, holds)
+step_alike (Connects address) alike holds = (refl, holds)
+step_alike Returns alike holds = (refl, holds)
+step_alike (Hears what) alike holds = λ (same : what ≡ what). holds
+step_alike (Sends frame) alike holds = (refl, holds)
 
 self_alike : (steps : List Step) (closing : Closing) → AreAlike steps closing steps closing
 self_alike [] closing = inl refl
@@ -71,13 +80,13 @@ one_given : (at : Input) (given : Option (List ℕ)) (next : List ℕ → Coming
 one_given at None next one = one_only (at_once (ByRefusal (refusal.Input at)))
 one_given at (Some bytes) next one = one bytes
 
-one_file : (ask : Ask) (next : List ℕ → Coming) → ((bytes : List ℕ) → IsOneVerdict (next bytes)) → IsOneVerdict (OfFile ask next)
-one_file ask next one verdict other (given, (rest, is, a)) (told, (more, also, b)) =
+one_file : (at : Input) (ask : Ask) (next : List ℕ → Coming) → ((bytes : List ℕ) → IsOneVerdict (next bytes)) → IsOneVerdict (OfFile at ask next)
+one_file at ask next one verdict other (given, (rest, is, a)) (told, (more, also, b)) =
     alike_by verdict other (before (Loads ask given) rest) (before (Loads ask told) more) is also (
       refl,
       λ (same : given ≡ told).
-          one_free (OfGiven ask.input given next) (one_given ask.input given next one) rest more a
-          (subst (λ (bytes : Option (List ℕ)). Free (OfGiven ask.input bytes next) more) (sym same) b),
+          one_free (OfGiven at given next) (one_given at given next one) rest more a
+          (subst (λ (bytes : Option (List ℕ)). Free (OfGiven at bytes next) more) (sym same) b),
     )
 
 one_script : (log : Option (List ℕ)) (script : Option (List Request)) → IsOneVerdict (OfScript log script)
@@ -163,22 +172,42 @@ one_snapshot request tree id log bytes verdict other (inr (none, a)) (inr (none'
 
 one_start : (from : Option (List ℕ)) (request : ReplayRequest) (tree : ProgramTree) (id : List ℕ) (log : List Entry) → IsOneVerdict (Starts from request tree id log)
 one_start None request tree id log = one_only _
-one_start (Some from) request tree id log = one_file (ask_snapshot from) (OfSnapshot request tree id log) (one_snapshot request tree id log)
+one_start (Some from) request tree id log = one_file input.Snapshot (ask_snapshot from) (OfSnapshot request tree id log) (one_snapshot request tree id log)
 
 one_tree : (request : ReplayRequest) (id : List ℕ) (tree : ProgramTree) → IsOneVerdict (OfTree request id tree)
 one_tree request id tree =
-    one_file (ask_log request.log) (OfLog (Starts request.from request tree id)) (one_log (Starts request.from request tree id) (one_start request.from request tree id))
+    one_file input.Log (ask_log request.log) (OfLog (Starts request.from request tree id)) (one_log (Starts request.from request tree id) (one_start request.from request tree id))
+
+-- ---- join
+
+one_view_script : (request : JoinRequest) (id : List ℕ) (tree : ProgramTree) (script : Option (List PlainLine)) → IsOneVerdict (OfViewScript request id tree script)
+one_view_script request id tree None = one_only (at_once (ByRefusal (refusal.Input input.Script)))
+one_view_script request id tree (Some lines) = one_only (at_once (ByVisit (visit_to request id tree lines)))
+
+one_address : (is : Bool) (next : Coming) → IsOneVerdict next → IsOneVerdict (OfAddress is next)
+one_address true next one = one
+one_address false next one = one_only (at_once (ByRefusal (refusal.Input input.Address)))
+
+one_view : (request : JoinRequest) (id : List ℕ) (tree : ProgramTree) → IsOneVerdict (OfView request id tree)
+one_view request id tree =
+    one_file input.Script (ask_script request.script) (λ bytes. OfViewScript request id tree (view_script_of bytes)) (λ bytes. one_view_script request id tree (view_script_of bytes))
+
+one_join : (request : JoinRequest) (id : List ℕ) (tree : ProgramTree) → IsOneVerdict (OfJoin request id tree)
+one_join request id tree = one_address (is_address (encode_utf8_all request.address)) (OfView request id tree) (one_view request id tree)
 
 -- ---- the commands
 
 one_words : IsOneReading → (command : Option Command) → IsOneVerdict (OfWords command)
 one_words one None = one_only (at_once (ByRefusal refusal.Usage))
-one_words one (Some (Stamp script log)) = one_file (ask_script script) (λ bytes. OfScript log (script_of bytes)) (λ bytes. one_script log (script_of bytes))
+one_words one (Some (Stamp script log)) = one_file input.Script (ask_script script) (λ bytes. OfScript log (script_of bytes)) (λ bytes. one_script log (script_of bytes))
 one_words one (Some (Check program)) =
-    one_file (ask_program program) (OfProgram (λ tree. Only (count_verdict tree))) (one_program one (λ tree. Only (count_verdict tree)) (λ tree. one_only (count_verdict tree)))
+    one_file input.Program (ask_program program) (OfProgram (λ tree. Only (count_verdict tree))) (one_program one (λ tree. Only (count_verdict tree)) (λ tree. one_only (count_verdict tree)))
 one_words one (Some (Replay request)) =
-    one_file (ask_program request.program) (λ bytes. OfProgram (OfTree request (session_of request.name bytes)) bytes)
+    one_file input.Program (ask_program request.program) (λ bytes. OfProgram (OfTree request (session_of request.name bytes)) bytes)
     (λ bytes. one_program one (OfTree request (session_of request.name bytes)) (one_tree request (session_of request.name bytes)) bytes)
+one_words one (Some (Join request)) =
+    one_file input.Program (ask_program request.program) (λ bytes. OfProgram (OfJoin request (session_of request.name bytes)) bytes)
+    (λ bytes. one_program one (OfJoin request (session_of request.name bytes)) (one_join request (session_of request.name bytes)) bytes)
 
 pub is_function : IsOneReading → IsFunction
 is_function one command = one_free (OfWords command) (one_words one command)

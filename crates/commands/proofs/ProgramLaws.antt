@@ -1,5 +1,5 @@
--- How a program that is refused is told.
-use Rattle.std.proofs.Common.{◌≡◌, ℕ, List, length, Option, Some, None, Err, refl}
+-- How a program that is refused is told, and what comes of one that is not.
+use Rattle.std.proofs.Common.{◌≡◌, inl, inr, ℕ, List, length, Option, Some, None, Err, refl}
 use Rattle.model_lang.specs.Answer.{Parses, IsPlaced}
 use Rattle.model_lang.specs.declared.fault.LangFault.{LangFault}
 use Rattle.model_lang.specs.declared.fault.LangFault.TheVariants as lang
@@ -11,7 +11,7 @@ use Rattle.model_check.specs.Faults.{faults_of_program, first_fault}
 use Rattle.model_check.specs.declared.fault.CheckFault.{CheckFault}
 use Rattle.commands.specs.declared.program.ProgramFault.{ProgramFault}
 use Rattle.commands.specs.PrintedText.{check_line}
-use Rattle.commands.specs.Verdict.{IsLineOf}
+use Rattle.commands.specs.Verdict.{Coming, Free, IsFaultless, IsLineOf, OfProgram, Verdict}
 use Rattle.commands.specs.Work.{IsUnread, IsUnsound, ProgramEnd}
 
 -- a text that is not read
@@ -28,3 +28,8 @@ line_found (Some found) fault is = let same : fault ≡ found = cc in rw same re
 pub refused_unsound : (bytes : List ℕ) (tree : ProgramTree) (found : CheckFault) (fault : ProgramFault) → IsRead bytes tree → IsFirstFault found (faults_of_program tree) → IsUnsound found fault → ProgramEnd (Err fault) bytes
 refused_unsound bytes tree found fault read refused (some, is) =
     rw is (record { reading = a_program tree; is_reading = read; refused = line_found (first_fault tree) found (refused some) })
+
+-- what comes of a program without faults comes of its text
+pub of_program : (next : ProgramTree → Coming) (bytes : List ℕ) (tree : ProgramTree) (verdict : Verdict) → IsFaultless bytes tree → Free (next tree) verdict → Free (OfProgram next bytes) verdict
+of_program next bytes tree verdict sound (inl want) = inl want
+of_program next bytes tree verdict sound (inr comes) = inr (inl (tree, sound, comes))

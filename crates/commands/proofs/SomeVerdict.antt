@@ -1,22 +1,27 @@
 -- Some verdict other than want of memory comes of a command, whatever its files give.
-use Rattle.std.proofs.Common.{◌≡◌, inl, inr, ℕ, Bool, true, false, cond, nat_lt, List, [], ◌∷◌, Option, Some, None, refl, sym, arith, subst}
+use Rattle.std.proofs.Common.{◌≡◌, inl, inr, ℕ, Bool, true, false, cond, nat_lt, encode_utf8_all, List, [], ◌∷◌, Option, Some, None, refl, sym, arith, subst}
 use Rattle.tea_base.specs.declared.entry.Entry.{Entry}
 use Rattle.reflector_core.specs.declared.request.Request.{Request}
 use Rattle.model_lang.specs.Program.{Reading, a_program, no_program, too_large, IsReading, IsRead}
 use Rattle.model_lang.specs.Tree.{ProgramTree}
 use Rattle.model_check.specs.declared.fault.CheckFault.{CheckFault}
 use Rattle.model_check.specs.Faults.{first_fault}
+use Rattle.run_steps.specs.Steps.{Ask, Loads}
 use Rattle.commands.specs.declared.outcome.Input.{Input}
 use Rattle.commands.specs.declared.outcome.Input.TheVariants as input
 use Rattle.commands.specs.declared.outcome.Refusal.{Refusal}
 use Rattle.commands.specs.declared.outcome.Refusal.TheVariants as refusal
 use Rattle.commands.specs.declared.outcome.Put.{Put}
+use Rattle.view_script.specs.PlainLine.{PlainLine}
+use Rattle.view_script.specs.ViewScript.{view_script_of}
+use Rattle.commands.specs.Address.{is_address}
 use Rattle.commands.specs.declared.words.ReplayRequest.{ReplayRequest}
+use Rattle.commands.specs.declared.words.JoinRequest.{JoinRequest}
 use Rattle.commands.specs.declared.words.Command.{Command}
-use Rattle.commands.specs.declared.words.Command.TheVariants.{Stamp, Check, Replay}
+use Rattle.commands.specs.declared.words.Command.TheVariants.{Stamp, Check, Replay, Join}
 use Rattle.commands.specs.PrintedText.{check_line, counts_line, syntax_line, too_large_line}
 use Rattle.commands.specs.Script.{script_of}
-use Rattle.commands.specs.Verdict.{Ask, Loads, Fine, ByRefusal, ByWant, AreGiven, Coming, IsLineOf, IsOnlyWant, OfCommand, OfFile, OfGiven, OfLog, OfProgram, OfScript, OfSnapshot, OfTree, SomeVerdictComes, Starts, ask_log, ask_program, ask_script, ask_snapshot, at_once, before, count_verdict, fine, session_of, steps_of}
+use Rattle.commands.specs.Verdict.{PlainVisit, Fine, ByRefusal, ByVisit, ByWant, AreGiven, Coming, IsLineOf, IsOnlyWant, OfAddress, OfCommand, OfFile, OfGiven, OfJoin, OfLog, OfProgram, OfScript, OfSnapshot, OfTree, OfView, OfViewScript, SomeVerdictComes, Starts, ask_log, ask_program, ask_script, ask_snapshot, at_once, before, count_verdict, fine, session_of, steps_of, visit_to}
 
 abbrev pub Told : Type 0
 Told = Ask → Option (List ℕ)
@@ -25,9 +30,12 @@ Told = Ask → Option (List ℕ)
 abbrev pub IsSomeReading : Type 0
 IsSomeReading = (text : List ℕ) → ¬ ((reading : Reading) → ¬ IsReading text reading)
 
--- a refusal is no want of memory, and a text that was printed is none
+-- a refusal is no want of memory, a visit is none, and a text that was printed is none
 refused_not_want : (told : Told) (coming : Coming) (why : Refusal) → coming (at_once (ByRefusal why)) → ¬ IsOnlyWant told coming
 refused_not_want told coming why comes only = let want : ByRefusal why ≡ ByWant = only (at_once (ByRefusal why)) comes tt in absurd cc
+
+visit_not_want : (told : Told) (coming : Coming) (visit : PlainVisit) → coming (at_once (ByVisit visit)) → ¬ IsOnlyWant told coming
+visit_not_want told coming visit comes only = let want : ByVisit visit ≡ ByWant = only (at_once (ByVisit visit)) comes tt in absurd cc
 
 no_file_given : (told : Told) (puts : List Put) (text : List ℕ) → AreGiven told (steps_of puts text)
 no_file_given told [] text = tt
@@ -41,9 +49,9 @@ given_not_want : (told : Told) (at : Input) (given : Option (List ℕ)) (next : 
 given_not_want told at None next each = refused_not_want told (OfGiven at None next) (refusal.Input at) refl
 given_not_want told at (Some bytes) next each = each bytes
 
-file_not_want : (told : Told) (ask : Ask) (next : List ℕ → Coming) → ((bytes : List ℕ) → ¬ IsOnlyWant told (next bytes)) → ¬ IsOnlyWant told (OfFile ask next)
-file_not_want told ask next each only =
-    given_not_want told ask.input (told ask) next each
+file_not_want : (told : Told) (at : Input) (ask : Ask) (next : List ℕ → Coming) → ((bytes : List ℕ) → ¬ IsOnlyWant told (next bytes)) → ¬ IsOnlyWant told (OfFile at ask next)
+file_not_want told at ask next each only =
+    given_not_want told at (told ask) next each
     (λ rest comes given. only (before (Loads ask (told ask)) rest) (told ask, (rest, refl, inr comes)) (refl, given))
 
 -- ---- stamp
@@ -90,7 +98,7 @@ snapshot_not_want told request tree id log bytes only =
 
 starts_not_want : (told : Told) (from : Option (List ℕ)) (request : ReplayRequest) (tree : ProgramTree) (id : List ℕ) (log : List Entry) → ¬ IsOnlyWant told (Starts from request tree id log)
 starts_not_want told None request tree id log = fine_not_want told (Starts None request tree id log) _ _ refl
-starts_not_want told (Some from) request tree id log = file_not_want told (ask_snapshot from) (OfSnapshot request tree id log) (snapshot_not_want told request tree id log)
+starts_not_want told (Some from) request tree id log = file_not_want told input.Snapshot (ask_snapshot from) (OfSnapshot request tree id log) (snapshot_not_want told request tree id log)
 
 log_not_want : (told : Told) (next : List Entry → Coming) (bytes : List ℕ) → ((log : List Entry) → ¬ IsOnlyWant told (next log)) → ¬ IsOnlyWant told (OfLog next bytes)
 log_not_want told next bytes each only =
@@ -100,19 +108,38 @@ log_not_want told next bytes each only =
 
 tree_not_want : (told : Told) (request : ReplayRequest) (id : List ℕ) (tree : ProgramTree) → ¬ IsOnlyWant told (OfTree request id tree)
 tree_not_want told request id tree =
-    file_not_want told (ask_log request.log) (OfLog (Starts request.from request tree id))
+    file_not_want told input.Log (ask_log request.log) (OfLog (Starts request.from request tree id))
     (λ bytes. log_not_want told (Starts request.from request tree id) bytes (starts_not_want told request.from request tree id))
+
+-- ---- join
+
+view_script_not_want : (told : Told) (request : JoinRequest) (id : List ℕ) (tree : ProgramTree) (script : Option (List PlainLine)) → ¬ IsOnlyWant told (OfViewScript request id tree script)
+view_script_not_want told request id tree None = refused_not_want told (OfViewScript request id tree None) (refusal.Input input.Script) refl
+view_script_not_want told request id tree (Some lines) = visit_not_want told (OfViewScript request id tree (Some lines)) (visit_to request id tree lines) refl
+
+address_not_want : (told : Told) (is : Bool) (next : Coming) → ¬ IsOnlyWant told next → ¬ IsOnlyWant told (OfAddress is next)
+address_not_want told true next each = each
+address_not_want told false next each = refused_not_want told (OfAddress false next) (refusal.Input input.Address) refl
+
+join_not_want : (told : Told) (request : JoinRequest) (id : List ℕ) (tree : ProgramTree) → ¬ IsOnlyWant told (OfJoin request id tree)
+join_not_want told request id tree =
+    address_not_want told (is_address (encode_utf8_all request.address)) (OfView request id tree)
+    (file_not_want told input.Script (ask_script request.script) (λ bytes. OfViewScript request id tree (view_script_of bytes))
+    (λ bytes. view_script_not_want told request id tree (view_script_of bytes)))
 
 -- ---- the commands
 
 command_not_want : IsSomeReading → (told : Told) (command : Command) → ¬ IsOnlyWant told (OfCommand command)
 command_not_want some told (Stamp script log) =
-    file_not_want told (ask_script script) (λ bytes. OfScript log (script_of bytes)) (λ bytes. script_not_want told log (script_of bytes))
+    file_not_want told input.Script (ask_script script) (λ bytes. OfScript log (script_of bytes)) (λ bytes. script_not_want told log (script_of bytes))
 command_not_want some told (Check program) =
-    file_not_want told (ask_program program) _ (λ bytes. program_not_want some told _ bytes (λ tree. fine_not_want told (λ came. came ≡ count_verdict tree) [] (counts_line tree) refl))
+    file_not_want told input.Program (ask_program program) _ (λ bytes. program_not_want some told _ bytes (λ tree. fine_not_want told (λ came. came ≡ count_verdict tree) [] (counts_line tree) refl))
 command_not_want some told (Replay request) =
-    file_not_want told (ask_program request.program) (λ bytes. OfProgram (OfTree request (session_of request.name bytes)) bytes)
+    file_not_want told input.Program (ask_program request.program) (λ bytes. OfProgram (OfTree request (session_of request.name bytes)) bytes)
     (λ bytes. program_not_want some told (OfTree request (session_of request.name bytes)) bytes (tree_not_want told request (session_of request.name bytes)))
+command_not_want some told (Join request) =
+    file_not_want told input.Program (ask_program request.program) (λ bytes. OfProgram (OfJoin request (session_of request.name bytes)) bytes)
+    (λ bytes. program_not_want some told (OfJoin request (session_of request.name bytes)) bytes (join_not_want told request (session_of request.name bytes)))
 
 pub some_verdict_comes : IsSomeReading → SomeVerdictComes
 some_verdict_comes some None told only = refused_not_want told _ refusal.Usage (inr refl) only

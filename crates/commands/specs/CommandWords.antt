@@ -2,14 +2,15 @@
 use Rattle.std.specs.Prelude.{ℕ, ⊤, ◌≤◌, Bool, false, ◌≡◌, ◌==◌, ◌<◌, ◌||◌, if◌then◌else◌, nat_le, length, slice_index_or, remove, encode_utf8_all, List, [], ◌∷◌, ◌++◌, Option, Some, None, option_map, option_and_then, codes}
 use Rattle.std.specs.Str.{bytes_eq}
 use Rattle.tea_base.specs.Limits.{time_limit}
-use Rattle.text_lines.specs.Lines.{LineWord, is_empty}
+use Rattle.text_lines.specs.Lines.{LineWord, is_empty, number_of_word}
 use Rattle.commands.specs.Script.{time_of}
 use Rattle.commands.specs.declared.words.Parts.{Parts}
 use Rattle.commands.specs.declared.words.Reader.{Reader}
 use Rattle.commands.specs.declared.words.Setting.{Setting}
 use Rattle.commands.specs.declared.words.ReplayRequest.{ReplayRequest}
+use Rattle.commands.specs.declared.words.JoinRequest.{JoinRequest}
 use Rattle.commands.specs.declared.words.Command.{Command}
-use Rattle.commands.specs.declared.words.Command.TheVariants.{Stamp, Check, Replay}
+use Rattle.commands.specs.declared.words.Command.TheVariants.{Stamp, Check, Replay, Join}
 
 -- the word begins with `-`
 abbrev pub is_option : LineWord → Bool
@@ -102,12 +103,38 @@ replay_of parts =
     let others = without (codes "--from") parts.settings in
     replay_with (without (codes "--snapshot") others) parts.positionals (setting_value (codes "--from") parts.settings) (setting_value (codes "--snapshot") others)
 
+-- the number of a view
+abbrev pub view_of : LineWord → Option ℕ
+view_of word = number_of_word 1 4294967295 word
+
+abbrev pub join_to : LineWord → LineWord → LineWord → LineWord → ℕ → Command
+join_to program name address script view =
+    Join (record { program = program; name = name; address = address; view = view; script = script })
+
+abbrev pub join_named : LineWord → LineWord → LineWord → LineWord → Option ℕ → Option Command
+join_named program name address script view =
+    if nat_le (length (encode_utf8_all name)) most_name then option_map (join_to program name address script) view else None
+
+-- `join` has five positionals, and no setting
+abbrev pub join_words : List LineWord → Option Command
+join_words (program ∷ name ∷ address ∷ view ∷ script ∷ []) = join_named program name address script (view_of (encode_utf8_all view))
+join_words positionals = None
+
+abbrev pub join_without : List Setting → List LineWord → Option Command
+join_without [] positionals = join_words positionals
+join_without settings positionals = None
+
+-- `join PROGRAM NAME ADDRESS VIEW SCRIPT`
+abbrev pub join_command : Parts → Option Command
+join_command parts = join_without parts.settings parts.positionals
+
 -- what the words after the command's name make: one row for each command
 abbrev pub command_named : LineWord → Parts → Option Command
 command_named name parts =
     if bytes_eq name (codes "stamp") then stamp_of parts
     else if bytes_eq name (codes "check") then check_of parts
     else if bytes_eq name (codes "replay") then replay_of parts
+    else if bytes_eq name (codes "join") then join_command parts
     else None
 
 -- the command that the words ask for, where they follow the rules
@@ -115,14 +142,24 @@ abbrev pub command_of : List LineWord → Option Command
 command_of [] = None
 command_of (name ∷ words) = option_and_then (command_named name) (all_parts words)
 
+-- the words ask for the command join
+abbrev pub IsJoin : Option Command → Type 0
+IsJoin (Some (Join request)) = ⊤
+IsJoin command = ⊥
+
 -- a replay has a name of at most so many bytes, and a time below the limit of times
 abbrev pub IsBounded : ReplayRequest → Type 0
 IsBounded request = (length (encode_utf8_all request.name) ≤ most_name) × (request.time < time_limit)
+
+-- a join has a name of at most so many bytes too, and a view from 1
+abbrev pub IsBoundedJoin : JoinRequest → Type 0
+IsBoundedJoin request = (length (encode_utf8_all request.name) ≤ most_name) × (1 ≤ request.view)
 
 abbrev pub IsWithinBounds : Command → Type 0
 IsWithinBounds (Stamp script log) = ⊤
 IsWithinBounds (Check program) = ⊤
 IsWithinBounds (Replay request) = IsBounded request
+IsWithinBounds (Join request) = IsBoundedJoin request
 
 -- what a reader makes of these words, after those that it has read
 abbrev pub read_on : Reader → List LineWord → Option Parts

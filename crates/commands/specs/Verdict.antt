@@ -1,5 +1,5 @@
 -- What comes of a command: the steps that it does, one after the other, and how it is closed.
-use Rattle.std.specs.Prelude.{◌≡◌, ◌≢◌, ◌⊎◌, ℕ, ◌≤◌, ◌<◌, nat_lt, if◌then◌else◌, List, [], ◌∷◌, ◌++◌, length, Option, Some, None}
+use Rattle.std.specs.Prelude.{◌≡◌, ◌≢◌, ◌⊎◌, ℕ, ◌≤◌, ◌<◌, Bool, true, false, nat_lt, if◌then◌else◌, List, [], ◌∷◌, ◌++◌, length, encode_utf8_all, Option, Some, None}
 use Rattle.tea_base.specs.Legal.{IsLegal}
 use Rattle.tea_base.specs.declared.entry.Entry.{Entry}
 use Rattle.session_log.specs.Spelling.{log_spelling}
@@ -18,31 +18,30 @@ use Rattle.world_plain.specs.World.{WorldRecord}
 use Rattle.world.specs.Worlds.{Follows, replay, replay_on}
 use Rattle.snapshot_codec.specs.Answer.{IsSnapshot}
 use Rattle.snapshot_codec.specs.Spelling.{world_spelling}
+use Rattle.run_steps.specs.Steps.{Ask, Step, Loads, Puts, Prints, Hears}
+use Rattle.view_script.specs.PlainLine.{PlainLine}
+use Rattle.view_script.specs.ViewScript.{view_script_of}
 use Rattle.commands.specs.declared.outcome.Input.{Input}
 use Rattle.commands.specs.declared.outcome.Input.TheVariants as input
 use Rattle.commands.specs.declared.outcome.Refusal.{Refusal}
 use Rattle.commands.specs.declared.outcome.Refusal.TheVariants as refusal
 use Rattle.commands.specs.declared.outcome.Put.{Put}
 use Rattle.commands.specs.declared.words.ReplayRequest.{ReplayRequest}
+use Rattle.commands.specs.declared.words.JoinRequest.{JoinRequest}
 use Rattle.commands.specs.declared.words.Command.{Command}
-use Rattle.commands.specs.declared.words.Command.TheVariants.{Stamp, Check, Replay}
+use Rattle.commands.specs.declared.words.Command.TheVariants.{Stamp, Check, Replay, Join}
+use Rattle.commands.specs.Address.{is_address}
 use Rattle.commands.specs.Script.{script_of}
 use Rattle.commands.specs.PrintedText.{text_of, counts_line, world_line, syntax_line, too_large_line, check_line}
 
--- a file that a command reads: which of its inputs, its name, and the most bytes that it may have
-pub record Ask : Type 0 where
-  pub input : Input
-  pub name : List ℕ
-  pub limit : ℕ
-
--- a step of a command, with what it was told: a row for each kind
-pub data Step : Type 0 where
-  -- a file is read: its bytes, or none where it is above its limit
-  Loads : Ask → Option (List ℕ) → Step
-  -- bytes are put under a name
-  Puts : List ℕ → List ℕ → Step
-  -- a piece of text is printed
-  Prints : List ℕ → Step
+-- the visit of a view to a session: its program, the session's id, the number of the view, the address of its reflector, and what it
+-- does, line by line
+pub record PlainVisit : Type 0 where
+  pub tree : ProgramTree
+  pub id : List ℕ
+  pub view : ℕ
+  pub address : List ℕ
+  pub lines : List PlainLine
 
 -- how a command is closed, behind all its steps
 pub data Closing : Type 0 where
@@ -52,14 +51,8 @@ pub data Closing : Type 0 where
   ByRefusal : Refusal → Closing
   -- memory is wanted
   ByWant : Closing
-  -- the net failed
-  ByNetFault : Closing
-  -- the reflector refused, with a code and the value that comes with it
-  ByReflector : ℕ → ℕ → Closing
-  -- the reflector ended the connection
-  ByEnd : Closing
-  -- the reflector broke the rules
-  ByPeer : Closing
+  -- the run goes on as this view's
+  ByVisit : PlainVisit → Closing
 
 -- what comes of a command: its steps, and how it is closed behind them
 pub record Verdict : Type 0 where
@@ -104,14 +97,14 @@ Free next verdict = Only (at_once ByWant) verdict ⊎ next verdict
 abbrev pub Then : Step → Coming → Coming
 Then step next verdict = (rest : Verdict) × (verdict ≡ before step rest) × next rest
 
--- what comes of the bytes of a file, or of one above its limit
+-- what comes of the bytes of a file, which is this input, or of one above its limit
 abbrev pub OfGiven : Input → Option (List ℕ) → (List ℕ → Coming) → Coming
 OfGiven at None next = Only (at_once (ByRefusal (refusal.Input at)))
 OfGiven at (Some bytes) next = next bytes
 
--- a file is read, and then this comes of its bytes
-abbrev pub OfFile : Ask → (List ℕ → Coming) → Coming
-OfFile ask next verdict = (given : Option (List ℕ)) × Then (Loads ask given) (Free (OfGiven ask.input given next)) verdict
+-- a file is read, which is this input, and then this comes of its bytes
+abbrev pub OfFile : Input → Ask → (List ℕ → Coming) → Coming
+OfFile at ask next verdict = (given : Option (List ℕ)) × Then (Loads ask given) (Free (OfGiven at given next)) verdict
 
 -- ---- stamp
 
@@ -125,7 +118,7 @@ OfScript log None = Only (at_once (ByRefusal (refusal.Input input.Script)))
 OfScript log (Some requests) = Only (stamp_verdict log requests)
 
 abbrev pub ask_script : List ℕ → Ask
-ask_script name = record { input = input.Script; name = name; limit = 16777216 }
+ask_script name = record { name = name; limit = 16777216 }
 
 -- ---- programs
 
@@ -158,7 +151,7 @@ OfProgram next bytes verdict =
     ⊎ ((line : List ℕ) × IsRefused bytes line × Only (at_once (ByRefusal (refusal.Program line))) verdict)
 
 abbrev pub ask_program : List ℕ → Ask
-ask_program name = record { input = input.Program; name = name; limit = 65536 }
+ask_program name = record { name = name; limit = 65536 }
 
 -- a program without faults is counted
 abbrev pub count_verdict : ProgramTree → Verdict
@@ -187,12 +180,12 @@ OfSnapshot request tree id log bytes verdict =
     ⊎ (((w : WorldRecord) → ¬ IsSnapshot (field_counts tree) id bytes w) × Only (at_once (ByRefusal (refusal.Input input.Snapshot))) verdict)
 
 abbrev pub ask_snapshot : List ℕ → Ask
-ask_snapshot name = record { input = input.Snapshot; name = name; limit = most_snapshot }
+ask_snapshot name = record { name = name; limit = most_snapshot }
 
 -- a replay begins with the first world of the session, or with that of a snapshot
 abbrev pub Starts : Option (List ℕ) → ReplayRequest → ProgramTree → List ℕ → List Entry → Coming
 Starts None request tree id log = Only (world_verdict request.snapshot (replay tree id log request.time).world)
-Starts (Some from) request tree id log = OfFile (ask_snapshot from) (OfSnapshot request tree id log)
+Starts (Some from) request tree id log = OfFile input.Snapshot (ask_snapshot from) (OfSnapshot request tree id log)
 
 -- the bytes are the spelling of a legal log, or of none
 abbrev pub OfLog : (List Entry → Coming) → List ℕ → Coming
@@ -201,20 +194,45 @@ OfLog next bytes verdict =
     ⊎ (((log : List Entry) → IsLegal log → bytes ≢ log_spelling log) × Only (at_once (ByRefusal (refusal.Input input.Log))) verdict)
 
 abbrev pub ask_log : List ℕ → Ask
-ask_log name = record { input = input.Log; name = name; limit = 134217728 }
+ask_log name = record { name = name; limit = 134217728 }
 
 -- once the program was read, the log is, and then the replay begins
 abbrev pub OfTree : ReplayRequest → List ℕ → ProgramTree → Coming
-OfTree request id tree = OfFile (ask_log request.log) (OfLog (Starts request.from request tree id))
+OfTree request id tree = OfFile input.Log (ask_log request.log) (OfLog (Starts request.from request tree id))
+
+-- ---- join
+
+abbrev pub visit_to : JoinRequest → List ℕ → ProgramTree → List PlainLine → PlainVisit
+visit_to request id tree lines = record { tree = tree; id = id; view = request.view; address = request.address; lines = lines }
+
+-- what comes of a view's script, or of none
+abbrev pub OfViewScript : JoinRequest → List ℕ → ProgramTree → Option (List PlainLine) → Coming
+OfViewScript request id tree None = Only (at_once (ByRefusal (refusal.Input input.Script)))
+OfViewScript request id tree (Some lines) = Only (at_once (ByVisit (visit_to request id tree lines)))
+
+-- what comes of an address, or of a word that is none
+abbrev pub OfAddress : Bool → Coming → Coming
+OfAddress true next = next
+OfAddress false next = Only (at_once (ByRefusal (refusal.Input input.Address)))
+
+-- the script of a view is read
+abbrev pub OfView : JoinRequest → List ℕ → ProgramTree → Coming
+OfView request id tree = OfFile input.Script (ask_script request.script) (λ bytes. OfViewScript request id tree (view_script_of bytes))
+
+-- once the program was read, the address is checked, and then the script is read
+abbrev pub OfJoin : JoinRequest → List ℕ → ProgramTree → Coming
+OfJoin request id tree = OfAddress (is_address (encode_utf8_all request.address)) (OfView request id tree)
 
 -- ---- the commands
 
 -- what comes of a command: a row for each
 abbrev pub OfCommand : Command → Coming
-OfCommand (Stamp script log) = OfFile (ask_script script) (λ bytes. OfScript log (script_of bytes))
-OfCommand (Check program) = OfFile (ask_program program) (OfProgram (λ tree. Only (count_verdict tree)))
+OfCommand (Stamp script log) = OfFile input.Script (ask_script script) (λ bytes. OfScript log (script_of bytes))
+OfCommand (Check program) = OfFile input.Program (ask_program program) (OfProgram (λ tree. Only (count_verdict tree)))
 OfCommand (Replay request) =
-    OfFile (ask_program request.program) (λ bytes. OfProgram (OfTree request (session_of request.name bytes)) bytes)
+    OfFile input.Program (ask_program request.program) (λ bytes. OfProgram (OfTree request (session_of request.name bytes)) bytes)
+OfCommand (Join request) =
+    OfFile input.Program (ask_program request.program) (λ bytes. OfProgram (OfJoin request (session_of request.name bytes)) bytes)
 
 -- what comes of words: those that break their rules are refused
 abbrev pub OfWords : Option Command → Coming
@@ -249,9 +267,10 @@ abbrev pub AreClosedAlike : Closing → Closing → Type 0
 AreClosedAlike closing other =
     (closing ≡ other) ⊎ ((closing ≡ ByWant) ⊎ ((other ≡ ByWant) ⊎ (TellsPlace closing × TellsPlace other)))
 
--- two steps are the same, and what follows is alike if they were told the same
+-- two steps are the same, but for what they were told, and what follows is alike if that was the same
 abbrev pub AreDoneAlike : Step → Step → Type 0 → Type 0
 AreDoneAlike (Loads ask given) (Loads other told) alike = (ask ≡ other) × (given ≡ told → alike)
+AreDoneAlike (Hears what) (Hears other) alike = what ≡ other → alike
 AreDoneAlike step other alike = (step ≡ other) × alike
 
 -- The steps are the same, one after the other, as long as they were told the same. Want of memory may stand in place of what follows.
@@ -273,8 +292,7 @@ IsFunction = (command : Option Command) → IsOneVerdict (Comes command)
 abbrev pub AreGiven : (Ask → Option (List ℕ)) → List Step → Type 0
 AreGiven told [] = Unit {0}
 AreGiven told (Loads ask given ∷ steps) = (given ≡ told ask) × AreGiven told steps
-AreGiven told (Puts name bytes ∷ steps) = AreGiven told steps
-AreGiven told (Prints text ∷ steps) = AreGiven told steps
+AreGiven told (other ∷ steps) = AreGiven told steps
 
 -- of what comes where the files give this, each verdict is closed by want of memory
 abbrev pub IsOnlyWant : (Ask → Option (List ℕ)) → Coming → Type 0

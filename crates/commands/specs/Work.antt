@@ -1,5 +1,5 @@
 -- What the parts of a command's work make of what comes.
-use Rattle.std.specs.Prelude.{◌≡◌, ◌≢◌, ℕ, ⊤, List, Option, Some, None, Result, Ok, Err, string_bytes, false}
+use Rattle.std.specs.Prelude.{◌≡◌, ◌≢◌, ◌≤◌, ℕ, ⊤, List, Option, Some, None, Result, Ok, Err, string_bytes, false}
 use Rattle.model_lang.specs.declared.fault.LangFault.{LangFault}
 use Rattle.model_lang.specs.declared.fault.LangFault.TheVariants as lang
 use Rattle.model_lang.specs.declared.tree.Class.{Class}
@@ -11,19 +11,24 @@ use Rattle.world_plain.specs.World.{WorldRecord}
 use Rattle.world.specs.View.{WorldView}
 use Rattle.world.specs.Worlds.{Scene, first_scene as first_world, replay, replay_on, take_up}
 use Rattle.snapshot_codec.specs.Spelling.{world_spelling}
+use Rattle.run_steps.specs.Steps.{Ask}
+use Rattle.commands.specs.declared.outcome.Input.{Input}
+use Rattle.commands.specs.declared.outcome.Input.TheVariants as input
 use Rattle.commands.specs.declared.words.Command.{Command}
-use Rattle.commands.specs.declared.words.Command.TheVariants.{Stamp, Check, Replay}
+use Rattle.commands.specs.declared.words.Command.TheVariants.{Stamp, Check, Replay, Join}
 use Rattle.commands.specs.declared.program.ProgramFault.{ProgramFault}
 use Rattle.commands.specs.declared.program.ProgramFault.TheVariants.{Refused, WantOfMemory}
 use Rattle.commands.specs.declared.recording.Recording.{Recording}
+use Rattle.commands.specs.declared.visit.VisitRequest.{VisitRequest}
 use Rattle.commands.specs.declared.world_run.Told.{Told}
 use Rattle.commands.specs.declared.work.Waiting.{Waiting}
 use Rattle.commands.specs.declared.work.Waiting.TheVariants as waiting
 use Rattle.commands.specs.declared.work.Next.{Next}
 use Rattle.commands.specs.declared.work.Next.TheVariants as next
-use Rattle.commands.specs.CommandWords.{IsBounded, IsWithinBounds}
+use Rattle.view_script.specs.PlainLine.{plain_lines}
+use Rattle.commands.specs.CommandWords.{IsBounded, IsBoundedJoin, IsWithinBounds}
 use Rattle.commands.specs.PrintedText.{check_line, syntax_line, too_large_line, world_line}
-use Rattle.commands.specs.Verdict.{Ask, Verdict, ByRefusal, ByWant, Coming, Only, OfFile, IsRefused, IsFaultless, OfCommand, OfSnapshot, OfTree, at_once, fine, steps_of, ask_log, ask_program, ask_script, ask_snapshot}
+use Rattle.commands.specs.Verdict.{Verdict, PlainVisit, ByRefusal, ByVisit, ByWant, Coming, Only, OfFile, IsRefused, IsFaultless, OfCommand, OfSnapshot, OfTree, OfView, at_once, fine, steps_of, ask_log, ask_program, ask_script, ask_snapshot}
 
 -- ---- a command that waits for a file
 
@@ -32,41 +37,71 @@ abbrev pub first_ask : Command → Ask
 first_ask (Stamp script log) = ask_script script
 first_ask (Check program) = ask_program program
 first_ask (Replay request) = ask_program request.program
+first_ask (Join request) = ask_program request.program
 
 -- the file that is waited for
 abbrev pub ask_of : Waiting → Ask
 ask_of (waiting.First command) = first_ask command
 ask_of (waiting.Log wait) = ask_log wait.request.log
 ask_of (waiting.Snapshot wait) = ask_snapshot wait.from
+ask_of (waiting.Script wait) = ask_script wait.request.script
+
+-- which of the inputs it is
+abbrev pub first_input : Command → Input
+first_input (Stamp script log) = input.Script
+first_input (Check program) = input.Program
+first_input (Replay request) = input.Program
+first_input (Join request) = input.Program
+
+abbrev pub input_of : Waiting → Input
+input_of (waiting.First command) = first_input command
+input_of (waiting.Log wait) = input.Log
+input_of (waiting.Snapshot wait) = input.Snapshot
+input_of (waiting.Script wait) = input.Script
 
 -- what comes of the files that are read from here on
 abbrev pub Remains : Waiting → Coming
 Remains (waiting.First command) = OfCommand command
 Remains (waiting.Log wait) = OfTree wait.request wait.id.0 (program_tree wait.program)
 Remains (waiting.Snapshot wait) =
-    OfFile (ask_snapshot wait.from) (OfSnapshot wait.request (program_tree wait.recording.program) wait.recording.id.0 wait.recording.log.entries)
+    OfFile input.Snapshot (ask_snapshot wait.from) (OfSnapshot wait.request (program_tree wait.recording.program) wait.recording.id.0 wait.recording.log.entries)
+Remains (waiting.Script wait) = OfView wait.request wait.id.0 (program_tree wait.program)
 
 -- so many files are still read at most
 abbrev pub files_left : Waiting → ℕ
 files_left (waiting.First command) = 3
 files_left (waiting.Log wait) = 2
 files_left (waiting.Snapshot wait) = 1
+files_left (waiting.Script wait) = 1
 
--- its name is of at most so many bytes, and its time below 2 ^ 53
+-- its words are within their bounds
 abbrev pub IsBoundedWait : Waiting → Type 0
 IsBoundedWait (waiting.First command) = IsWithinBounds command
 IsBoundedWait (waiting.Log wait) = IsBounded wait.request
 IsBoundedWait (waiting.Snapshot wait) = IsBounded wait.request
+IsBoundedWait (waiting.Script wait) = IsBoundedJoin wait.request
+
+-- the visit that is asked for
+abbrev pub visit_of : VisitRequest → PlainVisit
+visit_of request = record {
+  tree = program_tree request.program;
+  id = request.id.0;
+  view = request.view;
+  address = request.address;
+  lines = plain_lines request.script;
+}
 
 -- what comes of a command that does this next
 abbrev pub ComesNext : Next → Coming
 ComesNext (next.Reads wait) = Remains wait
 ComesNext (next.Refuses refusal) = Only (at_once (ByRefusal refusal))
 ComesNext (next.Gives outcome) = Only (fine (steps_of outcome.files outcome.text))
+ComesNext (next.Visits request) = Only (at_once (ByVisit (visit_of request)))
 ComesNext next.WantOfMemory = Only (at_once ByWant)
 
 abbrev pub IsBoundedNext : Next → Type 0
 IsBoundedNext (next.Reads wait) = IsBoundedWait wait
+IsBoundedNext (next.Visits request) = 1 ≤ request.view
 IsBoundedNext other = ⊤
 
 abbrev pub reads_left : Next → ℕ

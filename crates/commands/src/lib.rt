@@ -2,9 +2,10 @@
 //! refusal. No file and no output is touched here.
 //!
 //! [`read_command`] reads the words of a command. [`Next::of_command`] begins its work, and [`Waiting::hand`] goes on with the
-//! bytes of each file that it waits for, until it is refused, or gives what it puts and prints.
+//! bytes of each file that it waits for, until it is refused, or gives what it puts and prints, or goes on as a view's run.
 #![tactic(auto)]
 
+mod address;
 mod check;
 mod laws;
 mod outcome;
@@ -13,6 +14,7 @@ mod recording;
 mod script;
 mod stamp;
 mod text;
+mod visit;
 mod words;
 mod work;
 mod world_run;
@@ -21,5 +23,6 @@ mod world_text;
 pub use laws::{logs_tell_their_events, one_verdict, snapshots_agree, some_verdict};
 pub use outcome::{Input, Outcome, Put, Puts, Refusal};
 pub use recording::{LogWait, Recording, SnapshotWait};
-pub use words::{Command, ReplayRequest, read_command};
+pub use visit::{ScriptWait, VisitRequest};
+pub use words::{Command, JoinRequest, ReplayRequest, read_command};
 pub use work::{Next, Waiting};

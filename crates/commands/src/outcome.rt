@@ -14,6 +14,8 @@ pub enum Input {
     Snapshot,
     /// The time that a replay is asked for, below that of its snapshot.
     Time,
+    /// The address to which a view connects.
+    Address,
 }
 
 /// Why a command is refused.
@@ -23,7 +25,7 @@ pub enum Refusal {
     Usage,
     /// The program is refused, with the line that tells why.
     Program { line: Blob },
-    /// This input is not in its grammar or above its limit, or it is a time below that of the snapshot.
+    /// This input is not in its grammar or above its limit, or it is a time below that of the snapshot, or no address.
     Input(Input),
 }
 

@@ -1,13 +1,14 @@
 //! The words of the command line, read by their rules.
-ghost use Rattle.std.specs.Prelude.{◌≡◌, ◌<◌, ℕ, [], ◌∷◌, true, None, IfOk, IfSome, IfNone, MatchBool, IsTrue, ◌↔◌, nat_lt};
+ghost use Rattle.std.specs.Prelude.{◌≡◌, ◌<◌, ◌≤◌, ℕ, [], ◌∷◌, true, None, IfOk, IfSome, IfNone, MatchBool, IsTrue, ◌↔◌, encode_utf8_all, nat_lt};
 ghost use Rattle.std.specs.List.{list_all};
 ghost use Rattle.std.specs.Str.{bytes_eq};
 ghost use Rattle.text_lines.specs.Lines.{is_empty};
-ghost use Rattle.commands.specs.CommandWords.{command_of, command_named, stamp_of, check_of, replay_of, replay_words, all_parts, is_option, setting_value, without, IsFirstOf, IsWithinBounds, HasNone};
+ghost use Rattle.commands.specs.CommandWords.{command_of, command_named, stamp_of, check_of, replay_of, replay_words, join_command, join_named, join_words, view_of, all_parts, is_option, setting_value, without, IsFirstOf, IsWithinBounds, HasNone};
 
 use crate::script::time_in;
 use std::alloc::Global;
 use tea_base::{List, Text, WantOfMemory, Words};
+use text_lines::number;
 
 /// The most bytes of UTF-8 that the name of a session has.
 const MOST_NAME: usize = 255;
@@ -21,6 +22,8 @@ pub enum Command {
     Check { program: Text },
     /// `replay PROGRAM NAME LOG TIME [--from SNAP] [--snapshot FILE]`
     Replay(ReplayRequest),
+    /// `join PROGRAM NAME ADDRESS VIEW SCRIPT`
+    Join(JoinRequest),
 }
 
 /// What a replay is asked for.
@@ -36,6 +39,18 @@ pub struct ReplayRequest {
     pub from: Option<Text>,
     /// Where the snapshot of the world is put.
     pub snapshot: Option<Text>,
+}
+
+/// What a view is asked for.
+#[derive(Drop)]
+pub struct JoinRequest {
+    pub program: Text,
+    /// The name of the session, of at most 255 bytes.
+    pub name: Text,
+    pub address: Text,
+    /// The number of the view, from 1.
+    pub view: u32,
+    pub script: Text,
 }
 
 /// An option and its value.
@@ -250,6 +265,73 @@ fn replay_words(positionals: Words, from: Option<Text>, snapshot: Option<Text>) 
     }))
 }
 
+/// The number of a view.
+fn view_of(word: &str) -> Option<u32>
+    ensures read { result ≡ view_of word.now }
+    ensures bound { IfSome result (λ view. 1 ≤ view) }
+{
+    match number(word, 1, 4294967295) {
+        Some(view) => Some(view as u32),
+        None => None,
+    }
+}
+
+/// `join PROGRAM NAME ADDRESS VIEW SCRIPT`
+fn join(parts: Parts) -> Option<Command>
+    ensures read { result ≡ join_command parts }
+    ensures bounds { IfSome result IsWithinBounds }
+{
+    let Parts {
+        positionals,
+        settings,
+    } = parts;
+    if !settings.into_vec().is_empty() {
+        return None;
+    }
+    join_words(positionals)
+}
+
+/// The view that five positionals ask for.
+fn join_words(positionals: Words) -> Option<Command>
+    ensures read { result ≡ join_words positionals }
+    ensures bounds { IfSome result IsWithinBounds }
+{
+    let mut positionals = positionals.into_vec();
+    let script = positionals.pop()?;
+    let view = positionals.pop()?;
+    let address = positionals.pop()?;
+    let name = positionals.pop()?;
+    let program = positionals.pop()?;
+    if !positionals.is_empty() {
+        return None;
+    }
+    join_named(program, name, address, &view, script)
+}
+
+/// The view of a session of this name, with this number.
+fn join_named(
+    program: Text,
+    name: Text,
+    address: Text,
+    view: &Text,
+    script: Text,
+) -> Option<Command>
+    ensures read { result ≡ join_named program name address script (view_of (encode_utf8_all view.now)) }
+    ensures bounds { IfSome result IsWithinBounds }
+{
+    if name.bytes().len() > MOST_NAME {
+        return None;
+    }
+    let view = view_of(view.as_str())?;
+    Some(Command::Join(JoinRequest {
+        program,
+        name,
+        address,
+        view,
+        script,
+    }))
+}
+
 /// The command of this name, where the words after it follow its rules.
 fn command_named(name: &Text, parts: Parts) -> Option<Command>
     ensures read { result ≡ command_named name.now parts }
@@ -261,6 +343,8 @@ fn command_named(name: &Text, parts: Parts) -> Option<Command>
         check(parts)
     } else if is_word(name, "replay") {
         replay(parts)
+    } else if is_word(name, "join") {
+        join(parts)
     } else {
         None
     }

@@ -2,13 +2,15 @@
 ghost use Rattle.std.specs.Prelude.{◌≡◌, ◌<◌, Some};
 ghost use Rattle.std.specs.Option.{IfSome};
 ghost use Rattle.commands.specs.CommandWords.{IsWithinBounds};
-ghost use Rattle.commands.specs.Verdict.{Loads, OfCommand, OfWords, Verdict, before};
-ghost use Rattle.commands.specs.Work.{ComesNext, IsBoundedNext, IsBoundedWait, Leads, Remains, ask_of, files_left, first_ask, reads_left};
+ghost use Rattle.run_steps.specs.Steps.{Loads};
+ghost use Rattle.commands.specs.Verdict.{OfCommand, OfWords, Verdict, before};
+ghost use Rattle.commands.specs.Work.{ComesNext, IsBoundedNext, IsBoundedWait, Leads, Remains, ask_of, files_left, first_ask, input_of, reads_left};
 
 use crate::check::check;
 use crate::outcome::{Input, Outcome, Refusal};
 use crate::recording::{LogWait, SnapshotWait, take_log, take_program, take_snapshot};
 use crate::stamp::stamp;
+use crate::visit::{ScriptWait, VisitRequest, take_view_program, take_view_script};
 use crate::words::Command;
 use std::alloc::Global;
 use tea_base::{Blob, MOST_SNAPSHOT, Text};
@@ -22,6 +24,8 @@ pub enum Waiting {
     Log(LogWait),
     /// A replay that has read its program and its log.
     Snapshot(SnapshotWait),
+    /// A view that has read its program.
+    Script(ScriptWait),
 }
 
 /// What a command does next.
@@ -33,6 +37,8 @@ pub enum Next {
     Refuses(Refusal),
     /// It puts files and prints a text.
     Gives(Outcome),
+    /// It goes on as a view's run.
+    Visits(VisitRequest),
     WantOfMemory,
 }
 
@@ -68,6 +74,7 @@ impl Command {
             Command::Stamp { script, .. } => script,
             Command::Check { program } => program,
             Command::Replay(request) => &request.program,
+            Command::Join(request) => &request.program,
         }
     }
 }
@@ -81,19 +88,22 @@ impl Waiting {
             Waiting::First(command) => command.first_name(),
             Waiting::Log(wait) => &wait.request.log,
             Waiting::Snapshot(wait) => &wait.from,
+            Waiting::Script(wait) => &wait.request.script,
         }
     }
 
     /// Which of its inputs the file is.
     pub fn input(&self) -> Input
-        ensures { result ≡ (ask_of self.now).input }
+        ensures { result ≡ input_of self.now }
     {
         match self {
             Waiting::First(Command::Stamp { .. }) => Input::Script,
             Waiting::First(Command::Check { .. }) => Input::Program,
             Waiting::First(Command::Replay(_)) => Input::Program,
+            Waiting::First(Command::Join(_)) => Input::Program,
             Waiting::Log(_) => Input::Log,
             Waiting::Snapshot(_) => Input::Snapshot,
+            Waiting::Script(_) => Input::Script,
         }
     }
 
@@ -107,6 +117,7 @@ impl Waiting {
             Input::Log => LOG_LIMIT,
             Input::Snapshot => MOST_SNAPSHOT as u64,
             Input::Time => 0,
+            Input::Address => 0,
         }
     }
 
@@ -125,6 +136,7 @@ impl Waiting {
             Waiting::First(command) => take_first(alloc, command, bytes.bytes()),
             Waiting::Log(wait) => take_log(alloc, wait, bytes.bytes()),
             Waiting::Snapshot(wait) => take_snapshot(alloc, wait, bytes.bytes()),
+            Waiting::Script(wait) => take_view_script(alloc, wait, bytes.bytes()),
         }
     }
 }
@@ -141,5 +153,6 @@ fn take_first(alloc: Global, command: Command, bytes: &[u8]) -> Next
         Command::Stamp { script: _, log } => stamp(alloc, log, bytes),
         Command::Check { program: _ } => check(alloc, bytes),
         Command::Replay(request) => take_program(alloc, request, bytes),
+        Command::Join(request) => take_view_program(alloc, request, bytes),
     }
 }

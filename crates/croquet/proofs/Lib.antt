@@ -1,3 +1,3 @@
-pub mod Kept
 pub mod Acts
 pub mod Runs
+pub mod VisitRuns

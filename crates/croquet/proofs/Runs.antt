@@ -1,93 +1,167 @@
--- Runs, from their calls.
-use Rattle.std.proofs.Common.{inl, inr, ℕ, List, [], ◌∷◌, Option, None, refl, ap, codes}
-use Rattle.std.specs.Prelude.{⊤}
+-- Runs over files and an output, from their calls.
+use Rattle.std.proofs.Common.{inl, inr, ℕ, List, [], ◌∷◌, Option, Some, None, refl, sym, ap, codes}
+use Rattle.std.proofs.lemmas.List.{append-nil}
+use Rattle.run_steps.specs.Steps.{Step, Loads}
+use Rattle.run_steps.specs.Outside.{Acts, Came, Well, Failed, WantedMemory, FilesTell, OutputTells, ReadsFile, desk, desk_tells}
 use Rattle.commands.specs.declared.outcome.Refusal.TheVariants as refusal
 use Rattle.commands.specs.declared.work.Waiting.{Waiting}
 use Rattle.commands.specs.declared.work.Next.{Next}
-use Rattle.commands.specs.Verdict.{Step, Loads, Puts, Prints, Closing, Fine, ByRefusal, ByWant, Verdict, Coming, Free, Only, before, at_once, fine}
-use Rattle.commands.specs.Work.{ComesNext, Remains, ask_of}
+use Rattle.commands.specs.Verdict.{Closing, ByRefusal, ByWant, Verdict, Coming, Free, Only, before, at_once, fine}
+use Rattle.commands.specs.Work.{ComesNext, Remains, ask_of, input_of}
 use Rattle.commands.proofs.WaitLaws.{above_limit}
 use Rattle.croquet.specs.declared.status.Status.{Status}
 use Rattle.croquet.specs.declared.status.Status.TheVariants as status
-use Rattle.croquet.specs.Run.{ActsOn, Came, Well, Failed, WantedMemory, FilesTell, OutputTells, Outside, Does, Ran, ReadsFile, Tells, TellsClosing, TellsMemory, without_net, outside, outside_tells}
+use Rattle.croquet.specs.declared.top.Turn.{Turn}
+use Rattle.croquet.specs.declared.top.Turn.TheVariants as turn
+use Rattle.croquet.specs.Calls.{Turns}
+use Rattle.croquet.specs.Run.{Concludes, Course, Does, Ending, EndsRefused, EndsWanting, EndsWell, Ran, Tells, TellsCut, TellsEnding, TellsMemory}
 
--- a run without a net
+-- a run over files and an output alone
 abbrev pub RanSo : {F W : Type 0} → FilesTell F → OutputTells W → Coming → F → W → F → W → Status → Type 0
-RanSo files out coming f w f' w' result = Ran (outside_tells files out) coming (without_net f w) (without_net f' w') result
+RanSo files out coming f w f' w' result = Ran (desk_tells files out) coming (desk f w) (desk f' w') result
 
--- a file was read, and handed over
-pub ran_on
-    : {F W : Type 0} (files : FilesTell F) (out : OutputTells W) (wait : Waiting) (given : Option (List ℕ)) (next : Next) (f mid f' : F) (w w' : W) (result : Status)
-    → ReadsFile files Well (ask_of wait) given f mid
-    → ((rest : Verdict) → ComesNext next rest → Remains wait (before (Loads (ask_of wait) given) rest))
-    → RanSo files out (ComesNext next) mid w f' w' result → RanSo files out (Remains wait) f w f' w' result
-ran_on files out wait given next f mid f' w w' result read leads ran = record {
-  verdict = before (Loads (ask_of wait) given) ran.verdict;
-  comes = leads ran.verdict ran.comes;
-  done = (without_net mid w, inl ((read, refl), ran.done));
+-- and a command that has come so far over them
+abbrev pub TurnsSo : {F W : Type 0} → FilesTell F → OutputTells W → Turn → Coming → F → W → F → W → Type 0
+TurnsSo files out came coming f w f' w' = Turns (desk_tells files out) came coming (desk f w) (desk f' w')
+
+-- what comes behind a step that leads to it
+later : (step : Step) (coming other : Coming) (steps : List Step) (ending : Ending) → ((rest : Verdict) → coming rest → other (before step rest)) → Course coming steps ending → Course other (step ∷ steps) ending
+later step coming other steps ending leads course = record {
+  verdict = before step course.verdict;
+  comes = leads course.verdict course.comes;
+  more = course.more;
+  concludes = course.concludes;
+  all = ap (λ (s : List Step). step ∷ s) course.all;
 }
 
--- a file was not read
+-- a file was read, and handed over
+pub turns_on
+    : {F W : Type 0} (files : FilesTell F) (out : OutputTells W) (wait : Waiting) (given : Option (List ℕ)) (next : Next) (came : Turn) (f mid f' : F) (w w' : W)
+    → ReadsFile files Well (ask_of wait) given f mid
+    → ((rest : Verdict) → ComesNext next rest → Remains wait (before (Loads (ask_of wait) given) rest))
+    → TurnsSo files out came (ComesNext next) mid w f' w' → TurnsSo files out came (Remains wait) f w f' w'
+turns_on files out wait given next (turn.Over result) f mid f' w w' read leads ran = record {
+  steps = Loads (ask_of wait) given ∷ ran.steps;
+  ending = ran.ending;
+  course = later (Loads (ask_of wait) given) (ComesNext next) (Remains wait) ran.steps ran.ending leads ran.course;
+  does = record {
+    cut = ran.does.cut;
+    done = ran.does.done;
+    acts = inl (desk mid w, (read, refl), ran.does.acts);
+    left = ran.does.left;
+    goes_back = ran.does.goes_back;
+    told = ran.does.told;
+  };
+}
+turns_on files out wait given next (turn.Visits request) f mid f' w w' read leads reached = record {
+  steps = Loads (ask_of wait) given ∷ reached.steps;
+  comes = leads _ reached.comes;
+  acts = inl (desk mid w, (read, refl), reached.acts);
+}
+
+-- where a file is not read, what comes of one above its limit stands for what would have come
+unread : (wait : Waiting) → Course (Remains wait) (Loads (ask_of wait) None ∷ []) (EndsRefused (refusal.Input (input_of wait)))
+unread wait = record {
+  verdict = before (Loads (ask_of wait) None) (at_once (ByRefusal (refusal.Input (input_of wait))));
+  comes = above_limit wait;
+  more = [];
+  concludes = (refl, refl);
+  all = refl;
+}
+
+-- the run was cut at a read
+cut_at_read
+    : {F W : Type 0} (files : FilesTell F) (out : OutputTells W) (wait : Waiting) (f f' : F) (w w' : W) (result : Status) (came : Came)
+    → Acts (desk_tells files out) (Loads (ask_of wait) None ∷ []) (Some (record { step = Loads (ask_of wait) None; came = came })) (desk f w) (desk f' w)
+    → TellsCut out came (Loads (ask_of wait) None) w w' result → RanSo files out (Remains wait) f w f' w' result
+cut_at_read files out wait f f' w w' result came acts told = record {
+  steps = Loads (ask_of wait) None ∷ [];
+  ending = EndsRefused (refusal.Input (input_of wait));
+  course = unread wait;
+  does = record {
+    cut = Some (record { step = Loads (ask_of wait) None; came = came });
+    done = desk f' w;
+    acts = acts;
+    left = desk f' w;
+    goes_back = refl;
+    told = (told, refl);
+  };
+}
+
 pub ran_unread
     : {F W : Type 0} (files : FilesTell F) (out : OutputTells W) (wait : Waiting) (f f' : F) (w w' : W) (result : Status)
     → ReadsFile files Failed (ask_of wait) None f f' → Tells out (codes "read-fault\n") status.ReadFault w w' result → RanSo files out (Remains wait) f w f' w' result
-ran_unread files out wait f f' w w' result read told = record {
-  verdict = before (Loads (ask_of wait) None) (at_once (ByRefusal (refusal.Input (ask_of wait).input)));
-  comes = above_limit wait;
-  done = (without_net f' w, inr (inl ((read, refl), (told, refl))));
-}
+ran_unread files out wait f f' w w' result read told = cut_at_read files out wait f f' w w' result Failed (inr (inl ((read, refl), refl))) told
 
 -- memory was wanted at its read
 pub ran_unread_memory
     : {F W : Type 0} (files : FilesTell F) (out : OutputTells W) (wait : Waiting) (f f' : F) (w w' : W) (result : Status)
     → ReadsFile files WantedMemory (ask_of wait) None f f' → TellsMemory out w w' result → RanSo files out (Remains wait) f w f' w' result
-ran_unread_memory files out wait f f' w w' result read told = record {
-  verdict = before (Loads (ask_of wait) None) (at_once (ByRefusal (refusal.Input (ask_of wait).input)));
-  comes = above_limit wait;
-  done = (without_net f' w, inr (inr ((read, refl), (told, refl))));
+ran_unread_memory files out wait f f' w w' result read told = cut_at_read files out wait f f' w w' result WantedMemory (inr (inr ((read, refl), refl))) told
+
+-- an end was told, before any step
+told_at_once : {F W : Type 0} (files : FilesTell F) (out : OutputTells W) (ending : Ending) (f : F) (w w' : W) (result : Status)
+    → TellsEnding out ending w w' result → Does (desk_tells files out) [] ending (desk f w) (desk f w') result
+told_at_once files out ending f w w' result told = record {
+  cut = None;
+  done = desk f w;
+  acts = refl;
+  left = desk f w;
+  goes_back = refl;
+  told = (told, refl);
 }
 
--- a closing was told
+-- a command was closed before any step
 pub ran_closed
-    : {F W : Type 0} (files : FilesTell F) (out : OutputTells W) (closing : Closing) (f : F) (w w' : W) (result : Status)
-    → TellsClosing out closing w w' result → RanSo files out (Only (at_once closing)) f w f w' result
-ran_closed files out closing f w w' result told = record { verdict = at_once closing; comes = refl; done = (told, refl) }
+    : {F W : Type 0} (files : FilesTell F) (out : OutputTells W) (closing : Closing) (ending : Ending) (f : F) (w w' : W) (result : Status)
+    → Concludes closing [] ending → TellsEnding out ending w w' result → RanSo files out (Only (at_once closing)) f w f w' result
+ran_closed files out closing ending f w w' result concludes told = record {
+  steps = [];
+  ending = ending;
+  course = record { verdict = at_once closing; comes = refl; more = []; concludes = concludes; all = refl };
+  does = told_at_once files out ending f w w' result told;
+}
 
 -- steps were done
 pub ran_done
     : {F W : Type 0} (files : FilesTell F) (out : OutputTells W) (steps : List Step) (f f' : F) (w w' : W) (result : Status)
-    → Does (outside_tells files out) steps Fine (without_net f w) (without_net f' w') result → RanSo files out (Only (fine steps)) f w f' w' result
-ran_done files out steps f f' w w' result done = record { verdict = fine steps; comes = refl; done = done }
+    → Does (desk_tells files out) steps EndsWell (desk f w) (desk f' w') result → RanSo files out (Only (fine steps)) f w f' w' result
+ran_done files out steps f f' w w' result does = record {
+  steps = steps;
+  ending = EndsWell;
+  course = record { verdict = fine steps; comes = refl; more = []; concludes = (refl, refl); all = sym (append-nil steps) };
+  does = does;
+}
 
 -- memory was wanted before anything was done
 pub ran_wanting
     : {F W : Type 0} (files : FilesTell F) (out : OutputTells W) (coming : Coming) (f : F) (w w' : W) (result : Status)
     → TellsMemory out w w' result → RanSo files out (Free coming) f w f w' result
-ran_wanting files out coming f w w' result told = record { verdict = at_once ByWant; comes = inl refl; done = (told, refl) }
+ran_wanting files out coming f w w' result told = record {
+  steps = [];
+  ending = EndsWanting;
+  course = record { verdict = at_once ByWant; comes = inl refl; more = []; concludes = (refl, refl); all = refl };
+  does = told_at_once files out EndsWanting f w w' result told;
+}
 
--- what comes of one thing comes of another
-pub ran_as
-    : {F W : Type 0} (files : FilesTell F) (out : OutputTells W) (coming other : Coming) (f f' : F) (w w' : W) (result : Status)
-    → ((verdict : Verdict) → coming verdict → other verdict) → RanSo files out coming f w f' w' result → RanSo files out other f w f' w' result
-ran_as files out coming other f f' w w' result leads ran = record { verdict = ran.verdict; comes = leads ran.verdict ran.comes; done = ran.done }
-
--- ---- a net that is kept
-
-module _ {F W N : Type 0} (files : FilesTell F) (out : OutputTells W) (net : N) where
-  abbrev beside : Outside F W ⊤ → Outside F W N
-  beside o = outside o.files o.out net
-
-  acts_beside : (came : Came) (step : Step) (old new : Outside F W ⊤) → ActsOn (outside_tells files out) came step old new → ActsOn (outside_tells files out) came step (beside old) (beside new)
-  acts_beside came (Loads ask given) old new (read, kept) = (read, ap beside kept)
-  acts_beside came (Puts name bytes) old new (puts, kept) = (puts, ap beside kept)
-  acts_beside came (Prints text) old new (printed, kept) = (printed, ap beside kept)
-
-  does_beside : (steps : List Step) (closing : Closing) (old new : Outside F W ⊤) (result : Status) → Does (outside_tells files out) steps closing old new result → Does (outside_tells files out) steps closing (beside old) (beside new) result
-  does_beside [] closing old new result (told, kept) = (told, ap beside kept)
-  does_beside (step ∷ steps) closing old new result (mid, inl (acts, done)) = (beside mid, inl (acts_beside Well step old mid acts, does_beside steps closing mid new result done))
-  does_beside (step ∷ steps) closing old new result (mid, inr (inl (acts, (told, kept)))) = (beside mid, inr (inl (acts_beside Failed step old mid acts, (told, ap beside kept))))
-  does_beside (step ∷ steps) closing old new result (mid, inr (inr (acts, (told, kept)))) = (beside mid, inr (inr (acts_beside WantedMemory step old mid acts, (told, ap beside kept))))
-
-  -- a run without a net is one with any net
-  pub ran_beside : (coming : Coming) (f f' : F) (w w' : W) (result : Status) → RanSo files out coming f w f' w' result → Ran (outside_tells files out) coming (outside f w net) (outside f' w' net) result
-  ran_beside coming f f' w w' result ran = record { verdict = ran.verdict; comes = ran.comes; done = does_beside ran.verdict.steps ran.verdict.closing (without_net f w) (without_net f' w') result ran.done }
+-- what comes of a command may come of what is free
+pub turns_freely
+    : {F W : Type 0} (files : FilesTell F) (out : OutputTells W) (coming other : Coming) (came : Turn) (f f' : F) (w w' : W)
+    → ((verdict : Verdict) → coming verdict → other verdict) → TurnsSo files out came coming f w f' w' → TurnsSo files out came (Free other) f w f' w'
+turns_freely files out coming other (turn.Over result) f f' w w' leads ran = record {
+  steps = ran.steps;
+  ending = ran.ending;
+  course = record {
+    verdict = ran.course.verdict;
+    comes = inr (leads ran.course.verdict ran.course.comes);
+    more = ran.course.more;
+    concludes = ran.course.concludes;
+    all = ran.course.all;
+  };
+  does = ran.does;
+}
+turns_freely files out coming other (turn.Visits request) f f' w w' leads reached = record {
+  steps = reached.steps;
+  comes = inr (leads _ reached.comes);
+  acts = reached.acts;
+}

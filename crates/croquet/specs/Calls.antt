@@ -1,24 +1,44 @@
--- How the program's calls come out.
-use Rattle.std.specs.Prelude.{ℕ, ◌⊎◌, List, Option, None, Result, Ok, Err, codes}
+-- What the parts of a run do, and what they tell.
+use Rattle.std.specs.Prelude.{◌⊎◌, List, None, codes}
+use Rattle.run_steps.specs.Steps.{Step}
+use Rattle.run_steps.specs.Outside.{Outside, OutsideTells, Failed, WantedMemory, FilesTell, OutputTells, PutsFile, Acts}
+use Rattle.view_shell.specs.declared.ending.ViewEnd.{ViewEnd}
+use Rattle.view_shell.specs.declared.ending.ViewEnd.TheVariants as view_end
 use Rattle.commands.specs.declared.outcome.Put.{Put}
-use Rattle.croquet.specs.declared.calls.CallFault.{CallFault}
-use Rattle.croquet.specs.declared.calls.CallFault.TheVariants as fault
+use Rattle.commands.specs.Verdict.{ByVisit, Coming, PlainVisit}
+use Rattle.commands.specs.Work.{visit_of}
 use Rattle.croquet.specs.declared.status.Status.{Status}
 use Rattle.croquet.specs.declared.status.Status.TheVariants as status
-use Rattle.croquet.specs.Run.{Came, Well, Failed, WantedMemory, FilesTell, OutputTells, PutsFile, Tells, TellsMemory}
-
-abbrev pub came_of : {T : Type 0} → Result T CallFault → Came
-came_of (Ok value) = Well
-came_of (Err fault.Failed) = Failed
-came_of (Err fault.WantOfMemory) = WantedMemory
-
--- what a read gave, if it went well
-abbrev pub given_of : Result (Option (List ℕ)) CallFault → Option (List ℕ)
-given_of (Ok given) = given
-given_of (Err fault) = None
+use Rattle.croquet.specs.declared.top.Turn.{Turn}
+use Rattle.croquet.specs.declared.top.Turn.TheVariants as turn
+use Rattle.croquet.specs.Run.{Does, Ending, EndsView, Ran, Tells, TellsEnding, TellsMemory, Visits}
 
 -- a file was not put, and this was told
 abbrev pub TellsUnput : {F W : Type 0} → FilesTell F → OutputTells W → Put → F → W → F → W → Status → Type 0
 TellsUnput files out put f w f' w' result =
     (PutsFile files Failed put.name put.bytes f f' × Tells out (codes "write-fault\n") status.WriteFault w w' result)
     ⊎ (PutsFile files WantedMemory put.name put.bytes f f' × TellsMemory out w w' result)
+
+-- The end of a view's run is told. Memory may be wanted for the line of a refusal.
+abbrev pub TellsViewEnd : {W : Type 0} → OutputTells W → ViewEnd → W → W → Status → Type 0
+TellsViewEnd out (view_end.Refused code kept) old new result =
+    TellsEnding out (EndsView (view_end.Refused code kept)) old new result ⊎ TellsMemory out old new result
+TellsViewEnd out end old new result = TellsEnding out (EndsView end) old new result
+
+-- a command has done its steps, and the run goes on as this view's
+pub record Reaches {F W N L : Type 0} (tells : OutsideTells F W N L) (coming : Coming) (visit : PlainVisit) (old new : Outside F W N L) : Type 0 where
+  pub steps : List Step
+  pub comes : coming (record { steps = steps; closing = ByVisit visit })
+  pub acts : Acts tells steps None old new
+
+-- a command is over, or its run goes on as a view's
+abbrev pub Turns : {F W N L : Type 0} → OutsideTells F W N L → Turn → Coming → Outside F W N L → Outside F W N L → Type 0
+Turns tells (turn.Over result) coming old new = Ran tells coming old new result
+Turns tells (turn.Visits request) coming old new = Reaches tells coming (visit_of request) old new
+
+-- a view's run is done, and its end told
+pub record VisitRan {F W N L : Type 0} (tells : OutsideTells F W N L) (visit : PlainVisit) (old new : Outside F W N L) (result : Status) : Type 0 where
+  pub steps : List Step
+  pub ending : Ending
+  pub visits : Visits visit steps ending
+  pub does : Does tells steps ending old new result

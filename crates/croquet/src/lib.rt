@@ -1,14 +1,14 @@
 //! What the program does, over any files, clock, net and output: [`croquet`] reads the words of a command and runs it.
 //!
-//! The commands themselves are functions of the bytes that they read; they stand in `commands`. Here their files are read, handed
-//! over and written, and the text is printed, or the line of the one fault.
+//! The commands themselves are functions of the bytes that they read; they stand in `commands`. The run of a view stands in
+//! `view_shell`. Here their files are read, handed over and written, and the text is printed, or the line of the one fault.
 #![tactic(auto)]
 
-mod calls;
 mod status;
 mod telling;
 mod top;
+mod visiting;
 
 pub use status::Status;
 pub use telling::tell_want_of_memory;
-pub use top::{croquet, run};
+pub use top::croquet;

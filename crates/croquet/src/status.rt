@@ -9,7 +9,7 @@ pub enum Status {
     Usage,
     /// The program is refused.
     Program,
-    /// An input is not in its grammar or above its limit, or the time of a replay is below that of its snapshot.
+    /// An input is not in its grammar or above its limit, the time of a replay is below that of its snapshot, or the address is none.
     Input,
     /// A file was not read.
     ReadFault,

@@ -1,12 +1,18 @@
-//! The last line of a run that ends by a fault.
-ghost use Rattle.std.specs.Prelude.{◌≡◌, ◌++◌, codes};
-ghost use Rattle.commands.specs.Verdict.{ByRefusal};
-ghost use Rattle.croquet.specs.Run.{Tells, TellsClosing, TellsMemory, name_of, output_tells};
+//! The last line of a run.
+ghost use Rattle.std.specs.Prelude.{◌≡◌, ◌++◌, IfOk, string_bytes, codes};
+ghost use Rattle.run_steps.specs.Outside.{output_tells};
+ghost use Rattle.view_shell.specs.declared.ending.ViewEnd.TheVariants as view_end;
+ghost use Rattle.croquet.specs.Calls.{TellsViewEnd};
+ghost use Rattle.croquet.specs.Run.{EndsRefused, Tells, TellsEnding, TellsMemory, name_of, refused_line};
 
-use crate::calls::{CallFault, print_text};
 use crate::status::Status;
 use commands::{Input, Refusal};
+use run_steps::{CallFault, print_text};
+use std::alloc::Global;
+use tea_base::WantOfMemory;
 use tea_io::Sink;
+use text_lines::numbered;
+use view_shell::ViewEnd;
 
 /// The end of a run for which memory was wanting.
 pub fn tell_want_of_memory<W: Sink>(out: &mut W) -> Status
@@ -47,16 +53,51 @@ fn input_line(input: Input) -> &'static str
         Input::Log => "input log\n",
         Input::Snapshot => "input snapshot\n",
         Input::Time => "input time\n",
+        Input::Address => "input address\n",
     }
 }
 
 /// Tells a refusal.
 pub(crate) fn tell_refusal<W: Sink>(out: &mut W, refusal: &Refusal) -> Status
-    ensures { TellsClosing (output_tells W.written W.faults W.wants) (ByRefusal refusal.now) out.old out.new result }
+    ensures { TellsEnding (output_tells W.written W.faults W.wants) (EndsRefused refusal.now) out.old out.new result }
 {
     match refusal {
         Refusal::Usage => tell(out, "usage\n", Status::Usage),
         Refusal::Program { line } => tell_line(out, line.bytes(), Status::Program),
         Refusal::Input(input) => tell(out, input_line(*input), Status::Input),
+    }
+}
+
+/// The line of a frame that the reflector refused.
+fn refused_line(alloc: Global, code: u8, kept: u64) -> Result<String, WantOfMemory>
+    ensures { IfOk result (λ line. string_bytes line ≡ refused_line code kept) }
+{
+    let mut line = numbered(alloc, "refused", &[u64::from(code), kept])?;
+    line.push_str("\n")?;
+    Ok(line)
+}
+
+/// Tells that the reflector refused a frame.
+fn tell_refused_frame<W: Sink>(alloc: Global, out: &mut W, code: u8, kept: u64) -> Status
+    ensures { TellsViewEnd (output_tells W.written W.faults W.wants) (view_end.Refused code kept) out.old out.new result }
+{
+    match refused_line(alloc, code, kept) {
+        Ok(line) => tell(out, line.as_str(), Status::Refused),
+        Err(WantOfMemory) => tell_want_of_memory(out),
+    }
+}
+
+/// Tells how the run of a view has ended.
+pub(crate) fn tell_view_end<W: Sink>(alloc: Global, out: &mut W, end: ViewEnd) -> Status
+    ensures { TellsViewEnd (output_tells W.written W.faults W.wants) end out.old out.new result }
+{
+    match end {
+        ViewEnd::Done => Status::Ok,
+        ViewEnd::Refused { code, kept } => tell_refused_frame(alloc, out, code, kept),
+        ViewEnd::NetFault => tell(out, "net-fault\n", Status::NetFault),
+        ViewEnd::Ended => tell(out, "ended\n", Status::Ended),
+        ViewEnd::Peer => tell(out, "peer\n", Status::Peer),
+        ViewEnd::WriteFault => Status::WriteFault,
+        ViewEnd::WantOfMemory => tell_want_of_memory(out),
     }
 }

@@ -1,23 +1,42 @@
 //! The top call: all that the program does.
-ghost use Rattle.std.specs.Prelude.{◌≡◌, IfErr, OnOk};
-ghost use Rattle.commands.specs.CommandWords.{command_of};
-ghost use Rattle.commands.specs.Verdict.{Comes, Fine, IsFunction, LogsTellTheirEvents, SnapshotsAgree, SomeVerdictComes, steps_of};
-ghost use Rattle.commands.specs.Work.{ComesNext, IsBoundedNext};
-ghost use Rattle.croquet.specs.Calls.{TellsUnput};
-ghost use Rattle.croquet.specs.Run.{Does, PutsFile, Ran, Well, files_tell, output_tells, outside, outside_tells, without_net};
+ghost use Rattle.std.specs.Prelude.{◌≡◌, None, IfErr, OnOk};
+ghost use Rattle.run_steps.specs.Calls.{came_of, given_of};
+ghost use Rattle.run_steps.specs.Outside.{PutsFile, ReadsFile, Well, desk, desk_tells, files_tell, links_tell, net_tells, output_tells, outside, outside_tells};
+ghost use Rattle.commands.specs.CommandWords.{IsJoin, command_of};
+ghost use Rattle.commands.specs.Verdict.{Comes, IsFunction, LogsTellTheirEvents, SnapshotsAgree, SomeVerdictComes, steps_of};
+ghost use Rattle.commands.specs.Work.{ComesNext, IsBoundedNext, ask_of};
+ghost use Rattle.view_shell.specs.OneRun.{IsOneRun};
+ghost use Rattle.croquet.specs.Calls.{TellsUnput, Turns};
+ghost use Rattle.croquet.specs.Run.{Does, EndsWell, Ran};
 
-use crate::calls::{CallFault, print_text, put_file, read_file};
 use crate::status::Status;
 use crate::telling::{tell, tell_refusal, tell_want_of_memory};
+use crate::visiting::run_visit;
 use commands::{
-    Next, Outcome, Put, logs_tell_their_events, one_verdict, read_command, snapshots_agree,
-    some_verdict,
+    Next, Outcome, Put, VisitRequest, Waiting, logs_tell_their_events, one_verdict, read_command,
+    snapshots_agree, some_verdict,
 };
+use run_steps::{CallFault, print_text, put_file, read_file};
 use std::alloc::Global;
 use std::sync::Wait;
 use std::thread::Threads;
-use tea_base::{WantOfMemory, Words};
+use tea_base::{Blob, WantOfMemory, Words};
 use tea_io::{Clock, Files, Gate, Net, Sink};
+use view_shell::one_run;
+
+/// A command is over, or the run goes on as a view's.
+#[derive(Drop)]
+enum Turn {
+    Over(Status),
+    Visits(VisitRequest),
+}
+
+/// Reads the file that a command waits for.
+fn read_asked<F: Files>(files: &mut F, waiting: &Waiting) -> Result<Option<Blob>, CallFault>
+    ensures { ReadsFile (files_tell F.held F.asked F.faults) (came_of result) (ask_of waiting.now) (given_of result) files.old files.new }
+{
+    read_file(files, waiting.name(), waiting.limit())
+}
 
 /// Puts a file, or tells why it was not put.
 fn put_or_tell<F: Files, W: Sink>(put: &Put, files: &mut F, out: &mut W) -> Result<(), Status>
@@ -26,7 +45,7 @@ fn put_or_tell<F: Files, W: Sink>(put: &Put, files: &mut F, out: &mut W) -> Resu
     ensures told { IfErr result (TellsUnput (files_tell F.held F.asked F.faults) (output_tells W.written W.faults W.wants)
         put.now files.old out.old files.new out.new) }
 {
-    match put_file(files, put) {
+    match put_file(files, &put.name, put.bytes.bytes()) {
         Ok(()) => Ok(()),
         Err(CallFault::Failed) => Err(tell(out, "write-fault\n", Status::WriteFault)),
         Err(CallFault::WantOfMemory) => Err(tell_want_of_memory(out)),
@@ -35,8 +54,8 @@ fn put_or_tell<F: Files, W: Sink>(put: &Put, files: &mut F, out: &mut W) -> Resu
 
 /// Puts the files of a command, and prints its text.
 fn finish<F: Files, W: Sink>(outcome: &Outcome, files: &mut F, out: &mut W) -> Status
-    ensures { Does (outside_tells (files_tell F.held F.asked F.faults) (output_tells W.written W.faults W.wants))
-        (steps_of outcome.now.files outcome.now.text) Fine (without_net files.old out.old) (without_net files.new out.new) result }
+    ensures { Does (desk_tells (files_tell F.held F.asked F.faults) (output_tells W.written W.faults W.wants))
+        (steps_of outcome.now.files outcome.now.text) EndsWell (desk files.old out.old) (desk files.new out.new) result }
 {
     for put in outcome.files.as_slice() {
         match put_or_tell(put, files, out) {
@@ -52,45 +71,39 @@ fn finish<F: Files, W: Sink>(outcome: &Outcome, files: &mut F, out: &mut W) -> S
 }
 
 /// Runs a command from here on.
-fn go_on<F: Files, W: Sink>(alloc: Global, next: Next, files: &mut F, out: &mut W) -> Status
+fn go_on<F: Files, W: Sink>(alloc: Global, next: Next, files: &mut F, out: &mut W) -> Turn
     requires { IsBoundedNext next }
-    ensures { Ran (outside_tells (files_tell F.held F.asked F.faults) (output_tells W.written W.faults W.wants))
-        (ComesNext next) (without_net files.old out.old) (without_net files.new out.new) result }
+    ensures { Turns (desk_tells (files_tell F.held F.asked F.faults) (output_tells W.written W.faults W.wants))
+        result (ComesNext next) (desk files.old out.old) (desk files.new out.new) }
 {
     match next {
-        Next::Reads(waiting) => match read_file(files, &waiting) {
+        Next::Reads(waiting) => match read_asked(files, &waiting) {
             Ok(given) => go_on(alloc, waiting.hand(alloc, given), files, out),
-            Err(CallFault::Failed) => tell(out, "read-fault\n", Status::ReadFault),
-            Err(CallFault::WantOfMemory) => tell_want_of_memory(out),
+            Err(CallFault::Failed) => Turn::Over(tell(out, "read-fault\n", Status::ReadFault)),
+            Err(CallFault::WantOfMemory) => Turn::Over(tell_want_of_memory(out)),
         },
-        Next::Refuses(refusal) => tell_refusal(out, &refusal),
-        Next::Gives(outcome) => finish(&outcome, files, out),
-        Next::WantOfMemory => tell_want_of_memory(out),
+        Next::Refuses(refusal) => Turn::Over(tell_refusal(out, &refusal)),
+        Next::Gives(outcome) => Turn::Over(finish(&outcome, files, out)),
+        Next::Visits(request) => Turn::Visits(request),
+        Next::WantOfMemory => Turn::Over(tell_want_of_memory(out)),
     }
 }
 
-/// Runs what the words ask for over these files, and writes its text, or the line of its one fault, to `out`. It waits for
-/// nobody, so it returns.
-pub fn run<F: Files, W: Sink>(alloc: Global, words: &Words, files: &mut F, out: &mut W) -> Status
-    ensures ran { Ran (outside_tells (files_tell F.held F.asked F.faults) (output_tells W.written W.faults W.wants))
-        (Comes (command_of words.now)) (without_net files.old out.old) (without_net files.new out.new) result }
-    ensures function { IsFunction }
-    ensures some { SomeVerdictComes }
-    ensures events { LogsTellTheirEvents }
-    // Where the snapshot of a replay is of a world that follows the log, the same comes of it as without it.
-    ensures agree { SnapshotsAgree }
+/// Runs what the words ask for up to its end, or up to a view's run.
+fn begin<F: Files, W: Sink>(alloc: Global, words: &Words, files: &mut F, out: &mut W) -> Turn
+    ensures { Turns (desk_tells (files_tell F.held F.asked F.faults) (output_tells W.written W.faults W.wants))
+        result (Comes (command_of words.now)) (desk files.old out.old) (desk files.new out.new) }
 {
-    one_verdict();
-    some_verdict();
-    logs_tell_their_events();
-    snapshots_agree();
     match read_command(alloc, words) {
         Ok(command) => go_on(alloc, Next::of_command(command), files, out),
-        Err(WantOfMemory) => tell_want_of_memory(out),
+        Err(WantOfMemory) => Turn::Over(tell_want_of_memory(out)),
     }
 }
 
-/// Runs what the words ask for, and gives the net back. This is all that the program does once it has its words.
+/// Runs what the words ask for over these files and this net, and writes its text, or the line of its one fault, to `out`. It gives
+/// the net back. This is all that the program does once it has its words.
+///
+/// All commands but `join` wait for nobody, so they return. The run of `join` ends when its script does, or its net.
 pub fn croquet<
     R: Threads + Wait + Sync,
     F: Files,
@@ -99,30 +112,44 @@ pub fn croquet<
     W: Sink,
     G: Gate + Sync,
 >(
-    _rt: &R,
+    rt: &R,
     alloc: Global,
     words: &Words,
     files: &mut F,
     _clock: &C,
-    net: N,
+    mut net: N,
     _gate: &G,
     out: &mut W,
 ) -> (N, Status)
-    // There is a verdict that comes, and what was read, put and written is what it gives, up to the place where the run was cut,
-    // and then the line of the fault.
-    ensures ran { Ran (outside_tells (files_tell F.held F.asked F.faults) (output_tells W.written W.faults W.wants))
-        (Comes (command_of words.now)) (outside files.old out.old net) (outside files.new out.new result.0) result.1 }
+    // There are steps and an end that come of the words, and what was read, put, printed, heard and sent is what they give, up to
+    // the place where the run was cut, and then the last line.
+    ensures ran { Ran (outside_tells (files_tell F.held F.asked F.faults) (output_tells W.written W.faults W.wants)
+        (net_tells N.coming N.over N.asked N.faults N.lent N.link_counts)
+        (links_tell N.Conn.coming N.Conn.heard N.Conn.sent N.Conn.counts))
+        (Comes (command_of words.now)) (outside files.old out.old net None) (outside files.new out.new result.0 None) result.1 }
     // One verdict comes of a command and of the bytes that it reads, but for want of memory and for the place of a syntax fault.
     ensures function { IsFunction }
-    // And one comes that is not want of memory, whatever the files give.
+    // A view prints one text and sends the same frames, for what its links tell.
+    ensures view { IsOneRun }
+    // Some verdict comes that is not want of memory, whatever the files give.
     ensures some { SomeVerdictComes }
     // The log that a script leaves has each event that was answered Stamped, once and in order.
     ensures events { LogsTellTheirEvents }
-    // No command has a net.
-    ensures net { result.0 ≡ net }
+    // No command but `join` has a net.
+    ensures net { ¬ IsJoin (command_of words.now) → result.0 ≡ net }
     // Where the snapshot of a replay is of a world that follows the log, the same comes of it as without it.
     ensures agree { SnapshotsAgree }
 {
-    let status = run(alloc, words, files, out);
-    (net, status)
+    one_verdict();
+    one_run();
+    some_verdict();
+    logs_tell_their_events();
+    snapshots_agree();
+    match begin(alloc, words, files, out) {
+        Turn::Over(status) => (net, status),
+        Turn::Visits(request) => {
+            let status = run_visit(rt, alloc, request, &mut net, out);
+            (net, status)
+        }
+    }
 }

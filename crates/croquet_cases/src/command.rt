@@ -1,9 +1,10 @@
 //! A command over files that a case writes out.
-use crate::fault::CaseFault;
 use crate::run::{Faults, Given, NONE, Run};
-use crate::spelling::{lines_of, outcome_text};
-use hex::FromHexError;
+use crate::spelling::outcome_text;
+use case_lines::{CaseFault, lines_of};
 use std::alloc::Global;
+use std::sync::Wait;
+use std::thread::Threads;
 use tea_base::{Blob, WantOfMemory};
 use text_lines::number;
 
@@ -20,14 +21,6 @@ fn number_of(digits: &str) -> Result<u32, CaseFault> {
     match number(digits, 0, 1000) {
         Some(number) => Ok(number as u32),
         None => Err(CaseFault::NoCase),
-    }
-}
-
-fn bytes_of(alloc: Global, digits: &str) -> Result<Vec<u8>, CaseFault> {
-    match hex::decode(alloc, digits) {
-        Ok(bytes) => Ok(bytes),
-        Err(FromHexError::OutOfMemory) => Err(CaseFault::WantOfMemory),
-        Err(_) => Err(CaseFault::NoCase),
     }
 }
 
@@ -69,20 +62,24 @@ impl Command {
             self.given.add_file(name, lines.as_slice())?;
         } else {
             let (name, digits) = part.split_once(':').ok_or(CaseFault::NoCase)?;
-            let bytes = bytes_of(alloc, digits)?;
+            let bytes = hex::decode(alloc, digits)?;
             self.given.add_file(name, bytes.as_slice())?;
         }
         Ok(())
     }
 
-    fn run(&self) -> Result<Run, WantOfMemory> {
-        self.given.run(self.faults)
+    fn run<R: Threads + Wait + Sync>(&self, rt: &R) -> Result<Run, WantOfMemory> {
+        self.given.run(rt, self.faults)
     }
 }
 
 /// What a command comes to: what it prints, its status, and ` f=` with the bytes of the file `f`, if it is there.
-pub(crate) fn outcome(alloc: Global, case: &str) -> Result<String, CaseFault> {
-    let run = Command::read(alloc, case)?.run()?;
+pub(crate) fn outcome<R: Threads + Wait + Sync + AllocGlobal>(
+    rt: &R,
+    case: &str,
+) -> Result<String, CaseFault> {
+    let alloc = rt.alloc();
+    let run = Command::read(alloc, case)?.run(rt)?;
     let mut told = outcome_text(alloc, &run)?;
     if let Some(file) = run.file(alloc, "f")? {
         put_file(alloc, &mut told, &file)?;

@@ -1,12 +1,11 @@
 //! What cases are of, and what they come to.
 use crate::command;
-use crate::fault::CaseFault;
 use crate::run::{Given, NONE};
 use crate::session::{Session, log_of, stamp};
 use crate::spelling::outcome_text;
-use case_lines::CaseKind;
-use std::alloc::Global;
-use tea_base::WantOfMemory;
+use case_lines::CaseFault;
+use std::sync::Wait;
+use std::thread::Threads;
 
 /// What cases are of.
 #[derive(Clone, Copy, Drop)]
@@ -20,8 +19,9 @@ pub(crate) enum CommandCases {
     Commands,
 }
 
-impl CaseKind for CommandCases {
-    fn of_word(word: &str) -> Option<CommandCases> {
+impl CommandCases {
+    /// The kind of a word, if there is one.
+    pub(crate) fn of_word(word: &str) -> Option<CommandCases> {
         match word {
             "scripts" => Some(CommandCases::Scripts),
             "logs" => Some(CommandCases::Logs),
@@ -33,26 +33,23 @@ impl CaseKind for CommandCases {
             _ => None,
         }
     }
-
-    fn outcome(&self, alloc: Global, case: &[u8]) -> Result<String, WantOfMemory> {
-        match outcome(alloc, *self, case) {
-            Ok(outcome) => Ok(outcome),
-            Err(CaseFault::NoCase) => Ok(String::from_str(alloc, "no case")?),
-            Err(CaseFault::Refused { told }) => Ok(told),
-            Err(CaseFault::WantOfMemory) => Err(WantOfMemory),
-        }
-    }
 }
 
-fn outcome(alloc: Global, kind: CommandCases, case: &[u8]) -> Result<String, CaseFault> {
+/// What the bytes of a case come to, in one line.
+pub(crate) fn outcome<R: Threads + Wait + Sync + AllocGlobal>(
+    rt: &R,
+    kind: CommandCases,
+    case: &[u8],
+) -> Result<String, CaseFault> {
+    let alloc = rt.alloc();
     match kind {
-        CommandCases::Scripts => Ok(outcome_text(alloc, &stamp(alloc, case)?)?),
-        CommandCases::Logs => Ok(hex::encode(alloc, log_of(alloc, case)?.bytes())?),
-        CommandCases::Programs => check(alloc, case),
-        CommandCases::Worlds => world(alloc, text_of(case)?),
-        CommandCases::Snapshots => snapshot(alloc, text_of(case)?),
-        CommandCases::Resumed => resumed(alloc, text_of(case)?),
-        CommandCases::Commands => command::outcome(alloc, text_of(case)?),
+        CommandCases::Scripts => Ok(outcome_text(alloc, &stamp(rt, case)?)?),
+        CommandCases::Logs => Ok(hex::encode(alloc, log_of(rt, case)?.bytes())?),
+        CommandCases::Programs => check(rt, case),
+        CommandCases::Worlds => world(rt, text_of(case)?),
+        CommandCases::Snapshots => snapshot(rt, text_of(case)?),
+        CommandCases::Resumed => resumed(rt, text_of(case)?),
+        CommandCases::Commands => command::outcome(rt, text_of(case)?),
     }
 }
 
@@ -65,37 +62,46 @@ fn first_word(case: &str) -> Result<(&str, &str), CaseFault> {
     case.split_once(' ').ok_or(CaseFault::NoCase)
 }
 
-fn check(alloc: Global, program: &[u8]) -> Result<String, CaseFault> {
-    let mut given = Given::new(alloc);
+fn check<R: Threads + Wait + Sync + AllocGlobal>(
+    rt: &R,
+    program: &[u8],
+) -> Result<String, CaseFault> {
+    let mut given = Given::new(rt.alloc());
     given.add_words("check p")?;
     given.add_file("p", program)?;
-    Ok(outcome_text(alloc, &given.run(NONE)?)?)
+    Ok(outcome_text(rt.alloc(), &given.run(rt, NONE)?)?)
 }
 
-fn world(alloc: Global, case: &str) -> Result<String, CaseFault> {
+fn world<R: Threads + Wait + Sync + AllocGlobal>(rt: &R, case: &str) -> Result<String, CaseFault> {
     let (name, case) = first_word(case)?;
     let (time, recorded) = first_word(case)?;
-    let session = Session::read(alloc, name, recorded)?;
-    Ok(outcome_text(alloc, &session.replay(alloc, time)?)?)
+    let session = Session::read(rt, name, recorded)?;
+    Ok(outcome_text(rt.alloc(), &session.replay(rt, time)?)?)
 }
 
-fn snapshot(alloc: Global, case: &str) -> Result<String, CaseFault> {
+fn snapshot<R: Threads + Wait + Sync + AllocGlobal>(
+    rt: &R,
+    case: &str,
+) -> Result<String, CaseFault> {
     let (name, case) = first_word(case)?;
     let (time, recorded) = first_word(case)?;
-    let session = Session::read(alloc, name, recorded)?;
-    Ok(hex::encode(alloc, session.snapshot(alloc, time)?.bytes())?)
+    let session = Session::read(rt, name, recorded)?;
+    Ok(hex::encode(rt.alloc(), session.snapshot(rt, time)?.bytes())?)
 }
 
-fn resumed(alloc: Global, case: &str) -> Result<String, CaseFault> {
+fn resumed<R: Threads + Wait + Sync + AllocGlobal>(
+    rt: &R,
+    case: &str,
+) -> Result<String, CaseFault> {
     let (name, case) = first_word(case)?;
     let (first, case) = first_word(case)?;
     let (time, recorded) = first_word(case)?;
-    let session = Session::read(alloc, name, recorded)?;
-    let from = session.snapshot(alloc, first)?;
-    let run = session.resume(alloc, time, from.bytes())?;
-    let mut told = outcome_text(alloc, &run)?;
-    if let Some(file) = run.file(alloc, "f")? {
-        let is_same = file.is_bytes(session.snapshot(alloc, time)?.bytes());
+    let session = Session::read(rt, name, recorded)?;
+    let from = session.snapshot(rt, first)?;
+    let run = session.resume(rt, time, from.bytes())?;
+    let mut told = outcome_text(rt.alloc(), &run)?;
+    if let Some(file) = run.file(rt.alloc(), "f")? {
+        let is_same = file.is_bytes(session.snapshot(rt, time)?.bytes());
         told.push_str(if is_same { " same" } else { " differs" })?;
     }
     Ok(told)

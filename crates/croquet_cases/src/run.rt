@@ -1,9 +1,11 @@
 //! A run of the program over files and an output in memory.
-use crate::wanting::{WantingFiles, WantingSink};
-use croquet::{Status, run};
+use case_lines::{WantingFiles, WantingSink};
+use croquet::{Status, croquet};
 use std::alloc::Global;
+use std::sync::Wait;
+use std::thread::Threads;
 use tea_base::{Blob, Numbers, Text, WantOfMemory, Words};
-use tea_io::{Files, MemFiles, MemSink, NamedBlob, NamedBlobs};
+use tea_io::{Files, FixedClock, MemFiles, MemSink, NamedBlob, NamedBlobs, NoNet, OpenGate};
 
 /// Which call of the files and which of the output fails, and which wants memory, counted from 1; 0 is none.
 #[derive(Clone, Copy)]
@@ -96,15 +98,28 @@ impl Given {
         })
     }
 
-    /// Runs the words over the files.
-    pub(crate) fn run(&self, faults: Faults) -> Result<Run, WantOfMemory> {
+    /// Runs the words over the files, and over no net.
+    pub(crate) fn run<R: Threads + Wait + Sync>(
+        &self,
+        rt: &R,
+        faults: Faults,
+    ) -> Result<Run, WantOfMemory> {
         let mut files = WantingFiles {
             files: self.files(faults.failing_file)?,
             calls: 0,
             wanting: faults.wanting_file,
         };
         let mut output = self.output(faults)?;
-        let status = run(self.alloc, &self.words, &mut files, &mut output);
+        let (_net, status) = croquet(
+            rt,
+            self.alloc,
+            &self.words,
+            &mut files,
+            &FixedClock { at: 0 },
+            NoNet::new(),
+            &OpenGate,
+            &mut output,
+        );
         let WantingSink { out, .. } = output;
         let WantingFiles { files, .. } = files;
         Ok(Run {

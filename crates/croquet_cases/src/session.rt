@@ -1,22 +1,31 @@
 //! Sessions that a script makes, and the worlds of their logs.
-use crate::fault::CaseFault;
 use crate::run::{Given, NONE, Run};
-use crate::spelling::{lines_of, outcome_text};
+use crate::spelling::outcome_text;
+use case_lines::{CaseFault, lines_of};
 use std::alloc::Global;
+use std::sync::Wait;
+use std::thread::Threads;
 use tea_base::{Blob, WantOfMemory};
 
 /// A run of `stamp` of a script whose lines are divided by ` / `. It writes the log into the file `l`.
-pub(crate) fn stamp(alloc: Global, script: &[u8]) -> Result<Run, WantOfMemory> {
+pub(crate) fn stamp<R: Threads + Wait + Sync + AllocGlobal>(
+    rt: &R,
+    script: &[u8],
+) -> Result<Run, WantOfMemory> {
+    let alloc = rt.alloc();
     let script = lines_of(alloc, script)?;
     let mut given = Given::new(alloc);
     given.add_words("stamp s --log l")?;
     given.add_file("s", script.as_slice())?;
-    given.run(NONE)
+    given.run(rt, NONE)
 }
 
 /// The log that a script makes.
-pub(crate) fn log_of(alloc: Global, script: &[u8]) -> Result<Blob, CaseFault> {
-    written(alloc, &stamp(alloc, script)?, "l")
+pub(crate) fn log_of<R: Threads + Wait + Sync + AllocGlobal>(
+    rt: &R,
+    script: &[u8],
+) -> Result<Blob, CaseFault> {
+    written(rt.alloc(), &stamp(rt, script)?, "l")
 }
 
 /// The file that a run wrote, or what the run told where there is none.
@@ -39,8 +48,8 @@ pub(crate) struct Session<'a> {
 
 impl<'a> Session<'a> {
     /// The session of this name and of what is written `SCRIPT | PROGRAM`, where `-` is the script of no line.
-    pub(crate) fn read(
-        alloc: Global,
+    pub(crate) fn read<R: Threads + Wait + Sync + AllocGlobal>(
+        rt: &R,
         name: &'a str,
         recorded: &'a str,
     ) -> Result<Session<'a>, CaseFault> {
@@ -48,7 +57,7 @@ impl<'a> Session<'a> {
         let script = if script == "-" { "" } else { script };
         Ok(Session {
             name,
-            log: log_of(alloc, script.as_bytes())?,
+            log: log_of(rt, script.as_bytes())?,
             program,
         })
     }
@@ -67,25 +76,33 @@ impl<'a> Session<'a> {
     }
 
     /// A run of `replay` to this time, from the beginning.
-    pub(crate) fn replay(&self, alloc: Global, time: &str) -> Result<Run, WantOfMemory> {
-        self.given(alloc, time)?.run(NONE)
+    pub(crate) fn replay<R: Threads + Wait + Sync + AllocGlobal>(
+        &self,
+        rt: &R,
+        time: &str,
+    ) -> Result<Run, WantOfMemory> {
+        self.given(rt.alloc(), time)?.run(rt, NONE)
     }
 
     /// A run of `replay` to this time, from a snapshot.
-    pub(crate) fn resume(
+    pub(crate) fn resume<R: Threads + Wait + Sync + AllocGlobal>(
         &self,
-        alloc: Global,
+        rt: &R,
         time: &str,
         snapshot: &[u8],
     ) -> Result<Run, WantOfMemory> {
-        let mut given = self.given(alloc, time)?;
+        let mut given = self.given(rt.alloc(), time)?;
         given.add_words("--from s")?;
         given.add_file("s", snapshot)?;
-        given.run(NONE)
+        given.run(rt, NONE)
     }
 
     /// The snapshot that a replay to this time writes.
-    pub(crate) fn snapshot(&self, alloc: Global, time: &str) -> Result<Blob, CaseFault> {
-        written(alloc, &self.replay(alloc, time)?, "f")
+    pub(crate) fn snapshot<R: Threads + Wait + Sync + AllocGlobal>(
+        &self,
+        rt: &R,
+        time: &str,
+    ) -> Result<Blob, CaseFault> {
+        written(rt.alloc(), &self.replay(rt, time)?, "f")
     }
 }

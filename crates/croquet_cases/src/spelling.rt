@@ -1,44 +1,10 @@
-//! Lines of a file, written in one line of a case.
+//! What a run comes to, in one line of a case.
 use crate::run::Run;
-use croquet::Status;
+use case_lines::told_lines;
 use std::alloc::Global;
 use tea_base::WantOfMemory;
 
-/// What stands between two lines in a case.
-const BETWEEN: &str = " / ";
-
-/// The bytes of a case, with an LF in place of each ` / `.
-pub(crate) fn lines_of(alloc: Global, case: &[u8]) -> Result<Vec<u8>, WantOfMemory> {
-    let mut lines = Vec::new(alloc);
-    let mut left = 0_usize;
-    for (place, byte) in case.iter().enumerate() {
-        if left > 0 {
-            left -= 1;
-        } else if case[place..].starts_with(BETWEEN.as_bytes()) {
-            lines.push(b'\n')?;
-            left = 2;
-        } else {
-            lines.push(*byte)?;
-        }
-    }
-    Ok(lines)
-}
-
 /// What a run printed, its lines divided by ` / `, and its status in square brackets if it is not 0.
 pub(crate) fn outcome_text(alloc: Global, run: &Run) -> Result<String, WantOfMemory> {
-    let text = String::from_utf8_lossy(alloc, run.text.bytes())?;
-    let mut told = String::new(alloc);
-    for line in text.as_str().lines() {
-        if !told.is_empty() {
-            told.push_str(BETWEEN)?;
-        }
-        told.push_str(line)?;
-    }
-    if run.status != Status::Ok {
-        if !told.is_empty() {
-            told.push(' ')?;
-        }
-        told.push_str(format!(in alloc; "[{}]", run.status.number())?.as_str())?;
-    }
-    Ok(told)
+    told_lines(alloc, run.text.bytes(), run.status.number())
 }

@@ -22,10 +22,9 @@ mod stopped;
 mod texts;
 mod world_text;
 
-use case_lines::{CaseKind, print_files};
+use case_lines::{CaseFault, CaseKind, print_files};
 use std::alloc::Global;
 use std::io;
-use tea_base::WantOfMemory;
 
 /// What cases are of.
 #[derive(Clone, Copy)]
@@ -51,15 +50,16 @@ impl CaseKind for LanguageCases {
         }
     }
 
-    fn outcome(&self, alloc: Global, case: &[u8]) -> Result<String, WantOfMemory> {
-        match self {
+    fn outcome(&self, alloc: Global, case: &[u8]) -> Result<String, CaseFault> {
+        let outcome = match self {
             LanguageCases::Evaluate => evaluation::evaluated(alloc, case),
             LanguageCases::Run => evaluation::played(alloc, case),
             LanguageCases::Canonical => canonical::canonical(alloc, case),
             LanguageCases::Decode => bytes::decoded(alloc, case),
             LanguageCases::Payload => bytes::payload_read(alloc, case),
             LanguageCases::Text => texts::text_read(alloc, case),
-        }
+        };
+        Ok(outcome?)
     }
 }
 

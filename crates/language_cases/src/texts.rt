@@ -6,7 +6,7 @@ use crate::bytes::read_or_bad;
 use model_value::{Value, ValueFault, encode};
 use std::alloc::Global;
 use tea_base::WantOfMemory;
-use value_text::{push_value, read_value};
+use value_text::{print_and_read, push_value, read_value};
 
 /// The bytes of a value, and its text.
 fn value_line(alloc: Global, value: &Value) -> Result<String, WantOfMemory>
@@ -18,10 +18,11 @@ fn value_line(alloc: Global, value: &Value) -> Result<String, WantOfMemory>
     Ok(out)
 }
 
-/// The same of the value that has this text.
+/// The same of the value that has this text, once it was printed and read again.
 fn value_read(alloc: Global, text: &[u8]) -> Result<String, ValueFault> {
     let value = read_value(alloc, text)?;
-    Ok(value_line(alloc, &value)?)
+    let again = print_and_read(alloc, &value)?;
+    Ok(value_line(alloc, &again)?)
 }
 
 /// The bytes of the value that has this text, and its text.

@@ -3,7 +3,7 @@ ghost use Rattle.std.specs.Prelude.{◌<◌, IfOk};
 ghost use Rattle.tea_base.specs.Limits.{time_limit};
 ghost use Rattle.replica.specs.View.{IsTimely};
 
-use crate::fault::CaseFault;
+use case_lines::CaseFault;
 use std::alloc::Global;
 use tea_base::{Blob, Entry, TIME_LIMIT, What};
 use text_lines::number;

@@ -1,7 +1,6 @@
 //! The case of a line.
-use crate::fault::CaseFault;
 use crate::step::run;
-use case_lines::CaseKind;
+use case_lines::{CaseFault, CaseKind};
 use model_check::check;
 use model_lang::parse;
 use replica::Replica;
@@ -25,12 +24,8 @@ impl CaseKind for ReplicaCases {
         }
     }
 
-    fn outcome(&self, alloc: Global, case: &[u8]) -> Result<String, WantOfMemory> {
-        match outcome(alloc, case) {
-            Ok(outcome) => Ok(outcome),
-            Err(CaseFault::NoCase) => Ok(String::from_str(alloc, "no case")?),
-            Err(CaseFault::WantOfMemory) => Err(WantOfMemory),
-        }
+    fn outcome(&self, alloc: Global, case: &[u8]) -> Result<String, CaseFault> {
+        outcome(alloc, case)
     }
 }
 

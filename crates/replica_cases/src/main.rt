@@ -15,7 +15,6 @@
 //! | `state` | `time T seen N`, `settled` where no event waits, `base T` where the world was made from a base |
 #![tactic(auto)]
 
-mod fault;
 mod frame;
 mod kind;
 mod step;

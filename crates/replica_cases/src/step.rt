@@ -3,9 +3,9 @@ ghost use Rattle.std.specs.Prelude.{IfOk};
 ghost use Rattle.model_value.specs.Plain.{InBounds};
 ghost use Rattle.model_value.specs.View.{plain};
 
-use crate::fault::CaseFault;
 use crate::frame::{bytes_of, read_frame};
 use crate::telling::{told_fault, told_join, told_refusal, told_sends, told_state};
+use case_lines::CaseFault;
 use model_value::{Value, decode};
 use replica::Replica;
 use replica_plain::How;

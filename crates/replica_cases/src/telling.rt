@@ -1,5 +1,5 @@
 //! What steps come to, in words.
-use crate::fault::CaseFault;
+use case_lines::CaseFault;
 use replica::Replica;
 use replica_plain::{PublishRefusal, ReplicaFault};
 use std::alloc::{AllocError, Global};

@@ -1,11 +1,14 @@
 //! Frames of a view.
-use crate::fault::CaseFault;
+use crate::fault::FrameCaseFault;
 use std::alloc::{AllocError, Global};
 use tea_base::Blob;
 use wire_frames::{ClientFrame, Want, again_client, read_client, write_client};
 
 /// A frame, in words, and its bytes when it is written, read and written again.
-pub(crate) fn client_outcome(alloc: Global, bytes: &[u8]) -> Result<(String, Blob), CaseFault> {
+pub(crate) fn client_outcome(
+    alloc: Global,
+    bytes: &[u8],
+) -> Result<(String, Blob), FrameCaseFault> {
     let frame = read_client(alloc, bytes)?;
     let again = write_client(alloc, &again_client(alloc, &frame)?)?;
     Ok((told_frame(alloc, &frame.clone()?)?, again))

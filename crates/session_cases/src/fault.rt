@@ -6,38 +6,38 @@ use wire_frames::FrameFault;
 
 /// Why bytes came to no frame.
 #[derive(Clone, Copy)]
-pub(crate) enum CaseFault {
+pub(crate) enum FrameCaseFault {
     /// No frame has this spelling, or the case is no hexadecimal digits.
     BadFrame,
     WantOfMemory,
 }
 
-impl From<FrameFault> for CaseFault {
+impl From<FrameFault> for FrameCaseFault {
     fn from(fault: FrameFault) -> Self {
         match fault {
-            FrameFault::BadFrame => CaseFault::BadFrame,
-            FrameFault::WantOfMemory => CaseFault::WantOfMemory,
+            FrameFault::BadFrame => FrameCaseFault::BadFrame,
+            FrameFault::WantOfMemory => FrameCaseFault::WantOfMemory,
         }
     }
 }
 
-impl From<FromHexError> for CaseFault {
+impl From<FromHexError> for FrameCaseFault {
     fn from(fault: FromHexError) -> Self {
         match fault {
-            FromHexError::OutOfMemory => CaseFault::WantOfMemory,
-            _ => CaseFault::BadFrame,
+            FromHexError::OutOfMemory => FrameCaseFault::WantOfMemory,
+            _ => FrameCaseFault::BadFrame,
         }
     }
 }
 
-impl From<WantOfMemory> for CaseFault {
+impl From<WantOfMemory> for FrameCaseFault {
     fn from(_error: WantOfMemory) -> Self {
-        CaseFault::WantOfMemory
+        FrameCaseFault::WantOfMemory
     }
 }
 
-impl From<AllocError> for CaseFault {
+impl From<AllocError> for FrameCaseFault {
     fn from(_error: AllocError) -> Self {
-        CaseFault::WantOfMemory
+        FrameCaseFault::WantOfMemory
     }
 }

@@ -1,7 +1,7 @@
 //! What cases are of, and what they come to.
-use crate::fault::CaseFault;
+use crate::fault::FrameCaseFault;
 use crate::{client, server};
-use case_lines::CaseKind;
+use case_lines::{CaseFault, CaseKind};
 use std::alloc::Global;
 use tea_base::{Blob, WantOfMemory};
 
@@ -21,16 +21,16 @@ impl CaseKind for SessionCases {
         }
     }
 
-    fn outcome(&self, alloc: Global, case: &[u8]) -> Result<String, WantOfMemory> {
+    fn outcome(&self, alloc: Global, case: &[u8]) -> Result<String, CaseFault> {
         match outcome(alloc, *self, case) {
             Ok(outcome) => Ok(outcome),
-            Err(CaseFault::BadFrame) => Ok(String::from_str(alloc, "bad")?),
-            Err(CaseFault::WantOfMemory) => Err(WantOfMemory),
+            Err(FrameCaseFault::BadFrame) => Ok(String::from_str(alloc, "bad")?),
+            Err(FrameCaseFault::WantOfMemory) => Err(CaseFault::WantOfMemory),
         }
     }
 }
 
-fn outcome(alloc: Global, kind: SessionCases, case: &[u8]) -> Result<String, CaseFault> {
+fn outcome(alloc: Global, kind: SessionCases, case: &[u8]) -> Result<String, FrameCaseFault> {
     let bytes = hex::decode(alloc, case)?;
     let (mut told, again) = match kind {
         SessionCases::Client => client::client_outcome(alloc, bytes.as_slice())?,

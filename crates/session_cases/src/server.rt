@@ -1,11 +1,14 @@
 //! Frames of a reflector.
-use crate::fault::CaseFault;
+use crate::fault::FrameCaseFault;
 use std::alloc::{AllocError, Global};
 use tea_base::{Blob, Entry, What};
 use wire_frames::{Base, ServerFrame, again_server, read_server, write_server};
 
 /// A frame, in words, and its bytes when it is written, read and written again.
-pub(crate) fn server_outcome(alloc: Global, bytes: &[u8]) -> Result<(String, Blob), CaseFault> {
+pub(crate) fn server_outcome(
+    alloc: Global,
+    bytes: &[u8],
+) -> Result<(String, Blob), FrameCaseFault> {
     let frame = read_server(alloc, bytes)?;
     let again = write_server(alloc, &again_server(alloc, &frame)?)?;
     Ok((told_frame(alloc, &frame.clone()?)?, again))

@@ -11,7 +11,10 @@
 //! | `watch SCOPE EVENT queued` | subscribes to an event in a scope, and handles each |
 //! | `watch SCOPE EVENT once` | the same, and of those handled together the last alone |
 //! | `wait T` | waits for a time, in microseconds of TeaTime, below 2^53 |
-//! | `settle`, `snap`, `cut`, `quit` | what has no words behind it |
+//! | `settle` | waits until each event that it published is acknowledged |
+//! | `snap` | offers a snapshot, and waits for the answer |
+//! | `cut` | cuts its connection, and joins again on another one |
+//! | `quit` | leaves |
 //!
 //! A scope and an event are text literals of the language, and a value is the text of a value in bounds. Numbers are
 //! decimal, without a sign or leading zeros. At most 1,048,576 lines publish.

@@ -22,11 +22,11 @@ pub enum ViewLine {
     Wait {
         time: u64,
     },
-    /// It waits until what it sent was handled.
+    /// It sends what it has not sent, and waits until each event that it published is acknowledged.
     Settle,
-    /// It writes a snapshot.
+    /// It offers a snapshot, and waits for the answer.
     Snap,
-    /// It cuts its connection.
+    /// It cuts its connection, and joins again on another one.
     Cut,
     /// It ends.
     Quit,

@@ -1,6 +1,6 @@
 use Rattle.std.proofs.Common.{drop}
 use Rattle.commands.specs.Verdict.{steps_of}
-use Rattle.croquet.specs.Run.{files_tell, output_tells}
+use Rattle.run_steps.specs.Outside.{files_tell, output_tells}
 use Rattle.croquet.proofs.Acts.{LeadsOn}
 use Rattle.croquet.proofs.top.finish.Given as goal
 

@@ -1,0 +1,17 @@
+use Rattle.std.proofs.Common.{Option, subst}
+use Rattle.commands.specs.declared.words.Command.{Command}
+use Rattle.commands.specs.CommandWords.{command_of}
+use Rattle.commands.specs.Verdict.{OfWords}
+use Rattle.commands.specs.Work.{ComesNext}
+use Rattle.croquet.proofs.Runs.{ran_wanting, turns_freely}
+use Rattle.croquet.proofs.top.begin.Goals as goal
+
+pub returns-in-Ok : goal.returns-in-Ok
+returns-in-Ok g c =
+    turns_freely _ _ (ComesNext c.of_command.result) (OfWords (command_of c.args.words.now)) c.go_on.result c.args.files.now c.go_on.new.files c.args.out.now c.go_on.new.out
+    (λ verdict comes. subst (λ (k : Option Command). OfWords k verdict) c.in-Ok.ensures.read (c.of_command.ensures.leads verdict comes))
+    c.go_on.ensures
+
+pub returns-in-Err : goal.returns-in-Err
+returns-in-Err g c =
+    ran_wanting _ _ (OfWords (command_of c.args.words.now)) c.args.files.now c.args.out.now c.tell_want_of_memory.new.out c.tell_want_of_memory.result c.tell_want_of_memory.ensures

@@ -1,0 +1,3 @@
+pub mod Steps
+pub mod Outside
+pub mod Calls

@@ -1,0 +1,111 @@
+//! Links of a case.
+ghost use Rattle.std.specs.Prelude.{IfOk};
+ghost use Rattle.tea_io.specs.MemNet.{HasNoCounts};
+
+use crate::case::number_of;
+use case_lines::CaseFault;
+use std::alloc::Global;
+use tea_base::{Blob, Numbers};
+use tea_io::{Blobs, MemLink, MemLinks, MemNet};
+
+/// What the next word of a link is.
+#[derive(Clone, Copy)]
+enum Word {
+    /// A frame, or the word before numbers.
+    Any,
+    /// The number of a call that fails.
+    Failing,
+    /// The numbers of receives that are quiet.
+    Quiet,
+}
+
+/// A link that is being read.
+#[derive(Drop)]
+struct Reading {
+    alloc: Global,
+    frames: Blobs,
+    failing: Numbers,
+    quiet: Numbers,
+    next: Word,
+}
+
+/// The bytes of a frame; `''` is none.
+fn frame_of(alloc: Global, word: &str) -> Result<Blob, CaseFault> {
+    if word == "''" {
+        return Ok(Blob::new(alloc));
+    }
+    Ok(Blob::from_vec(hex::decode(alloc, word)?))
+}
+
+/// Adds the number of `N`, or those of `N-M`.
+fn add_numbers(numbers: &mut Numbers, word: &str) -> Result<(), CaseFault> {
+    let (first, last) = word.split_once('-').unwrap_or((word, word));
+    for number in number_of(first)?..=number_of(last)? {
+        numbers.push(number)?;
+    }
+    Ok(())
+}
+
+impl Reading {
+    fn take(&mut self, word: &str) -> Result<(), CaseFault> {
+        match self.next {
+            Word::Any => self.take_any(word),
+            Word::Failing => {
+                self.next = Word::Any;
+                add_numbers(&mut self.failing, word)
+            }
+            Word::Quiet => {
+                self.next = Word::Any;
+                add_numbers(&mut self.quiet, word)
+            }
+        }
+    }
+
+    fn take_any(&mut self, word: &str) -> Result<(), CaseFault> {
+        match word {
+            "fail" => self.next = Word::Failing,
+            "quiet" => self.next = Word::Quiet,
+            _ => self.frames.push(frame_of(self.alloc, word)?)?,
+        }
+        Ok(())
+    }
+}
+
+fn read_link(alloc: Global, part: &str) -> Result<MemLink, CaseFault>
+    ensures { IfOk result HasNoCounts }
+{
+    let mut reading = Reading {
+        alloc,
+        frames: Blobs::new(alloc),
+        failing: Numbers::new(alloc),
+        quiet: Numbers::new(alloc),
+        next: Word::Any,
+    };
+    if part != "-" {
+        for word in part.split(' ') {
+            reading.take(word)?;
+        }
+    }
+    let Reading {
+        frames,
+        failing,
+        quiet,
+        next,
+        ..
+    } = reading;
+    // Behind `fail` and `quiet` stand numbers.
+    if !matches!(next, Word::Any) {
+        return Err(CaseFault::NoCase);
+    }
+    Ok(MemLink::new(alloc, frames, failing, quiet))
+}
+
+/// A net that gives the links of these parts, and of which one call fails.
+pub(crate) fn net_of(alloc: Global, parts: &[&str], failing: u32) -> Result<MemNet, CaseFault> {
+    let mut links = MemLinks::new(alloc);
+    for part in parts {
+        links.push(read_link(alloc, part)?)?;
+    }
+    let failing = Numbers::from_vec(vec![in alloc; failing]?);
+    Ok(MemNet::new(alloc, links, failing))
+}

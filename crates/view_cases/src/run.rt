@@ -1,0 +1,91 @@
+//! A run of `join` over files, a net and an output in memory.
+use crate::case::{Case, Faults};
+use crate::link::net_of;
+use case_lines::{CaseFault, WantingSink};
+use croquet::{Status, croquet};
+use std::alloc::Global;
+use std::sync::Wait;
+use std::thread::Threads;
+use tea_base::{Blob, Numbers, Text, WantOfMemory, Words};
+use tea_io::{Files, FixedClock, MemFiles, MemNet, MemSink, NamedBlobs, OpenGate};
+
+/// What a run came to.
+#[derive(Drop)]
+pub(crate) struct Run {
+    pub(crate) status: Status,
+    pub(crate) text: Blob,
+    pub(crate) net: MemNet,
+}
+
+/// Runs a case: the program lies in the file `p`, and the script in the file `s`.
+pub(crate) fn run_case<R: Threads + Wait + Sync + AllocGlobal>(
+    rt: &R,
+    case: &Case,
+) -> Result<Run, CaseFault> {
+    let alloc = rt.alloc();
+    let words = words_of(alloc, case)?;
+    let mut files = files_of(alloc, case)?;
+    let net = net_of(alloc, case.links.as_slice(), case.faults.failing_net)?;
+    let mut output = output_of(alloc, case.faults)?;
+    let clock = FixedClock { at: 0 };
+    let (net, status) = croquet(
+        rt,
+        alloc,
+        &words,
+        &mut files,
+        &clock,
+        net,
+        &OpenGate,
+        &mut output,
+    );
+    let WantingSink { out, .. } = output;
+    Ok(Run {
+        status,
+        text: out.into_bytes(),
+        net,
+    })
+}
+
+fn words_of(alloc: Global, case: &Case) -> Result<Words, WantOfMemory> {
+    let mut words = Words::new(alloc);
+    for word in ["join", "p", case.name, case.address, case.view, "s"] {
+        words.push(Text::copy(alloc, word)?)?;
+    }
+    Ok(words)
+}
+
+/// The files, of which one call fails, counted from behind the two writes that put them there.
+fn files_of(alloc: Global, case: &Case) -> Result<MemFiles, WantOfMemory> {
+    let failing = match case.faults.failing_file {
+        0 => 0,
+        number => number.saturating_add(2),
+    };
+    let failing = Numbers::from_vec(vec![in alloc; failing]?);
+    let mut files = MemFiles::new(alloc, NamedBlobs::new(alloc), failing);
+    put_file(alloc, &mut files, "p", case.program)?;
+    put_file(alloc, &mut files, "s", case.script.as_slice())?;
+    Ok(files)
+}
+
+fn put_file(
+    alloc: Global,
+    files: &mut MemFiles,
+    name: &str,
+    bytes: &[u8],
+) -> Result<(), WantOfMemory> {
+    match files.write(&Text::copy(alloc, name)?, bytes) {
+        Ok(()) => Ok(()),
+        Err(_) => Err(WantOfMemory),
+    }
+}
+
+/// An output of which one call fails, and one wants memory.
+fn output_of(alloc: Global, faults: Faults) -> Result<WantingSink, WantOfMemory> {
+    let failing = Numbers::from_vec(vec![in alloc; faults.failing_output]?);
+    Ok(WantingSink {
+        out: MemSink::new(alloc, failing),
+        calls: 0,
+        wanting: faults.wanting_output,
+        wants: 0,
+    })
+}

@@ -1,0 +1,43 @@
+-- What comes of a line that was done.
+use Rattle.std.proofs.Common.{◌≡◌, ℕ, List, Ok, Err, sym, subst}
+use Rattle.std.specs.Prelude.{⊤, Result, OnOk, IfErr, MatchResult}
+use Rattle.replica_plain.specs.Calls.{takes_out}
+use Rattle.run_steps.specs.Outside.{OutputTells, LinksTell, Well, Acts, PrintsText, window, window_tells}
+use Rattle.view_script.specs.PlainLine.{PlainLine}
+use Rattle.view_shell.specs.declared.ending.ViewEnd.{ViewEnd}
+use Rattle.view_shell.specs.declared.lines.Flow.{Flow}
+use Rattle.view_shell.specs.Phases.{Viewer, Phase, finish, run, shown_text}
+use Rattle.view_shell.specs.Flows.{flow_of, flow_phase}
+use Rattle.view_shell.specs.ViewRun.{Doing, Goes, Stops, StopsPrinting}
+use Rattle.view_shell.proofs.Going.{Follows, goes_and_stops, goes_on}
+use Rattle.view_shell.proofs.Printings.{finish_stops, finished_goes}
+
+-- a line leads from this phase to the next line, or stops
+abbrev pub Done : {S : Type 0} → Doing S → Phase → Viewer → List PlainLine → S → S → Result ⊤ ViewEnd → Type 0
+Done does from v lines old new done = MatchResult done (λ it. Goes does from (run v lines) old new) (λ end. Stops does from end old new)
+
+-- the same, as it is told of its flow
+abbrev pub Flows : {S : Type 0} → Doing S → Phase → Viewer → List PlainLine → S → S → Result Flow ViewEnd → Type 0
+Flows does from v lines old new flow = MatchResult flow (λ one. Goes does from (flow_phase v lines one) old new) (λ end. Stops does from end old new)
+
+flow_by : {S : Type 0} (does : Doing S) (from : Phase) (v : Viewer) (lines : List PlainLine) (old new : S) (done : Result ⊤ ViewEnd) → Done does from v lines old new done → Flows does from v lines old new (flow_of done)
+flow_by does from v lines old new (Ok it) talk = talk
+flow_by does from v lines old new (Err end) talk = talk
+
+pub flow_from : {S : Type 0} (does : Doing S) (from start : Phase) (v : Viewer) (lines : List PlainLine) (old new : S) (done : Result ⊤ ViewEnd) (flow : Result Flow ViewEnd) → flow ≡ flow_of done → from ≡ start
+    → Done does start v lines old new done → Flows does from v lines old new flow
+flow_from does from start v lines old new done flow is same talk =
+    subst (λ (f : Result Flow ViewEnd). Flows does from v lines old new f) (sym is)
+    (subst (λ (p : Phase). Flows does p v lines old new (flow_of done)) (sym same) (flow_by does start v lines old new done talk))
+
+-- behind what was done before
+pub done_behind : {S : Type 0} (does : Doing S) (follows : Follows does) (from mid : Phase) (v : Viewer) (lines : List PlainLine) (old now new : S) (done : Result ⊤ ViewEnd) → Goes does from mid old now → Done does mid v lines now new done → Done does from v lines old new done
+done_behind does follows from mid v lines old now new (Ok it) first goes = goes_on does follows from mid (run v lines) old now new first goes
+done_behind does follows from mid v lines old now new (Err end) first stops = goes_and_stops does follows from mid end old now new first stops
+
+-- a text was told, or not
+pub done_printing : {W L : Type 0} (out : OutputTells W) (links : LinksTell L) (l : L) (w w' : W) (v v' : Viewer) (text : List ℕ) (done : Result ⊤ ViewEnd)
+    → OnOk done (v' ≡ record v { replica = takes_out v.replica }) → OnOk done (PrintsText out Well (shown_text v text) w w') → IfErr done (λ end. StopsPrinting out end (shown_text v text) w w')
+    → Done (Acts (window_tells out links)) (finish v text) v' v'.lines (window w l) (window w' l) done
+done_printing out links l w w' v v' text (Ok it) is prints never = finished_goes out links l w w' v v' text is prints
+done_printing out links l w w' v v' text (Err end) is prints stops = finish_stops out links l w w' v text end stops

@@ -1,0 +1,141 @@
+-- Runs that follow one another, and the steps of a link among those of an output and a link.
+use Rattle.std.proofs.Common.{◌≡◌, inl, inr, ℕ, ◌+◌, ◌<◌, ◌==◌, if◌then◌else◌, List, [], ◌∷◌, ◌++◌, length, drop, get_or, Option, Some, None, refl, sym, ap, ◌∙◌, subst}
+use Rattle.std.specs.Prelude.{◌⊎◌}
+use Rattle.std.proofs.lemmas.Option.{none-some}
+use Rattle.std.proofs.lemmas.List.{at_drop_more}
+use Rattle.wire_frames.specs.declared.frame.ClientFrame.{ClientFrame}
+use Rattle.wire_frames.specs.declared.frame.ClientFrame.TheVariants as client
+use Rattle.wire_frames.specs.Spelling.{client_spelling}
+use Rattle.run_steps.specs.Steps.{Step, Loads, Puts, Prints, Connects, Returns, Hears, Sends}
+use Rattle.run_steps.specs.Outside.{Outside, OutsideTells, OutputTells, LinksTell, Came, Well, Failed, WantedMemory, Cut, Acts, ActsOn, SendsFrame, window, window_tells}
+use Rattle.run_steps.proofs.Joined.{acts_behind}
+use Rattle.view_shell.specs.declared.ending.ViewEnd.{ViewEnd}
+use Rattle.view_shell.specs.declared.ending.ViewEnd.TheVariants as ending
+use Rattle.view_shell.specs.Phases.{Phase, Viewer, Task, Sending, Over, Walks, go_on, most_receives, send_all}
+use Rattle.view_shell.specs.ViewRun.{Doing, Goes, Stops, IsCutEnd, ActsOnLink, LinkActs}
+
+-- ---- one after the other
+
+pub walks_behind : (p q r : Phase) (front back : List Step) → Walks p front q → Walks q back r → Walks p (front ++ back) r
+walks_behind p q r [] back is walks = subst (λ (from : Phase). Walks from back r) (sym is) walks
+walks_behind p q r (step ∷ front) back (next, moves, walks) more = (next, moves, walks_behind next q r front back walks more)
+
+-- steps of a part may stand behind steps of it
+abbrev pub Follows : {S : Type 0} → Doing S → Type 0
+Follows {S = S} does = (front back : List Step) (cut : Option Cut) (old mid new : S) → does front None old mid → does back cut mid new → does (front ++ back) cut old new
+
+pub link_acts_behind : {L : Type 0} (links : LinksTell L) → Follows (LinkActs links)
+link_acts_behind links [] back cut old mid new kept rest = subst (λ o. LinkActs links back cut o new) kept rest
+link_acts_behind links (step ∷ front) back cut old mid new (inl (next, acts, more)) rest = inl (next, acts, link_acts_behind links front back cut next mid new more rest)
+link_acts_behind links (step ∷ front) back cut old mid new (inr (inl (acts, is))) rest = absurd (none-some _ is)
+link_acts_behind links (step ∷ front) back cut old mid new (inr (inr (acts, is))) rest = absurd (none-some _ is)
+
+pub all_acts_behind : {F W N L : Type 0} (tells : OutsideTells F W N L) → Follows (Acts tells)
+all_acts_behind tells front back cut old mid new done rest = acts_behind tells front back cut old mid new done rest
+
+pub goes_on : {S : Type 0} (does : Doing S) (follows : Follows does) (p q r : Phase) (old mid new : S) → Goes does p q old mid → Goes does q r mid new → Goes does p r old new
+goes_on does follows p q r old mid new first next = record {
+  steps = first.steps ++ next.steps;
+  walks = walks_behind p q r first.steps next.steps first.walks next.walks;
+  acts = follows first.steps next.steps None old mid new first.acts next.acts;
+}
+
+pub goes_and_stops : {S : Type 0} (does : Doing S) (follows : Follows does) (p q : Phase) (end : ViewEnd) (old mid new : S) → Goes does p q old mid → Stops does q end mid new → Stops does p end old new
+goes_and_stops does follows p q end old mid new first next = record {
+  steps = first.steps ++ next.steps;
+  last = next.last;
+  cut = next.cut;
+  walks = walks_behind p q next.last first.steps next.steps first.walks next.walks;
+  acts = follows first.steps next.steps next.cut old mid new first.acts next.acts;
+  ends = next.ends;
+}
+
+-- nothing is done
+pub goes_nowhere : {L : Type 0} (links : LinksTell L) (p : Phase) (l : L) → Goes (LinkActs links) p p l l
+goes_nowhere links p l = record { steps = []; walks = refl; acts = refl }
+
+-- a phase that is the same
+pub goes_from : {S : Type 0} (does : Doing S) (p p' q : Phase) (old new : S) → p ≡ p' → Goes does p' q old new → Goes does p q old new
+goes_from does p p' q old new is goes = subst (λ (from : Phase). Goes does from q old new) (sym is) goes
+
+pub goes_to : {S : Type 0} (does : Doing S) (p q q' : Phase) (old new : S) → q ≡ q' → Goes does p q old new → Goes does p q' old new
+goes_to does p q q' old new is goes = subst (λ (to : Phase). Goes does p to old new) is goes
+
+pub stops_from : {S : Type 0} (does : Doing S) (p p' : Phase) (end : ViewEnd) (old new : S) → p ≡ p' → Stops does p' end old new → Stops does p end old new
+stops_from does p p' end old new is stops = subst (λ (from : Phase). Stops does from end old new) (sym is) stops
+
+-- memory is wanted before anything is done, or the end is reached
+pub link_wants : {L : Type 0} (links : LinksTell L) (p : Phase) (end : ViewEnd) (l : L) → end ≡ ending.WantOfMemory → Stops (LinkActs links) p end l l
+link_wants links p end l is = record { steps = []; last = p; cut = None; walks = refl; acts = refl; ends = inr is }
+
+pub wants : {F W N L : Type 0} (tells : OutsideTells F W N L) (p : Phase) (end : ViewEnd) (o : Outside F W N L) → end ≡ ending.WantOfMemory → Stops (Acts tells) p end o o
+wants tells p end o is = record { steps = []; last = p; cut = None; walks = refl; acts = refl; ends = inr is }
+
+pub reaches_end : {S : Type 0} (does : Doing S) (p q : Phase) (end : ViewEnd) (old new : S) → Goes does p q old new → q ≡ Over end → Stops does p end old new
+reaches_end does p q end old new goes is = record { steps = goes.steps; last = q; cut = None; walks = goes.walks; acts = goes.acts; ends = inl is }
+
+-- ---- one step
+
+module _ {L : Type 0} (links : LinksTell L) (v : Viewer) (frame : ClientFrame) (frames : List ClientFrame) (task : Task) (old new : L) where
+  abbrev pub after_send : Phase
+  after_send = send_all (record v { receives = 0 }) frames task
+
+  pub sent_goes : SendsFrame links Well (client_spelling frame) old new → Goes (LinkActs links) (Sending v frame frames task) after_send old new
+  sent_goes sends = record { steps = Sends (client_spelling frame) ∷ []; walks = (after_send, (refl, refl), refl); acts = inl (new, sends, refl) }
+
+  pub sent_stops : (came : Came) (end : ViewEnd) → IsCutEnd came (Sends (client_spelling frame)) end → (came ≡ Failed) ⊎ (came ≡ WantedMemory) → SendsFrame links came (client_spelling frame) old new
+      → Stops (LinkActs links) (Sending v frame frames task) end old new
+  sent_stops Failed end is which sends = record {
+    steps = Sends (client_spelling frame) ∷ [];
+    last = after_send;
+    cut = Some (record { step = Sends (client_spelling frame); came = Failed });
+    walks = (after_send, (refl, refl), refl);
+    acts = inr (inl (sends, refl));
+    ends = is;
+  }
+  sent_stops WantedMemory end is which sends = record {
+    steps = Sends (client_spelling frame) ∷ [];
+    last = after_send;
+    cut = Some (record { step = Sends (client_spelling frame); came = WantedMemory });
+    walks = (after_send, (refl, refl), refl);
+    acts = inr (inr (sends, refl));
+    ends = is;
+  }
+  sent_stops Well end is (inl never) sends = absurd cc
+  sent_stops Well end is (inr never) sends = absurd cc
+
+-- ---- a link's steps among those of an output and a link
+
+module _ {W L : Type 0} (out : OutputTells W) (links : LinksTell L) (w : W) where
+  acts_on_window : (came : Came) (step : Step) (old new : L) → ActsOnLink links came step old new → ActsOn (window_tells out links) came step (window w old) (window w new)
+  acts_on_window came (Hears what) old new hears = (hears, refl)
+  acts_on_window came (Sends frame) old new sends = (sends, refl)
+  acts_on_window came (Loads ask given) old new never = absurd never
+  acts_on_window came (Puts name bytes) old new never = absurd never
+  acts_on_window came (Prints text) old new never = absurd never
+  acts_on_window came (Connects address) old new never = absurd never
+  acts_on_window came Returns old new never = absurd never
+
+  pub acts_in_window : (steps : List Step) (cut : Option Cut) (old new : L) → LinkActs links steps cut old new → Acts (window_tells out links) steps cut (window w old) (window w new)
+  acts_in_window [] None old new kept = ap (window w) kept
+  acts_in_window [] (Some cut) old new never = absurd never
+  acts_in_window (step ∷ steps) cut old new (inl (mid, acts, rest)) = inl (window w mid, acts_on_window Well step old mid acts, acts_in_window steps cut mid new rest)
+  acts_in_window (step ∷ steps) cut old new (inr (inl (acts, is))) = inr (inl (acts_on_window Failed step old new acts, is))
+  acts_in_window (step ∷ steps) cut old new (inr (inr (acts, is))) = inr (inr (acts_on_window WantedMemory step old new acts, is))
+
+  pub goes_in_window : (p q : Phase) (old new : L) → Goes (LinkActs links) p q old new → Goes (Acts (window_tells out links)) p q (window w old) (window w new)
+  goes_in_window p q old new goes = record { steps = goes.steps; walks = goes.walks; acts = acts_in_window goes.steps None old new goes.acts }
+
+  pub stops_in_window : (p : Phase) (end : ViewEnd) (old new : L) → Stops (LinkActs links) p end old new → Stops (Acts (window_tells out links)) p end (window w old) (window w new)
+  stops_in_window p end old new stops = record { steps = stops.steps; last = stops.last; cut = stops.cut; walks = stops.walks; acts = acts_in_window stops.steps stops.cut old new stops.acts; ends = stops.ends }
+
+-- ---- frames in a row
+
+-- the next of the frames that are left
+pub frame_at : (v : Viewer) (frames : List ClientFrame) (i : ℕ) (frame : ClientFrame) (task : Task) → i < length frames → frame ≡ get_or frames i frame → send_all v (drop i frames) task ≡ Sending v frame (drop (i + 1) frames) task
+frame_at v frames i frame task within is =
+    at_drop_more (λ (left : List ClientFrame). send_all v left task) frames i frame within ∙ ap (λ (one : ClientFrame). send_all v (one ∷ drop (i + 1) frames) task) (sym is)
+
+-- a view that is due to say that it is alive
+pub alive_now : (v : Viewer) (frames : List ClientFrame) (task : Task) → v.receives ≡ most_receives → go_on v frames task ≡ Sending v client.Alive frames task
+alive_now v frames task is = ap (λ (n : ℕ). send_all v ((if n == most_receives then client.Alive ∷ [] else []) ++ frames) task) is

@@ -1,0 +1,12 @@
+pub mod Texts
+pub mod Going
+pub mod Keeping
+pub mod Readiness
+pub mod Hearings
+pub mod Reaching
+pub mod Printings
+pub mod Flowing
+pub mod Visits
+pub mod OneRun
+pub mod Scripts
+pub mod Entering

@@ -1,0 +1,137 @@
+-- Texts that a view prints, on an output beside a link.
+use Rattle.std.proofs.Common.{◌≡◌, inl, inr, ℕ, ◌≤◌, List, [], ◌∷◌, Option, Some, None, refl, sym, ap, subst, arith, append-nil}
+use Rattle.tea_io.specs.Told.{grown}
+use Rattle.run_steps.specs.Steps.{Prints}
+use Rattle.run_steps.specs.Outside.{OutputTells, LinksTell, Well, Failed, WantedMemory, Acts, PrintsText, window, window_tells}
+use Rattle.replica_plain.specs.Calls.{takes_out}
+use Rattle.view_shell.specs.declared.ending.ViewEnd.{ViewEnd}
+use Rattle.view_shell.specs.declared.ending.ViewEnd.TheVariants as ending
+use Rattle.view_shell.specs.Phases.{Viewer, Phase, Printing, PrintingLast, Over, finish, run, shown_text}
+use Rattle.view_shell.specs.ViewRun.{Goes, LinkActs, Stops, StopsPrinting}
+use Rattle.view_shell.proofs.Going.{all_acts_behind, goes_and_stops, goes_in_window, goes_on, wants}
+
+grown_nothing : (told : Option (List ℕ)) → told ≡ grown told []
+grown_nothing None = refl
+grown_nothing (Some text) = ap (λ (t : List ℕ). Some t) (sym (append-nil text))
+
+stays : (n : ℕ) → n ≤ n
+stays n = omega arith
+
+-- nothing is printed of an empty text
+pub prints_nothing : {W : Type 0} (out : OutputTells W) (w : W) → PrintsText out Well [] w w
+prints_nothing out w = record { written = grown_nothing (out.written w); counted = stays (out.faults w); wanted = stays (out.wants w) }
+
+pub prints_empty : {W : Type 0} (out : OutputTells W) (text : List ℕ) (w : W) → text ≡ [] → PrintsText out Well text w w
+prints_empty out text w is = subst (λ (t : List ℕ). PrintsText out Well t w w) (sym is) (prints_nothing out w)
+
+module _ {W L : Type 0} (out : OutputTells W) (links : LinksTell L) (l : L) (w w' : W) where
+  pub printed_goes : (v : Viewer) (text : List ℕ) → PrintsText out Well text w w' → Goes (Acts (window_tells out links)) (Printing v text) (run v v.lines) (window w l) (window w' l)
+  printed_goes v text prints = record { steps = Prints text ∷ []; walks = (run v v.lines, (refl, refl), refl); acts = inl (window w' l, (prints, refl), refl) }
+
+  pub printed_last : (text : List ℕ) → PrintsText out Well text w w' → Goes (Acts (window_tells out links)) (PrintingLast text) (Over ending.Done) (window w l) (window w' l)
+  printed_last text prints = record { steps = Prints text ∷ []; walks = (Over ending.Done, (refl, refl), refl); acts = inl (window w' l, (prints, refl), refl) }
+
+  pub print_stops : (v : Viewer) (text : List ℕ) (end : ViewEnd) → StopsPrinting out end text w w' → Stops (Acts (window_tells out links)) (Printing v text) end (window w l) (window w' l)
+  print_stops v text ending.WriteFault prints = record {
+    steps = Prints text ∷ [];
+    last = run v v.lines;
+    cut = Some (record { step = Prints text; came = Failed });
+    walks = (run v v.lines, (refl, refl), refl);
+    acts = inr (inl ((prints, refl), refl));
+    ends = refl;
+  }
+  print_stops v text ending.WantOfMemory (inl prints) = record {
+    steps = Prints text ∷ [];
+    last = run v v.lines;
+    cut = Some (record { step = Prints text; came = WantedMemory });
+    walks = (run v v.lines, (refl, refl), refl);
+    acts = inr (inr ((prints, refl), refl));
+    ends = refl;
+  }
+  print_stops v text ending.WantOfMemory (inr kept) = record {
+    steps = [];
+    last = Printing v text;
+    cut = None;
+    walks = refl;
+    acts = ap (λ (o : W). window o l) kept;
+    ends = inr refl;
+  }
+  print_stops v text ending.Done never = absurd never
+  print_stops v text (ending.Refused code kept) never = absurd never
+  print_stops v text ending.NetFault never = absurd never
+  print_stops v text ending.Ended never = absurd never
+  print_stops v text ending.Peer never = absurd never
+
+  pub print_last_stops : (text : List ℕ) (end : ViewEnd) → StopsPrinting out end text w w' → Stops (Acts (window_tells out links)) (PrintingLast text) end (window w l) (window w' l)
+  print_last_stops text ending.WriteFault prints = record {
+    steps = Prints text ∷ [];
+    last = Over ending.Done;
+    cut = Some (record { step = Prints text; came = Failed });
+    walks = (Over ending.Done, (refl, refl), refl);
+    acts = inr (inl ((prints, refl), refl));
+    ends = refl;
+  }
+  print_last_stops text ending.WantOfMemory (inl prints) = record {
+    steps = Prints text ∷ [];
+    last = Over ending.Done;
+    cut = Some (record { step = Prints text; came = WantedMemory });
+    walks = (Over ending.Done, (refl, refl), refl);
+    acts = inr (inr ((prints, refl), refl));
+    ends = refl;
+  }
+  print_last_stops text ending.WantOfMemory (inr kept) = record {
+    steps = [];
+    last = PrintingLast text;
+    cut = None;
+    walks = refl;
+    acts = ap (λ (o : W). window o l) kept;
+    ends = inr refl;
+  }
+  print_last_stops text ending.Done never = absurd never
+  print_last_stops text (ending.Refused code kept) never = absurd never
+  print_last_stops text ending.NetFault never = absurd never
+  print_last_stops text ending.Ended never = absurd never
+  print_last_stops text ending.Peer never = absurd never
+
+  -- a line of the script is done, and told
+  pub finished_goes : (v v' : Viewer) (text : List ℕ) → v' ≡ record v { replica = takes_out v.replica } → PrintsText out Well (shown_text v text) w w' → Goes (Acts (window_tells out links)) (finish v text) (run v' v'.lines) (window w l) (window w' l)
+  finished_goes v v' text is prints =
+      subst (λ (u : Viewer). Goes (Acts (window_tells out links)) (finish v text) (run u u.lines) (window w l) (window w' l)) (sym is)
+      (printed_goes (record v { replica = takes_out v.replica }) (shown_text v text) prints)
+
+  pub finish_stops : (v : Viewer) (text : List ℕ) (end : ViewEnd) → StopsPrinting out end (shown_text v text) w w' → Stops (Acts (window_tells out links)) (finish v text) end (window w l) (window w' l)
+  finish_stops v text end stops = print_stops (record v { replica = takes_out v.replica }) (shown_text v text) end stops
+
+-- ---- what a link does, and then a text
+
+module _ {W L : Type 0} (out : OutputTells W) (links : LinksTell L) (from : Phase) (w w' : W) (l l' : L) where
+  pub line_goes : (v v' : Viewer) (text : List ℕ) → v' ≡ record v { replica = takes_out v.replica } → Goes (LinkActs links) from (finish v text) l l' → PrintsText out Well (shown_text v text) w w'
+      → Goes (Acts (window_tells out links)) from (run v' v'.lines) (window w l) (window w' l')
+  line_goes v v' text is goes prints =
+      goes_on (Acts (window_tells out links)) (all_acts_behind (window_tells out links)) from (finish v text) (run v' v'.lines) (window w l) (window w l') (window w' l')
+      (goes_in_window out links w from (finish v text) l l' goes) (finished_goes out links l' w w' v v' text is prints)
+
+  pub line_stops : (v : Viewer) (text : List ℕ) (end : ViewEnd) → Goes (LinkActs links) from (finish v text) l l' → StopsPrinting out end (shown_text v text) w w'
+      → Stops (Acts (window_tells out links)) from end (window w l) (window w' l')
+  line_stops v text end goes stops =
+      goes_and_stops (Acts (window_tells out links)) (all_acts_behind (window_tells out links)) from (finish v text) end (window w l) (window w l') (window w' l')
+      (goes_in_window out links w from (finish v text) l l' goes) (finish_stops out links l' w w' v text end stops)
+
+  pub last_goes : (text : List ℕ) → Goes (LinkActs links) from (PrintingLast text) l l' → PrintsText out Well text w w'
+      → Goes (Acts (window_tells out links)) from (Over ending.Done) (window w l) (window w' l')
+  last_goes text goes prints =
+      goes_on (Acts (window_tells out links)) (all_acts_behind (window_tells out links)) from (PrintingLast text) (Over ending.Done) (window w l) (window w l') (window w' l')
+      (goes_in_window out links w from (PrintingLast text) l l' goes) (printed_last out links l' w w' text prints)
+
+  pub last_stops : (text : List ℕ) (end : ViewEnd) → Goes (LinkActs links) from (PrintingLast text) l l' → StopsPrinting out end text w w'
+      → Stops (Acts (window_tells out links)) from end (window w l) (window w' l')
+  last_stops text end goes stops =
+      goes_and_stops (Acts (window_tells out links)) (all_acts_behind (window_tells out links)) from (PrintingLast text) end (window w l) (window w l') (window w' l')
+      (goes_in_window out links w from (PrintingLast text) l l' goes) (print_last_stops out links l' w w' text end stops)
+
+  -- memory is wanted behind what a link did
+  pub wants_behind : (to : Phase) (end : ViewEnd) → w' ≡ w → Goes (LinkActs links) from to l l' → end ≡ ending.WantOfMemory → Stops (Acts (window_tells out links)) from end (window w l) (window w' l')
+  wants_behind to end kept goes want =
+      subst (λ (o : W). Stops (Acts (window_tells out links)) from end (window w l) (window o l')) (sym kept)
+      (goes_and_stops (Acts (window_tells out links)) (all_acts_behind (window_tells out links)) from to end (window w l) (window w l') (window w l')
+      (goes_in_window out links w from to l l' goes) (wants (window_tells out links) to end (window w l') want))

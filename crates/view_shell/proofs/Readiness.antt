@@ -1,0 +1,65 @@
+-- A view that may hear its link.
+use Rattle.std.proofs.Common.{◌≡◌, ℕ, List, Ok, Err, sym, ap, ◌∙◌, subst, arith}
+use Rattle.view_shell.specs.declared.watcher.Watcher.{Watcher}
+use Rattle.replica.specs.View.{ReplicaView, with_plain}
+use Rattle.replica_plain.specs.Calls.{joining, publishes, takes_out}
+use Rattle.replica_plain.specs.declared.how.How.{How}
+use Rattle.std.specs.Prelude.{⊤, Result, OnOk}
+use Rattle.view_bridge.specs.declared.topic.Topic.{Topic}
+use Rattle.view_shell.specs.declared.ending.ViewEnd.{ViewEnd}
+use Rattle.view_shell.specs.Phases.{joined, published}
+use Rattle.view_script.specs.PlainLine.{PlainLine}
+use Rattle.view_shell.specs.Viewers.{IsReady, KnowsItself, viewer}
+use Rattle.view_shell.proofs.Keeping.{Keeps}
+
+-- it has sent a frame
+pub ready_again : (w w' : Watcher) → w' ≡ record w { receives = w'.receives } → w'.receives ≡ 0 → IsReady w → IsReady w'
+ready_again w w' kept zero ready =
+    let is : w' ≡ record w { receives = 0 } = kept ∙ ap (λ (n : ℕ). record w { receives = n }) zero in
+    subst IsReady (sym is) (record { knows = record { view = ready.knows.view; published = ready.knows.published }; receives = omega arith; quiets = ready.quiets })
+
+-- its replica took a frame
+pub knows_on : (w : Watcher) (replica : ReplicaView) → Keeps w.replica.plain replica.plain → KnowsItself w → KnowsItself (record w { replica = replica })
+knows_on w replica keeps knows = record { view = knows.view ∙ sym keeps.view; published = knows.published ∙ sym keeps.published }
+
+-- a view that sent frames, and nothing else of it moved
+pub viewer_sent : (address : List ℕ) (lines : List PlainLine) (w w' : Watcher) → w' ≡ record w { receives = w'.receives } → record (viewer address w lines) { receives = w'.receives } ≡ viewer address w' lines
+viewer_sent address lines w w' kept = ap (λ (one : Watcher). viewer address one lines) (sym kept)
+
+-- a view that handled the events and told them
+pub viewer_told : (address : List ℕ) (lines : List PlainLine) (w w' : Watcher) → w' ≡ record w { replica = w'.replica } → w'.replica ≡ with_plain w.replica (takes_out w.replica.plain)
+    → viewer address w' lines ≡ record (viewer address w lines) { replica = takes_out w.replica.plain }
+viewer_told address lines w w' kept is =
+    ap (λ (one : Watcher). viewer address one lines) kept ∙ ap (λ (r : ReplicaView). viewer address (record w { replica = r }) lines) is
+
+-- it is as ready as before
+pub ready_told : (w w' : Watcher) → w' ≡ record w { replica = w'.replica } → w'.replica ≡ with_plain w.replica (takes_out w.replica.plain) → IsReady w → IsReady w'
+ready_told w w' kept is ready =
+    let whole : w' ≡ record w { replica = with_plain w.replica (takes_out w.replica.plain) } = kept ∙ ap (λ (r : ReplicaView). record w { replica = r }) is in
+    subst IsReady (sym whole) (record { knows = record { view = ready.knows.view; published = ready.knows.published }; receives = ready.receives; quiets = ready.quiets })
+
+-- a view that sent one frame
+pub viewer_after_send : (address : List ℕ) (lines : List PlainLine) (w w' : Watcher) → w' ≡ record w { receives = w'.receives } → w'.receives ≡ 0 → record (viewer address w lines) { receives = 0 } ≡ viewer address w' lines
+viewer_after_send address lines w w' kept zero = ap (λ (n : ℕ). record (viewer address w lines) { receives = n }) (sym zero) ∙ viewer_sent address lines w w' kept
+
+-- a view that published an event
+pub viewer_published : (address : List ℕ) (lines : List PlainLine) (w w' : Watcher) (payload : List ℕ) → w' ≡ record w { replica = w'.replica; published = w'.published } → w'.replica ≡ with_plain w.replica (publishes w.replica.plain payload)
+    → published (viewer address w lines) payload ≡ viewer address w' lines
+viewer_published address lines w w' payload kept is =
+    sym (ap (λ (one : Watcher). viewer address one lines) kept ∙ ap (λ (r : ReplicaView). viewer address (record w { replica = r; published = w'.published }) lines) is)
+
+-- a view that watches a topic, and told the events
+pub viewer_watched : (address : List ℕ) (lines : List PlainLine) (w w' : Watcher) (topics : List Topic) (done : Result ⊤ ViewEnd) → w' ≡ record w { replica = w'.replica; topics = w'.topics } → OnOk done (w'.topics ≡ topics)
+    → OnOk done (w'.replica ≡ with_plain w.replica (takes_out w.replica.plain)) → OnOk done (viewer address w' lines ≡ record (viewer address w lines) { topics = topics; replica = takes_out w.replica.plain })
+viewer_watched address lines w w' topics (Ok it) kept watched is =
+    ap (λ (one : Watcher). viewer address one lines) kept ∙ ap (λ (t : List Topic). viewer address (record w { replica = w'.replica; topics = t }) lines) watched
+    ∙ ap (λ (r : ReplicaView). viewer address (record w { replica = r; topics = topics }) lines) is
+viewer_watched address lines w w' topics (Err end) kept watched is = tt
+
+-- a view that joins, and sent its frame
+pub viewer_joined : (address : List ℕ) (lines : List PlainLine) (w w' : Watcher) (replica : ReplicaView) (how : How) → w' ≡ record w { replica = replica; receives = w'.receives; quiets = 0 } → w'.receives ≡ 0
+    → replica ≡ with_plain w.replica (joining w.replica.plain how) → joined (viewer address w lines) how ≡ viewer address w' lines
+viewer_joined address lines w w' replica how kept zero is =
+    sym (ap (λ (one : Watcher). viewer address one lines) kept
+    ∙ ap (λ (n : ℕ). viewer address (record w { replica = replica; receives = n; quiets = 0 }) lines) zero
+    ∙ ap (λ (r : ReplicaView). viewer address (record w { replica = r; receives = 0; quiets = 0 }) lines) is)

@@ -1,0 +1,52 @@
+use Rattle.std.proofs.Common.{◌≡◌, ◌==◌, false, refl, sym, arith}
+use Rattle.std.proofs.lemmas.Bool.Decides.{nat_tests}
+use Rattle.view_shell.specs.Phases.{Over, heard_quiet, most_quiets, took}
+use Rattle.view_shell.specs.declared.ending.ViewEnd.TheVariants as ending
+use Rattle.view_shell.specs.Viewers.{viewer}
+use Rattle.view_shell.proofs.Going.{reaches_end}
+use Rattle.view_shell.proofs.Hearings.{hears_frame, hears_quiet, hears_end, hears_stop, hears_nothing_failed, hears_nothing_wanting, quiet_on, quiet_over}
+use Rattle.view_shell.proofs.hearing.hear.Goals as goal
+
+pub returns-in-Ok-clause-talk : goal.returns-in-Ok-clause-talk
+returns-in-Ok-clause-talk g c address lines aim =
+    hears_frame _ (viewer address c.args.watcher.now lines) aim c.args.link.now c.recv.new.self c.in-Frame.bytes (took (viewer address c.take.new.watcher lines) aim c.in-Ok.frame)
+    (record { is_said = tt; heard = c.in-Frame.ensures.heard; coming = c.in-Frame.ensures.coming; sent = c.in-Frame.ensures.sent; later = c.in-Frame.ensures.later; cause = c.in-Frame.ensures.cause })
+    (sym (c.in-Ok.ensures.taken address lines aim))
+
+pub returns-in-Frame-clause-talk : goal.returns-in-Frame-clause-talk
+returns-in-Frame-clause-talk g c address lines aim =
+    hears_stop _ (viewer address c.args.watcher.now lines) aim _ _ c.in-Frame.bytes (viewer address c.take.new.watcher lines) c.in-Err.stop
+    (record { is_said = tt; heard = c.in-Frame.ensures.heard; coming = c.in-Frame.ensures.coming; sent = c.in-Frame.ensures.sent; later = c.in-Frame.ensures.later; cause = c.in-Frame.ensures.cause })
+    (c.in-Err.ensures.taken address lines aim)
+
+pub returns-then-watcher-eq-MOST_QUIETS-clause-talk : goal.returns-then-watcher-eq-MOST_QUIETS-clause-talk
+returns-then-watcher-eq-MOST_QUIETS-clause-talk g c address lines aim =
+    let v = viewer address c.args.watcher.now lines in
+    let often : (heard_quiet v).quiets ≡ most_quiets = omega (arith, c.if-watcher-eq-MOST_QUIETS.true) in
+    reaches_end _ _ (Over ending.Ended) ending.Ended _ _
+    (hears_quiet _ v aim _ _ (Over ending.Ended)
+    (record { is_said = tt; heard = c.in-Quiet.ensures.heard; coming = c.in-Quiet.ensures.coming; sent = c.in-Quiet.ensures.sent; later = c.in-Quiet.ensures.later; cause = c.in-Quiet.ensures.cause })
+    (sym (quiet_over (heard_quiet v) aim often))) refl
+
+pub returns-in-Quiet-clause-talk : goal.returns-in-Quiet-clause-talk
+returns-in-Quiet-clause-talk g c address lines aim =
+    let v = viewer address c.args.watcher.now lines in
+    let seldom : ((heard_quiet v).quiets == most_quiets) ≡ false = grind (arith, nat_tests, c.if-watcher-eq-MOST_QUIETS.false) in
+    hears_quiet _ v aim _ _ _
+    (record { is_said = tt; heard = c.in-Quiet.ensures.heard; coming = c.in-Quiet.ensures.coming; sent = c.in-Quiet.ensures.sent; later = c.in-Quiet.ensures.later; cause = c.in-Quiet.ensures.cause })
+    (sym (quiet_on (heard_quiet v) aim seldom))
+
+pub returns-in-End-clause-talk : goal.returns-in-End-clause-talk
+returns-in-End-clause-talk g c address lines aim =
+    hears_end _ (viewer address c.args.watcher.now lines) aim _ _
+    (record { is_said = tt; heard = c.in-End.ensures.heard; coming = c.in-End.ensures.coming; sent = c.in-End.ensures.sent; later = c.in-End.ensures.later; cause = c.in-End.ensures.cause })
+
+pub returns-in-Failed-clause-talk : goal.returns-in-Failed-clause-talk
+returns-in-Failed-clause-talk g c address lines aim =
+    hears_nothing_failed _ (viewer address c.args.watcher.now lines) aim _ _
+    (record { is_said = tt; heard = c.in-Failed.ensures.heard; coming = c.in-Failed.ensures.coming; sent = c.in-Failed.ensures.sent; later = c.in-Failed.ensures.later; cause = c.in-Failed.ensures.cause })
+
+pub returns-clause-talk : goal.returns-clause-talk
+returns-clause-talk g c address lines aim =
+    hears_nothing_wanting _ (viewer address c.args.watcher.now lines) aim _ _
+    (record { is_said = tt; heard = c.in-WantOfMemory.ensures.heard; coming = c.in-WantOfMemory.ensures.coming; sent = c.in-WantOfMemory.ensures.sent; later = c.in-WantOfMemory.ensures.later; cause = c.in-WantOfMemory.ensures.cause })

@@ -1,0 +1,111 @@
+use Rattle.std.proofs.Common.{◌≡◌, [], ◌∷◌, refl, ap, ◌∙◌}
+use Rattle.run_steps.specs.Outside.{Acts, links_tell, output_tells, window, window_tells}
+use Rattle.model_value.specs.Payload.{payload_spelling}
+use Rattle.model_value.specs.View.{plain}
+use Rattle.replica.specs.View.{worlds_of}
+use Rattle.replica_plain.specs.Calls.{snap_frame, unsent}
+use Rattle.view_bridge.specs.Topics.{subscribes}
+use Rattle.view_script.specs.PlainLine.{plain_line}
+use Rattle.view_script.specs.declared.line.ViewLine.{ViewLine}
+use Rattle.view_shell.specs.declared.ending.ViewEnd.TheVariants as ending
+use Rattle.view_shell.specs.Phases.{Viewer, Over, Receives, Sending, Tells, ToReach, ToSettle, ToSnap, finish, given, leave, published, receive, run, send_all}
+use Rattle.view_shell.specs.Viewers.{viewer}
+use Rattle.view_shell.proofs.Flowing.{done_behind, done_printing, flow_from}
+use Rattle.view_shell.proofs.Going.{all_acts_behind, goes_from, goes_in_window, stops_from, stops_in_window, wants}
+use Rattle.view_shell.proofs.Readiness.{viewer_published, viewer_watched}
+use Rattle.view_shell.proofs.lines.run_line.Goals as goal
+
+pub returns-in-Ok-clause-talk : goal.returns-in-Ok-clause-talk
+returns-in-Ok-clause-talk g c address lines =
+    let out = output_tells g.W.Sink.written g.W.Sink.faults g.W.Sink.wants in
+    let links = links_tell g.L.Link.coming g.L.Link.heard g.L.Link.sent g.L.Link.counts in
+    let old = c.args.watcher.now in
+    let first = run (viewer address old (plain_line c.args.line.now ∷ lines)) (plain_line c.args.line.now ∷ lines) in
+    let u = viewer address c.publish.new.watcher lines in
+    let payload = payload_spelling (record { scope = c.in-Publish.scope; event = c.in-Publish.event; value = plain c.in-Publish.value }) in
+    let same : published (viewer address old lines) payload ≡ u = viewer_published address lines old c.publish.new.watcher payload c.publish.ensures.kept c.in-Ok.ensures.publishes in
+    flow_from (Acts (window_tells out links)) first (send_all (given u) (unsent u.replica) (Tells [])) (viewer address c.send_and_tell.new.watcher lines) lines (window c.args.out.now c.args.link.now) (window c.send_and_tell.new.out c.send_and_tell.new.link)
+    c.send_and_tell.result c.flow_of.result c.flow_of.ensures
+    (ap (λ (l : ViewLine). run (viewer address old (plain_line l ∷ lines)) (plain_line l ∷ lines)) c.in-Publish.is ∙ ap (λ (v : Viewer). send_all (given v) (unsent v.replica) (Tells [])) same)
+    (c.send_and_tell.ensures.talk address lines)
+
+pub returns-in-Err-clause-talk : goal.returns-in-Err-clause-talk
+returns-in-Err-clause-talk g c address lines =
+    let out = output_tells g.W.Sink.written g.W.Sink.faults g.W.Sink.wants in
+    let links = links_tell g.L.Link.coming g.L.Link.heard g.L.Link.sent g.L.Link.counts in
+    let old = c.args.watcher.now in
+    let first = run (viewer address old (plain_line c.args.line.now ∷ lines)) (plain_line c.args.line.now ∷ lines) in
+    wants (window_tells out links) first c.in-Err.end (window c.args.out.now c.args.link.now) c.in-Err.ensures.want
+
+pub returns-in-Watch-clause-talk : goal.returns-in-Watch-clause-talk
+returns-in-Watch-clause-talk g c address lines =
+    let out = output_tells g.W.Sink.written g.W.Sink.faults g.W.Sink.wants in
+    let links = links_tell g.L.Link.coming g.L.Link.heard g.L.Link.sent g.L.Link.counts in
+    let old = c.args.watcher.now in
+    let first = run (viewer address old (plain_line c.args.line.now ∷ lines)) (plain_line c.args.line.now ∷ lines) in
+    let v = record (viewer address old lines) { topics = subscribes old.topics c.in-Watch.scope c.in-Watch.event c.in-Watch.handling } in
+    let u = viewer address c.watch.new.watcher lines in
+    flow_from (Acts (window_tells out links)) first (finish v []) u lines (window c.args.out.now c.args.link.now) (window c.watch.new.out c.args.link.now)
+    c.watch.result c.flow_of-in-Watch.result c.flow_of-in-Watch.ensures (ap (λ (l : ViewLine). run (viewer address old (plain_line l ∷ lines)) (plain_line l ∷ lines)) c.in-Watch.is)
+    (done_printing out links c.args.link.now c.args.out.now c.watch.new.out v u [] c.watch.result
+    (viewer_watched address lines old c.watch.new.watcher (subscribes old.topics c.in-Watch.scope c.in-Watch.event c.in-Watch.handling) c.watch.result c.watch.ensures.kept c.watch.ensures.topics c.watch.ensures.ok)
+    (c.watch.ensures.printed v refl refl) (c.watch.ensures.err v refl refl))
+
+pub returns-in-Wait-clause-talk : goal.returns-in-Wait-clause-talk
+returns-in-Wait-clause-talk g c address lines =
+    let out = output_tells g.W.Sink.written g.W.Sink.faults g.W.Sink.wants in
+    let links = links_tell g.L.Link.coming g.L.Link.heard g.L.Link.sent g.L.Link.counts in
+    let old = c.args.watcher.now in
+    let first = run (viewer address old (plain_line c.args.line.now ∷ lines)) (plain_line c.args.line.now ∷ lines) in
+    flow_from (Acts (window_tells out links)) first (receive (viewer address old lines) (ToReach c.in-Wait.time)) (viewer address c.wait.new.watcher lines) lines (window c.args.out.now c.args.link.now) (window c.wait.new.out c.wait.new.link)
+    c.wait.result c.flow_of-in-Wait.result c.flow_of-in-Wait.ensures (ap (λ (l : ViewLine). run (viewer address old (plain_line l ∷ lines)) (plain_line l ∷ lines)) c.in-Wait.is) (c.wait.ensures.talk address lines)
+
+pub returns-in-Ok-send_unsent-clause-talk : goal.returns-in-Ok-send_unsent-clause-talk
+returns-in-Ok-send_unsent-clause-talk g c address lines =
+    let out = output_tells g.W.Sink.written g.W.Sink.faults g.W.Sink.wants in
+    let links = links_tell g.L.Link.coming g.L.Link.heard g.L.Link.sent g.L.Link.counts in
+    let old = c.args.watcher.now in
+    let first = run (viewer address old (plain_line c.args.line.now ∷ lines)) (plain_line c.args.line.now ∷ lines) in
+    let from = send_all (given (viewer address old lines)) (unsent old.replica.plain) (Receives ToSettle) in
+    let mid = receive (viewer address c.send_unsent.new.watcher lines) ToSettle in
+    flow_from (Acts (window_tells out links)) first from (viewer address c.await_settled.new.watcher lines) lines (window c.args.out.now c.args.link.now) (window c.await_settled.new.out c.await_settled.new.link)
+    c.await_settled.result c.flow_of-in-Ok-send_unsent.result c.flow_of-in-Ok-send_unsent.ensures (ap (λ (l : ViewLine). run (viewer address old (plain_line l ∷ lines)) (plain_line l ∷ lines)) c.in-Settle.is)
+    (done_behind (Acts (window_tells out links)) (all_acts_behind (window_tells out links)) from mid (viewer address c.await_settled.new.watcher lines) lines
+    (window c.args.out.now c.args.link.now) (window c.args.out.now c.send_unsent.new.link) (window c.await_settled.new.out c.await_settled.new.link) c.await_settled.result
+    (goes_in_window out links c.args.out.now from mid c.args.link.now c.send_unsent.new.link (c.in-Ok-send_unsent.ensures.talk address lines (Receives ToSettle)))
+    (c.await_settled.ensures.talk address lines))
+
+pub returns-in-Err-send_unsent-clause-talk : goal.returns-in-Err-send_unsent-clause-talk
+returns-in-Err-send_unsent-clause-talk g c address lines =
+    let out = output_tells g.W.Sink.written g.W.Sink.faults g.W.Sink.wants in
+    let links = links_tell g.L.Link.coming g.L.Link.heard g.L.Link.sent g.L.Link.counts in
+    let old = c.args.watcher.now in
+    let first = run (viewer address old (plain_line c.args.line.now ∷ lines)) (plain_line c.args.line.now ∷ lines) in
+    let from = send_all (given (viewer address old lines)) (unsent old.replica.plain) (Receives ToSettle) in
+    stops_from (Acts (window_tells out links)) first from c.in-Err-send_unsent.end (window c.args.out.now c.args.link.now) (window c.args.out.now c.send_unsent.new.link) (ap (λ (l : ViewLine). run (viewer address old (plain_line l ∷ lines)) (plain_line l ∷ lines)) c.in-Settle.is)
+    (stops_in_window out links c.args.out.now from c.in-Err-send_unsent.end c.args.link.now c.send_unsent.new.link (c.in-Err-send_unsent.ensures.talk address lines (Receives ToSettle)))
+
+pub returns-in-Snap-clause-talk : goal.returns-in-Snap-clause-talk
+returns-in-Snap-clause-talk g c address lines =
+    let out = output_tells g.W.Sink.written g.W.Sink.faults g.W.Sink.wants in
+    let links = links_tell g.L.Link.coming g.L.Link.heard g.L.Link.sent g.L.Link.counts in
+    let old = c.args.watcher.now in
+    let first = run (viewer address old (plain_line c.args.line.now ∷ lines)) (plain_line c.args.line.now ∷ lines) in
+    flow_from (Acts (window_tells out links)) first (Sending (viewer address old lines) (snap_frame (worlds_of old.replica) old.replica.plain) [] (Receives ToSnap)) (viewer address c.snap.new.watcher lines) lines
+    (window c.args.out.now c.args.link.now) (window c.snap.new.out c.snap.new.link) c.snap.result c.flow_of-in-Snap.result c.flow_of-in-Snap.ensures (ap (λ (l : ViewLine). run (viewer address old (plain_line l ∷ lines)) (plain_line l ∷ lines)) c.in-Snap.is) (c.snap.ensures.talk address lines)
+
+pub returns-in-Ok-leave-clause-talk : goal.returns-in-Ok-leave-clause-talk
+returns-in-Ok-leave-clause-talk g c address lines =
+    let out = output_tells g.W.Sink.written g.W.Sink.faults g.W.Sink.wants in
+    let links = links_tell g.L.Link.coming g.L.Link.heard g.L.Link.sent g.L.Link.counts in
+    let old = c.args.watcher.now in
+    let first = run (viewer address old (plain_line c.args.line.now ∷ lines)) (plain_line c.args.line.now ∷ lines) in
+    goes_from (Acts (window_tells out links)) first (leave (viewer address old lines)) (Over ending.Done) (window c.args.out.now c.args.link.now) (window c.leave.new.out c.leave.new.link) (ap (λ (l : ViewLine). run (viewer address old (plain_line l ∷ lines)) (plain_line l ∷ lines)) c.in-Quit.is) (c.in-Ok-leave.ensures.talk address lines)
+
+pub returns-in-Err-leave-clause-talk : goal.returns-in-Err-leave-clause-talk
+returns-in-Err-leave-clause-talk g c address lines =
+    let out = output_tells g.W.Sink.written g.W.Sink.faults g.W.Sink.wants in
+    let links = links_tell g.L.Link.coming g.L.Link.heard g.L.Link.sent g.L.Link.counts in
+    let old = c.args.watcher.now in
+    let first = run (viewer address old (plain_line c.args.line.now ∷ lines)) (plain_line c.args.line.now ∷ lines) in
+    stops_from (Acts (window_tells out links)) first (leave (viewer address old lines)) c.in-Err-leave.end (window c.args.out.now c.args.link.now) (window c.leave.new.out c.leave.new.link) (ap (λ (l : ViewLine). run (viewer address old (plain_line l ∷ lines)) (plain_line l ∷ lines)) c.in-Quit.is) (c.in-Err-leave.ensures.talk address lines)

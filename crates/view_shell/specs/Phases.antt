@@ -1,0 +1,233 @@
+-- The run of a view, phase by phase: where it stands, which step is due, and what the step makes of it.
+use Rattle.std.specs.Prelude.{◌≡◌, ℕ, ◌+◌, ◌==◌, nat_le, if◌then◌else◌, List, [], ◌∷◌, ◌++◌, Option, Some, None}
+use Rattle.byte_fields.specs.Fields.{whole}
+use Rattle.tea_io.specs.declared.link.Heard.{Heard}
+use Rattle.tea_io.specs.declared.link.Heard.TheVariants as heard
+use Rattle.model_value.specs.Payload.{payload_spelling}
+use Rattle.world_plain.specs.Messages.{PlainOutgoing}
+use Rattle.world_plain.specs.World.{WorldRecord}
+use Rattle.wire_frames.specs.Reading.{server_at}
+use Rattle.wire_frames.specs.Spelling.{client_spelling}
+use Rattle.wire_frames.specs.declared.frame.ClientFrame.{ClientFrame}
+use Rattle.wire_frames.specs.declared.frame.ClientFrame.TheVariants as client
+use Rattle.wire_frames.specs.declared.frame.ServerFrame.{ServerFrame}
+use Rattle.wire_frames.specs.declared.frame.ServerFrame.TheVariants as server
+use Rattle.replica_plain.specs.declared.how.How.{How}
+use Rattle.replica_plain.specs.declared.how.How.TheVariants.{Fresh, Whole, Resume}
+use Rattle.replica_plain.specs.declared.fault.ReplicaFault.{ReplicaFault}
+use Rattle.replica_plain.specs.declared.fault.ReplicaFault.TheVariants as fault
+use Rattle.replica_plain.specs.Worlds.{Worlds}
+use Rattle.replica_plain.specs.PlainReplica.{PlainReplica}
+use Rattle.replica_plain.specs.Taking.{Taken, taken}
+use Rattle.replica_plain.specs.Calls.{joining, join_frame, publishes, unsent, gives, takes_out, snap_frame}
+use Rattle.view_bridge.specs.declared.topic.Topic.{Topic}
+use Rattle.view_bridge.specs.Topics.{subscribes, handled_events}
+use Rattle.view_script.specs.PlainLine.{PlainLine, Publish, Watch, Wait, Settle, Snap, Cut, Quit}
+use Rattle.run_steps.specs.Steps.{Step, Prints, Connects, Returns, Hears, Sends}
+use Rattle.view_shell.specs.declared.ending.ViewEnd.{ViewEnd}
+use Rattle.view_shell.specs.declared.ending.ViewEnd.TheVariants as ending
+use Rattle.view_shell.specs.ViewText.{events_text, time_line, settled_line, snapped_line, snap_refused_line, rejoined_line, view_line}
+
+-- A view while it runs. worlds: those of its session. address: where the session's reflector is. replica and topics: what it knows and
+-- what it watches. lines: what is left of its script. receives: how often the link was heard since a frame was sent on it.
+-- quiets: how often the link was quiet since it last said something else.
+pub record Viewer : Type 0 where
+  pub worlds : Worlds WorldRecord PlainOutgoing
+  pub address : List ℕ
+  pub replica : PlainReplica WorldRecord PlainOutgoing
+  pub topics : List Topic
+  pub lines : List PlainLine
+  pub receives : ℕ
+  pub quiets : ℕ
+
+-- a link that is quiet so often in a row is over
+abbrev pub most_quiets : ℕ
+most_quiets = 6000
+
+-- a view that heard its link so often and sent nothing says that it is alive
+abbrev pub most_receives : ℕ
+most_receives = 1000
+
+-- what a view hears its link for
+pub data Aim : Type 0 where
+  -- a Sync
+  ToJoin : How → Aim
+  -- a time
+  ToReach : ℕ → Aim
+  -- that each event is acknowledged
+  ToSettle : Aim
+  -- the answer to its snapshot
+  ToSnap : Aim
+
+-- what a view does once its frames are sent
+pub data Task : Type 0 where
+  -- it hears the link
+  Receives : Aim → Task
+  -- its script begins
+  Begins : Task
+  -- a line of its script is done, and told so
+  Tells : List ℕ → Task
+  -- it has left
+  Leaves : Task
+
+-- where a view stands
+pub data Phase : Type 0 where
+  -- a link is to be made, on which it joins so
+  Connecting : Viewer → How → Phase
+  -- a frame is to be sent, and these behind it, and then that is done
+  Sending : Viewer → ClientFrame → List ClientFrame → Task → Phase
+  -- the link is to be heard
+  Receiving : Viewer → Aim → Phase
+  -- a text is to be printed
+  Printing : Viewer → List ℕ → Phase
+  -- the last text is to be printed
+  PrintingLast : List ℕ → Phase
+  -- the link is to be given back, and then another one made
+  Returning : Viewer → How → Phase
+  Over : ViewEnd → Phase
+
+-- ---- where a view stands next
+
+-- the events that models published are handled, and told before a line's own text
+abbrev pub shown_text : Viewer → List ℕ → List ℕ
+shown_text v text = events_text (handled_events v.topics v.replica.out) ++ text
+
+-- a line of the script is done
+abbrev pub finish : Viewer → List ℕ → Phase
+finish v text = Printing (record v { replica = takes_out v.replica }) (shown_text v text)
+
+abbrev pub settle_on : Viewer → List (List ℕ) → Phase
+settle_on v [] = finish v (settled_line v.replica.acknowledged)
+settle_on v (payload ∷ rest) = Receiving v ToSettle
+
+-- the link is heard, unless what it is heard for is so already
+abbrev pub receive : Viewer → Aim → Phase
+receive v (ToReach time) = if nat_le time v.replica.world.time then finish v (time_line v.replica.world.time) else Receiving v (ToReach time)
+receive v ToSettle = settle_on v v.replica.outbox
+receive v aim = Receiving v aim
+
+abbrev pub leave : Viewer → Phase
+leave v = Sending v client.Leave [] Leaves
+
+-- the events that were not given yet count as given: they are sent next
+abbrev pub given : Viewer → Viewer
+given v = record v { replica = gives v.replica }
+
+-- the view with the rest of its script
+abbrev pub with_lines : Viewer → List PlainLine → Viewer
+with_lines v lines = record v { lines = lines }
+
+abbrev pub published : Viewer → List ℕ → Viewer
+published v payload = record v { replica = publishes v.replica payload }
+
+-- its frames are sent; before its script begins nothing is printed
+abbrev pub after : Viewer → Task → Phase
+after v (Receives aim) = receive v aim
+after v Begins = Printing v []
+after v (Tells text) = finish v text
+after v Leaves = PrintingLast (view_line v.replica)
+
+abbrev pub send_all : Viewer → List ClientFrame → Task → Phase
+send_all v [] task = after v task
+send_all v (frame ∷ frames) task = Sending v frame frames task
+
+-- the first of these lines: a row for each kind
+abbrev pub run : Viewer → List PlainLine → Phase
+run v [] = leave v
+run v (Publish scope event value ∷ rest) =
+    let w = published (with_lines v rest) (payload_spelling (record { scope = scope; event = event; value = value })) in
+    send_all (given w) (unsent w.replica) (Tells [])
+run v (Watch scope event handling ∷ rest) = finish (record v { lines = rest; topics = subscribes v.topics scope event handling }) []
+run v (Wait time ∷ rest) = receive (with_lines v rest) (ToReach time)
+run v (Settle ∷ rest) = send_all (given (with_lines v rest)) (unsent v.replica) (Receives ToSettle)
+run v (Snap ∷ rest) = Sending (with_lines v rest) (snap_frame v.worlds v.replica) [] (Receives ToSnap)
+run v (Cut ∷ rest) = Returning (with_lines v rest) Resume
+run v (Quit ∷ rest) = leave (with_lines v rest)
+
+-- ---- joining
+
+abbrev pub joined : Viewer → How → Viewer
+joined v how = record v { replica = joining v.replica how; receives = 0; quiets = 0 }
+
+abbrev pub enter : Viewer → How → Phase
+enter v how = Sending (joined v how) (join_frame v.worlds v.replica how) [] (Receives (ToJoin how))
+
+-- ---- hearing
+
+-- a view that heard its link often enough and sent nothing says that it is alive, and then goes on
+abbrev pub alive : Viewer → List ClientFrame
+alive v = if v.receives == most_receives then client.Alive ∷ [] else []
+
+abbrev pub go_on : Viewer → List ClientFrame → Task → Phase
+go_on v frames task = send_all v (alive v ++ frames) task
+
+-- a Sync was taken: the script begins, or goes on behind a cut once the events that are not acknowledged were sent again
+abbrev pub synced : Viewer → How → ℕ → ℕ → Phase
+synced v Fresh joined from = go_on v [] Begins
+synced v Whole joined from = go_on v [] Begins
+synced v Resume joined from = go_on (given v) (unsent v.replica) (Tells (rejoined_line joined from))
+
+-- a frame was taken
+abbrev pub took : Viewer → Aim → ServerFrame → Phase
+took v (ToJoin how) (server.Sync joined last from base) = synced v how joined from
+took v ToSnap (server.Snapped time) = go_on v [] (Tells (snapped_line time))
+took v ToSnap (server.Refused about code kept more) = go_on v [] (Tells (snap_refused_line code kept))
+took v aim frame = go_on v [] (Receives aim)
+
+-- a base that is none: a view that joins for the first time asks for the whole log then
+abbrev pub bad_base : Viewer → Aim → Phase
+bad_base v (ToJoin Fresh) = Returning v Whole
+bad_base v aim = Over ending.Peer
+
+-- What the replica made of a frame. One whose memory ran out is broken from then on.
+abbrev pub takes : Viewer → Aim → ServerFrame → Option ReplicaFault → Phase
+takes v aim frame None = took v aim frame
+takes v aim frame (Some (fault.Refused about code kept)) = Over (ending.Refused code kept)
+takes v aim frame (Some fault.BadBase) = bad_base v aim
+takes v aim frame (Some fault.Unasked) = Over ending.Peer
+takes v aim frame (Some (fault.OutOfOrder expected found)) = Over ending.Peer
+takes v aim frame (Some (fault.Back time)) = Over ending.Peer
+takes v aim frame (Some fault.Broken) = Over ending.WantOfMemory
+takes v aim frame (Some fault.WantOfMemory) = Over ending.WantOfMemory
+
+abbrev pub with_taken : Viewer → Taken WorldRecord PlainOutgoing → Viewer
+with_taken v t = record v { replica = t.replica }
+
+abbrev pub reads : Viewer → Aim → Option ServerFrame → Phase
+reads v aim None = Over ending.Peer
+reads v aim (Some frame) =
+    let t = taken v.worlds v.replica frame in
+    takes (with_taken v t) aim frame t.fault
+
+-- the link was heard once more, and was not quiet, or was
+abbrev pub heard_frame : Viewer → Viewer
+heard_frame v = record v { receives = v.receives + 1; quiets = 0 }
+
+abbrev pub heard_quiet : Viewer → Viewer
+heard_quiet v = record v { receives = v.receives + 1; quiets = v.quiets + 1 }
+
+abbrev pub quiet : Viewer → Aim → Phase
+quiet v aim = if v.quiets == most_quiets then Over ending.Ended else go_on v [] (Receives aim)
+
+-- ---- the step that is due, and what it makes of a phase
+
+-- what the link said
+abbrev pub Hearing : Viewer → Aim → Heard → Phase → Type 0
+Hearing v aim (heard.Frame bytes) next = next ≡ reads (heard_frame v) aim (whole server_at bytes)
+Hearing v aim heard.Quiet next = next ≡ quiet (heard_quiet v) aim
+Hearing v aim heard.End next = next ≡ Over ending.Ended
+Hearing v aim what next = ⊥
+
+abbrev pub Moves : Phase → Step → Phase → Type 0
+Moves (Connecting v how) (Connects address) next = (address ≡ v.address) × (next ≡ enter v how)
+Moves (Sending v frame frames task) (Sends bytes) next = (bytes ≡ client_spelling frame) × (next ≡ send_all (record v { receives = 0 }) frames task)
+Moves (Receiving v aim) (Hears what) next = Hearing v aim what next
+Moves (Printing v text) (Prints piece) next = (piece ≡ text) × (next ≡ run v v.lines)
+Moves (PrintingLast text) (Prints piece) next = (piece ≡ text) × (next ≡ Over ending.Done)
+Moves (Returning v how) Returns next = next ≡ Connecting v how
+Moves phase step next = ⊥
+
+-- these steps lead from one phase to another
+abbrev pub Walks : Phase → List Step → Phase → Type 0
+Walks from [] to = from ≡ to
+Walks from (step ∷ steps) to = (next : Phase) × Moves from step next × Walks next steps to

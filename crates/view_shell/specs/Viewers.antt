@@ -1,0 +1,61 @@
+-- What contracts see of a view while it runs.
+use Rattle.std.specs.Prelude.{◌≡◌, ◌≤◌, ◌<◌, ℕ, ◌+◌, drop, length, List, []}
+use Rattle.model_lang.specs.Tree.{ProgramTree}
+use Rattle.replica_plain.specs.declared.how.How.TheVariants.{Fresh}
+use Rattle.replica_plain.specs.PlainReplica.{founded, published_count}
+use Rattle.replica.specs.RealWorlds.{worlds}
+use Rattle.replica.specs.View.{worlds_of}
+use Rattle.view_script.specs.PlainLine.{PlainLine, publish_count, most_publishes}
+use Rattle.view_shell.specs.declared.lines.Departure.{Departure}
+use Rattle.view_shell.specs.declared.lines.Departure.TheVariants as departure
+use Rattle.view_shell.specs.declared.watcher.Watcher.{Watcher}
+use Rattle.view_shell.specs.Phases.{Viewer, Phase, Connecting, most_quiets, most_receives}
+
+-- the view, with what is left of its script
+abbrev pub viewer : List ℕ → Watcher → List PlainLine → Viewer
+viewer address w lines =
+    record {
+      worlds = worlds_of w.replica;
+      address = address;
+      replica = w.replica.plain;
+      topics = w.topics;
+      lines = lines;
+      receives = w.receives;
+      quiets = w.quiets;
+    }
+
+-- a view that has done nothing yet
+abbrev pub first_viewer : ProgramTree → List ℕ → ℕ → List ℕ → List PlainLine → Viewer
+first_viewer tree id view address lines =
+    let m = worlds tree id in
+    record { worlds = m; address = address; replica = founded m view; topics = []; lines = lines; receives = 0; quiets = 0 }
+
+-- it connects, and joins for the first time
+abbrev pub first_phase : ProgramTree → List ℕ → ℕ → List ℕ → List PlainLine → Phase
+first_phase tree id view address lines = Connecting (first_viewer tree id view address lines) Fresh
+
+-- the events that were published and those that its script has yet to publish are no more than a view may publish
+abbrev pub HasRoomFor : Watcher → List PlainLine → Type 0
+HasRoomFor w lines = w.published + publish_count lines ≤ most_publishes
+
+-- it knows its own number, and how many events it published
+pub record KnowsItself (w : Watcher) : Type 0 where
+  pub view : w.view ≡ w.replica.plain.view
+  pub published : w.published ≡ published_count w.replica.plain
+
+-- it may hear its link: it is not due to say that it is alive, and the link was not quiet too often
+pub record IsReady (w : Watcher) : Type 0 where
+  pub knows : KnowsItself w
+  pub receives : w.receives < most_receives
+  pub quiets : w.quiets < most_quiets
+
+-- it has heard its link once more
+pub record HasHeard (w : Watcher) : Type 0 where
+  pub knows : KnowsItself w
+  pub receives : w.receives ≤ most_receives
+  pub quiets : w.quiets < most_quiets
+
+-- a view that goes on on another link has room for the events that are left
+abbrev pub HasRoomBehind : Departure → Watcher → List PlainLine → Type 0
+HasRoomBehind (departure.Again how count) w lines = (count ≤ length lines) × HasRoomFor w (drop count lines)
+HasRoomBehind departure.Done w lines = Unit {0}

@@ -1,0 +1,316 @@
+//! What a view hears its link for.
+ghost use Rattle.std.specs.Prelude.{◌≡◌, ℕ, List, [], ◌∷◌, ◌≤◌, ◌<◌, ◌+◌, None, Some, IfOk, OnOk, MatchResult};
+ghost use Rattle.byte_fields.specs.Fields.{whole};
+ghost use Rattle.wire_frames.specs.Reading.{server_at};
+ghost use Rattle.run_steps.specs.Outside.{links_tell};
+ghost use Rattle.replica.specs.View.{KeepsSession};
+ghost use Rattle.replica_plain.specs.declared.how.How.{How};
+ghost use Rattle.view_script.specs.PlainLine.{PlainLine};
+ghost use Rattle.view_shell.specs.Phases.{Aim, ToJoin, ToReach, ToSettle, ToSnap, Begins, Receives, Receiving, Tells, finish, go_on, reads, receive, send_all, took};
+ghost use Rattle.view_shell.specs.ViewText.{settled_line, snap_refused_line, snapped_line, time_line};
+ghost use Rattle.view_shell.specs.Viewers.{HasHeard, IsReady, KnowsItself, viewer};
+ghost use Rattle.view_shell.specs.ViewRun.{Goes, LinkActs, Stops};
+ghost use Rattle.view_shell.specs.Hearing.{GoesOnFor, HeardPhase, StopsAt, StopsHearing, answer_in, answer_line, answered_phase, joined_phase, stop_for, sync_in, synced_phase};
+
+use crate::ending::ViewEnd;
+use crate::sending::stay_alive;
+use crate::watcher::Watcher;
+use replica_plain::ReplicaFault;
+use std::sync::Wait;
+use tea_base::Blob;
+use tea_io::{Heard, Link};
+use wire_frames::{FrameFault, ServerFrame, read_server};
+
+/// A link that is quiet so often in a row is over.
+const MOST_QUIETS: u32 = 6000;
+
+/// Why a view does not go on on its link.
+#[derive(Clone, Copy, Debug, PartialEq, Eq)]
+pub enum Stop {
+    /// Its run ends so.
+    End(ViewEnd),
+    /// The base of a Sync is none.
+    BadBase,
+}
+
+/// What a replica's fault comes to.
+fn stop_for(fault: ReplicaFault) -> Stop
+    ensures { result ≡ stop_for fault }
+{
+    match fault {
+        ReplicaFault::Refused { code, kept, .. } => Stop::End(ViewEnd::Refused { code, kept }),
+        ReplicaFault::BadBase => Stop::BadBase,
+        ReplicaFault::Broken | ReplicaFault::WantOfMemory => Stop::End(ViewEnd::WantOfMemory),
+        ReplicaFault::Unasked | ReplicaFault::OutOfOrder { .. } | ReplicaFault::Back { .. } =>
+            Stop::End(ViewEnd::Peer),
+    }
+}
+
+/// The frame that bytes spell, once the replica has taken it.
+fn take(watcher: &mut Watcher, bytes: &Blob) -> Result<ServerFrame, Stop>
+    ensures kept { watcher.new ≡ record watcher.old { replica = watcher.new.replica } }
+    ensures session { KeepsSession watcher.old.replica watcher.new.replica }
+    ensures knows { KnowsItself watcher.old → KnowsItself watcher.new }
+    ensures taken { (address : List ℕ) (lines : List PlainLine) (aim : Aim) → MatchResult result
+        (λ frame. reads (viewer address watcher.old lines) aim (whole server_at bytes.now) ≡ took (viewer address watcher.new lines) aim frame)
+        (λ stop. StopsAt stop (reads (viewer address watcher.old lines) aim (whole server_at bytes.now)) (viewer address watcher.new lines) aim) }
+{
+    let frame = match read_server(watcher.alloc, bytes.bytes()) {
+        Ok(frame) => frame,
+        Err(FrameFault::BadFrame) => return Err(Stop::End(ViewEnd::Peer)),
+        Err(FrameFault::WantOfMemory) => return Err(Stop::End(ViewEnd::WantOfMemory)),
+    };
+    match watcher.replica.take(&frame) {
+        Ok(()) => Ok(frame),
+        Err(fault) => Err(stop_for(fault)),
+    }
+}
+
+/// Hears the link once: the frame that was taken, or none where the link was quiet.
+fn hear<L: Link>(watcher: &mut Watcher, link: &mut L) -> Result<Option<ServerFrame>, Stop>
+    requires ready { IsReady watcher.old }
+    ensures kept { watcher.new ≡ record watcher.old { replica = watcher.new.replica; receives = watcher.new.receives; quiets = watcher.new.quiets } }
+    ensures heard { OnOk result (HasHeard watcher.new) }
+    ensures knows { KnowsItself watcher.new }
+    ensures talk { (address : List ℕ) (lines : List PlainLine) (aim : Aim) → MatchResult result
+        (λ frame. Goes (LinkActs (links_tell L.coming L.heard L.sent L.counts))
+        (Receiving (viewer address watcher.old lines) aim) (HeardPhase (viewer address watcher.new lines) aim frame) link.old link.new)
+        (λ stop. StopsHearing (LinkActs (links_tell L.coming L.heard L.sent L.counts)) stop
+        (Receiving (viewer address watcher.old lines) aim) (viewer address watcher.new lines) aim link.old link.new) }
+{
+    match link.recv() {
+        Heard::Frame(bytes) => {
+            watcher.receives += 1;
+            watcher.quiets = 0;
+            match take(watcher, &bytes) {
+                Ok(frame) => Ok(Some(frame)),
+                Err(stop) => Err(stop),
+            }
+        }
+        Heard::Quiet => {
+            watcher.receives += 1;
+            watcher.quiets += 1;
+            if watcher.quiets == MOST_QUIETS {
+                Err(Stop::End(ViewEnd::Ended))
+            } else {
+                Ok(None)
+            }
+        }
+        Heard::End => Err(Stop::End(ViewEnd::Ended)),
+        Heard::Failed => Err(Stop::End(ViewEnd::NetFault)),
+        Heard::WantOfMemory => Err(Stop::End(ViewEnd::WantOfMemory)),
+    }
+}
+
+/// Hears the link once, and stays alive. A base that is none is the reflector's fault here.
+fn hear_on<L: Link>(watcher: &mut Watcher, link: &mut L) -> Result<(), ViewEnd>
+    requires ready { IsReady watcher.old }
+    ensures kept { watcher.new ≡ record watcher.old { replica = watcher.new.replica; receives = watcher.new.receives; quiets = watcher.new.quiets } }
+    ensures ready { OnOk result (IsReady watcher.new) }
+    ensures talk { (address : List ℕ) (lines : List PlainLine) (aim : Aim) → GoesOnFor aim → MatchResult result
+        (λ _. Goes (LinkActs (links_tell L.coming L.heard L.sent L.counts))
+        (Receiving (viewer address watcher.old lines) aim) (receive (viewer address watcher.new lines) aim) link.old link.new)
+        (λ end. Stops (LinkActs (links_tell L.coming L.heard L.sent L.counts))
+        (Receiving (viewer address watcher.old lines) aim) end link.old link.new) }
+{
+    match hear(watcher, link) {
+        Ok(_) => {}
+        Err(Stop::End(end)) => return Err(end),
+        Err(Stop::BadBase) => return Err(ViewEnd::Peer),
+    }
+    match stay_alive(watcher, link) {
+        Ok(()) => Ok(()),
+        Err(end) => Err(end),
+    }
+}
+
+/// Hears the link until the replica's time is this one or later.
+pub fn reach<R: Wait, L: Link>(
+    rt: &R,
+    watcher: &mut Watcher,
+    link: &mut L,
+    time: u64,
+) -> Result<(), ViewEnd>
+    requires ready { IsReady watcher.old }
+    ensures kept { watcher.new ≡ record watcher.old { replica = watcher.new.replica; receives = watcher.new.receives; quiets = watcher.new.quiets } }
+    ensures ready { OnOk result (IsReady watcher.new) }
+    ensures talk { (address : List ℕ) (lines : List PlainLine) → MatchResult result
+        (λ _. Goes (LinkActs (links_tell L.coming L.heard L.sent L.counts))
+        (receive (viewer address watcher.old lines) (ToReach time))
+        (finish (viewer address watcher.new lines) (time_line watcher.new.replica.plain.world.time)) link.old link.new)
+        (λ end. Stops (LinkActs (links_tell L.coming L.heard L.sent L.counts))
+        (receive (viewer address watcher.old lines) (ToReach time)) end link.old link.new) }
+{
+    for _ in rt.forever() {
+        if time <= watcher.replica.time() {
+            return Ok(());
+        }
+        match hear_on(watcher, link) {
+            Ok(()) => {}
+            Err(end) => return Err(end),
+        }
+    }
+    unreachable!()
+}
+
+/// Hears the link until each event is acknowledged.
+pub fn settle<R: Wait, L: Link>(rt: &R, watcher: &mut Watcher, link: &mut L) -> Result<(), ViewEnd>
+    requires ready { IsReady watcher.old }
+    ensures kept { watcher.new ≡ record watcher.old { replica = watcher.new.replica; receives = watcher.new.receives; quiets = watcher.new.quiets } }
+    ensures ready { OnOk result (IsReady watcher.new) }
+    ensures talk { (address : List ℕ) (lines : List PlainLine) → MatchResult result
+        (λ _. Goes (LinkActs (links_tell L.coming L.heard L.sent L.counts))
+        (receive (viewer address watcher.old lines) ToSettle)
+        (finish (viewer address watcher.new lines) (settled_line watcher.new.published)) link.old link.new)
+        (λ end. Stops (LinkActs (links_tell L.coming L.heard L.sent L.counts))
+        (receive (viewer address watcher.old lines) ToSettle) end link.old link.new) }
+{
+    for _ in rt.forever() {
+        if watcher.replica.settled() {
+            return Ok(());
+        }
+        match hear_on(watcher, link) {
+            Ok(()) => {}
+            Err(end) => return Err(end),
+        }
+    }
+    unreachable!()
+}
+
+/// The answer to a snapshot.
+#[derive(Clone, Copy, Debug, PartialEq, Eq)]
+pub enum SnapAnswer {
+    /// It is kept, with its time.
+    Kept { time: u64 },
+    /// It is refused, with a code and the value that comes with it.
+    Refused { code: u8, kept: u64 },
+}
+
+/// The answer to a snapshot that a frame brings, if it brings one.
+fn answer_in(frame: &Option<ServerFrame>) -> Option<SnapAnswer>
+    ensures { result ≡ answer_in frame.now }
+{
+    match frame {
+        Some(ServerFrame::Snapped { time }) => Some(SnapAnswer::Kept { time: *time }),
+        Some(ServerFrame::Refused { code, kept, .. }) => Some(SnapAnswer::Refused {
+            code: *code,
+            kept: *kept,
+        }),
+        _ => None,
+    }
+}
+
+/// Hears the link once, for the answer to a snapshot, and stays alive.
+fn hear_answer<L: Link>(watcher: &mut Watcher, link: &mut L) -> Result<Option<SnapAnswer>, ViewEnd>
+    requires ready { IsReady watcher.old }
+    ensures kept { watcher.new ≡ record watcher.old { replica = watcher.new.replica; receives = watcher.new.receives; quiets = watcher.new.quiets } }
+    ensures ready { OnOk result (IsReady watcher.new) }
+    ensures talk { (address : List ℕ) (lines : List PlainLine) → MatchResult result
+        (λ found. Goes (LinkActs (links_tell L.coming L.heard L.sent L.counts))
+        (Receiving (viewer address watcher.old lines) ToSnap) (answered_phase (viewer address watcher.new lines) found) link.old link.new)
+        (λ end. Stops (LinkActs (links_tell L.coming L.heard L.sent L.counts))
+        (Receiving (viewer address watcher.old lines) ToSnap) end link.old link.new) }
+{
+    let found = match hear(watcher, link) {
+        Ok(frame) => answer_in(&frame),
+        Err(Stop::End(end)) => return Err(end),
+        Err(Stop::BadBase) => return Err(ViewEnd::Peer),
+    };
+    match stay_alive(watcher, link) {
+        Ok(()) => Ok(found),
+        Err(end) => Err(end),
+    }
+}
+
+/// Hears the link until the snapshot is answered.
+pub fn await_answer<R: Wait, L: Link>(
+    rt: &R,
+    watcher: &mut Watcher,
+    link: &mut L,
+) -> Result<SnapAnswer, ViewEnd>
+    requires ready { IsReady watcher.old }
+    ensures kept { watcher.new ≡ record watcher.old { replica = watcher.new.replica; receives = watcher.new.receives; quiets = watcher.new.quiets } }
+    ensures ready { OnOk result (IsReady watcher.new) }
+    ensures talk { (address : List ℕ) (lines : List PlainLine) → MatchResult result
+        (λ answer. Goes (LinkActs (links_tell L.coming L.heard L.sent L.counts))
+        (Receiving (viewer address watcher.old lines) ToSnap) (finish (viewer address watcher.new lines) (answer_line answer)) link.old link.new)
+        (λ end. Stops (LinkActs (links_tell L.coming L.heard L.sent L.counts))
+        (Receiving (viewer address watcher.old lines) ToSnap) end link.old link.new) }
+{
+    for _ in rt.forever() {
+        match hear_answer(watcher, link) {
+            Ok(Some(answer)) => return Ok(answer),
+            Ok(None) => {}
+            Err(end) => return Err(end),
+        }
+    }
+    unreachable!()
+}
+
+/// What a Sync says: the entry by which the view joined, and how many entries it begins behind.
+#[derive(Clone, Copy, Debug, PartialEq, Eq)]
+pub struct Synced {
+    pub joined: u32,
+    pub from: u32,
+}
+
+/// The Sync that a frame is, if it is one.
+fn sync_in(frame: &Option<ServerFrame>) -> Option<Synced>
+    ensures { result ≡ sync_in frame.now }
+{
+    match frame {
+        Some(ServerFrame::Sync { joined, from, .. }) => Some(Synced {
+            joined: *joined,
+            from: *from,
+        }),
+        _ => None,
+    }
+}
+
+/// Hears the link once, for a Sync, and stays alive.
+fn hear_sync<L: Link>(watcher: &mut Watcher, link: &mut L) -> Result<Option<Synced>, Stop>
+    requires ready { IsReady watcher.old }
+    ensures kept { watcher.new ≡ record watcher.old { replica = watcher.new.replica; receives = watcher.new.receives; quiets = watcher.new.quiets } }
+    ensures ready { OnOk result (IsReady watcher.new) }
+    ensures knows { KnowsItself watcher.new }
+    ensures talk { (address : List ℕ) (lines : List PlainLine) (how : How) → MatchResult result
+        (λ found. Goes (LinkActs (links_tell L.coming L.heard L.sent L.counts))
+        (Receiving (viewer address watcher.old lines) (ToJoin how)) (joined_phase (viewer address watcher.new lines) how found) link.old link.new)
+        (λ stop. StopsHearing (LinkActs (links_tell L.coming L.heard L.sent L.counts)) stop
+        (Receiving (viewer address watcher.old lines) (ToJoin how)) (viewer address watcher.new lines) (ToJoin how) link.old link.new) }
+{
+    let found = match hear(watcher, link) {
+        Ok(frame) => sync_in(&frame),
+        Err(stop) => return Err(stop),
+    };
+    match stay_alive(watcher, link) {
+        Ok(()) => Ok(found),
+        Err(end) => Err(Stop::End(end)),
+    }
+}
+
+/// Hears the link until a Sync is taken.
+pub fn await_sync<R: Wait, L: Link>(
+    rt: &R,
+    watcher: &mut Watcher,
+    link: &mut L,
+) -> Result<Synced, Stop>
+    requires ready { IsReady watcher.old }
+    ensures kept { watcher.new ≡ record watcher.old { replica = watcher.new.replica; receives = watcher.new.receives; quiets = watcher.new.quiets } }
+    ensures ready { OnOk result (IsReady watcher.new) }
+    ensures knows { KnowsItself watcher.new }
+    ensures talk { (address : List ℕ) (lines : List PlainLine) (how : How) → MatchResult result
+        (λ found. Goes (LinkActs (links_tell L.coming L.heard L.sent L.counts))
+        (Receiving (viewer address watcher.old lines) (ToJoin how)) (synced_phase (viewer address watcher.new lines) how found) link.old link.new)
+        (λ stop. StopsHearing (LinkActs (links_tell L.coming L.heard L.sent L.counts)) stop
+        (Receiving (viewer address watcher.old lines) (ToJoin how)) (viewer address watcher.new lines) (ToJoin how) link.old link.new) }
+{
+    for _ in rt.forever() {
+        match hear_sync(watcher, link) {
+            Ok(Some(found)) => return Ok(found),
+            Ok(None) => {}
+            Err(stop) => return Err(stop),
+        }
+    }
+    unreachable!()
+}

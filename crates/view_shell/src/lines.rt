@@ -1,0 +1,524 @@
+//! The lines of a script, done one after the other on one link.
+ghost use Rattle.std.specs.Prelude.{◌≡◌, ◌≤◌, ◌<◌, ◌+◌, ℕ, List, [], ◌∷◌, map, length, drop, IfOk, IfErr, OnOk, MatchResult, string_bytes};
+ghost use Rattle.run_steps.specs.Outside.{Acts, PrintsText, Well, links_tell, output_tells, window, window_tells};
+ghost use Rattle.model_value.specs.Payload.{payload_spelling};
+ghost use Rattle.model_value.specs.Plain.{InBounds};
+ghost use Rattle.model_value.specs.View.{plain};
+ghost use Rattle.replica_plain.specs.Calls.{publishes, snap_frame, takes_out, unsent};
+ghost use Rattle.replica.specs.View.{with_plain, worlds_of};
+ghost use Rattle.tea_base.specs.Limits.{most_payload};
+ghost use Rattle.view_bridge.specs.Topics.{subscribes};
+ghost use Rattle.view_script.specs.PlainLine.{LineFits, PlainLine, most_publishes, payload_length, plain_line, plain_lines, publishes as publishes_one};
+ghost use Rattle.std.specs.List.{AllByRecursion};
+ghost use Rattle.view_shell.specs.Phases.{Over, Viewer, Receives, Receiving, Sending, Tells, ToReach, ToSettle, ToSnap, finish, given, leave, receive, run, send_all, shown_text};
+ghost use Rattle.view_shell.specs.ViewText.{digested_line, numbers_line, view_line};
+ghost use Rattle.view_shell.specs.Viewers.{HasRoomBehind, HasRoomFor, IsReady, KnowsItself, viewer};
+ghost use Rattle.view_shell.specs.Flows.{departure_phase, flow_of, flow_phase};
+ghost use Rattle.view_shell.specs.ViewRun.{Goes, LinkActs, Stops, StopsPrinting};
+ghost use Rattle.view_shell.specs.Hearing.{answer_line, rejoined_text};
+
+use crate::ending::ViewEnd;
+use crate::hearing::{SnapAnswer, Synced, await_answer, reach, settle};
+use crate::sending::{send, send_unsent};
+use crate::text::{events_text, numbers_line};
+use crate::watcher::Watcher;
+use model_value::Value;
+use replica_plain::{How, PublishRefusal};
+use run_steps::{CallFault, print_text};
+use snapshot_codec::digest;
+use std::sync::Wait;
+use tea_base::{Text, WantOfMemory};
+use tea_io::{Link, Sink};
+use text_lines::numbered;
+use view_bridge::Handling;
+use view_script::ViewLine;
+use wire_frames::ClientFrame;
+
+/// What comes of a line.
+#[derive(Clone, Copy, Debug, PartialEq, Eq)]
+pub enum Flow {
+    /// The script goes on.
+    GoesOn,
+    /// The link is cut.
+    Cuts,
+    /// The view has left.
+    Leaves,
+}
+
+/// What comes of a link.
+#[derive(Clone, Copy, Debug, PartialEq, Eq)]
+pub enum Departure {
+    /// Another one is made, on which the view joins so, and the script goes on behind so many lines.
+    Again { how: How, count: usize },
+    /// The view has left.
+    Done,
+}
+
+// ---- printing
+
+/// Prints a text. Of an empty one the output is not asked.
+fn print<W: Sink>(out: &mut W, text: &[u8]) -> Result<(), ViewEnd>
+    ensures ok { OnOk result (PrintsText (output_tells W.written W.faults W.wants) Well text.now out.old out.new) }
+    ensures err { IfErr result (λ end. StopsPrinting (output_tells W.written W.faults W.wants) end text.now out.old out.new) }
+{
+    if text.is_empty() {
+        return Ok(());
+    }
+    match print_text(out, text) {
+        Ok(()) => Ok(()),
+        Err(CallFault::Failed) => Err(ViewEnd::WriteFault),
+        Err(CallFault::WantOfMemory) => Err(ViewEnd::WantOfMemory),
+    }
+}
+
+/// The lines of the events that models published, as they are handled, and then a text.
+fn shown_text(watcher: &mut Watcher, text: &str) -> Result<String, WantOfMemory>
+    ensures kept { watcher.new ≡ record watcher.old { replica = with_plain watcher.old.replica (takes_out watcher.old.replica.plain) } }
+    ensures shown { (address : List ℕ) (lines : List PlainLine) → IfOk result (λ shown. string_bytes shown ≡ shown_text (viewer address watcher.old lines) text.now) }
+{
+    let events = watcher.replica.take_out();
+    let handled = watcher.topics.update(events)?;
+    let mut shown = events_text(watcher.alloc, &handled)?;
+    shown.push_str(text)?;
+    Ok(shown)
+}
+
+/// A line of the script is done: the events are handled and told, and then the line's own text.
+fn finish<W: Sink>(watcher: &mut Watcher, out: &mut W, text: &str) -> Result<(), ViewEnd>
+    ensures kept { watcher.new ≡ record watcher.old { replica = with_plain watcher.old.replica (takes_out watcher.old.replica.plain) } }
+    ensures ok { (address : List ℕ) (lines : List PlainLine) → OnOk result (PrintsText (output_tells W.written W.faults W.wants) Well (shown_text (viewer address watcher.old lines) text.now) out.old out.new) }
+    ensures err { (address : List ℕ) (lines : List PlainLine) → IfErr result (λ end. StopsPrinting (output_tells W.written W.faults W.wants) end (shown_text (viewer address watcher.old lines) text.now) out.old out.new) }
+{
+    let shown = match shown_text(watcher, text) {
+        Ok(shown) => shown,
+        Err(WantOfMemory) => return Err(ViewEnd::WantOfMemory),
+    };
+    print(out, shown.as_bytes())
+}
+
+/// A line of the script is done, with a text of a word and numbers.
+fn finish_with<W: Sink>(
+    watcher: &mut Watcher,
+    out: &mut W,
+    word: &str,
+    numbers: &[u64],
+) -> Result<(), ViewEnd>
+    ensures kept { watcher.new ≡ record watcher.old { replica = watcher.new.replica } }
+    ensures ok { OnOk result (watcher.new.replica ≡ with_plain watcher.old.replica (takes_out watcher.old.replica.plain)) }
+    ensures printed { (address : List ℕ) (lines : List PlainLine) → OnOk result (PrintsText (output_tells W.written W.faults W.wants) Well (shown_text (viewer address watcher.old lines) (numbers_line word.now numbers.now)) out.old out.new) }
+    ensures err { (address : List ℕ) (lines : List PlainLine) → IfErr result (λ end. StopsPrinting (output_tells W.written W.faults W.wants) end (shown_text (viewer address watcher.old lines) (numbers_line word.now numbers.now)) out.old out.new) }
+{
+    let text = match numbers_line(watcher.alloc, word, numbers) {
+        Ok(text) => text,
+        Err(WantOfMemory) => return Err(ViewEnd::WantOfMemory),
+    };
+    finish(watcher, out, text.as_str())
+}
+
+// ---- lines
+
+/// Waits for a time.
+fn wait<R: Wait, L: Link, W: Sink>(
+    rt: &R,
+    watcher: &mut Watcher,
+    link: &mut L,
+    out: &mut W,
+    time: u64,
+) -> Result<(), ViewEnd>
+    requires ready { IsReady watcher.old }
+    ensures kept { watcher.new ≡ record watcher.old { replica = watcher.new.replica; receives = watcher.new.receives; quiets = watcher.new.quiets } }
+    ensures ready { OnOk result (IsReady watcher.new) }
+    ensures talk { (address : List ℕ) (lines : List PlainLine) → MatchResult result
+        (λ _. Goes (Acts (window_tells (output_tells W.written W.faults W.wants) (links_tell L.coming L.heard L.sent L.counts)))
+        (receive (viewer address watcher.old lines) (ToReach time))
+        (run (viewer address watcher.new lines) lines) (window out.old link.old) (window out.new link.new))
+        (λ end. Stops (Acts (window_tells (output_tells W.written W.faults W.wants) (links_tell L.coming L.heard L.sent L.counts)))
+        (receive (viewer address watcher.old lines) (ToReach time)) end (window out.old link.old) (window out.new link.new)) }
+{
+    match reach(rt, watcher, link, time) {
+        Ok(()) => {}
+        Err(end) => return Err(end),
+    }
+    let time = watcher.replica.time();
+    match finish_with(watcher, out, "time", &[time]) {
+        Ok(()) => Ok(()),
+        Err(end) => Err(end),
+    }
+}
+
+/// Waits until each event is acknowledged.
+fn await_settled<R: Wait, L: Link, W: Sink>(
+    rt: &R,
+    watcher: &mut Watcher,
+    link: &mut L,
+    out: &mut W,
+) -> Result<(), ViewEnd>
+    requires ready { IsReady watcher.old }
+    ensures kept { watcher.new ≡ record watcher.old { replica = watcher.new.replica; receives = watcher.new.receives; quiets = watcher.new.quiets } }
+    ensures ready { OnOk result (IsReady watcher.new) }
+    ensures talk { (address : List ℕ) (lines : List PlainLine) → MatchResult result
+        (λ _. Goes (Acts (window_tells (output_tells W.written W.faults W.wants) (links_tell L.coming L.heard L.sent L.counts)))
+        (receive (viewer address watcher.old lines) ToSettle)
+        (run (viewer address watcher.new lines) lines) (window out.old link.old) (window out.new link.new))
+        (λ end. Stops (Acts (window_tells (output_tells W.written W.faults W.wants) (links_tell L.coming L.heard L.sent L.counts)))
+        (receive (viewer address watcher.old lines) ToSettle) end (window out.old link.old) (window out.new link.new)) }
+{
+    match settle(rt, watcher, link) {
+        Ok(()) => {}
+        Err(end) => return Err(end),
+    }
+    let count = u64::from(watcher.published);
+    match finish_with(watcher, out, "settled", &[count]) {
+        Ok(()) => Ok(()),
+        Err(end) => Err(end),
+    }
+}
+
+/// The frame that offers the replica's snapshot.
+fn snap_frame(watcher: &Watcher) -> Result<ClientFrame, ViewEnd>
+    ensures frame { IfOk result (λ frame. frame ≡ snap_frame (worlds_of watcher.now.replica) watcher.now.replica.plain) }
+    ensures want { IfErr result (λ end. end ≡ ViewEnd.WantOfMemory) }
+{
+    match watcher.replica.snap() {
+        Ok(bytes) => Ok(ClientFrame::Snap {
+            time: watcher.replica.time(),
+            bytes,
+        }),
+        // A replica is broken for want of memory alone.
+        Err(_) => Err(ViewEnd::WantOfMemory),
+    }
+}
+
+/// Offers a snapshot, and waits for the answer.
+fn offer<R: Wait, L: Link>(
+    rt: &R,
+    watcher: &mut Watcher,
+    link: &mut L,
+) -> Result<SnapAnswer, ViewEnd>
+    requires ready { IsReady watcher.old }
+    ensures kept { watcher.new ≡ record watcher.old { replica = watcher.new.replica; receives = watcher.new.receives; quiets = watcher.new.quiets } }
+    ensures ready { OnOk result (IsReady watcher.new) }
+    ensures talk { (address : List ℕ) (lines : List PlainLine) → MatchResult result
+        (λ answer. Goes (LinkActs (links_tell L.coming L.heard L.sent L.counts))
+        (Sending (viewer address watcher.old lines) (snap_frame (worlds_of watcher.old.replica) watcher.old.replica.plain) [] (Receives ToSnap))
+        (finish (viewer address watcher.new lines) (answer_line answer)) link.old link.new)
+        (λ end. Stops (LinkActs (links_tell L.coming L.heard L.sent L.counts))
+        (Sending (viewer address watcher.old lines) (snap_frame (worlds_of watcher.old.replica) watcher.old.replica.plain) [] (Receives ToSnap)) end link.old link.new) }
+{
+    let frame = match snap_frame(watcher) {
+        Ok(frame) => frame,
+        Err(end) => return Err(end),
+    };
+    match send(watcher, link, &frame) {
+        Ok(()) => {}
+        Err(end) => return Err(end),
+    }
+    match await_answer(rt, watcher, link) {
+        Ok(answer) => Ok(answer),
+        Err(end) => Err(end),
+    }
+}
+
+/// Tells the answer to a snapshot.
+fn tell_answer<W: Sink>(
+    watcher: &mut Watcher,
+    out: &mut W,
+    answer: SnapAnswer,
+) -> Result<(), ViewEnd>
+    ensures kept { watcher.new ≡ record watcher.old { replica = watcher.new.replica } }
+    ensures ok { OnOk result (watcher.new.replica ≡ with_plain watcher.old.replica (takes_out watcher.old.replica.plain)) }
+    ensures printed { (address : List ℕ) (lines : List PlainLine) → OnOk result (PrintsText (output_tells W.written W.faults W.wants) Well (shown_text (viewer address watcher.old lines) (answer_line answer)) out.old out.new) }
+    ensures err { (address : List ℕ) (lines : List PlainLine) → IfErr result (λ end. StopsPrinting (output_tells W.written W.faults W.wants) end (shown_text (viewer address watcher.old lines) (answer_line answer)) out.old out.new) }
+{
+    match answer {
+        SnapAnswer::Kept { time } => finish_with(watcher, out, "snapped", &[time]),
+        SnapAnswer::Refused { code, kept } => {
+            finish_with(watcher, out, "snap-refused", &[u64::from(code), kept])
+        }
+    }
+}
+
+/// Offers a snapshot, and tells the answer.
+fn snap<R: Wait, L: Link, W: Sink>(
+    rt: &R,
+    watcher: &mut Watcher,
+    link: &mut L,
+    out: &mut W,
+) -> Result<(), ViewEnd>
+    requires ready { IsReady watcher.old }
+    ensures kept { watcher.new ≡ record watcher.old { replica = watcher.new.replica; receives = watcher.new.receives; quiets = watcher.new.quiets } }
+    ensures ready { OnOk result (IsReady watcher.new) }
+    ensures talk { (address : List ℕ) (lines : List PlainLine) → MatchResult result
+        (λ _. Goes (Acts (window_tells (output_tells W.written W.faults W.wants) (links_tell L.coming L.heard L.sent L.counts)))
+        (Sending (viewer address watcher.old lines) (snap_frame (worlds_of watcher.old.replica) watcher.old.replica.plain) [] (Receives ToSnap))
+        (run (viewer address watcher.new lines) lines) (window out.old link.old) (window out.new link.new))
+        (λ end. Stops (Acts (window_tells (output_tells W.written W.faults W.wants) (links_tell L.coming L.heard L.sent L.counts)))
+        (Sending (viewer address watcher.old lines) (snap_frame (worlds_of watcher.old.replica) watcher.old.replica.plain) [] (Receives ToSnap)) end (window out.old link.old) (window out.new link.new)) }
+{
+    let answer = match offer(rt, watcher, link) {
+        Ok(answer) => answer,
+        Err(end) => return Err(end),
+    };
+    match tell_answer(watcher, out, answer) {
+        Ok(()) => Ok(()),
+        Err(end) => Err(end),
+    }
+}
+
+/// Publishes an event.
+fn publish(watcher: &mut Watcher, scope: &Text, event: &Text, value: &Value) -> Result<(), ViewEnd>
+    requires ready { IsReady watcher.old }
+    requires bounds { InBounds (plain value.now) }
+    requires short { payload_length scope.now event.now (plain value.now) ≤ most_payload }
+    requires room { watcher.old.published < most_publishes }
+    ensures kept { watcher.new ≡ record watcher.old { replica = watcher.new.replica; published = watcher.new.published } }
+    ensures count { OnOk result (watcher.new.published ≡ watcher.old.published + 1) }
+    ensures ready { OnOk result (IsReady watcher.new) }
+    ensures publishes { OnOk result (watcher.new.replica ≡ with_plain watcher.old.replica
+        (publishes watcher.old.replica.plain (payload_spelling (record { scope = scope.now; event = event.now; value = plain value.now })))) }
+    ensures want { IfErr result (λ end. end ≡ ViewEnd.WantOfMemory) }
+{
+    match watcher.replica.publish(scope, event, value) {
+        Ok(number) => {
+            watcher.published = number;
+            Ok(())
+        }
+        Err(PublishRefusal::WantOfMemory) => Err(ViewEnd::WantOfMemory),
+        // A script publishes no payload that is too long, and no event too many.
+        Err(PublishRefusal::TooLong { .. } | PublishRefusal::Full { .. }) => unreachable!(),
+    }
+}
+
+/// Tells that the view has joined again, or nothing of its own.
+fn tell_synced<W: Sink>(
+    watcher: &mut Watcher,
+    out: &mut W,
+    synced: Option<Synced>,
+) -> Result<(), ViewEnd>
+    ensures kept { watcher.new ≡ record watcher.old { replica = watcher.new.replica } }
+    ensures ok { OnOk result (watcher.new.replica ≡ with_plain watcher.old.replica (takes_out watcher.old.replica.plain)) }
+    ensures printed { (address : List ℕ) (lines : List PlainLine) → OnOk result (PrintsText (output_tells W.written W.faults W.wants) Well (shown_text (viewer address watcher.old lines) (rejoined_text synced)) out.old out.new) }
+    ensures err { (address : List ℕ) (lines : List PlainLine) → IfErr result (λ end. StopsPrinting (output_tells W.written W.faults W.wants) end (shown_text (viewer address watcher.old lines) (rejoined_text synced)) out.old out.new) }
+{
+    match synced {
+        None => finish(watcher, out, ""),
+        Some(Synced { joined, from }) => {
+            finish_with(
+                watcher,
+                out,
+                "rejoined",
+                &[u64::from(joined), u64::from(from)],
+            )
+        }
+    }
+}
+
+/// Sends the events that were not given yet, and tells the line that the script is at.
+pub fn send_and_tell<L: Link, W: Sink>(
+    watcher: &mut Watcher,
+    link: &mut L,
+    out: &mut W,
+    synced: Option<Synced>,
+) -> Result<(), ViewEnd>
+    requires ready { IsReady watcher.old }
+    ensures kept { watcher.new ≡ record watcher.old { replica = watcher.new.replica; receives = watcher.new.receives; quiets = watcher.new.quiets } }
+    ensures ready { OnOk result (IsReady watcher.new) }
+    ensures talk { (address : List ℕ) (lines : List PlainLine) → MatchResult result
+        (λ _. Goes (Acts (window_tells (output_tells W.written W.faults W.wants) (links_tell L.coming L.heard L.sent L.counts)))
+        (send_all (given (viewer address watcher.old lines)) (unsent watcher.old.replica.plain) (Tells (rejoined_text synced)))
+        (run (viewer address watcher.new lines) lines) (window out.old link.old) (window out.new link.new))
+        (λ end. Stops (Acts (window_tells (output_tells W.written W.faults W.wants) (links_tell L.coming L.heard L.sent L.counts)))
+        (send_all (given (viewer address watcher.old lines)) (unsent watcher.old.replica.plain) (Tells (rejoined_text synced))) end (window out.old link.old) (window out.new link.new)) }
+{
+    match send_unsent(watcher, link) {
+        Ok(()) => {}
+        Err(end) => return Err(end),
+    }
+    match tell_synced(watcher, out, synced) {
+        Ok(()) => Ok(()),
+        Err(end) => Err(end),
+    }
+}
+
+/// Watches a topic.
+fn watch<W: Sink>(
+    watcher: &mut Watcher,
+    out: &mut W,
+    scope: &Text,
+    event: &Text,
+    handling: Handling,
+) -> Result<(), ViewEnd>
+    requires ready { IsReady watcher.old }
+    ensures kept { watcher.new ≡ record watcher.old { replica = watcher.new.replica; topics = watcher.new.topics } }
+    ensures ready { OnOk result (IsReady watcher.new) }
+    ensures topics { OnOk result (watcher.new.topics ≡ subscribes watcher.old.topics scope.now event.now handling) }
+    ensures ok { OnOk result (watcher.new.replica ≡ with_plain watcher.old.replica (takes_out watcher.old.replica.plain)) }
+    ensures printed { (v : Viewer) → v.topics ≡ subscribes watcher.old.topics scope.now event.now handling → v.replica ≡ watcher.old.replica.plain
+        → OnOk result (PrintsText (output_tells W.written W.faults W.wants) Well (shown_text v []) out.old out.new) }
+    ensures err { (v : Viewer) → v.topics ≡ subscribes watcher.old.topics scope.now event.now handling → v.replica ≡ watcher.old.replica.plain
+        → IfErr result (λ end. StopsPrinting (output_tells W.written W.faults W.wants) end (shown_text v []) out.old out.new) }
+{
+    let (scope, event) = match (scope.try_clone(), event.try_clone()) {
+        (Ok(scope), Ok(event)) => (scope, event),
+        _ => return Err(ViewEnd::WantOfMemory),
+    };
+    match watcher.topics.subscribe(scope, event, handling) {
+        Ok(()) => finish(watcher, out, ""),
+        Err(WantOfMemory) => Err(ViewEnd::WantOfMemory),
+    }
+}
+
+// ---- leaving
+
+/// The last line, with the digest of the replica's snapshot.
+fn view_line(watcher: &Watcher, digest: &[u8; 32]) -> Result<String, WantOfMemory>
+    requires knows { KnowsItself watcher.now }
+    ensures { IfOk result (λ line. string_bytes line ≡ digested_line watcher.now.replica.plain digest.now) }
+{
+    let mut line = numbered(watcher.alloc, "view", &[u64::from(watcher.view)])?;
+    let time = numbered(watcher.alloc, " time", &[watcher.replica.time()])?;
+    let seen = numbered(watcher.alloc, " seq", &[u64::from(watcher.replica.seen())])?;
+    line.push_str(time.as_str())?;
+    line.push_str(seen.as_str())?;
+    line.push_str(" digest ")?;
+    line.push_str(hex::encode(watcher.alloc, digest.as_slice())?.as_str())?;
+    line.push_str("\n")?;
+    Ok(line)
+}
+
+/// The last line.
+fn last_line(watcher: &Watcher) -> Result<String, WantOfMemory>
+    requires knows { KnowsItself watcher.now }
+    ensures { IfOk result (λ line. string_bytes line ≡ view_line watcher.now.replica.plain) }
+{
+    match watcher.replica.snap() {
+        Ok(snapshot) => view_line(watcher, &digest(snapshot.bytes())),
+        // A replica is broken for want of memory alone.
+        Err(_) => Err(WantOfMemory),
+    }
+}
+
+/// Leaves the session, and tells the last line.
+fn leave<L: Link, W: Sink>(watcher: &mut Watcher, link: &mut L, out: &mut W) -> Result<(), ViewEnd>
+    requires ready { IsReady watcher.old }
+    ensures kept { watcher.new ≡ record watcher.old { receives = watcher.new.receives } }
+    ensures ready { OnOk result (IsReady watcher.new) }
+    ensures talk { (address : List ℕ) (lines : List PlainLine) → MatchResult result
+        (λ _. Goes (Acts (window_tells (output_tells W.written W.faults W.wants) (links_tell L.coming L.heard L.sent L.counts)))
+        (leave (viewer address watcher.old lines))
+        (Over ViewEnd.Done) (window out.old link.old) (window out.new link.new))
+        (λ end. Stops (Acts (window_tells (output_tells W.written W.faults W.wants) (links_tell L.coming L.heard L.sent L.counts)))
+        (leave (viewer address watcher.old lines)) end (window out.old link.old) (window out.new link.new)) }
+{
+    match send(watcher, link, &ClientFrame::Leave) {
+        Ok(()) => {}
+        Err(end) => return Err(end),
+    }
+    let line = match last_line(watcher) {
+        Ok(line) => line,
+        Err(WantOfMemory) => return Err(ViewEnd::WantOfMemory),
+    };
+    match print(out, line.as_bytes()) {
+        Ok(()) => Ok(()),
+        Err(end) => Err(end),
+    }
+}
+
+// ---- a script
+
+/// What comes of a line that was done so.
+fn flow_of(done: Result<(), ViewEnd>) -> Result<Flow, ViewEnd>
+    ensures { result ≡ flow_of done }
+{
+    match done {
+        Ok(()) => Ok(Flow::GoesOn),
+        Err(end) => Err(end),
+    }
+}
+
+/// Does a line.
+fn run_line<R: Wait, L: Link, W: Sink>(
+    rt: &R,
+    watcher: &mut Watcher,
+    line: &ViewLine,
+    link: &mut L,
+    out: &mut W,
+) -> Result<Flow, ViewEnd>
+    requires ready { IsReady watcher.old }
+    requires fits { LineFits (plain_line line.now) }
+    requires room { watcher.old.published + publishes_one (plain_line line.now) ≤ most_publishes }
+    ensures ready { OnOk result (IsReady watcher.new) }
+    ensures count { OnOk result (watcher.new.published ≡ watcher.old.published + publishes_one (plain_line line.now)) }
+    ensures talk { (address : List ℕ) (lines : List PlainLine) → MatchResult result
+        (λ flow. Goes (Acts (window_tells (output_tells W.written W.faults W.wants) (links_tell L.coming L.heard L.sent L.counts)))
+        (run (viewer address watcher.old (plain_line line.now ∷ lines)) (plain_line line.now ∷ lines))
+        (flow_phase (viewer address watcher.new lines) lines flow) (window out.old link.old) (window out.new link.new))
+        (λ end. Stops (Acts (window_tells (output_tells W.written W.faults W.wants) (links_tell L.coming L.heard L.sent L.counts)))
+        (run (viewer address watcher.old (plain_line line.now ∷ lines)) (plain_line line.now ∷ lines)) end (window out.old link.old) (window out.new link.new)) }
+{
+    match line {
+        ViewLine::Publish {
+            scope,
+            event,
+            value,
+        } => match publish(watcher, scope, event, value) {
+            Ok(()) => flow_of(send_and_tell(watcher, link, out, None)),
+            Err(end) => Err(end),
+        },
+        ViewLine::Watch {
+            scope,
+            event,
+            handling,
+        } => flow_of(watch(watcher, out, scope, event, *handling)),
+        ViewLine::Wait { time } => flow_of(wait(rt, watcher, link, out, *time)),
+        ViewLine::Settle => match send_unsent(watcher, link) {
+            Ok(()) => flow_of(await_settled(rt, watcher, link, out)),
+            Err(end) => Err(end),
+        },
+        ViewLine::Snap => flow_of(snap(rt, watcher, link, out)),
+        ViewLine::Cut => Ok(Flow::Cuts),
+        ViewLine::Quit => match leave(watcher, link, out) {
+            Ok(()) => Ok(Flow::Leaves),
+            Err(end) => Err(end),
+        },
+    }
+}
+
+/// Does lines of a script, up to a cut.
+pub fn run_lines<R: Wait, L: Link, W: Sink>(
+    rt: &R,
+    watcher: &mut Watcher,
+    lines: &[ViewLine],
+    link: &mut L,
+    out: &mut W,
+) -> Result<Departure, ViewEnd>
+    requires ready { IsReady watcher.old }
+    requires fit { AllByRecursion LineFits (plain_lines lines.now) }
+    requires room { HasRoomFor watcher.old (plain_lines lines.now) }
+    ensures knows { OnOk result (KnowsItself watcher.new) }
+    ensures room { IfOk result (λ departure. HasRoomBehind departure watcher.new (plain_lines lines.now)) }
+    ensures talk { (address : List ℕ) → MatchResult result
+        (λ departure. Goes (Acts (window_tells (output_tells W.written W.faults W.wants) (links_tell L.coming L.heard L.sent L.counts)))
+        (run (viewer address watcher.old (plain_lines lines.now)) (plain_lines lines.now))
+        (departure_phase (viewer address watcher.new) (plain_lines lines.now) departure) (window out.old link.old) (window out.new link.new))
+        (λ end. Stops (Acts (window_tells (output_tells W.written W.faults W.wants) (links_tell L.coming L.heard L.sent L.counts)))
+        (run (viewer address watcher.old (plain_lines lines.now)) (plain_lines lines.now)) end (window out.old link.old) (window out.new link.new)) }
+{
+    for place in 0..lines.len() {
+        match run_line(rt, watcher, &lines[place], link, out) {
+            Ok(Flow::GoesOn) => {}
+            Ok(Flow::Cuts) => {
+                return Ok(Departure::Again {
+                    how: How::Resume,
+                    count: place + 1,
+                });
+            }
+            Ok(Flow::Leaves) => return Ok(Departure::Done),
+            Err(end) => return Err(end),
+        }
+    }
+    match leave(watcher, link, out) {
+        Ok(()) => Ok(Departure::Done),
+        Err(end) => Err(end),
+    }
+}

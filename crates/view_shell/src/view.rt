@@ -1,0 +1,239 @@
+//! The run of a view.
+ghost use Rattle.std.specs.Prelude.{◌≡◌, ◌<◌, ◌≤◌, ℕ, List, [], ◌∷◌, None, Some, IfOk, OnOk, MatchResult};
+ghost use Rattle.std.specs.Arc.{arc_value};
+ghost use Rattle.std.specs.List.{AllByRecursion};
+ghost use Rattle.model_lang.specs.TreeView.{program_tree};
+ghost use Rattle.run_steps.specs.Outside.{Acts, booth, booth_tells, links_tell, net_tells, output_tells, window, window_tells};
+ghost use Rattle.view_script.specs.PlainLine.{LineFits, PlainLine, plain_lines};
+ghost use Rattle.view_shell.specs.Phases.{Connecting, ToJoin, enter, run};
+ghost use Rattle.view_shell.specs.Viewers.{HasRoomBehind, HasRoomFor, IsReady, KnowsItself, first_phase, viewer};
+ghost use Rattle.view_shell.specs.Flows.{bad_base_answer, departure_phase};
+ghost use Rattle.view_shell.specs.ViewRun.{Goes, LinkActs, Stops, ViewRan};
+ghost use Rattle.view_shell.specs.Hearing.{StopsHearing, synced_phase};
+
+use crate::ending::ViewEnd;
+use crate::hearing::{Stop, Synced, await_sync};
+use crate::lines::{Departure, run_lines, send_and_tell};
+use crate::sending::send;
+use crate::watcher::Watcher;
+use model_check::Checked;
+use replica::Replica;
+use replica_plain::How;
+use run_steps::{CallFault, connect};
+use std::alloc::Global;
+use std::sync::{Arc, Wait};
+use tea_base::{SessionId, Text, WantOfMemory};
+use tea_io::{Link, Net, Sink};
+use view_bridge::ViewTopics;
+use view_script::{ViewLine, ViewScript};
+
+/// What a view is to do: which program it runs, in which session and as which view, where the session's reflector is, and its script.
+#[derive(Drop)]
+pub struct Visit {
+    pub program: Arc<Checked, Global>,
+    pub id: SessionId,
+    /// Its number.
+    pub view: u32,
+    /// The address of the session's reflector.
+    pub address: Text,
+    pub script: ViewScript,
+}
+
+/// How a view joins on a link, and the lines that are left of its script.
+#[derive(Clone, Copy)]
+pub struct Entry<'a> {
+    pub how: How,
+    pub lines: &'a [ViewLine],
+}
+
+/// Joins on a new link.
+fn join<R: Wait, L: Link>(
+    rt: &R,
+    watcher: &mut Watcher,
+    link: &mut L,
+    how: How,
+) -> Result<Synced, Stop>
+    requires knows { KnowsItself watcher.old }
+    ensures kept { watcher.new ≡ record watcher.old { replica = watcher.new.replica; receives = watcher.new.receives; quiets = watcher.new.quiets } }
+    ensures ready { OnOk result (IsReady watcher.new) }
+    ensures knows { KnowsItself watcher.new }
+    ensures talk { (address : List ℕ) (lines : List PlainLine) → MatchResult result
+        (λ found. Goes (LinkActs (links_tell L.coming L.heard L.sent L.counts))
+        (enter (viewer address watcher.old lines) how) (synced_phase (viewer address watcher.new lines) how found) link.old link.new)
+        (λ stop. StopsHearing (LinkActs (links_tell L.coming L.heard L.sent L.counts)) stop
+        (enter (viewer address watcher.old lines) how) (viewer address watcher.new lines) (ToJoin how) link.old link.new) }
+{
+    // A replica is broken for want of memory alone.
+    if watcher.replica.broken() {
+        return Err(Stop::End(ViewEnd::WantOfMemory));
+    }
+    let frame = watcher.replica.join(how);
+    watcher.receives = 0;
+    watcher.quiets = 0;
+    match send(watcher, link, &frame) {
+        Ok(()) => {}
+        Err(end) => return Err(Stop::End(end)),
+    }
+    match await_sync(rt, watcher, link) {
+        Ok(found) => Ok(found),
+        Err(stop) => Err(stop),
+    }
+}
+
+/// The script of a view that joined begins; behind a cut what is not acknowledged is sent again, and told.
+fn begin<L: Link, W: Sink>(
+    watcher: &mut Watcher,
+    link: &mut L,
+    out: &mut W,
+    how: How,
+    found: Synced,
+) -> Result<(), ViewEnd>
+    requires ready { IsReady watcher.old }
+    ensures ready { OnOk result (IsReady watcher.new) }
+    ensures published { watcher.new.published ≡ watcher.old.published }
+    ensures talk { (address : List ℕ) (lines : List PlainLine) → MatchResult result
+        (λ _. Goes (Acts (window_tells (output_tells W.written W.faults W.wants) (links_tell L.coming L.heard L.sent L.counts)))
+        (synced_phase (viewer address watcher.old lines) how found) (run (viewer address watcher.new lines) lines) (window out.old link.old) (window out.new link.new))
+        (λ end. Stops (Acts (window_tells (output_tells W.written W.faults W.wants) (links_tell L.coming L.heard L.sent L.counts)))
+        (synced_phase (viewer address watcher.old lines) how found) end (window out.old link.old) (window out.new link.new)) }
+{
+    match how {
+        How::Fresh | How::Whole => Ok(()),
+        How::Resume => match send_and_tell(watcher, link, out, Some(found)) {
+            Ok(()) => Ok(()),
+            Err(end) => Err(end),
+        },
+    }
+}
+
+/// What a view does on one link: it joins, and does its script up to a cut.
+fn attend<R: Wait, L: Link, W: Sink>(
+    rt: &R,
+    watcher: &mut Watcher,
+    entry: &Entry<'_>,
+    link: &mut L,
+    out: &mut W,
+) -> Result<Departure, ViewEnd>
+    requires knows { KnowsItself watcher.old }
+    requires fit { AllByRecursion LineFits (plain_lines entry.now.lines.now) }
+    requires room { HasRoomFor watcher.old (plain_lines entry.now.lines.now) }
+    ensures knows { OnOk result (KnowsItself watcher.new) }
+    ensures room { IfOk result (λ departure. HasRoomBehind departure watcher.new (plain_lines entry.now.lines.now)) }
+    ensures talk { (address : List ℕ) → MatchResult result
+        (λ departure. Goes (Acts (window_tells (output_tells W.written W.faults W.wants) (links_tell L.coming L.heard L.sent L.counts)))
+        (enter (viewer address watcher.old (plain_lines entry.now.lines.now)) entry.now.how)
+        (departure_phase (viewer address watcher.new) (plain_lines entry.now.lines.now) departure) (window out.old link.old) (window out.new link.new))
+        (λ end. Stops (Acts (window_tells (output_tells W.written W.faults W.wants) (links_tell L.coming L.heard L.sent L.counts)))
+        (enter (viewer address watcher.old (plain_lines entry.now.lines.now)) entry.now.how) end (window out.old link.old) (window out.new link.new)) }
+{
+    let found = match join(rt, watcher, link, entry.how) {
+        Ok(found) => found,
+        Err(Stop::End(end)) => return Err(end),
+        Err(Stop::BadBase) => return bad_base(entry.how),
+    };
+    match begin(watcher, link, out, entry.how, found) {
+        Ok(()) => {}
+        Err(end) => return Err(end),
+    }
+    match run_lines(rt, watcher, entry.lines, link, out) {
+        Ok(departure) => Ok(departure),
+        Err(end) => Err(end),
+    }
+}
+
+/// What comes of a base that is none: a view that joined for the first time asks for the whole log on another link.
+fn bad_base(how: How) -> Result<Departure, ViewEnd>
+    ensures { result ≡ bad_base_answer how }
+{
+    match how {
+        How::Fresh => Ok(Departure::Again {
+            how: How::Whole,
+            count: 0,
+        }),
+        How::Whole | How::Resume => Err(ViewEnd::Peer),
+    }
+}
+
+/// Goes from link to link until the run ends.
+fn visit_links<R: Wait, N: Net, W: Sink>(
+    rt: &R,
+    watcher: &mut Watcher,
+    visit: &Visit,
+    net: &mut N,
+    out: &mut W,
+) -> ViewEnd
+    requires knows { KnowsItself watcher.old }
+    requires new { watcher.old.published ≡ 0 }
+    ensures ran { ViewRan
+        (booth_tells (output_tells W.written W.faults W.wants) (net_tells N.coming N.over N.asked N.faults N.lent N.link_counts)
+        (links_tell N.Conn.coming N.Conn.heard N.Conn.sent N.Conn.counts))
+        (Connecting (viewer visit.now.address watcher.old (plain_lines visit.now.script)) How.Fresh)
+        result (booth out.old net.old None) (booth out.new net.new None) }
+{
+    let lines = visit.script.lines();
+    let mut how = How::Fresh;
+    let mut next = 0;
+    for _ in rt.forever() {
+        let mut link = match connect(net, &visit.address) {
+            Ok(link) => link,
+            Err(CallFault::Failed) => return ViewEnd::NetFault,
+            Err(CallFault::WantOfMemory) => return ViewEnd::WantOfMemory,
+        };
+        let entry = Entry {
+            how,
+            lines: &lines[next..],
+        };
+        let attended = attend(rt, watcher, &entry, &mut link, out);
+        net.back(link);
+        let departure = match attended {
+            Ok(departure) => departure,
+            Err(end) => return end,
+        };
+        match departure {
+            Departure::Again { how: again, count } => {
+                how = again;
+                next += count;
+            }
+            Departure::Done => return ViewEnd::Done,
+        }
+    }
+    unreachable!()
+}
+
+/// Runs a view over any net and output: it connects, joins, does its script line by line, prints what it shows, and leaves.
+///
+/// It joins for the first time by a snapshot, where one is kept. Where the base is none it connects again and asks for the whole log.
+/// After each 1,000 times that it heard its link and sent nothing it says that it is alive. Each link goes back to the net.
+///
+/// The answer says how it ends; `NetFault` and `WriteFault` come only where the faults of the net, of a link or of the output rose.
+pub fn run_view<R: Wait, N: Net, W: Sink>(
+    rt: &R,
+    alloc: Global,
+    visit: &Visit,
+    net: &mut N,
+    out: &mut W,
+) -> ViewEnd
+    ensures ran { ViewRan
+        (booth_tells (output_tells W.written W.faults W.wants) (net_tells N.coming N.over N.asked N.faults N.lent N.link_counts)
+        (links_tell N.Conn.coming N.Conn.heard N.Conn.sent N.Conn.counts))
+        (first_phase (program_tree (arc_value visit.now.program)) visit.now.id.0 visit.now.view visit.now.address (plain_lines visit.now.script))
+        result (booth out.old net.old None) (booth out.new net.new None) }
+{
+    let Ok(program) = visit.program.clone() else {
+        return ViewEnd::WantOfMemory;
+    };
+    let replica = match Replica::found(alloc, program, visit.id, visit.view) {
+        Ok(replica) => replica,
+        Err(WantOfMemory) => return ViewEnd::WantOfMemory,
+    };
+    let mut watcher = Watcher {
+        alloc,
+        view: visit.view,
+        replica,
+        published: 0,
+        topics: ViewTopics::new(alloc),
+        receives: 0,
+        quiets: 0,
+    };
+    visit_links(rt, &mut watcher, visit, net, out)
+}
