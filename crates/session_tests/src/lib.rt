@@ -7,6 +7,8 @@ mod bytes;
 #[cfg(test)]
 mod clocks;
 #[cfg(test)]
+mod connections;
+#[cfg(test)]
 mod files;
 #[cfg(test)]
 mod lines;

@@ -1,0 +1,5 @@
+pub mod Refusals
+pub mod Requests
+pub mod Answers
+pub mod Batches
+pub mod Standing

@@ -1,0 +1,149 @@
+//! Frames that a connection is sent.
+ghost use Rattle.std.specs.Prelude.{◌≡◌, ◌+◌, ◌++◌, length, IfOk};
+ghost use Rattle.wire_frames.specs.Spelling.{client_tag};
+ghost use Rattle.join_sync.specs.Answers.{IsLeaveReply, IsOfferReply, IsSendReply, leave_answer, send_answer, snap_answer};
+ghost use Rattle.join_sync.specs.Batches.{ComeAfter, entry_frames, newer_tick, tick_frames};
+ghost use Rattle.join_sync.specs.Refusals.{refused_frame};
+
+use reflector_core::{Refusal, Reply};
+use std::alloc::Global;
+use tea_base::{Entries, WantOfMemory};
+use wire_frames::{ClientFrame, ServerFrame, ServerFrames};
+
+// ---- answers
+
+// The tags of a view's frames, by which a refusal names them.
+pub const JOIN: u8 = 1;
+
+const SEND: u8 = 2;
+
+const SNAP: u8 = 3;
+
+const LEAVE: u8 = 4;
+
+const ALIVE: u8 = 5;
+
+/// The tag of a frame.
+pub fn tag(frame: &ClientFrame) -> u8
+    ensures { result ≡ client_tag frame.now }
+{
+    match frame {
+        ClientFrame::Join { .. } => JOIN,
+        ClientFrame::Send { .. } => SEND,
+        ClientFrame::Snap { .. } => SNAP,
+        ClientFrame::Leave => LEAVE,
+        ClientFrame::Alive => ALIVE,
+    }
+}
+
+/// The session refused the request of a frame with this tag.
+pub fn refused(about: u8, refusal: Refusal) -> ServerFrame
+    ensures { result ≡ refused_frame about refusal }
+{
+    let (code, kept, more) = match refusal {
+        Refusal::Stale { current } => (1, u64::from(current), 0),
+        Refusal::TooLong { len } => (2, u64::from(len), 0),
+        Refusal::Differs { seq } => (3, u64::from(seq), 0),
+        Refusal::Gap { expected } => (4, u64::from(expected), 0),
+        Refusal::LogFull { entries, bytes } => (5, u64::from(entries), bytes),
+        Refusal::TimeEnd { horizon } => (6, horizon, 0),
+        Refusal::ViewsFull { here } => (7, u64::from(here), 0),
+        Refusal::BadView => (8, 0, 0),
+        Refusal::Ahead { horizon } => (9, horizon, 0),
+        Refusal::Older { kept } => (10, kept, 0),
+        Refusal::NoSuchSeq { len } => (11, u64::from(len), 0),
+    };
+    ServerFrame::Refused {
+        about,
+        code,
+        kept,
+        more,
+    }
+}
+
+/// The answer to a SEND with this number.
+pub fn send_answer(number: u32, reply: &Reply) -> Option<ServerFrame>
+    requires { IsSendReply reply.now }
+    ensures { result ≡ send_answer number reply.now }
+{
+    match reply {
+        Reply::Stamped { seq, time } | Reply::Again { seq, time } => Some(ServerFrame::Done {
+            number,
+            seq: *seq,
+            time: *time,
+        }),
+        Reply::Refused(refusal) => Some(refused(SEND, *refusal)),
+        _ => unreachable!(),
+    }
+}
+
+/// The answer to a SNAP with this time.
+pub fn snap_answer(time: u64, reply: &Reply) -> Option<ServerFrame>
+    requires { IsOfferReply reply.now }
+    ensures { result ≡ snap_answer time reply.now }
+{
+    match reply {
+        Reply::Kept => Some(ServerFrame::Snapped { time }),
+        Reply::Refused(refusal) => Some(refused(SNAP, *refusal)),
+        _ => unreachable!(),
+    }
+}
+
+/// The answer to a LEAVE.
+pub fn leave_answer(reply: &Reply) -> Option<ServerFrame>
+    requires { IsLeaveReply reply.now }
+    ensures { result ≡ leave_answer reply.now }
+{
+    match reply {
+        Reply::Left { .. } => None,
+        Reply::Refused(refusal) => Some(refused(LEAVE, *refusal)),
+        _ => unreachable!(),
+    }
+}
+
+// ---- batches
+
+/// The seq of the last entry that was sent, once these are.
+pub fn last_seq(after: u32, entries: &Entries) -> u32
+    requires { ComeAfter after entries.now }
+    ensures { result ≡ after + length entries.now }
+{
+    match entries.as_slice().last() {
+        Some(entry) => entry.seq,
+        None => after,
+    }
+}
+
+/// The tick, where it is above the last one that was sent.
+pub fn newer_tick(last: u64, tick: Option<u64>) -> Option<u64>
+    ensures { result ≡ newer_tick last tick }
+{
+    tick.filter(|time| last < *time)
+}
+
+/// The frames of entries, in order.
+fn entry_frames(alloc: Global, entries: Entries) -> Result<ServerFrames, WantOfMemory>
+    ensures { IfOk result (λ frames. frames ≡ entry_frames entries) }
+{
+    let frames = entries
+        .into_vec()
+        .into_iter()
+        .map(|entry| ServerFrame::Recv(entry))
+        .collect(alloc)?;
+    Ok(ServerFrames::from_vec(frames))
+}
+
+/// The frames of entries, and of a tick behind them.
+pub fn batch_frames(
+    alloc: Global,
+    entries: Entries,
+    tick: Option<u64>,
+) -> Result<ServerFrames, WantOfMemory>
+    ensures { IfOk result (λ frames. frames ≡ entry_frames entries ++ tick_frames tick) }
+{
+    let mut frames = entry_frames(alloc, entries)?;
+    if let Some(time) = tick {
+        frames.push(ServerFrame::Tick(time))?;
+    }
+    Ok(frames)
+}
