@@ -1,0 +1,5 @@
+pub mod System
+pub mod Steps
+pub mod Schedule
+pub mod ConnectionLine
+pub mod Traffic

@@ -1,0 +1,199 @@
+//! What is true of a system, whatever its worlds are.
+ghost use Rattle.std.specs.Prelude.{◌≡◌, ◌≢◌, ◌≤◌, ◌+◌, ℕ, true, false, List, [], ◌∷◌, ◌++◌, Option, Some, None, Ok, Err, is_none, length, set, slice_get, take};
+ghost use Rattle.tea_base.specs.Legal.{IsLegal};
+ghost use Rattle.tea_base.specs.Readings.{last_number};
+ghost use Rattle.tea_base.specs.declared.entry.Entry.{Entry};
+ghost use Rattle.tea_base.specs.declared.entry.SessionId.{SessionId};
+ghost use Rattle.wire_frames.specs.declared.frame.ClientFrame.{ClientFrame};
+ghost use Rattle.wire_frames.specs.declared.frame.ClientFrame.TheVariants.{Send};
+ghost use Rattle.wire_frames.specs.declared.frame.ServerFrame.{ServerFrame};
+ghost use Rattle.wire_frames.specs.Served.{Served};
+ghost use Rattle.reflector_core.specs.PlainSession.{PlainSession, IsSoundSession};
+ghost use Rattle.reflector_core.specs.Answer.{answer, send_event};
+ghost use Rattle.reflector_core.specs.declared.request.Refusal.{Refusal};
+ghost use Rattle.reflector_core.specs.declared.request.Refusal.TheVariants.{Stale};
+ghost use Rattle.reflector_core.specs.declared.request.Reply.TheVariants.{Batch, Left, Refused};
+ghost use Rattle.reflector_core.specs.declared.request.Request.{Request};
+ghost use Rattle.reflector_core.specs.declared.request.Request.TheVariants.{Leave, Pull, Tick};
+ghost use Rattle.join_sync.specs.Answers.{answer_frame, first_cursor, join_answer};
+ghost use Rattle.join_sync.specs.Batches.{next_cursor, next_frames};
+ghost use Rattle.join_sync.specs.Refusals.{early_frame};
+ghost use Rattle.join_sync.specs.Requests.{act_on, first_request};
+ghost use Rattle.join_sync.specs.declared.act.Act.TheVariants.{Answer, Call};
+ghost use Rattle.join_sync.specs.declared.cursor.Cursor.{Cursor};
+ghost use Rattle.join_sync.specs.declared.early.Early.{Early};
+ghost use Rattle.replica_plain.specs.Worlds.{Worlds, AreWorlds, replay_world};
+ghost use Rattle.replica_plain.specs.Calls.{Publishes, gives, join_frame, joining, loses, publishes, snap_frame, unsent};
+ghost use Rattle.replica_plain.specs.PlainReplica.{PlainReplica, founded, published_count};
+ghost use Rattle.replica_plain.specs.Taking.{taken};
+ghost use Rattle.replica_plain.specs.declared.how.How.{How};
+ghost use Rattle.replica_plain.specs.declared.how.How.TheVariants.{Fresh, Resume, Whole};
+ghost use Rattle.replica_plain.specs.Following.{FollowsLog, IsHonestBase};
+ghost use Rattle.system_plain.specs.System.{Client, Connection, System, close, closing, connecting, first_system, is_open, over_if, put_down, view_client, with_client, with_connection, with_cursor, with_down, with_replica, with_up};
+ghost use Rattle.system_plain.specs.Steps.{SystemStep, answer_frames, ends_connection, Cut, Found, Publish, Pump, Receive, Reconnect, Restart, Snap, Take, Transmit, after_step, asked_connection, can_be_made, joined_connection, joined_view, may_publish, whole_for};
+ghost use Rattle.system_plain.specs.Schedule.{AreTypedSteps, HasEventsOnce, ViewPayloads, IsNoSurprise, IsNotDiffers, IsSchedule, SpellWorlds, SpellsWorld, after_schedule, next_fault, published_after, published_by, published_in, run_schedule};
+ghost use Rattle.system_plain.specs.Traffic.{Traffics, traffics_after, traffics_by, traffics_in};
+ghost use Rattle.system_plain.specs.ConnectionLine.{AreSoundTurns, AreTypedTurns, Hears, LineTurn, Pumps, after_turn, after_turns, first_line, line_on, open_connection, with_line};
+
+/// However joins, cuts, resends, restarts and snapshots fall: after every schedule the log is legal; each replica follows it and has
+/// seen the entries of its time, and one that is at rest has the replay of the log to its time; two replicas of one time that are at
+/// rest have equal snapshot bytes, and what is kept is honest; each view's Events are, by number and payload, the first of what it
+/// published, each once; no replica counts an event as acknowledged that is not in the log; and no frame that a replica receives next
+/// is a surprise to it, nor is a SEND that is taken next held for a repeat with another payload.
+///
+/// W is any type of worlds, O what their models publish. Of a schedule nothing is asked but that its views are numbers of 32 bits and
+/// that each snapshot which it sends spells the world that it was made of.
+pub fn every_schedule<W, O>()
+    ensures legal_log { (m : Worlds W O) (steps : List SystemStep) → IsSchedule m steps → IsLegal (after_schedule m steps).session.log }
+    ensures replicas_follow { (m : Worlds W O) (steps : List SystemStep) (view : ℕ) (client : Client W O) → IsSchedule m steps
+        → view_client (after_schedule m steps).clients view ≡ Some client → FollowsLog m (after_schedule m steps).session.log client.replica }
+    ensures replicas_replay { (m : Worlds W O) (steps : List SystemStep) (view : ℕ) (client : Client W O) → IsSchedule m steps
+        → view_client (after_schedule m steps).clients view ≡ Some client → m.at_rest client.replica.world ≡ true
+        → client.replica.world ≡ replay_world m (after_schedule m steps).session.log (m.time client.replica.world) }
+    ensures equal_snapshots { (m : Worlds W O) (steps : List SystemStep) (view other : ℕ) (one two : Client W O) → IsSchedule m steps
+        → view_client (after_schedule m steps).clients view ≡ Some one → view_client (after_schedule m steps).clients other ≡ Some two
+        → m.at_rest one.replica.world ≡ true → m.at_rest two.replica.world ≡ true → m.time one.replica.world ≡ m.time two.replica.world
+        → m.snapshot one.replica.world ≡ m.snapshot two.replica.world }
+    ensures kept_is_honest { (m : Worlds W O) (steps : List SystemStep) → IsSchedule m steps
+        → IsHonestBase m (after_schedule m steps).session.log (after_schedule m steps).session.kept }
+    ensures events_once { (m : Worlds W O) (steps : List SystemStep) → IsSchedule m steps
+        → HasEventsOnce (after_schedule m steps).session.log (published_in m steps) }
+    ensures acknowledged { (m : Worlds W O) (steps : List SystemStep) (view : ℕ) (client : Client W O) → IsSchedule m steps
+        → view_client (after_schedule m steps).clients view ≡ Some client
+        → client.replica.acknowledged ≤ last_number (after_schedule m steps).session.log view }
+    ensures no_surprise { (m : Worlds W O) (steps : List SystemStep) (view : ℕ) (client : Client W O) → IsSchedule m steps
+        → view_client (after_schedule m steps).clients view ≡ Some client → IsNoSurprise (next_fault m (after_schedule m steps) client) }
+    ensures no_differs { (m : Worlds W O) (steps : List SystemStep) (connection : ℕ) (c : Connection) (cursor : Cursor) (number : ℕ) (payload : List ℕ) (rest : List ClientFrame) (now : ℕ) → IsSchedule m steps
+        → slice_get (after_schedule m steps).connections connection ≡ Some c → c.cursor ≡ Some cursor → c.up ≡ Send number payload ∷ rest
+        → IsNotDiffers (send_event (after_schedule m steps).session cursor.view cursor.joined number payload now).reply }
+    ensures sound { (m : Worlds W O) (steps : List SystemStep) → IsSchedule m steps → IsSoundSession (after_schedule m steps).session }
+{}
+
+/// A schedule may be run in parts. Where the snapshot of each valid world spells it, each list of steps over 32-bit views is one.
+pub fn schedules_in_parts<W, O>()
+    ensures runs { (m : Worlds W O) (s : System W O) (steps : List SystemStep) (step : SystemStep)
+        → run_schedule m s (steps ++ step ∷ []) ≡ after_step m (run_schedule m s steps) step }
+    ensures publishes { (m : Worlds W O) (s : System W O) (published : ViewPayloads) (steps : List SystemStep) (step : SystemStep)
+        → published_by m s published (steps ++ step ∷ []) ≡ published_after (run_schedule m s steps) (published_by m s published steps) step }
+    ensures carries { (m : Worlds W O) (s : System W O) (traffics : Traffics) (steps : List SystemStep) (step : SystemStep)
+        → traffics_by m s traffics (steps ++ step ∷ []) ≡ traffics_after (run_schedule m s steps) (traffics_by m s traffics steps) step }
+    ensures spells { (m : Worlds W O) (s : System W O) (steps : List SystemStep) (step : SystemStep)
+        → SpellWorlds m s steps → SpellsWorld m (run_schedule m s steps) step → SpellWorlds m s (steps ++ step ∷ []) }
+    ensures all { (m : Worlds W O) (steps : List SystemStep) → AreWorlds m → ((w : W) → m.valid w ≡ true → m.unsnap (m.snapshot w) ≡ Some w)
+        → AreTypedSteps steps → IsSchedule m steps }
+{}
+
+/// Each connection is served by the log, be it open, cut or over: what its replica received by it and what is in flight to it, beside
+/// the frames of it that were taken. What a cut lost is the end of what it was sent.
+pub fn connections_are_served<W, O>()
+    ensures { (m : Worlds W O) (steps : List SystemStep) (number : ℕ) (c : Connection) → IsSchedule m steps → slice_get (after_schedule m steps).connections number ≡ Some c
+        → Served (after_schedule m steps).session.log (traffics_in m steps number).given ((traffics_in m steps number).received ++ c.down) }
+{}
+
+/// Whatever one connection hears, whenever it sends what is new, and whatever others ask of its session between: what it was sent is
+/// served by the log for the frames that it heard. The session is to be sound from turn to turn, and so it is where it was sound
+/// before the first one and each view is a number of 32 bits.
+pub fn line_is_served()
+    ensures served { (id : SessionId) (s : PlainSession) (turns : List LineTurn) → AreSoundTurns id (first_line s) turns
+        → Served (after_turns id (first_line s) turns).session.log (after_turns id (first_line s) turns).given (after_turns id (first_line s) turns).sent }
+    ensures sound { (id : SessionId) (s : PlainSession) (turns : List LineTurn) → IsSoundSession s → AreTypedTurns turns → AreSoundTurns id (first_line s) turns }
+{}
+
+/// An open connection of a system does what a line does: its Take hears the next frame, and its Pump sends what is new.
+pub fn connection_is_line<W, O>()
+    ensures takes { (m : Worlds W O) (s : System W O) (number view now : ℕ) (cursor : Option Cursor) (given : List (Option ClientFrame)) (frame : ClientFrame) (rest : List ClientFrame) (sent : List ServerFrame)
+        → slice_get s.connections number ≡ Some (open_connection view (frame ∷ rest) (line_on s.session cursor given sent))
+        → after_step m s (Take number now) ≡ with_line s number view rest (after_turn (record { 0 = m.session }) (line_on s.session cursor given sent) (Hears (Some frame) now)) }
+    ensures pumps { (m : Worlds W O) (s : System W O) (number view now : ℕ) (cursor : Option Cursor) (given : List (Option ClientFrame)) (up : List ClientFrame) (sent : List ServerFrame)
+        → slice_get s.connections number ≡ Some (open_connection view up (line_on s.session cursor given sent))
+        → after_step m s (Pump number now) ≡ with_line s number view up (after_turn (record { 0 = m.session }) (line_on s.session cursor given sent) (Pumps now)) }
+{}
+
+/// What each step does where it can be made, and that it changes nothing where it cannot.
+pub fn step_table<W, O>()
+    ensures unmade { (m : Worlds W O) (s : System W O) (step : SystemStep) → can_be_made s step ≡ false → after_step m s step ≡ s }
+    ensures founds { (m : Worlds W O) (s : System W O) (view : ℕ) → view ≢ 0 → view_client s.clients view ≡ None
+        → after_step m s (Found view) ≡ record s {
+          clients = s.clients ++ record { replica = joining (founded m view) Fresh; newest = length s.connections } ∷ [];
+          connections = s.connections ++ connecting view (join_frame m (founded m view) Fresh) ∷ [];
+        } }
+    ensures publishes { (m : Worlds W O) (s : System W O) (view : ℕ) (payload : List ℕ) (client : Client W O) → view_client s.clients view ≡ Some client
+        → may_publish client.replica payload ≡ true → after_step m s (Publish view payload) ≡ with_replica s client (publishes client.replica payload) }
+    ensures transmits { (m : Worlds W O) (s : System W O) (view : ℕ) (client : Client W O) (c : Connection) → view_client s.clients view ≡ Some client
+        → slice_get s.connections client.newest ≡ Some c → is_open c ≡ true
+        → after_step m s (Transmit view) ≡ with_connection (with_replica s client (gives client.replica)) client.newest (with_up c (c.up ++ unsent client.replica)) }
+    // The first frame of a connection.
+    ensures takes_join { (m : Worlds W O) (s : System W O) (number now : ℕ) (c : Connection) (frame : ClientFrame) (rest : List ClientFrame) (request : Request)
+        → slice_get s.connections number ≡ Some c → c.over ≡ false → c.cursor ≡ None → c.up ≡ frame ∷ rest → first_request frame (record { 0 = m.session }) now ≡ Ok request
+        → after_step m s (Take number now) ≡ record {
+          session = (answer s.session request).session;
+          clients = s.clients;
+          connections = set s.connections number (over_if (is_none (first_cursor (joined_view request) (answer s.session request).reply)) (put_down (with_cursor (with_up c rest) (first_cursor (joined_view request) (answer s.session request).reply)) (answer_frames (join_answer (answer s.session request).reply))));
+        } }
+    ensures takes_early { (m : Worlds W O) (s : System W O) (number now : ℕ) (c : Connection) (frame : ClientFrame) (rest : List ClientFrame) (early : Early)
+        → slice_get s.connections number ≡ Some c → c.over ≡ false → c.cursor ≡ None → c.up ≡ frame ∷ rest → first_request frame (record { 0 = m.session }) now ≡ Err early
+        → after_step m s (Take number now) ≡ with_connection s number (over_if true (put_down (with_up c rest) (early_frame early frame ∷ []))) }
+    // A later frame.
+    ensures takes_request { (m : Worlds W O) (s : System W O) (number now : ℕ) (c : Connection) (cursor : Cursor) (frame : ClientFrame) (rest : List ClientFrame) (request : Request)
+        → slice_get s.connections number ≡ Some c → c.over ≡ false → c.cursor ≡ Some cursor → c.up ≡ frame ∷ rest → act_on cursor frame now ≡ Call request
+        → after_step m s (Take number now) ≡ record {
+          session = (answer s.session request).session;
+          clients = s.clients;
+          connections = set s.connections number (over_if (ends_connection (answer s.session request).reply) (put_down (with_up c rest) (answer_frames (answer_frame request (answer s.session request).reply))));
+        } }
+    ensures takes_other { (m : Worlds W O) (s : System W O) (number now : ℕ) (c : Connection) (cursor : Cursor) (frame : ClientFrame) (rest : List ClientFrame) (given : ServerFrame)
+        → slice_get s.connections number ≡ Some c → c.over ≡ false → c.cursor ≡ Some cursor → c.up ≡ frame ∷ rest → act_on cursor frame now ≡ Answer given
+        → after_step m s (Take number now) ≡ with_connection s number (put_down (with_up c rest) (given ∷ [])) }
+    // No frame will come any more.
+    ensures takes_leave { (m : Worlds W O) (s : System W O) (number now : ℕ) (c : Connection) (cursor : Cursor)
+        → slice_get s.connections number ≡ Some c → c.over ≡ false → c.cursor ≡ Some cursor → c.up ≡ [] → c.closed ≡ true
+        → after_step m s (Take number now) ≡ record {
+          session = (answer s.session (Leave cursor.view cursor.joined now)).session;
+          clients = s.clients;
+          connections = set s.connections number (over_if true c);
+        } }
+    ensures pumps { (m : Worlds W O) (s : System W O) (number now : ℕ) (c : Connection) (cursor : Cursor) (entries : List Entry) (tick : Option ℕ)
+        → slice_get s.connections number ≡ Some c → c.over ≡ false → c.cursor ≡ Some cursor
+        → (answer (answer s.session (Tick now)).session (Pull cursor.after 256)).reply ≡ Batch entries tick
+        → after_step m s (Pump number now) ≡ record {
+          session = (answer s.session (Tick now)).session;
+          clients = s.clients;
+          connections = set s.connections number (put_down (with_cursor c (Some (next_cursor cursor (Batch entries tick)))) (next_frames cursor (Batch entries tick)));
+        } }
+    ensures pumps_nothing { (m : Worlds W O) (s : System W O) (number now : ℕ) (c : Connection) (cursor : Cursor) (refusal : Refusal)
+        → slice_get s.connections number ≡ Some c → c.over ≡ false → c.cursor ≡ Some cursor
+        → (answer (answer s.session (Tick now)).session (Pull cursor.after 256)).reply ≡ Refused refusal
+        → after_step m s (Pump number now) ≡ record s { session = (answer s.session (Tick now)).session } }
+    ensures receives { (m : Worlds W O) (s : System W O) (view : ℕ) (client : Client W O) (c : Connection) (frame : ServerFrame) (rest : List ServerFrame) → view_client s.clients view ≡ Some client
+        → slice_get s.connections client.newest ≡ Some c → c.down ≡ frame ∷ rest
+        → after_step m s (Receive view) ≡ with_connection (with_replica s client (taken m client.replica frame).replica) client.newest (with_down c rest) }
+    ensures cuts { (m : Worlds W O) (s : System W O) (number up down : ℕ) (c : Connection) → slice_get s.connections number ≡ Some c
+        → after_step m s (Cut number up down) ≡ with_connection s number (closing (with_down (with_up c (take up c.up)) (take down c.down))) }
+    // The new connection has the next number, and the one before it is closed.
+    ensures reconnects { (m : Worlds W O) (s : System W O) (view : ℕ) (how : How) (client : Client W O) → view_client s.clients view ≡ Some client
+        → after_step m s (Reconnect view how) ≡ record {
+          session = s.session;
+          clients = with_client s.clients (record { replica = joining client.replica how; newest = length s.connections });
+          connections = close s.connections client.newest ++ connecting client.replica.view (join_frame m client.replica how) ∷ [];
+        } }
+    ensures restarts { (m : Worlds W O) (s : System W O) (view : ℕ) (how : How) (client : Client W O) → view_client s.clients view ≡ Some client
+        → after_step m s (Restart view how) ≡ record {
+          session = s.session;
+          clients = with_client s.clients (record { replica = joining (loses m client.replica) (whole_for how); newest = length s.connections });
+          connections = close s.connections client.newest ++ connecting client.replica.view (join_frame m (loses m client.replica) (whole_for how)) ∷ [];
+        } }
+    ensures snaps { (m : Worlds W O) (s : System W O) (view : ℕ) (client : Client W O) (c : Connection) → view_client s.clients view ≡ Some client
+        → slice_get s.connections client.newest ≡ Some c → is_open c ≡ true
+        → after_step m s (Snap view) ≡ with_connection s client.newest (with_up c (c.up ++ snap_frame m client.replica ∷ [])) }
+{}
+
+/// A step that publishes can be made exactly where the replica publishes. A view that asks to go on from a world that was lost joins
+/// for the whole log. A connection ends whose join was refused, or whose view left or joined by another one.
+pub fn steps_in_words<W, O>()
+    ensures may_publish { (r new : PlainReplica W O) (payload : List ℕ) → may_publish r payload ≡ true → Publishes (Ok (published_count r + 1)) r (publishes r payload) payload }
+    ensures may_not { (r new : PlainReplica W O) (payload : List ℕ) (number : ℕ) → may_publish r payload ≡ false → Publishes (Ok number) r new payload → ⊥ }
+    ensures lost { (m : Worlds W O) (s : System W O) (view : ℕ) → after_step m s (Restart view Resume) ≡ after_step m s (Restart view Whole) }
+    ensures refused { (c : Connection) (view : ℕ) (refusal : Refusal) → (joined_connection c view (Refused refusal)).over ≡ true }
+    ensures stale { (c : Connection) (request : Request) (current : ℕ) → (asked_connection c request (Refused (Stale current))).over ≡ true }
+    ensures left { (c : Connection) (request : Request) (seq time : ℕ) → (asked_connection c request (Left seq time)).over ≡ true }
+{}
