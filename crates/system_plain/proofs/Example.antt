@@ -6,15 +6,16 @@ use Rattle.tea_base.specs.Limits.{time_limit}
 use Rattle.wire_frames.specs.declared.frame.ClientFrame.TheVariants.{Join, Send}
 use Rattle.wire_frames.specs.declared.frame.ServerFrame.TheVariants.{Done, Recv, Refused, Sync, Tick}
 use Rattle.wire_frames.specs.declared.start.Want.TheVariants as want
+use Rattle.reflector_core.specs.declared.request.Reply.TheVariants as reply
 use Rattle.reflector_core.specs.Play.{first_session}
 use Rattle.replica_plain.specs.declared.fault.ReplicaFault.{ReplicaFault}
 use Rattle.replica_plain.specs.declared.fault.ReplicaFault.TheVariants as cause
 use Rattle.replica_plain.specs.declared.how.How.TheVariants.{Resume, Whole}
 use Rattle.replica_plain.specs.Worlds.{AreWorlds, Worlds}
 use Rattle.system_plain.specs.ConnectionLine.{Hears, Pumps, after_turns, first_line}
-use Rattle.system_plain.specs.Schedule.{AreTypedSteps, IsSchedule, after_schedule, next_fault, published_in}
-use Rattle.system_plain.specs.Steps.{Cut, Found, Publish, Pump, Receive, Reconnect, Restart, Snap, SystemStep, Take, Transmit, after_step}
-use Rattle.system_plain.specs.System.{Client, System, first_system, view_client}
+use Rattle.system_plain.specs.Schedule.{AreTypedSteps, IsSchedule, after_schedule, faults_from, faults_in, published_in, replies_in}
+use Rattle.system_plain.specs.Steps.{Cut, Found, Publish, Pump, Receive, Reconnect, Restart, Snap, SystemStep, Take, Transmit}
+use Rattle.system_plain.specs.System.{first_system, view_client}
 use Rattle.system_plain.specs.Traffic.{traffics_in}
 use Rattle.system_plain.proofs.Schedules.{all_are_schedules}
 
@@ -115,27 +116,15 @@ the_second_traffic = refl
 
 -- ---- the faults of all that a view receives in a schedule
 
-abbrev faults_of : Option ReplicaFault → List ReplicaFault
-faults_of None = []
-faults_of (Some fault) = fault ∷ []
-
-abbrev client_faults : {W O : Type 0} → Worlds W O → System W O → Option (Client W O) → List ReplicaFault
-client_faults m s None = []
-client_faults m s (Some client) = faults_of (next_fault m s client)
-
-abbrev step_faults : {W O : Type 0} → Worlds W O → System W O → SystemStep → List ReplicaFault
-step_faults m s (Receive view) = client_faults m s (view_client s.clients view)
-step_faults m s other = []
-
-abbrev faults_from : {W O : Type 0} → Worlds W O → System W O → List SystemStep → List ReplicaFault
-faults_from m s [] = []
-faults_from m s (step ∷ steps) = step_faults m s step ++ faults_from m (after_step m s step) steps
-
 abbrev schedule_faults : List SystemStep → List ReplicaFault
-schedule_faults steps = faults_from entry_counts first_system steps
+schedule_faults steps = faults_in entry_counts steps
 
 no_faults : schedule_faults resends ≡ []
 no_faults = refl
+
+-- the event is answered twice, from one entry
+its_replies : replies_in entry_counts resends ≡ reply.Stamped 2 2 ∷ reply.Again 2 2 ∷ []
+its_replies = refl
 
 -- a view gives its events twice, and gets each DONE once
 one_done_each : schedule_faults

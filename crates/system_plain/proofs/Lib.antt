@@ -28,3 +28,6 @@ pub mod StepRows
 pub mod Example
 pub mod ClosedLines
 pub mod Traffics
+pub mod SpelledRows
+pub mod UnmadeRows
+pub mod WholeSchedules

@@ -3,17 +3,26 @@ use Rattle.std.specs.Prelude.{◌≡◌, ◌≤◌, ◌<◌, ◌^◌, ℕ, ◌==
 use Rattle.tea_base.specs.declared.entry.Entry.{Entry}
 use Rattle.tea_base.specs.Readings.{event_payload, last_number, view_events}
 use Rattle.tea_base.specs.Legal.{EachCountsItsEvents}
+use Rattle.tea_base.specs.Limits.{time_limit}
+use Rattle.wire_frames.specs.declared.frame.ClientFrame.{ClientFrame}
 use Rattle.wire_frames.specs.declared.frame.ServerFrame.{ServerFrame}
+use Rattle.wire_frames.specs.declared.frame.ServerFrame.TheVariants.{Sync, Recv, Tick, Done, Snapped, Refused, Alive}
+use Rattle.reflector_core.specs.PlainSession.{PlainSession}
+use Rattle.reflector_core.specs.Answer.{answer}
 use Rattle.reflector_core.specs.declared.request.Reply.{Reply}
 use Rattle.reflector_core.specs.declared.request.Reply.TheVariants as reply
 use Rattle.reflector_core.specs.declared.request.Refusal.TheVariants as refusal
+use Rattle.join_sync.specs.declared.act.Act.{Act}
+use Rattle.join_sync.specs.declared.act.Act.TheVariants.{Call, Answer}
+use Rattle.join_sync.specs.declared.cursor.Cursor.{Cursor}
+use Rattle.join_sync.specs.Requests.{act_on}
 use Rattle.replica_plain.specs.declared.fault.ReplicaFault.{ReplicaFault}
 use Rattle.replica_plain.specs.declared.fault.ReplicaFault.TheVariants as cause
 use Rattle.replica_plain.specs.Worlds.{Worlds, AreWorlds}
 use Rattle.replica_plain.specs.PlainReplica.{PlainReplica}
 use Rattle.replica_plain.specs.Taking.{taken}
 use Rattle.system_plain.specs.System.{System, Client, Connection, first_system, is_open, view_client}
-use Rattle.system_plain.specs.Steps.{SystemStep, Found, Publish, Snap, after_step, can_be_made}
+use Rattle.system_plain.specs.Steps.{SystemStep, Found, Publish, Receive, Snap, Take, after_step, can_be_made}
 
 -- the system after these steps
 abbrev pub run_schedule : {W O : Type 0} → Worlds W O → System W O → List SystemStep → System W O
@@ -115,3 +124,67 @@ next_fault m s client = next_fault_on m client.replica (slice_get s.connections 
 abbrev pub IsNotDiffers : Reply → Type 0
 IsNotDiffers (reply.Refused (refusal.Differs seq)) = ⊥
 IsNotDiffers other = Unit {0}
+
+-- ---- the faults that the Receives of a schedule met, in order
+
+abbrev pub faults_of : Option ReplicaFault → List ReplicaFault
+faults_of None = []
+faults_of (Some fault) = fault ∷ []
+
+abbrev pub client_faults : {W O : Type 0} → Worlds W O → System W O → Option (Client W O) → List ReplicaFault
+client_faults m s None = []
+client_faults m s (Some client) = faults_of (next_fault m s client)
+
+abbrev pub step_faults : {W O : Type 0} → Worlds W O → System W O → SystemStep → List ReplicaFault
+step_faults m s (Receive view) = client_faults m s (view_client s.clients view)
+step_faults m s other = []
+
+abbrev pub faults_from : {W O : Type 0} → Worlds W O → System W O → List SystemStep → List ReplicaFault
+faults_from m s [] = []
+faults_from m s (step ∷ steps) = step_faults m s step ++ faults_from m (after_step m s step) steps
+
+abbrev pub faults_in : {W O : Type 0} → Worlds W O → List SystemStep → List ReplicaFault
+faults_in m steps = faults_from m first_system steps
+
+-- it is that a frame of the replica's own was refused
+abbrev pub IsExpected : ReplicaFault → Type 0
+IsExpected fault = IsNoSurprise (Some fault)
+
+-- ---- the replies to the requests of joined connections in a schedule, in order
+
+abbrev pub act_replies : PlainSession → Act → List Reply
+act_replies s (Call request) = (answer s request).reply ∷ []
+act_replies s (Answer frame) = []
+
+abbrev pub next_replies : PlainSession → Option Cursor → List ClientFrame → ℕ → List Reply
+next_replies s None up now = []
+next_replies s (Some cursor) [] now = []
+next_replies s (Some cursor) (frame ∷ rest) now = act_replies s (act_on cursor frame now)
+
+abbrev pub replies_on : {W O : Type 0} → System W O → Option Connection → ℕ → List Reply
+replies_on s None now = []
+replies_on s (Some c) now = if c.over then [] else next_replies s.session c.cursor c.up now
+
+-- a Take of a frame behind the first one of its connection may make a request
+abbrev pub step_replies : {W O : Type 0} → System W O → SystemStep → List Reply
+step_replies s (Take number now) = replies_on s (slice_get s.connections number) now
+step_replies s other = []
+
+abbrev pub replies_from : {W O : Type 0} → Worlds W O → System W O → List SystemStep → List Reply
+replies_from m s [] = []
+replies_from m s (step ∷ steps) = step_replies s step ++ replies_from m (after_step m s step) steps
+
+abbrev pub replies_in : {W O : Type 0} → Worlds W O → List SystemStep → List Reply
+replies_in m steps = replies_from m first_system steps
+
+-- ---- the times of frames
+
+-- the time of an entry or a tick, which moves a world, is one of TeaTime
+abbrev pub MovesInTime : ServerFrame → Type 0
+MovesInTime (Sync joined last from base) = Unit {0}
+MovesInTime (Recv entry) = entry.time < time_limit
+MovesInTime (Tick t) = t < time_limit
+MovesInTime (Done number seq time) = Unit {0}
+MovesInTime (Snapped time) = Unit {0}
+MovesInTime (Refused about code kept more) = Unit {0}
+MovesInTime Alive = Unit {0}

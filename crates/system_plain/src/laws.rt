@@ -1,5 +1,5 @@
 //! What is true of a system, whatever its worlds are.
-ghost use Rattle.std.specs.Prelude.{◌≡◌, ◌≢◌, ◌≤◌, ◌+◌, ℕ, true, false, List, [], ◌∷◌, ◌++◌, Option, Some, None, Ok, Err, is_none, length, set, slice_get, take};
+ghost use Rattle.std.specs.Prelude.{◌≡◌, ◌≢◌, ◌≤◌, ◌+◌, ℕ, true, false, List, [], ◌∷◌, ◌++◌, Option, Some, None, Ok, Err, All, is_none, length, set, slice_get, take};
 ghost use Rattle.tea_base.specs.Legal.{IsLegal};
 ghost use Rattle.tea_base.specs.Readings.{last_number};
 ghost use Rattle.tea_base.specs.declared.entry.Entry.{Entry};
@@ -15,6 +15,7 @@ ghost use Rattle.reflector_core.specs.declared.request.Refusal.TheVariants.{Stal
 ghost use Rattle.reflector_core.specs.declared.request.Reply.TheVariants.{Batch, Left, Refused};
 ghost use Rattle.reflector_core.specs.declared.request.Request.{Request};
 ghost use Rattle.reflector_core.specs.declared.request.Request.TheVariants.{Leave, Pull, Tick};
+ghost use Rattle.reflector_core.specs.declared.request.Request.TheVariants as request;
 ghost use Rattle.join_sync.specs.Answers.{answer_frame, first_cursor, join_answer};
 ghost use Rattle.join_sync.specs.Batches.{next_cursor, next_frames};
 ghost use Rattle.join_sync.specs.Refusals.{early_frame};
@@ -31,7 +32,7 @@ ghost use Rattle.replica_plain.specs.declared.how.How.TheVariants.{Fresh, Resume
 ghost use Rattle.replica_plain.specs.Following.{FollowsLog, IsHonestBase};
 ghost use Rattle.system_plain.specs.System.{Client, Connection, System, close, closing, connecting, first_system, is_open, over_if, put_down, view_client, with_client, with_connection, with_cursor, with_down, with_replica, with_up};
 ghost use Rattle.system_plain.specs.Steps.{SystemStep, answer_frames, ends_connection, Cut, Found, Publish, Pump, Receive, Reconnect, Restart, Snap, Take, Transmit, after_step, asked_connection, can_be_made, joined_connection, joined_view, may_publish, whole_for};
-ghost use Rattle.system_plain.specs.Schedule.{AreTypedSteps, HasEventsOnce, ViewPayloads, IsNoSurprise, IsNotDiffers, IsSchedule, SpellWorlds, SpellsWorld, after_schedule, next_fault, published_after, published_by, published_in, run_schedule};
+ghost use Rattle.system_plain.specs.Schedule.{AreTypedSteps, HasEventsOnce, IsExpected, IsTypedStep, MovesInTime, ViewPayloads, IsNoSurprise, IsNotDiffers, IsSchedule, SpellWorlds, SpellsWorld, after_schedule, faults_from, faults_in, faults_of, next_fault, published_after, published_by, published_in, replies_from, replies_in, run_schedule, step_faults, step_replies};
 ghost use Rattle.system_plain.specs.Traffic.{Traffics, traffics_after, traffics_by, traffics_in};
 ghost use Rattle.system_plain.specs.ConnectionLine.{AreSoundTurns, AreTypedTurns, Hears, LineTurn, Pumps, after_turn, after_turns, first_line, line_on, open_connection, with_line};
 
@@ -39,10 +40,10 @@ ghost use Rattle.system_plain.specs.ConnectionLine.{AreSoundTurns, AreTypedTurns
 /// seen the entries of its time, and one that is at rest has the replay of the log to its time; two replicas of one time that are at
 /// rest have equal snapshot bytes, and what is kept is honest; each view's Events are, by number and payload, the first of what it
 /// published, each once; no replica counts an event as acknowledged that is not in the log; and no frame that a replica receives next
-/// is a surprise to it, nor is a SEND that is taken next held for a repeat with another payload.
+/// is a surprise to it. The next Send that the reflector takes is not answered Differs.
 ///
-/// W is any type of worlds, O what their models publish. Of a schedule nothing is asked but that its views are numbers of 32 bits and
-/// that each snapshot which it sends spells the world that it was made of.
+/// W is any type of worlds, O what their models publish. Two things are asked of a list of steps: each view is below 2^32, and each
+/// snapshot that it sends is read again as the world it was made of.
 pub fn every_schedule<W, O>()
     ensures legal_log { (m : Worlds W O) (steps : List SystemStep) → IsSchedule m steps → IsLegal (after_schedule m steps).session.log }
     ensures replicas_follow { (m : Worlds W O) (steps : List SystemStep) (view : ℕ) (client : Client W O) → IsSchedule m steps
@@ -196,4 +197,38 @@ pub fn steps_in_words<W, O>()
     ensures refused { (c : Connection) (view : ℕ) (refusal : Refusal) → (joined_connection c view (Refused refusal)).over ≡ true }
     ensures stale { (c : Connection) (request : Request) (current : ℕ) → (asked_connection c request (Refused (Stale current))).over ≡ true }
     ensures left { (c : Connection) (request : Request) (seq time : ℕ) → (asked_connection c request (Left seq time)).over ≡ true }
+{}
+
+/// The whole of a schedule: no fault of a frame that a replica received is a surprise, and no request of a joined connection is answered
+/// that its event was sent before with another payload; nor will the next Send be.
+pub fn whole_schedules<W, O>()
+    ensures no_surprise { (m : Worlds W O) (steps : List SystemStep) → IsSchedule m steps → All IsExpected (faults_in m steps) }
+    ensures no_differs { (m : Worlds W O) (steps : List SystemStep) → IsSchedule m steps → All IsNotDiffers (replies_in m steps) }
+    ensures next_send { (m : Worlds W O) (steps : List SystemStep) (connection : ℕ) (c : Connection) (cursor : Cursor) (number : ℕ) (payload : List ℕ) (rest : List ClientFrame) (now : ℕ) → IsSchedule m steps
+        → slice_get (after_schedule m steps).connections connection ≡ Some c → c.cursor ≡ Some cursor → c.up ≡ Send number payload ∷ rest
+        → IsNotDiffers (answer (after_schedule m steps).session (request.Send cursor.view cursor.joined number payload now)).reply }
+    // The lists are of what each step met and was told.
+    ensures met { (m : Worlds W O) (s : System W O) (view : ℕ) (client : Client W O) (c : Connection) (frame : ServerFrame) (rest : List ServerFrame) → view_client s.clients view ≡ Some client
+        → slice_get s.connections client.newest ≡ Some c → c.down ≡ frame ∷ rest → step_faults m s (Receive view) ≡ faults_of (taken m client.replica frame).fault }
+    ensures told { (s : System W O) (number now : ℕ) (c : Connection) (cursor : Cursor) (frame : ClientFrame) (rest : List ClientFrame) (request : Request)
+        → slice_get s.connections number ≡ Some c → c.over ≡ false → c.cursor ≡ Some cursor → c.up ≡ frame ∷ rest → act_on cursor frame now ≡ Call request
+        → step_replies s (Take number now) ≡ (answer s.session request).reply ∷ [] }
+    ensures faults { (m : Worlds W O) (s : System W O) (steps : List SystemStep) (step : SystemStep)
+        → faults_from m s (steps ++ step ∷ []) ≡ faults_from m s steps ++ step_faults m (run_schedule m s steps) step }
+    ensures replies { (m : Worlds W O) (s : System W O) (steps : List SystemStep) (step : SystemStep)
+        → replies_from m s (steps ++ step ∷ []) ≡ replies_from m s steps ++ step_replies (run_schedule m s steps) step }
+{}
+
+/// A schedule with one more step is one, where the step's view is a number of 32 bits and a snapshot that it sends spells its world.
+pub fn schedules_grow<W, O>()
+    ensures { (m : Worlds W O) (steps : List SystemStep) (step : SystemStep) → IsSchedule m steps → IsTypedStep step → SpellsWorld m (after_schedule m steps) step → IsSchedule m (steps ++ step ∷ []) }
+{}
+
+/// The times of entries and ticks are those of TeaTime, below 2^53: in what a legal log serves, and so in what is in flight on each
+/// connection after every schedule.
+pub fn frames_move_in_time<W, O>()
+    ensures served { (log : List Entry) (given : List (Option ClientFrame)) (frames : List ServerFrame) → IsLegal log → Served log given frames → All MovesInTime frames }
+    ensures in_flight { (m : Worlds W O) (steps : List SystemStep) (number : ℕ) (c : Connection) → IsSchedule m steps → slice_get (after_schedule m steps).connections number ≡ Some c → All MovesInTime c.down }
+    ensures next { (m : Worlds W O) (steps : List SystemStep) (number : ℕ) (c : Connection) (frame : ServerFrame) (rest : List ServerFrame) → IsSchedule m steps
+        → slice_get (after_schedule m steps).connections number ≡ Some c → c.down ≡ frame ∷ rest → MovesInTime frame }
 {}

@@ -3,8 +3,11 @@
 #![tactic(auto)]
 
 mod laws;
+mod rows;
 
 pub use laws::{
-    connection_is_line, connections_are_served, every_schedule, line_is_served, schedules_in_parts,
-    step_table, steps_in_words,
+    connection_is_line, connections_are_served, every_schedule, frames_move_in_time,
+    line_is_served, schedules_grow, schedules_in_parts, step_table, steps_in_words,
+    whole_schedules,
 };
+pub use rows::{connections_end, publication_is_decided, steps_spelled_out, steps_that_rest};
