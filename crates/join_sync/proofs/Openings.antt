@@ -36,20 +36,20 @@ from_within log Whole kept = omega arith
 from_within log (After time) kept = count_by-le-length (λ (entry : Entry). nat_le entry.time time) log
 
 -- what a reply to a Join says of the session before it and behind it
-abbrev Tells : PlainSession → PlainSession → Reply → Type 0
-Tells s new (Joined seq time last from base) = (from ≤ length s.log) × (time ≤ new.horizon)
-Tells s new other = Unit {0}
+abbrev SaysOfJoin : PlainSession → PlainSession → Reply → Type 0
+SaysOfJoin s new (Joined seq time last from base) = (from ≤ length s.log) × (time ≤ new.horizon)
+SaysOfJoin s new other = Unit {0}
 
-join_tells : (s : PlainSession) (view now : ℕ) (want : Want) → Tells s (join s view now want).session (join s view now want).reply
+join_tells : (s : PlainSession) (view now : ℕ) (want : Want) → SaysOfJoin s (join s view now want).session (join s view now want).reply
 join_tells s view now want =
-    let told : Tells s (joins s view now want).session (joins s view now want).reply = (from_within s.log want s.kept, omega arith) in
+    let told : SaysOfJoin s (joins s view now want).session (joins s view now want).reply = (from_within s.log want s.kept, omega arith) in
     grind arith
 
 pub joined_stands : (s : PlainSession) (view now : ℕ) (want : Want) (seq time last from : ℕ) (base : Option Base) (cursor : Cursor)
     → (join s view now want).reply ≡ Joined seq time last from base → first_cursor view (Joined seq time last from base) ≡ Some cursor
     → StandsAt (join s view now want).session (record { seen = from; least = time }) cursor
 joined_stands s view now want seq time last from base cursor replied made =
-    let told = subst (Tells s (join s view now want).session) replied (join_tells s view now want) in
+    let told = subst (SaysOfJoin s (join s view now want).session) replied (join_tells s view now want) in
     let grows = GrowsTo-answer s (Join view now want) in
     let log = grows.log in
     let long = length-append s.log grows.rest in

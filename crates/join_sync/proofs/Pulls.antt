@@ -1,5 +1,5 @@
 -- What is pulled behind a cursor.
-use Rattle.std.proofs.Common.{ℕ, ◌+◌, ◌-◌, ◌≡◌, ◌≤◌, ◌<◌, min, Bool, true, false, if◌then◌else◌, List, [], ◌∷◌, ◌++◌, Some, None, length, length-take, length-drop, unwrap_or, slice_get, take, drop, zero, suc, nat_le, nat_lt, refl, sym, ap, ◌∙◌, subst, arith}
+use Rattle.std.proofs.Common.{ℕ, ◌+◌, ◌-◌, ◌≡◌, ◌≤◌, ◌<◌, min, Bool, true, false, if◌then◌else◌, List, [], ◌∷◌, ◌++◌, Option, Some, None, length, length-take, length-drop, unwrap_or, slice_get, take, drop, zero, suc, nat_le, nat_lt, refl, sym, ap, ◌∙◌, subst, arith}
 use Rattle.std.proofs.lemmas.Bool.Decides.{nat_tests}
 use Rattle.tea_base.specs.declared.entry.Entry.{Entry}
 use Rattle.tea_base.specs.Legal.{IsLegal}
@@ -50,6 +50,20 @@ pull_is_batch s after limit within =
 pub batch_comes_after : (s : PlainSession) (after limit : ℕ) → IsLegal s.log → after ≤ length s.log → IsBatchAfter after (pull s after limit).reply
 batch_comes_after s after limit legal within =
     subst (IsBatchAfter after) (pull_is_batch s after limit within) (come_after s.log after limit (drop after s.log) legal refl)
+
+-- a reply that is a batch has the entries behind this seq
+abbrev ComesBehind : ℕ → Reply → Type 0
+ComesBehind seq (Batch entries tick) = ComeAfter seq entries
+ComesBehind seq other = Unit {0}
+
+comes_if : (seq : ℕ) (test : Bool) (a b : SessionOutcome) → ComesBehind seq a.reply → ComesBehind seq b.reply → ComesBehind seq (if test then a else b).reply
+comes_if seq true a b held fell = held
+comes_if seq false a b held fell = fell
+
+-- wherever a batch is the reply
+pub batch_has_come : (s : PlainSession) (after limit : ℕ) (entries : List Entry) (tick : Option ℕ) → IsLegal s.log → (pull s after limit).reply ≡ Batch entries tick → ComeAfter after entries
+batch_has_come s after limit entries tick legal is =
+    subst (ComesBehind after) is (comes_if after (nat_lt (length s.log) after) _ _ tt (come_after s.log after limit (drop after s.log) legal refl))
 
 -- ---- their frames
 

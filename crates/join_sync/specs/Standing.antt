@@ -4,7 +4,8 @@ use Rattle.reflector_core.specs.PlainSession.{PlainSession}
 use Rattle.wire_frames.specs.Served.{Place}
 use Rattle.join_sync.specs.declared.cursor.Cursor.{Cursor}
 
--- the entries up to the cursor were received, and a tick that is to be sent is no earlier than one may come
+-- what was sent leaves the reading of the log at this place: the entries up to the cursor were received, and a tick that is sent from now
+-- on is late enough
 pub record StandsAt (s : PlainSession) (place : Place) (cursor : Cursor) : Type 0 where
   pub within : cursor.after ≤ length s.log
   pub seen : place.seen ≡ cursor.after

@@ -30,8 +30,8 @@ impl Cursor {
     ghost use Rattle.join_sync.specs.Batches.{IsBatchAfter, next_cursor, next_frames};
     ghost use Rattle.join_sync.specs.Requests.{IsOfFrame, act_on};
 
-    /// What the reply to the Join of a view makes of its connection: the cursor, if it has joined, and the frame that
-    /// answers its JOIN. Takes no memory.
+    /// What the reply to a Join makes of its connection: a cursor, if it joined, and the frame that answers its Join.
+    /// Takes no memory.
     pub fn opened(view: u32, reply: Reply) -> (Option<Cursor>, ServerFrame)
         requires { IsJoinReply reply }
         ensures cursor { result.0 ≡ first_cursor view reply }

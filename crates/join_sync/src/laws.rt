@@ -1,5 +1,6 @@
 //! The laws of a connection over its session.
 ghost use Rattle.std.specs.Prelude.{◌≡◌, ◌≤◌, ℕ, List, length, Option, Some};
+ghost use Rattle.tea_base.specs.declared.entry.Entry.{Entry};
 ghost use Rattle.tea_base.specs.Legal.{IsLegal};
 ghost use Rattle.reflector_core.specs.PlainSession.{PlainSession, IsSoundSession};
 ghost use Rattle.reflector_core.specs.Answer.{answer};
@@ -7,14 +8,14 @@ ghost use Rattle.reflector_core.specs.Growth.{GrowsTo};
 ghost use Rattle.reflector_core.specs.declared.request.Refusal.{Refusal};
 ghost use Rattle.reflector_core.specs.declared.request.Request.{Request};
 ghost use Rattle.reflector_core.specs.declared.request.Request.TheVariants.{Join, Pull};
-ghost use Rattle.reflector_core.specs.declared.request.Reply.TheVariants.{Joined, Refused};
+ghost use Rattle.reflector_core.specs.declared.request.Reply.TheVariants.{Batch, Joined, Refused};
 ghost use Rattle.wire_frames.specs.declared.frame.ClientFrame.{ClientFrame};
 ghost use Rattle.wire_frames.specs.declared.start.Base.{Base};
 ghost use Rattle.wire_frames.specs.declared.start.Want.{Want};
 ghost use Rattle.wire_frames.specs.Served.{Place, Streams, place_after_all};
 ghost use Rattle.wire_frames.specs.Spelling.{client_tag};
 ghost use Rattle.join_sync.specs.Answers.{IsReplyTo, answer_frame, first_cursor};
-ghost use Rattle.join_sync.specs.Batches.{IsBatchAfter, next_cursor, next_frames};
+ghost use Rattle.join_sync.specs.Batches.{ComeAfter, IsBatchAfter, next_cursor, next_frames};
 ghost use Rattle.join_sync.specs.Refusals.{refused_frame};
 ghost use Rattle.join_sync.specs.Requests.{IsOfFrame, act_on};
 ghost use Rattle.join_sync.specs.Standing.{StandsAt};
@@ -27,6 +28,7 @@ pub fn replies_fit()
     ensures replies { (s : PlainSession) (request : Request) → IsReplyTo request (answer s request).reply }
     ensures frames { (cursor : Cursor) (frame : ClientFrame) (now : ℕ) (request : Request) → act_on cursor frame now ≡ Call request → IsOfFrame request }
     ensures batches { (s : PlainSession) (after limit : ℕ) → IsLegal s.log → after ≤ length s.log → IsBatchAfter after (answer s (Pull after limit)).reply }
+    ensures batch { (s : PlainSession) (after limit : ℕ) (entries : List Entry) (tick : Option ℕ) → IsLegal s.log → (answer s (Pull after limit)).reply ≡ Batch entries tick → ComeAfter after entries }
     ensures refusals { (cursor : Cursor) (frame : ClientFrame) (now : ℕ) (request : Request) (refusal : Refusal) → act_on cursor frame now ≡ Call request
         → answer_frame request (Refused refusal) ≡ Some (refused_frame (client_tag frame) refusal) }
 {}

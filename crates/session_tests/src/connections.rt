@@ -7,13 +7,13 @@ use reflector_core::{Reply, Request, Session, Want};
 use std::alloc::Global;
 use std::test::Fail;
 use tea_base::{Blob, SessionId, WantOfMemory};
-use wire_frames::{ClientFrame, ServerFrame};
+use wire_frames::{ClientFrame, ServerFrame, ServerFrames};
 
 const ID: SessionId = SessionId([7; 32]);
 
-/// What a frame tells, but for payloads and snapshots.
+/// The numbers of a frame, but for those of a payload and a base.
 #[derive(Clone, Copy, Debug, PartialEq, Eq)]
-enum Tells {
+enum FrameNumbers {
     Sync { joined: u32, last: u32, from: u32 },
     Recv { seq: u32, time: u64 },
     Tick(u64),
@@ -23,41 +23,50 @@ enum Tells {
     Alive,
 }
 
-fn told(frame: &ServerFrame) -> Tells {
+fn numbers_of(frame: &ServerFrame) -> FrameNumbers {
     match frame {
         ServerFrame::Sync {
             joined,
             last,
             from,
             ..
-        } => Tells::Sync {
+        } => FrameNumbers::Sync {
             joined: *joined,
             last: *last,
             from: *from,
         },
-        ServerFrame::Recv(entry) => Tells::Recv {
+        ServerFrame::Recv(entry) => FrameNumbers::Recv {
             seq: entry.seq,
             time: entry.time,
         },
-        ServerFrame::Tick(time) => Tells::Tick(*time),
-        ServerFrame::Done { number, seq, time } => Tells::Done {
+        ServerFrame::Tick(time) => FrameNumbers::Tick(*time),
+        ServerFrame::Done { number, seq, time } => FrameNumbers::Done {
             number: *number,
             seq: *seq,
             time: *time,
         },
-        ServerFrame::Snapped { time } => Tells::Snapped(*time),
+        ServerFrame::Snapped { time } => FrameNumbers::Snapped(*time),
         ServerFrame::Refused {
             about,
             code,
             kept,
             ..
-        } => Tells::Refused {
+        } => FrameNumbers::Refused {
             about: *about,
             code: *code,
             kept: *kept,
         },
-        ServerFrame::Alive => Tells::Alive,
+        ServerFrame::Alive => FrameNumbers::Alive,
     }
+}
+
+/// The same of frames in order.
+fn all_numbers(alloc: Global, frames: &ServerFrames) -> Result<Vec<FrameNumbers>, WantOfMemory> {
+    let mut numbers = Vec::new(alloc);
+    for frame in frames.as_slice() {
+        numbers.push(numbers_of(frame))?;
+    }
+    Ok(numbers)
 }
 
 /// The session's reply to a request.
@@ -67,11 +76,15 @@ fn reply_to(session: &mut Session, request: &Request) -> Result<Reply, WantOfMem
     session.call(request)
 }
 
-/// The view 7 joins on a new connection: its cursor, and the answer to its JOIN.
-fn connected(session: &mut Session, want: Want) -> Result<(Cursor, Tells), Fail> {
+/// A view joins on a new connection: its cursor, if it has joined, and the answer to its JOIN.
+fn joined(
+    session: &mut Session,
+    view: u32,
+    want: Want,
+) -> Result<(Option<Cursor>, FrameNumbers), Fail> {
     let first = ClientFrame::Join {
         session: ID,
-        view: 7,
+        view,
         want,
     };
     let request = open(&first, &ID, 0)?;
@@ -79,10 +92,16 @@ fn connected(session: &mut Session, want: Want) -> Result<(Cursor, Tells), Fail>
         Request::Join { view, .. } => {
             let reply = reply_to(session, &request)?;
             let (cursor, answer) = Cursor::opened(*view, reply);
-            Ok((cursor.ok_or("refused")?, told(&answer)))
+            Ok((cursor, numbers_of(&answer)))
         }
         _ => Err(Fail::from("no join")),
     }
+}
+
+/// The view 7 joins on a new connection: its cursor, and the answer to its JOIN.
+fn connected(session: &mut Session, want: Want) -> Result<(Cursor, FrameNumbers), Fail> {
+    let (cursor, answer) = joined(session, 7, want)?;
+    Ok((cursor.ok_or("refused")?, answer))
 }
 
 /// The answer to a frame.
@@ -90,20 +109,30 @@ fn answered(
     session: &mut Session,
     cursor: &Cursor,
     frame: ClientFrame,
-) -> Result<Option<Tells>, Fail> {
+) -> Result<Option<FrameNumbers>, Fail> {
     match cursor.act(frame, 0) {
         Act::Call(request) => {
             let reply = reply_to(session, &request)?;
             let answer = cursor.answer(&request, &reply);
-            Ok(answer.as_ref().map(|answer| told(answer)))
+            Ok(answer.as_ref().map(|answer| numbers_of(answer)))
         }
-        Act::Answer(answer) => Ok(Some(told(&answer))),
+        Act::Answer(answer) => Ok(Some(numbers_of(&answer))),
     }
 }
 
-/// The frames of what stands in the log behind a cursor, once time has gone on.
-fn pulled(alloc: Global, session: &mut Session, cursor: &mut Cursor) -> Result<Vec<Tells>, Fail> {
+/// Time goes on.
+fn tick(session: &mut Session) -> Result<(), WantOfMemory> {
     session.call(&Request::Tick { now: 0 })?;
+    Ok(())
+}
+
+/// The frames of what stands in the log behind a cursor, once time has gone on.
+fn pulled(
+    alloc: Global,
+    session: &mut Session,
+    cursor: &mut Cursor,
+) -> Result<Vec<FrameNumbers>, Fail> {
+    tick(session)?;
     if session.log().len() < cursor.after() {
         return Err(Fail::from("behind the log"));
     }
@@ -113,13 +142,7 @@ fn pulled(alloc: Global, session: &mut Session, cursor: &mut Cursor) -> Result<V
     };
     let batch = session.call(&pull)?;
     let frames = cursor.next(alloc, batch)?;
-    Ok(
-        frames
-            .as_slice()
-            .iter()
-            .map(|frame| told(frame))
-            .collect(alloc)?,
-    )
+    Ok(all_numbers(alloc, &frames)?)
 }
 
 /// The event 1 of a view.
@@ -145,13 +168,13 @@ fn a_view_is_cut_off_and_comes_back(rt: HostRuntime) -> Result<(), Fail> {
     let (old, sync) = connected(&mut session, Want::Fresh)?;
     assert_eq!(rt;
         sync,
-        Tells::Sync {
+        FrameNumbers::Sync {
             joined: 1,
             last: 0,
             from: 0
         }
     );
-    let done = Tells::Done {
+    let done = FrameNumbers::Done {
         number: 1,
         seq: 2,
         time: 2,
@@ -161,7 +184,7 @@ fn a_view_is_cut_off_and_comes_back(rt: HostRuntime) -> Result<(), Fail> {
     let (mut new, sync) = connected(&mut session, Want::After(0))?;
     assert_eq!(rt;
         sync,
-        Tells::Sync {
+        FrameNumbers::Sync {
             joined: 3,
             last: 1,
             from: 0
@@ -170,15 +193,15 @@ fn a_view_is_cut_off_and_comes_back(rt: HostRuntime) -> Result<(), Fail> {
     assert_eq!(rt; answered(&mut session, &new, event(alloc)?)?, Some(done));
     let frames = pulled(alloc, &mut session, &mut new)?;
     let log = [
-        Tells::Recv { seq: 1, time: 1 },
-        Tells::Recv { seq: 2, time: 2 },
-        Tells::Recv { seq: 3, time: 3 },
-        Tells::Tick(3),
+        FrameNumbers::Recv { seq: 1, time: 1 },
+        FrameNumbers::Recv { seq: 2, time: 2 },
+        FrameNumbers::Recv { seq: 3, time: 3 },
+        FrameNumbers::Tick(3),
     ];
     assert_eq!(rt; frames.as_slice(), log.as_slice());
     assert!(rt; pulled(alloc, &mut session, &mut new)?.is_empty());
 
-    let stale = Tells::Refused {
+    let stale = FrameNumbers::Refused {
         about: 4,
         code: 1,
         kept: 3,
@@ -197,18 +220,18 @@ fn frames_are_answered(rt: HostRuntime) -> Result<(), Fail> {
     let mut session = Session::new(alloc);
     let (cursor, _) = connected(&mut session, Want::Whole)?;
     let kept = answered(&mut session, &cursor, snapshot(alloc)?)?;
-    assert_eq!(rt; kept, Some(Tells::Snapped(0)));
+    assert_eq!(rt; kept, Some(FrameNumbers::Snapped(0)));
     let older = answered(&mut session, &cursor, snapshot(alloc)?)?;
     assert_eq!(rt;
         older,
-        Some(Tells::Refused {
+        Some(FrameNumbers::Refused {
             about: 3,
             code: 10,
             kept: 0
         })
     );
     let alive = answered(&mut session, &cursor, ClientFrame::Alive)?;
-    assert_eq!(rt; alive, Some(Tells::Alive));
+    assert_eq!(rt; alive, Some(FrameNumbers::Alive));
     let join = ClientFrame::Join {
         session: ID,
         view: 7,
@@ -217,7 +240,7 @@ fn frames_are_answered(rt: HostRuntime) -> Result<(), Fail> {
     let joined = answered(&mut session, &cursor, join)?;
     assert_eq!(rt;
         joined,
-        Some(Tells::Refused {
+        Some(FrameNumbers::Refused {
             about: 1,
             code: 15,
             kept: 0
@@ -234,10 +257,10 @@ fn a_first_frame_that_joins_no_session_is_refused(rt: HostRuntime) -> Result<(),
         want: Want::Fresh,
     };
     assert_eq!(rt; open(&other, &ID, 0).err(), Some(Early::OtherSession));
-    let refused = told(&Early::OtherSession.frame(&other));
+    let refused = numbers_of(&Early::OtherSession.frame(&other));
     assert_eq!(rt;
         refused,
-        Tells::Refused {
+        FrameNumbers::Refused {
             about: 1,
             code: 12,
             kept: 0
@@ -245,14 +268,114 @@ fn a_first_frame_that_joins_no_session_is_refused(rt: HostRuntime) -> Result<(),
     );
     let event = event(rt.alloc())?;
     assert_eq!(rt; open(&event, &ID, 0).err(), Some(Early::NotJoined));
-    let refused = told(&Early::NotJoined.frame(&event));
+    let refused = numbers_of(&Early::NotJoined.frame(&event));
     assert_eq!(rt;
         refused,
-        Tells::Refused {
+        FrameNumbers::Refused {
             about: 2,
             code: 14,
             kept: 0
         }
     );
+    Ok(())
+}
+
+/// A view sends 256 events without payloads: its session, whose log has 257 entries, and its cursor.
+fn filled(alloc: Global) -> Result<(Session, Cursor), Fail> {
+    let mut session = Session::new(alloc);
+    let (cursor, _) = connected(&mut session, Want::Whole)?;
+    for number in 1..=256 {
+        let event = ClientFrame::Send {
+            number,
+            payload: Blob::new(alloc),
+        };
+        answered(&mut session, &cursor, event)?;
+    }
+    Ok((session, cursor))
+}
+
+#[test]
+fn a_batch_that_ends_before_the_log_has_no_tick(rt: HostRuntime) -> Result<(), Fail> {
+    let alloc = rt.alloc();
+    let (mut session, mut cursor) = filled(alloc)?;
+    let frames = pulled(alloc, &mut session, &mut cursor)?;
+    assert_eq!(rt; frames.len(), 256);
+    assert_eq!(rt; cursor.after(), 256);
+    let rest = pulled(alloc, &mut session, &mut cursor)?;
+    let last = [
+        FrameNumbers::Recv {
+            seq: 257,
+            time: 257,
+        },
+        FrameNumbers::Tick(257),
+    ];
+    assert_eq!(rt; rest.as_slice(), last.as_slice());
+    Ok(())
+}
+
+/// A frame about this tag was refused with this code.
+fn refused(about: u8, code: u8, kept: u64) -> FrameNumbers {
+    FrameNumbers::Refused { about, code, kept }
+}
+
+#[test]
+fn refused_events_and_snapshots_are_told_by_codes(rt: HostRuntime) -> Result<(), Fail> {
+    let alloc = rt.alloc();
+    let mut session = Session::new(alloc);
+    let (cursor, _) = connected(&mut session, Want::Whole)?;
+    let gap = ClientFrame::Send {
+        number: 2,
+        payload: Blob::new(alloc),
+    };
+    let answer = answered(&mut session, &cursor, gap)?;
+    assert_eq!(rt; answer, Some(refused(2, 4, 1)));
+    answered(&mut session, &cursor, event(alloc)?)?;
+    let differs = ClientFrame::Send {
+        number: 1,
+        payload: Blob::new(alloc),
+    };
+    let answer = answered(&mut session, &cursor, differs)?;
+    assert_eq!(rt; answer, Some(refused(2, 3, 2)));
+    let long = ClientFrame::Send {
+        number: 2,
+        payload: Blob::copy(alloc, &[0; 4097])?,
+    };
+    let answer = answered(&mut session, &cursor, long)?;
+    assert_eq!(rt; answer, Some(refused(2, 2, 4097)));
+    let ahead = ClientFrame::Snap {
+        time: 3,
+        bytes: Blob::new(alloc),
+    };
+    let answer = answered(&mut session, &cursor, ahead)?;
+    assert_eq!(rt; answer, Some(refused(3, 9, 2)));
+    session.call(&Request::Tick { now: u64::MAX })?;
+    let late = ClientFrame::Send {
+        number: 2,
+        payload: Blob::new(alloc),
+    };
+    let answer = answered(&mut session, &cursor, late)?;
+    assert_eq!(rt; answer, Some(refused(2, 6, 9_007_199_254_736_896)));
+    Ok(())
+}
+
+/// A session with as many views as may be here, numbered from 1.
+fn crowded(alloc: Global) -> Result<Session, Fail> {
+    let mut session = Session::new(alloc);
+    for view in 1..=1024 {
+        joined(&mut session, view, Want::Fresh)?;
+    }
+    Ok(session)
+}
+
+#[test]
+fn refused_joins_are_told_by_codes(rt: HostRuntime) -> Result<(), Fail> {
+    let mut session = Session::new(rt.alloc());
+    let (_, answer) = joined(&mut session, 0, Want::Fresh)?;
+    assert_eq!(rt; answer, refused(1, 8, 0));
+    let (_, answer) = joined(&mut session, 7, Want::After(1))?;
+    assert_eq!(rt; answer, refused(1, 9, 0));
+    let mut session = crowded(rt.alloc())?;
+    let (_, answer) = joined(&mut session, 1025, Want::Fresh)?;
+    assert_eq!(rt; answer, refused(1, 7, 1024));
     Ok(())
 }

@@ -12,4 +12,4 @@ next-requires c =
     let reached = c.if-len-after.false in
     let there : c.args.cursor.now.after ≤ length c.log.result.now.entries = grind (arith, nat_tests) in
     let within = rw log at there in
-    told_batch c.call.new.self.plain c.call-2.new.self.plain c.args.cursor.now.after 256 c.in_ok-batch.batch (rw log at c.log.ensures.legal) within (rw later at c.in_ok-batch.ensures.ok)
+    told_batch c.tick.new.session.plain c.call.new.self.plain c.args.cursor.now.after 256 c.in_ok-batch.batch (rw log at c.log.ensures.legal) within (rw later at c.in_ok-batch.ensures.ok)
