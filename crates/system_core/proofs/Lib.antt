@@ -1,0 +1,9 @@
+pub mod TimelyFrames
+pub mod Members
+pub mod TurnSteps
+pub mod PartSteps
+pub mod WholeReplicas
+pub mod PartTakes
+pub mod PartTurns
+pub mod PartJoins
+pub mod Runs
