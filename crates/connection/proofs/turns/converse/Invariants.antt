@@ -1,0 +1,17 @@
+use Rattle.std.proofs.Common.{◌≡◌, ◌<◌}
+use Rattle.session_lock.specs.History.{play}
+use Rattle.connection.specs.Phases.{Ticking}
+use Rattle.connection.specs.Standing.{IsStanding}
+use Rattle.connection.specs.Talk.{TalksOn, account, link_account}
+use Rattle.connection.proofs.turns.converse.Given as goal
+
+-- the turns so far
+abbrev pub invariant-loop : goal.invariant-loop
+invariant-loop g l = record {
+  row : l.quiets < 6000;
+  session : l.pass.session ≡ l.service.shared.now.session;
+  standing : IsStanding (play l.pass.seen) l.cursor;
+  kept : l.pass ≡ record l.initial.pass { seen = l.pass.seen };
+  talk : TalksOn (g.C.Clock.gives l.service.clock.now) l.service.id (Ticking l.fn.first 0) (Ticking l.cursor l.quiets)
+      (account l.initial.pass (link_account g.L.Link.heard g.L.Link.sent g.L.Link.counts l.initial.link)) (account l.pass (link_account g.L.Link.heard g.L.Link.sent g.L.Link.counts l.link));
+}

@@ -1,0 +1,73 @@
+-- Why a connection ends.
+use Rattle.std.specs.Prelude.{◌≡◌, ℕ, ◌+◌, ◌-◌, ◌^◌, ◌≤◌, min, List, [], ◌∷◌, ◌++◌, Option, Some, None}
+use Rattle.std.specs.List.{AllByRecursion}
+use Rattle.tea_io.specs.Told.{Rose}
+use Rattle.tea_io.specs.Links.{Counts}
+use Rattle.reflector_core.specs.declared.request.Request.TheVariants.{Join, Send, Leave, Offer}
+use Rattle.reflector_core.specs.declared.request.Reply.TheVariants.{Refused}
+use Rattle.join_sync.specs.Refusals.{refused_frame}
+use Rattle.connection.specs.declared.ending.Ended.{Ended}
+use Rattle.connection.specs.declared.ending.Ended.TheVariants as ended
+use Rattle.connection.specs.Exchanges.{Exchange, Answered, Unanswered}
+use Rattle.connection.specs.Phases.{code_in, end_in}
+
+-- ---- what the link counted
+
+-- a count rose so many times, or stands at its last value
+abbrev pub RoseBy : ℕ → ℕ → ℕ → Type 0
+RoseBy times before now = min (before + times) (2 ^ 64 - 1) ≤ now
+
+-- by its link's end, by a fault or by a row of Quiets only where the link counted one, or so many
+abbrev pub IsCounted : Counts → Counts → Ended → Type 0
+IsCounted before now ended.LinkEnd = Rose before.ends now.ends
+IsCounted before now ended.LinkFault = Rose before.faults now.faults
+IsCounted before now (ended.Idle quiets) = (quiets ≡ 6000) × RoseBy quiets before.quiets now.quiets
+IsCounted before now other = Unit {0}
+
+-- ---- what the caller asked
+
+-- how the reply to a request ends a connection, if a frame asked it
+abbrev pub end_of : Exchange → Option Ended
+end_of (Answered (Send view joined number payload now) given) = end_in given
+end_of (Answered (Leave view joined now) given) = end_in given
+end_of (Answered (Offer view joined time bytes) given) = end_in given
+end_of other = None
+
+abbrev pub EndNothing : List Exchange → Type 0
+EndNothing asked = AllByRecursion (λ exchange. end_of exchange ≡ None) asked
+
+-- the last reply ends it so, and none before it ends anything
+pub record EndsByReply (how : Ended) (asked : List Exchange) : Type 0 where
+  pub front : List Exchange
+  pub last : Exchange
+  pub asked_is : asked ≡ front ++ last ∷ []
+  pub before : EndNothing front
+  pub ends : end_of last ≡ Some how
+
+-- the last Leave of a connection, if it makes one
+abbrev pub IsLastLeave : List Exchange → Type 0
+IsLastLeave [] = Unit {0}
+IsLastLeave (Answered (Leave view joined now) given ∷ []) = Unit {0}
+IsLastLeave (Unanswered ∷ []) = Unit {0}
+IsLastLeave other = ⊥
+
+-- no reply ends it, but for that to its last Leave
+pub record EndsElse (asked : List Exchange) : Type 0 where
+  pub front : List Exchange
+  pub rest : List Exchange
+  pub asked_is : asked ≡ front ++ rest
+  pub before : EndNothing front
+  pub leaves : IsLastLeave rest
+
+-- nothing was asked, or a Join that was refused
+abbrev pub IsTurnedDown : ℕ → List Exchange → Type 0
+IsTurnedDown code [] = 12 ≤ code
+IsTurnedDown code (Answered (Join view now want) (Refused refusal) ∷ []) = code ≡ code_in (refused_frame 1 refusal)
+IsTurnedDown code other = ⊥
+
+-- it ends as Left or Stale where a frame's request was answered so, as Refused where its first frame was, and else by no reply
+abbrev pub EndsExactly : Ended → List Exchange → Type 0
+EndsExactly ended.Left asked = EndsByReply ended.Left asked
+EndsExactly (ended.Stale current) asked = EndsByReply (ended.Stale current) asked
+EndsExactly (ended.Refused code) asked = IsTurnedDown code asked
+EndsExactly other asked = EndsElse asked

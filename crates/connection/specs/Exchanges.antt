@@ -1,0 +1,39 @@
+-- What one caller asked in a history, and what it was answered. Items of other callers are played, and skipped.
+use Rattle.std.specs.Prelude.{ℕ, eqb, List, [], ◌∷◌, ◌++◌, if◌then◌else◌}
+use Rattle.reflector_core.specs.PlainSession.{PlainSession}
+use Rattle.reflector_core.specs.Answer.{answer}
+use Rattle.reflector_core.specs.Play.{first_session}
+use Rattle.reflector_core.specs.declared.request.Request.{Request}
+use Rattle.reflector_core.specs.declared.request.Request.TheVariants.{Join, Send, Tick, Leave, Offer, Pull}
+use Rattle.reflector_core.specs.declared.request.Reply.{Reply}
+use Rattle.session_lock.specs.declared.knowledge.Item.{Item}
+use Rattle.session_lock.specs.declared.knowledge.Item.TheVariants.{Did, Void}
+use Rattle.session_lock.specs.History.{after_item}
+
+-- a request and its reply, or a call that found no memory
+pub data Exchange : Type 0 where
+  Answered : Request → Reply → Exchange
+  Unanswered : Exchange
+
+-- the exchange that an item is, if the caller made it
+abbrev pub exchange_in : PlainSession → ℕ → Item → List Exchange
+exchange_in s caller (Did who request) = if eqb who caller then Answered request (answer s request).reply ∷ [] else []
+exchange_in s caller (Void who) = if eqb who caller then Unanswered ∷ [] else []
+
+abbrev pub exchanges_from : PlainSession → ℕ → List Item → List Exchange
+exchanges_from s caller [] = []
+exchanges_from s caller (item ∷ items) = exchange_in s caller item ++ exchanges_from (after_item s item) caller items
+
+-- those of the caller in the history, each with the reply at its place
+abbrev pub exchanges_in : List Item → ℕ → List Exchange
+exchanges_in history caller = exchanges_from first_session caller history
+
+-- the time that a request carries is one that the clock may give
+abbrev pub IsTimely : (ℕ → Type 0) → Exchange → Type 0
+IsTimely gives (Answered (Join view now want) given) = gives now
+IsTimely gives (Answered (Send view joined number payload now) given) = gives now
+IsTimely gives (Answered (Tick now) given) = gives now
+IsTimely gives (Answered (Leave view joined now) given) = gives now
+IsTimely gives (Answered (Offer view joined time bytes) given) = Unit {0}
+IsTimely gives (Answered (Pull after limit) given) = Unit {0}
+IsTimely gives Unanswered = Unit {0}

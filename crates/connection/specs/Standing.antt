@@ -1,0 +1,33 @@
+-- What a call tells of its place in the history, and where a cursor stands there.
+use Rattle.std.specs.Prelude.{◌≡◌, Result, Ok, Err}
+use Rattle.tea_base.specs.declared.want.WantOfMemory.{WantOfMemory}
+use Rattle.wire_frames.specs.Served.{Place}
+use Rattle.reflector_core.specs.PlainSession.{PlainSession, IsSoundSession}
+use Rattle.reflector_core.specs.Answer.{answer}
+use Rattle.reflector_core.specs.Growth.{GrowsTo}
+use Rattle.reflector_core.specs.declared.request.Request.{Request}
+use Rattle.reflector_core.specs.declared.request.Request.TheVariants.{Join}
+use Rattle.reflector_core.specs.declared.request.Reply.{Reply}
+use Rattle.join_sync.specs.declared.cursor.Cursor.{Cursor}
+use Rattle.join_sync.specs.Standing.{StandsAt}
+use Rattle.connection.specs.Exchanges.{Exchange, Answered, Unanswered}
+
+-- what a call adds to what its caller asked
+abbrev pub exchange_of : Request → Result Reply WantOfMemory → Exchange
+exchange_of request (Ok given) = Answered request given
+exchange_of request (Err want) = Unanswered
+
+-- a sound session on the way, from the one before to the one now, gave the reply
+pub record IsAnsweredAt (before at now : PlainSession) (request : Request) (given : Reply) : Type 0 where
+  pub sound : IsSoundSession at
+  pub grows : GrowsTo before at
+  pub replied : given ≡ (answer at request).reply
+  pub same : now ≡ (answer at request).session
+
+-- the entries that the cursor counts are in the log
+abbrev pub IsStanding : PlainSession → Cursor → Type 0
+IsStanding s cursor = (place : Place) × StandsAt s place cursor
+
+abbrev pub IsJoin : Request → Type 0
+IsJoin (Join view now want) = Unit {0}
+IsJoin other = ⊥

@@ -1,0 +1,94 @@
+-- What ties the exchanges of a connection's caller to its link.
+use Rattle.std.specs.Prelude.{◌≡◌, ◌⊎◌, ℕ, List, [], ◌∷◌, ◌++◌, map, Option, Result, Ok, Err}
+use Rattle.std.specs.List.{AllByRecursion}
+use Rattle.tea_base.specs.declared.entry.SessionId.{SessionId}
+use Rattle.tea_io.specs.Told.{grown, Rose}
+use Rattle.tea_io.specs.Links.{Counts, NoneFalls, CountRises}
+use Rattle.tea_io.specs.declared.link.Heard.{Heard}
+use Rattle.tea_io.specs.declared.link.LinkFault.{LinkFault}
+use Rattle.tea_io.specs.declared.link.LinkFault.TheVariants.{Failed, WantOfMemory}
+use Rattle.wire_frames.specs.declared.frame.ServerFrame.{ServerFrame}
+use Rattle.wire_frames.specs.Frames.{IsServerFrame}
+use Rattle.wire_frames.specs.Spelling.{server_spelling}
+use Rattle.session_lock.specs.declared.knowledge.Item.{Item}
+use Rattle.session_lock.specs.Passes.{PassState, caller}
+use Rattle.connection.specs.declared.ending.Ended.{Ended}
+use Rattle.connection.specs.declared.ending.Halt.{Halt}
+use Rattle.connection.specs.Exchanges.{Exchange, exchanges_in, IsTimely}
+use Rattle.connection.specs.Phases.{TalkPhase, Opening, Over, TalkEvent, Hears, Loses, Fails, talk_walk, heard_in, halt_phase}
+
+-- A talk from its first frame to its end: what the caller asked in the history, what the link was heard to say and was sent. Some events
+-- lead to just these, each frame that was sent has a spelling, and each time that was asked with is one that the clock may give.
+pub record Talk (gives : ℕ → Type 0) (id : SessionId) (history : List Item) (caller : ℕ) (heard : List Heard) (sent : List (List ℕ)) (how : Ended) : Type 0 where
+  pub events : List TalkEvent
+  pub ends : (talk_walk id (Opening 0) events).phase ≡ Over how
+  pub asked : exchanges_in history caller ≡ (talk_walk id (Opening 0) events).asked
+  pub said : heard ≡ heard_in events
+  pub told : sent ≡ map server_spelling (talk_walk id (Opening 0) events).sent
+  pub spelled : AllByRecursion IsServerFrame (talk_walk id (Opening 0) events).sent
+  pub timely : AllByRecursion (IsTimely gives) (exchanges_in history caller)
+
+-- ---- what a link tells
+
+-- what it was heard to say and was sent, where it tells them, and its counts
+pub record LinkAccount : Type 0 where
+  pub heard : Option (List Heard)
+  pub sent : Option (List (List ℕ))
+  pub counts : Counts
+
+abbrev pub link_account : {L : Type 0} → (L → Option (List Heard)) → (L → Option (List (List ℕ))) → (L → Counts) → L → LinkAccount
+link_account heard sent counts link = record { heard = heard link; sent = sent link; counts = counts link }
+
+-- the talk of a call that has ended: of what was heard and sent in it, which the link tells where it tells anything
+pub record HasTalked (gives : ℕ → Type 0) (id : SessionId) (pass : PassState) (old new : LinkAccount) (how : Ended) : Type 0 where
+  pub heard : List Heard
+  pub sent : List (List ℕ)
+  pub talk : Talk gives id pass.seen (caller pass) heard sent how
+  pub tells_heard : new.heard ≡ grown old.heard heard
+  pub tells_sent : new.sent ≡ grown old.sent sent
+
+-- ---- a part of a talk
+
+-- what was asked, and what the link tells
+pub record Account : Type 0 where
+  pub asked : List Exchange
+  pub link : LinkAccount
+
+abbrev pub account_of : List Exchange → LinkAccount → Account
+account_of asked link = record { asked = asked; link = link }
+
+abbrev pub account : PassState → LinkAccount → Account
+account pass link = account_of (exchanges_in pass.seen (caller pass)) link
+
+-- no count falls, and one rises that tells of the event
+abbrev pub EventCounts : TalkEvent → Counts → Counts → Type 0
+EventCounts (Hears what) before now = NoneFalls before now × CountRises before now what
+EventCounts Loses before now = NoneFalls before now × Rose before.faults now.faults
+EventCounts Fails before now = NoneFalls before now × Rose before.faults now.faults
+EventCounts other before now = NoneFalls before now
+
+abbrev pub EventsCount : List TalkEvent → Counts → Counts → Type 0
+EventsCount [] before now = now ≡ before
+EventsCount (event ∷ events) before now = (mid : Counts) × EventCounts event before mid × EventsCount events mid now
+
+-- from one phase to another by events that add just this; what the link does not tell is left open
+pub record TalksOn (gives : ℕ → Type 0) (id : SessionId) (from to : TalkPhase) (before now : Account) : Type 0 where
+  pub events : List TalkEvent
+  pub ends : (talk_walk id from events).phase ≡ to
+  pub asked : now.asked ≡ before.asked ++ (talk_walk id from events).asked
+  pub heard : now.link.heard ≡ grown before.link.heard (heard_in events)
+  pub sent : now.link.sent ≡ grown before.link.sent (map server_spelling (talk_walk id from events).sent)
+  pub counts : EventsCount events before.link.counts now.link.counts
+  pub spelled : AllByRecursion IsServerFrame (talk_walk id from events).sent
+  pub timely : AllByRecursion (IsTimely gives) (talk_walk id from events).asked
+
+-- to the phase that the result has, or to where the talk stops
+abbrev pub TalksOrHalts : {T : Type 0} → (ℕ → Type 0) → SessionId → TalkPhase → (T → TalkPhase) → Result T Halt → Account → Account → Type 0
+TalksOrHalts gives id from to (Ok value) before now = TalksOn gives id from (to value) before now
+TalksOrHalts gives id from to (Err halt) before now = TalksOn gives id from (halt_phase halt) before now
+
+-- a frame that has a spelling was sent; where the send failed, whole or not at all; for want of memory it was not
+abbrev pub SendsSpelled : Option (List (List ℕ)) → Option (List (List ℕ)) → ServerFrame → Result (Unit {0}) LinkFault → Type 0
+SendsSpelled before now frame (Ok done) = IsServerFrame frame × (now ≡ grown before (server_spelling frame ∷ []))
+SendsSpelled before now frame (Err Failed) = (now ≡ before) ⊎ (IsServerFrame frame × (now ≡ grown before (server_spelling frame ∷ [])))
+SendsSpelled before now frame (Err WantOfMemory) = now ≡ before

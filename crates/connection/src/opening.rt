@@ -1,0 +1,151 @@
+//! The first frame of a connection.
+ghost use Rattle.std.specs.Prelude.{◌≡◌, ℕ, List, [], ◌∷◌, Option, Some, None, IfOk, MatchResult};
+ghost use Rattle.reflector_core.specs.Growth.{GrowsTo};
+ghost use Rattle.session_lock.specs.History.{play};
+ghost use Rattle.byte_fields.specs.Fields.{whole};
+ghost use Rattle.wire_frames.specs.Reading.{client_at};
+ghost use Rattle.system_plain.specs.Steps.{joined_view};
+ghost use Rattle.join_sync.specs.Answers.{first_cursor, join_answer};
+ghost use Rattle.wire_frames.specs.declared.frame.ServerFrame.{ServerFrame};
+ghost use Rattle.reflector_core.specs.declared.request.Reply.{Reply};
+ghost use Rattle.connection.specs.Exchanges.{Answered, Exchange, IsTimely};
+ghost use Rattle.connection.specs.Phases.{Joining, Opening, Over, Reading, Ticking, entered_phase, greeted_phase};
+ghost use Rattle.connection.specs.Standing.{IsJoin, IsStanding};
+ghost use Rattle.connection.specs.Talk.{TalksOn, TalksOrHalts, account, account_of, link_account};
+
+use crate::asking::{Service, ask};
+use crate::ending::{Ended, Halt};
+use crate::sending::{refuse, tell, unread_frame};
+use join_sync::{Cursor, open};
+use reflector_core::Request;
+use session_lock::Pass;
+use std::sync::Wait;
+use tea_base::{Blob, WantOfMemory};
+use tea_io::{Clock, Heard, Link};
+use wire_frames::{ClientFrame, FrameFault, ServerFrame, read_client};
+
+/// A connection ends at so many Quiets in a row.
+pub const MOST_QUIETS: u32 = 6000;
+
+/// Waits for the first frame.
+pub fn first_frame<C: Clock, R: Wait, L: Link>(
+    service: &Service<'_, C, R>,
+    link: &mut L,
+) -> Result<Blob, Ended>
+    ensures { (asked : List Exchange) → MatchResult result
+        (λ bytes. TalksOn (C.gives service.now.clock.now) service.now.id (Opening 0) (Reading bytes)
+        (account_of asked (link_account L.heard L.sent L.counts link.old)) (account_of asked (link_account L.heard L.sent L.counts link.new)))
+        (λ ended. TalksOn (C.gives service.now.clock.now) service.now.id (Opening 0) (Over ended)
+        (account_of asked (link_account L.heard L.sent L.counts link.old)) (account_of asked (link_account L.heard L.sent L.counts link.new))) }
+{
+    for _quiets in 0..MOST_QUIETS {
+        match link.recv() {
+            Heard::Frame(bytes) => return Ok(bytes),
+            Heard::Quiet => {}
+            Heard::End => return Err(Ended::LinkEnd),
+            Heard::Failed => return Err(Ended::LinkFault),
+            Heard::WantOfMemory => return Err(Ended::WantOfMemory),
+        }
+    }
+    Err(Ended::Idle {
+        quiets: MOST_QUIETS,
+    })
+}
+
+/// Tells a view what its Join came to.
+fn greet<C: Clock, R: Wait, L: Link>(
+    service: &Service<'_, C, R>,
+    link: &mut L,
+    cursor: Option<Cursor>,
+    frame: &ServerFrame,
+) -> Result<Cursor, Halt>
+    ensures cursor { IfOk result (λ joined. cursor ≡ Some joined) }
+    ensures talk { (asked : List Exchange) → TalksOrHalts (C.gives service.now.clock.now) service.now.id
+        (greeted_phase cursor (Some frame.now)) (λ joined. Ticking joined 0) result
+        (account_of asked (link_account L.heard L.sent L.counts link.old)) (account_of asked (link_account L.heard L.sent L.counts link.new)) }
+{
+    let Some(cursor) = cursor else {
+        return Err(refuse(service, link, frame));
+    };
+    match tell(service, link, &cursor, frame) {
+        Ok(()) => Ok(cursor),
+        Err(halt) => Err(halt),
+    }
+}
+
+/// The view that a Join is of.
+fn joined_view(request: &Request) -> u32
+    requires { IsJoin request.now }
+    ensures { result ≡ joined_view request.now }
+{
+    match request {
+        Request::Join { view, .. } => *view,
+        _ => unreachable!(),
+    }
+}
+
+/// Makes the Join.
+fn join<C: Clock, R: Wait, L: Link>(
+    service: &Service<'_, C, R>,
+    pass: &mut Pass,
+    link: &mut L,
+    request: &Request,
+) -> Result<Cursor, Halt>
+    requires session { pass.old.session ≡ service.now.shared.now.session }
+    requires join { IsJoin request.now }
+    requires timely { (given : Reply) → IsTimely (C.gives service.now.clock.now) (Answered request.now given) }
+    ensures kept { pass.new ≡ record pass.old { seen = pass.new.seen } }
+    ensures standing { IfOk result (λ cursor. IsStanding (play pass.new.seen) cursor) }
+    ensures talk { TalksOrHalts (C.gives service.now.clock.now) service.now.id
+        (Joining request.now) (λ cursor. Ticking cursor 0) result
+        (account pass.old (link_account L.heard L.sent L.counts link.old)) (account pass.new (link_account L.heard L.sent L.counts link.new)) }
+{
+    let reply = match ask(service, pass, request) {
+        Ok(reply) => reply,
+        Err(WantOfMemory) => return Err(Halt::Over(Ended::WantOfMemory)),
+    };
+    let (cursor, frame) = Cursor::opened(joined_view(request), reply);
+    greet(service, link, cursor, &frame)
+}
+
+/// Enters by the first frame, which has to be a JOIN of this session.
+fn enter<C: Clock, R: Wait, L: Link>(
+    service: &Service<'_, C, R>,
+    pass: &mut Pass,
+    link: &mut L,
+    frame: &ClientFrame,
+) -> Result<Cursor, Halt>
+    requires session { pass.old.session ≡ service.now.shared.now.session }
+    ensures kept { pass.new ≡ record pass.old { seen = pass.new.seen } }
+    ensures standing { IfOk result (λ cursor. IsStanding (play pass.new.seen) cursor) }
+    ensures talk { (bytes : List ℕ) → whole client_at bytes ≡ Some frame.now → TalksOrHalts (C.gives service.now.clock.now) service.now.id
+        (Reading bytes) (λ cursor. Ticking cursor 0) result
+        (account pass.old (link_account L.heard L.sent L.counts link.old)) (account pass.new (link_account L.heard L.sent L.counts link.new)) }
+{
+    let now = service.clock.now();
+    match open(frame, &service.id, now) {
+        Ok(request) => join(service, pass, link, &request),
+        Err(early) => Err(refuse(service, link, &early.frame(frame))),
+    }
+}
+
+/// Reads the first frame, and joins.
+pub fn begin<C: Clock, R: Wait, L: Link>(
+    service: &Service<'_, C, R>,
+    pass: &mut Pass,
+    link: &mut L,
+    bytes: &Blob,
+) -> Result<Cursor, Halt>
+    requires session { pass.old.session ≡ service.now.shared.now.session }
+    ensures kept { pass.new ≡ record pass.old { seen = pass.new.seen } }
+    ensures standing { IfOk result (λ cursor. IsStanding (play pass.new.seen) cursor) }
+    ensures talk { TalksOrHalts (C.gives service.now.clock.now) service.now.id
+        (Reading bytes.now) (λ cursor. Ticking cursor 0) result
+        (account pass.old (link_account L.heard L.sent L.counts link.old)) (account pass.new (link_account L.heard L.sent L.counts link.new)) }
+{
+    match read_client(service.alloc, bytes.bytes()) {
+        Ok(frame) => enter(service, pass, link, &frame),
+        Err(FrameFault::BadFrame) => Err(refuse(service, link, &unread_frame())),
+        Err(FrameFault::WantOfMemory) => Err(Halt::Over(Ended::WantOfMemory)),
+    }
+}

@@ -1,0 +1,86 @@
+//! A connection from its first frame to its end.
+ghost use Rattle.std.specs.Prelude.{◌≡◌, [], ◌∷◌};
+ghost use Rattle.session_lock.specs.History.{calls_of};
+ghost use Rattle.session_lock.specs.Passes.{caller};
+ghost use Rattle.connection.specs.Causes.{EndsExactly, IsCounted};
+ghost use Rattle.connection.specs.Exchanges.{exchanges_in};
+ghost use Rattle.connection.specs.Phases.{Opening, Over, halt_phase};
+ghost use Rattle.connection.specs.Talk.{HasTalked, TalksOn, account, link_account};
+
+use crate::asking::Service;
+use crate::ending::{Ended, Halt};
+use crate::opening::{begin, first_frame};
+use crate::turns::{converse, leave};
+use session_lock::{Pass, SharedSession, TrustAll};
+use std::alloc::Global;
+use std::sync::Wait;
+use tea_base::SessionId;
+use tea_io::{Clock, Link};
+
+/// Talks until nothing is left but to leave.
+fn talk<C: Clock, R: Wait, L: Link>(
+    service: &Service<'_, C, R>,
+    pass: &mut Pass,
+    link: &mut L,
+) -> Halt
+    requires session { pass.old.session ≡ service.now.shared.now.session }
+    ensures kept { pass.new ≡ record pass.old { seen = pass.new.seen } }
+    ensures talk { TalksOn (C.gives service.now.clock.now) service.now.id (Opening 0) (halt_phase result)
+        (account pass.old (link_account L.heard L.sent L.counts link.old)) (account pass.new (link_account L.heard L.sent L.counts link.new)) }
+{
+    let bytes = match first_frame(service, link) {
+        Ok(bytes) => bytes,
+        Err(ended) => return Halt::Over(ended),
+    };
+    match begin(service, pass, link, &bytes) {
+        Ok(cursor) => converse(service, pass, link, cursor),
+        Err(halt) => halt,
+    }
+}
+
+/// Talks, and leaves where that is left to do.
+fn serve<C: Clock, R: Wait, L: Link>(
+    service: &Service<'_, C, R>,
+    pass: &mut Pass,
+    link: &mut L,
+) -> Ended
+    requires session { pass.old.session ≡ service.now.shared.now.session }
+    ensures kept { pass.new ≡ record pass.old { seen = pass.new.seen } }
+    ensures talk { TalksOn (C.gives service.now.clock.now) service.now.id (Opening 0) (Over result)
+        (account pass.old (link_account L.heard L.sent L.counts link.old)) (account pass.new (link_account L.heard L.sent L.counts link.new)) }
+{
+    match talk(service, pass, link) {
+        Halt::Over(ended) => ended,
+        Halt::Leave { cursor, ended } => {
+            leave(service, pass, &cursor);
+            ended
+        }
+    }
+}
+
+/// Serves a connection from its first frame to its end. The pass's own caller has made no call yet.
+pub fn serve_connection<L: Link, C: Clock, R: Wait>(
+    rt: &R,
+    alloc: Global,
+    shared: &SharedSession<TrustAll>,
+    pass: &mut Pass,
+    id: SessionId,
+    link: &mut L,
+    clock: &C,
+) -> Ended
+    requires session { pass.old.session ≡ shared.now.session }
+    requires fresh { calls_of (caller pass.old ∷ []) pass.old.seen ≡ [] }
+    ensures kept { pass.new ≡ record pass.old { seen = pass.new.seen } }
+    ensures talk { HasTalked (C.gives clock.now) id pass.new (link_account L.heard L.sent L.counts link.old) (link_account L.heard L.sent L.counts link.new) result }
+    ensures exactly { EndsExactly result (exchanges_in pass.new.seen (caller pass.new)) }
+    ensures cause { IsCounted (L.counts link.old) (L.counts link.new) result }
+{
+    let service = Service {
+        rt,
+        alloc,
+        shared,
+        id,
+        clock,
+    };
+    serve(&service, pass, link)
+}

@@ -1,0 +1,319 @@
+//! The turns of a connection whose view has joined.
+ghost use Rattle.std.specs.Prelude.{◌≡◌, ◌<◌, ℕ, List, [], ◌∷◌, Option, Some, None, IfOk, IsOk};
+ghost use Rattle.byte_fields.specs.Fields.{whole};
+ghost use Rattle.wire_frames.specs.Reading.{client_at};
+ghost use Rattle.wire_frames.specs.declared.frame.ServerFrame.{ServerFrame};
+ghost use Rattle.reflector_core.specs.Growth.{GrowsTo};
+ghost use Rattle.reflector_core.specs.PlainSession.{PlainSession};
+ghost use Rattle.session_lock.specs.History.{play};
+ghost use Rattle.join_sync.specs.Requests.{IsOfFrame};
+ghost use Rattle.connection.specs.declared.ending.Ended.{Ended};
+ghost use Rattle.join_sync.specs.Batches.{IsBatchAfter, next_cursor};
+ghost use Rattle.system_plain.specs.Steps.{answer_frames};
+ghost use Rattle.reflector_core.specs.declared.request.Reply.{Reply};
+ghost use Rattle.connection.specs.Exchanges.{Answered, Exchange, IsTimely};
+ghost use Rattle.connection.specs.Phases.{Asking, Hearing, Leaving, Over, Pulling, Taking, Ticking, answered_by, end_in, halt_phase, most_quiets, pulled_phase};
+ghost use Rattle.connection.specs.Standing.{IsStanding};
+ghost use Rattle.connection.specs.Talk.{LinkAccount, TalksOn, TalksOrHalts, account, account_of, link_account};
+
+use crate::asking::{Service, ask};
+use crate::ending::{Ended, Halt};
+use crate::opening::MOST_QUIETS;
+use crate::sending::{leave_at, tell, tell_all, tell_last, unread_frame};
+use join_sync::{Act, Cursor};
+use reflector_core::{Refusal, Reply, Request};
+use session_lock::Pass;
+use std::sync::Wait;
+use tea_base::{Blob, WantOfMemory};
+use tea_io::{Clock, Heard, Link};
+use wire_frames::{ClientFrame, FrameFault, ServerFrame, read_client};
+
+/// How many entries a turn pulls at most.
+const MOST_PULLED: u32 = 256;
+
+// ---- a frame
+
+/// How the reply to a frame's request ends the connection, if it does.
+fn end_in(reply: &Reply) -> Option<Ended>
+    ensures { result ≡ end_in reply.now }
+{
+    match reply {
+        Reply::Left { .. } => Some(Ended::Left),
+        Reply::Refused(Refusal::Stale { current }) => Some(Ended::Stale { current: *current }),
+        _ => None,
+    }
+}
+
+/// Sends the answer to a frame's request, if there is one; the connection may end by it.
+fn answer<C: Clock, R: Wait, L: Link>(
+    service: &Service<'_, C, R>,
+    link: &mut L,
+    cursor: &Cursor,
+    ended: Option<Ended>,
+    answer: Option<ServerFrame>,
+) -> Result<(), Halt>
+    ensures { (asked : List Exchange) → TalksOrHalts (C.gives service.now.clock.now) service.now.id
+        (answered_by cursor.now ended (answer_frames answer)) (λ _. Ticking cursor.now 0) result
+        (account_of asked (link_account L.heard L.sent L.counts link.old)) (account_of asked (link_account L.heard L.sent L.counts link.new)) }
+{
+    match (ended, answer) {
+        (None, None) => Ok(()),
+        (None, Some(frame)) => tell(service, link, cursor, &frame),
+        (Some(ended), None) => Err(Halt::Over(ended)),
+        (Some(ended), Some(frame)) => {
+            tell_last(service, link, &frame);
+            Err(Halt::Over(ended))
+        }
+    }
+}
+
+/// Makes the request of a frame.
+fn make<C: Clock, R: Wait, L: Link>(
+    service: &Service<'_, C, R>,
+    pass: &mut Pass,
+    link: &mut L,
+    cursor: &Cursor,
+    request: &Request,
+) -> Result<(), Halt>
+    requires session { pass.old.session ≡ service.now.shared.now.session }
+    requires frame { IsOfFrame request.now }
+    requires timely { (given : Reply) → IsTimely (C.gives service.now.clock.now) (Answered request.now given) }
+    ensures kept { pass.new ≡ record pass.old { seen = pass.new.seen } }
+    ensures grows { GrowsTo (play pass.old.seen) (play pass.new.seen) }
+    ensures talk { TalksOrHalts (C.gives service.now.clock.now) service.now.id
+        (Asking cursor.now request.now) (λ _. Ticking cursor.now 0) result
+        (account pass.old (link_account L.heard L.sent L.counts link.old)) (account pass.new (link_account L.heard L.sent L.counts link.new)) }
+{
+    let reply = match ask(service, pass, request) {
+        Ok(reply) => reply,
+        Err(WantOfMemory) => return Err(leave_at(cursor, Ended::WantOfMemory)),
+    };
+    let frame = cursor.answer(request, &reply);
+    answer(service, link, cursor, end_in(&reply), frame)
+}
+
+/// Acts on a frame.
+fn act<C: Clock, R: Wait, L: Link>(
+    service: &Service<'_, C, R>,
+    pass: &mut Pass,
+    link: &mut L,
+    cursor: &Cursor,
+    frame: ClientFrame,
+) -> Result<(), Halt>
+    requires session { pass.old.session ≡ service.now.shared.now.session }
+    ensures kept { pass.new ≡ record pass.old { seen = pass.new.seen } }
+    ensures grows { GrowsTo (play pass.old.seen) (play pass.new.seen) }
+    ensures talk { (bytes : List ℕ) → whole client_at bytes ≡ Some frame → TalksOrHalts (C.gives service.now.clock.now) service.now.id
+        (Taking cursor.now bytes) (λ _. Ticking cursor.now 0) result
+        (account pass.old (link_account L.heard L.sent L.counts link.old)) (account pass.new (link_account L.heard L.sent L.counts link.new)) }
+{
+    let now = service.clock.now();
+    match cursor.act(frame, now) {
+        Act::Call(request) => make(service, pass, link, cursor, &request),
+        Act::Answer(frame) => tell(service, link, cursor, &frame),
+    }
+}
+
+/// Takes a frame.
+fn take<C: Clock, R: Wait, L: Link>(
+    service: &Service<'_, C, R>,
+    pass: &mut Pass,
+    link: &mut L,
+    cursor: &Cursor,
+    bytes: &Blob,
+) -> Result<(), Halt>
+    requires session { pass.old.session ≡ service.now.shared.now.session }
+    ensures kept { pass.new ≡ record pass.old { seen = pass.new.seen } }
+    ensures grows { GrowsTo (play pass.old.seen) (play pass.new.seen) }
+    ensures talk { TalksOrHalts (C.gives service.now.clock.now) service.now.id
+        (Taking cursor.now bytes.now) (λ _. Ticking cursor.now 0) result
+        (account pass.old (link_account L.heard L.sent L.counts link.old)) (account pass.new (link_account L.heard L.sent L.counts link.new)) }
+{
+    match read_client(service.alloc, bytes.bytes()) {
+        Ok(frame) => act(service, pass, link, cursor, frame),
+        Err(FrameFault::BadFrame) => tell(service, link, cursor, &unread_frame()),
+        Err(FrameFault::WantOfMemory) => Err(leave_at(cursor, Ended::WantOfMemory)),
+    }
+}
+
+/// Hears the link once, and acts on what it says. The answer is how many Quiets came in a row.
+fn receive<C: Clock, R: Wait, L: Link>(
+    service: &Service<'_, C, R>,
+    pass: &mut Pass,
+    link: &mut L,
+    cursor: &Cursor,
+    quiets: u32,
+) -> Result<u32, Halt>
+    requires session { pass.old.session ≡ service.now.shared.now.session }
+    requires row { quiets < most_quiets }
+    ensures kept { pass.new ≡ record pass.old { seen = pass.new.seen } }
+    ensures grows { GrowsTo (play pass.old.seen) (play pass.new.seen) }
+    ensures row { IfOk result (λ row. row < most_quiets) }
+    ensures talk { TalksOrHalts (C.gives service.now.clock.now) service.now.id
+        (Hearing cursor.now quiets) (λ row. Ticking cursor.now row) result
+        (account pass.old (link_account L.heard L.sent L.counts link.old)) (account pass.new (link_account L.heard L.sent L.counts link.new)) }
+{
+    match link.recv() {
+        Heard::Frame(bytes) => match take(service, pass, link, cursor, &bytes) {
+            Ok(()) => Ok(0),
+            Err(halt) => Err(halt),
+        },
+        Heard::Quiet => {
+            if quiets + 1 == MOST_QUIETS {
+                return Err(leave_at(
+                    cursor,
+                    Ended::Idle {
+                        quiets: MOST_QUIETS,
+                    },
+                ));
+            }
+            Ok(quiets + 1)
+        }
+        Heard::End => Err(leave_at(cursor, Ended::LinkEnd)),
+        Heard::Failed => Err(leave_at(cursor, Ended::LinkFault)),
+        Heard::WantOfMemory => Err(leave_at(cursor, Ended::WantOfMemory)),
+    }
+}
+
+// ---- what is new
+
+/// Makes the Tick of a turn.
+fn tick<C: Clock, R: Wait>(
+    service: &Service<'_, C, R>,
+    pass: &mut Pass,
+    cursor: &Cursor,
+) -> Result<(), Halt>
+    requires session { pass.old.session ≡ service.now.shared.now.session }
+    ensures kept { pass.new ≡ record pass.old { seen = pass.new.seen } }
+    ensures grows { GrowsTo (play pass.old.seen) (play pass.new.seen) }
+    ensures talk { (quiets : ℕ) (link : LinkAccount) → TalksOrHalts (C.gives service.now.clock.now) service.now.id
+        (Ticking cursor.now quiets) (λ _. Pulling cursor.now quiets) result (account pass.old link) (account pass.new link) }
+{
+    let now = service.clock.now();
+    match ask(service, pass, &Request::Tick { now }) {
+        Ok(_) => Ok(()),
+        Err(WantOfMemory) => Err(leave_at(cursor, Ended::WantOfMemory)),
+    }
+}
+
+/// Sends the frames of a batch.
+fn hand_out<C: Clock, R: Wait, L: Link>(
+    service: &Service<'_, C, R>,
+    link: &mut L,
+    cursor: &mut Cursor,
+    batch: Reply,
+) -> Result<(), Halt>
+    requires { IsBatchAfter cursor.old.after batch }
+    ensures cursor { IfOk result (λ _. cursor.new ≡ next_cursor cursor.old batch) }
+    ensures talk { (asked : List Exchange) (quiets : ℕ) → TalksOrHalts (C.gives service.now.clock.now) service.now.id
+        (pulled_phase cursor.old quiets batch) (λ _. Hearing cursor.new quiets) result
+        (account_of asked (link_account L.heard L.sent L.counts link.old)) (account_of asked (link_account L.heard L.sent L.counts link.new)) }
+{
+    let before = *cursor;
+    let frames = match cursor.next(service.alloc, batch) {
+        Ok(frames) => frames,
+        Err(WantOfMemory) => return Err(leave_at(&before, Ended::WantOfMemory)),
+    };
+    tell_all(service, link, &before, frames.as_slice())
+}
+
+/// Makes the Pull of a turn, and sends what it gives.
+fn pull<C: Clock, R: Wait, L: Link>(
+    service: &Service<'_, C, R>,
+    pass: &mut Pass,
+    link: &mut L,
+    cursor: &mut Cursor,
+) -> Result<(), Halt>
+    requires session { pass.old.session ≡ service.now.shared.now.session }
+    requires standing { IsStanding (play pass.old.seen) cursor.old }
+    ensures kept { pass.new ≡ record pass.old { seen = pass.new.seen } }
+    ensures standing { IfOk result (λ _. IsStanding (play pass.new.seen) cursor.new) }
+    ensures talk { (quiets : ℕ) → TalksOrHalts (C.gives service.now.clock.now) service.now.id
+        (Pulling cursor.old quiets) (λ _. Hearing cursor.new quiets) result
+        (account pass.old (link_account L.heard L.sent L.counts link.old)) (account pass.new (link_account L.heard L.sent L.counts link.new)) }
+{
+    let request = Request::Pull {
+        after: cursor.after,
+        limit: MOST_PULLED,
+    };
+    let batch = match ask(service, pass, &request) {
+        Ok(batch) => batch,
+        Err(WantOfMemory) => return Err(leave_at(cursor, Ended::WantOfMemory)),
+    };
+    hand_out(service, link, cursor, batch)
+}
+
+// ---- turns
+
+/// What is new is sent, and then the link is heard: the end of a turn, and the begin of the next one. The answer is how many Quiets came
+/// in a row.
+fn turn<C: Clock, R: Wait, L: Link>(
+    service: &Service<'_, C, R>,
+    pass: &mut Pass,
+    link: &mut L,
+    cursor: &mut Cursor,
+    quiets: u32,
+) -> Result<u32, Halt>
+    requires session { pass.old.session ≡ service.now.shared.now.session }
+    requires standing { IsStanding (play pass.old.seen) cursor.old }
+    requires row { quiets < most_quiets }
+    ensures kept { pass.new ≡ record pass.old { seen = pass.new.seen } }
+    ensures standing { IfOk result (λ _. IsStanding (play pass.new.seen) cursor.new) }
+    ensures row { IfOk result (λ row. row < most_quiets) }
+    ensures talk { TalksOrHalts (C.gives service.now.clock.now) service.now.id
+        (Ticking cursor.old quiets) (λ row. Ticking cursor.new row) result
+        (account pass.old (link_account L.heard L.sent L.counts link.old)) (account pass.new (link_account L.heard L.sent L.counts link.new)) }
+{
+    match tick(service, pass, cursor) {
+        Ok(()) => {}
+        Err(halt) => return Err(halt),
+    }
+    match pull(service, pass, link, cursor) {
+        Ok(()) => {}
+        Err(halt) => return Err(halt),
+    }
+    match receive(service, pass, link, cursor, quiets) {
+        Ok(row) => Ok(row),
+        Err(halt) => Err(halt),
+    }
+}
+
+/// Takes turns until the talk stops.
+pub fn converse<C: Clock, R: Wait, L: Link>(
+    service: &Service<'_, C, R>,
+    pass: &mut Pass,
+    link: &mut L,
+    first: Cursor,
+) -> Halt
+    requires session { pass.old.session ≡ service.now.shared.now.session }
+    requires standing { IsStanding (play pass.old.seen) first }
+    ensures kept { pass.new ≡ record pass.old { seen = pass.new.seen } }
+    ensures talk { TalksOn (C.gives service.now.clock.now) service.now.id (Ticking first 0) (halt_phase result)
+        (account pass.old (link_account L.heard L.sent L.counts link.old)) (account pass.new (link_account L.heard L.sent L.counts link.new)) }
+{
+    let mut cursor = first;
+    let mut quiets = 0;
+    for _ in service.rt.forever() {
+        match turn(service, pass, link, &mut cursor, quiets) {
+            Ok(row) => quiets = row,
+            Err(halt) => return halt,
+        }
+    }
+    unreachable!()
+}
+
+/// The view leaves, whatever comes of it.
+pub fn leave<C: Clock, R: Wait>(service: &Service<'_, C, R>, pass: &mut Pass, cursor: &Cursor)
+    requires session { pass.old.session ≡ service.now.shared.now.session }
+    ensures kept { pass.new ≡ record pass.old { seen = pass.new.seen } }
+    ensures talk { (ended : Ended) (link : LinkAccount) → TalksOn (C.gives service.now.clock.now) service.now.id
+        (Leaving cursor.now ended) (Over ended) (account pass.old link) (account pass.new link) }
+{
+    let now = service.clock.now();
+    let request = Request::Leave {
+        view: cursor.view,
+        joined: cursor.joined,
+        now,
+    };
+    let _ = ask(service, pass, &request);
+}
