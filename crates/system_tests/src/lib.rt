@@ -1,0 +1,10 @@
+//! Tests of systems, by the public calls of their library: a schedule told step by step, and replicas that came by different
+//! ways. Without its tests this library is empty.
+#![tactic(auto)]
+
+#[cfg(test)]
+mod rejoining;
+#[cfg(test)]
+mod restarting;
+#[cfg(test)]
+mod systems;
