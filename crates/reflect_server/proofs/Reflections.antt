@@ -1,0 +1,339 @@
+-- What comes of a reflector, from what was accepted, given back and closed.
+use Rattle.std.proofs.Common.{◌≡◌, ℕ, ◌+◌, ◌≤◌, Bool, true, false, ◌&&◌, leb, ltb, if◌then◌else◌, List, [], ◌∷◌, length, vec_len, Option, Some, None, Result, Ok, Err, refl, sym, ap, ◌∙◌, subst, arith}
+use Rattle.std.specs.List.{AllByRecursion}
+use Rattle.std.proofs.lemmas.List.{length-map}
+use Rattle.tea_base.specs.declared.entry.SessionId.{SessionId}
+use Rattle.tea_io.specs.Told.{grown}
+use Rattle.tea_io.specs.Links.{Counts}
+use Rattle.tea_io.specs.Nets.{AsksNet, NetCause}
+use Rattle.tea_io.specs.declared.net.NetCall.{NetCall}
+use Rattle.tea_io.specs.declared.net.NetCall.TheVariants.{Listen}
+use Rattle.tea_io.specs.declared.net.NetFault.{NetFault}
+use Rattle.tea_io.specs.declared.net.NetFault.TheVariants.{Failed, WantOfMemory}
+use Rattle.run_steps.specs.Outside.{LinksTell, NetTells}
+use Rattle.reflector_core.specs.PlainSession.{PlainSession}
+use Rattle.reflector_core.specs.SessionState.{SessionState}
+use Rattle.reflector_core.specs.Play.{first_session, replies_from, TellsItsEvents}
+use Rattle.reflector_core.proofs.SoundLaws.{IsSoundSession-first}
+use Rattle.session_lock.specs.declared.knowledge.Item.{Item}
+use Rattle.session_lock.specs.History.{caller_of, calls_of, has, play, history_requests, IsSoundThrough}
+use Rattle.session_lock.specs.Passes.{PassState, own_calls, HoldsEach}
+use Rattle.session_lock.specs.Rules.{all_numbers}
+use Rattle.session_lock.proofs.Histories.{has_own, none_behind}
+use Rattle.connection.specs.declared.ending.Ended.{Ended}
+use Rattle.connection.proofs.TalkLines.{talk_served}
+use Rattle.connection.proofs.Talking.{grown_none, grown_twice}
+use Rattle.reflect_server.specs.Connections.{ServedConnection, HasTalk, IsHistoryOf, AreServed, accepted_links, callers_of, returned_links}
+use Rattle.reflect_server.specs.Passes.{Gathers}
+use Rattle.reflect_server.specs.Rounds.{Accepts, GoesRound, TakesAll, AsksAccepts, CountsStop, CountsLinks, links_of, ended_of, served_back, with_links}
+use Rattle.reflect_server.specs.Reflects.{ReturnsLinks, HasReflected, HasWanted, Plays, Reflects, CountsConnections, CountsFailure, accepts_for, answer_for}
+use Rattle.reflect_server.specs.declared.reflection.Reflected.{Reflected}
+use Rattle.reflect_server.specs.declared.reflection.ServeFault.{ServeFault}
+use Rattle.reflect_server.specs.declared.reflection.ServeFault.TheVariants.{ListenFault}
+use Rattle.reflect_server.specs.declared.reflection.ServeFault.TheVariants as serve_fault
+use Rattle.reflect_server.specs.declared.accepting.Round.{Round}
+use Rattle.reflect_server.specs.declared.accepting.ServedLink.{ServedLink}
+use Rattle.reflect_server.proofs.GivingBack.{ends_of_round, links_of_round, round_length}
+use Rattle.reflect_server.specs.Views.{StaysByVoid}
+use Rattle.reflect_server.proofs.StayingViews.{stays_by_void}
+use Rattle.reflect_server.proofs.PassLaws.{alone}
+use Rattle.reflect_server.proofs.RoundLaws.{takes_same}
+
+-- ---- nobody else
+
+-- whose calls are not among these has none
+none_first : {P : Type 0} (x : Item) (xs : List Item) → calls_of (caller_of x ∷ []) (x ∷ xs) ≡ [] → P
+none_first x xs none =
+    let e : (if true then x ∷ calls_of (caller_of x ∷ []) xs else calls_of (caller_of x ∷ []) xs) ≡ [] =
+    ap (λ (b : Bool). if b then x ∷ calls_of (caller_of x ∷ []) xs else calls_of (caller_of x ∷ []) xs) (sym (has_own (caller_of x) [])) ∙ none in
+    absurd (cc (e))
+
+-- where nobody else has made a call, the calls of these are all
+all_calls : (callers : List ℕ) (history : List Item) → ((n : ℕ) → has n callers ≡ false → calls_of (n ∷ []) history ≡ []) → calls_of callers history ≡ history
+all_calls callers [] others = refl
+all_calls callers (x ∷ xs) others =
+    step (has (caller_of x) callers) refl
+    (all_calls callers xs (λ n other. none_behind (has (caller_of x) (n ∷ [])) x (calls_of (n ∷ []) xs) (others n other)))
+  where
+    step : (b : Bool) → has (caller_of x) callers ≡ b → calls_of callers xs ≡ xs → (if b then x ∷ calls_of callers xs else calls_of callers xs) ≡ x ∷ xs
+    step true is rest = ap (λ (l : List Item). x ∷ l) rest
+    step false is rest = none_first x xs (others (caller_of x) is)
+
+-- among the calls of these is none of another
+none_among : (callers : List ℕ) (n : ℕ) (history : List Item) → has n callers ≡ false → calls_of (n ∷ []) (calls_of callers history) ≡ []
+none_among callers n [] other = refl
+none_among callers n (x ∷ xs) other = step (none_among callers n xs other) (has (caller_of x) callers) refl
+  where
+    own : calls_of (n ∷ []) (calls_of callers xs) ≡ [] → (b : Bool) → has (caller_of x) (n ∷ []) ≡ b → has (caller_of x) callers ≡ true
+        → (if b then x ∷ calls_of (n ∷ []) (calls_of callers xs) else calls_of (n ∷ []) (calls_of callers xs)) ≡ []
+    own rest true is among = absurd (cc (sym (ap (λ (m : ℕ). has m callers) (alone (caller_of x) n is)) ∙ among, other))
+    own rest false is among = rest
+
+    step : calls_of (n ∷ []) (calls_of callers xs) ≡ [] → (b : Bool) → has (caller_of x) callers ≡ b
+        → calls_of (n ∷ []) (if b then x ∷ calls_of callers xs else calls_of callers xs) ≡ []
+    step rest true is = own rest (has (caller_of x) (n ∷ [])) refl is
+    step rest false is = rest
+
+-- where the calls of these are all, nobody else has made one
+none_else : (callers : List ℕ) (history : List Item) (n : ℕ) → calls_of callers history ≡ history → has n callers ≡ false → calls_of (n ∷ []) history ≡ []
+none_else callers history n whole other = ap (calls_of (n ∷ [])) (sym whole) ∙ none_among callers n history other
+
+one_at_most : (b : Bool) → (if b then 1 else 0) ≤ 1
+one_at_most true = omega arith
+one_at_most false = omega arith
+
+-- ---- the history
+
+-- what the last pass tells, with which the session is closed
+pub record IsClosedBy (keeper : PassState) (session : PlainSession) : Type 0 where
+  pub play : session ≡ play keeper.seen
+  pub calls : own_calls keeper ≡ keeper.seen
+  pub numbers : HoldsEach keeper
+  pub sound : IsSoundThrough first_session keeper.seen
+  pub events : TellsItsEvents (history_requests keeper.seen) (replies_from first_session (history_requests keeper.seen)) session.log
+
+pub plays_of : (keeper : PassState) (session : PlainSession) → IsClosedBy keeper session → Plays keeper.seen session
+plays_of keeper session closed = record { play = closed.play; sound = closed.sound; events = closed.events }
+
+module _ (gives : ℕ → Type 0) (id : SessionId) {L : Type 0} (links : LinksTell L) where
+  pub history_of : (before keeper : PassState) (session : PlainSession) (count : ℕ) (connections : List (ServedConnection L))
+      → Gathers gives id links before count connections keeper → IsClosedBy keeper session → IsHistoryOf gives id links connections keeper.seen
+  history_of before keeper session count connections gathers closed = record {
+    talks = gathers.talks;
+    apart = λ n. omega (arith, gathers.callers n, closed.numbers n, one_at_most (leb 0 n && ltb n (0 + all_numbers)));
+    whole = all_calls (callers_of connections) keeper.seen (λ n other. others n other (has n keeper.callers) refl);
+  }
+    where
+      others : (n : ℕ) → has n (callers_of connections) ≡ false → (b : Bool) → has n keeper.callers ≡ b → calls_of (n ∷ []) keeper.seen ≡ []
+      others n other true own = gathers.calls n own other
+      others n other false own = none_else keeper.callers keeper.seen n closed.calls own
+
+  -- each connection was sent what the log serves it
+  pub all_served : (history : List Item) (connections : List (ServedConnection L)) → IsSoundThrough first_session history
+      → AllByRecursion (HasTalk gives id links history) connections → AreServed (play history).log connections
+  all_served history [] sound talks = tt
+  all_served history (one ∷ rest) sound talks = (
+    talk_served gives id history one.caller one.heard one.sent one.ended sound talks.0.talk,
+    all_served history rest sound talks.1,
+  )
+
+-- ---- the net
+
+module _ {N L : Type 0} (tells : NetTells N L) (links : LinksTell L) where
+  -- what giving these back does
+  pub record Returns (before now : N) (served : List (ServedLink L)) (count : ℕ) : Type 0 where
+    pub over : tells.over now ≡ grown (tells.over before) (links_of served)
+    pub counts : tells.link_counts now ≡ with_links links.counts (tells.link_counts before) (links_of served)
+    pub lent : tells.lent now + count ≡ tells.lent before
+    pub coming : tells.coming now ≡ tells.coming before
+    pub asked : tells.asked now ≡ tells.asked before
+    pub faults : tells.faults now ≡ tells.faults before
+
+  pub gives_back : (before mid now : N) (served : List (ServedLink L)) (connections : List (ServedConnection L)) (stopped : Option NetFault)
+      → Accepts tells before mid (accepted_links connections) stopped → served ≡ served_back connections → Returns mid now served (length served)
+      → ReturnsLinks tells links before now connections
+  gives_back before mid now served connections stopped took served_is returns = record {
+    coming = subst (λ (o : Option (List L)). TakesAll (tells.coming before) o (accepted_links connections)) (sym returns.coming) took.coming;
+    over = returns.over ∙ (ap (λ (o : Option (List L)). grown o (links_of served)) took.over ∙ ap (grown (tells.over before)) (links_of_round served connections served_is));
+    lent = omega (arith, returns.lent, took.lent, round_length served connections served_is, length-map connections (λ one. one.accepted));
+    counts =
+        returns.counts
+        ∙ (ap (λ (c : Counts). with_links links.counts c (links_of served)) took.counts
+        ∙ ap (with_links links.counts (tells.link_counts before)) (links_of_round served connections served_is));
+  }
+
+  nothing_back : (before now : N) → tells.coming now ≡ tells.coming before → tells.over now ≡ tells.over before → tells.lent now ≡ tells.lent before
+      → tells.link_counts now ≡ tells.link_counts before → ReturnsLinks tells links before now []
+  nothing_back before now coming over lent counts = record {
+    coming = takes_same (tells.coming before) (tells.coming now) coming;
+    over = over ∙ sym (grown_none (tells.over before));
+    lent = lent;
+    counts = counts;
+  }
+
+-- ---- what is answered
+
+stop_later : (before now : ℕ) (stopped : Option NetFault) → CountsStop before now stopped → before ≤ now
+stop_later before now None counts = counts
+stop_later before now (Some Failed) counts = counts.0
+stop_later before now (Some WantOfMemory) counts = counts
+
+module _ (gives : ℕ → Type 0) (id : SessionId) {N L : Type 0} (tells : NetTells N L) (links : LinksTell L) (count : ℕ) (before mid : Round N L) (now : N) where
+  -- what is left when all links were served
+  pub record Ends (session : PlainSession) : Type 0 where
+    pub round : GoesRound gives id tells links count before mid
+    pub returns : Returns tells links mid.net now mid.served.items (vec_len mid.served)
+    pub length : vec_len mid.served ≡ length mid.served.items
+    pub closed : IsClosedBy mid.keeper session
+
+  pub ends_when : (session : PlainSession) (made : ℕ) → made ≡ count → GoesRound gives id tells links made before mid → vec_len mid.served ≡ length mid.served.items
+      → Returns tells links mid.net now mid.served.items (vec_len mid.served) → IsClosedBy mid.keeper session → Ends session
+  ends_when session made is round length returns closed = record {
+    round = subst (λ (n : ℕ). GoesRound gives id tells links n before mid) is round;
+    returns = returns;
+    length = length;
+    closed = closed;
+  }
+
+  net_of : (session : PlainSession) (ends : Ends session) → ReturnsLinks tells links before.net now ends.round.connections
+  net_of session ends =
+      gives_back tells links before.net mid.net now mid.served.items ends.round.connections mid.stopped ends.round.net ends.round.served
+      (subst (Returns tells links mid.net now mid.served.items) ends.length ends.returns)
+
+  reflected_as : (reflected : Reflected) (ends : Ends reflected.session.plain) → tells.asked now ≡ grown (tells.asked before.net) (accepts_for (accepted_links ends.round.connections) reflected.net_failed)
+      → CountsFailure (tells.faults before.net) (tells.faults now) reflected.net_failed → CountsConnections (length ends.round.connections) count reflected.net_failed
+      → reflected.ends ≡ ended_of mid.served.items → HasReflected gives id tells links [] count before.net now reflected
+  reflected_as reflected ends asked faults number ended = record {
+    connections = ends.round.connections;
+    history = mid.keeper.seen;
+    net = net_of reflected.session.plain ends;
+    asked = asked;
+    faults = faults;
+    number = number;
+    ends = ended ∙ ends_of_round mid.served.items ends.round.connections ends.round.served;
+    talks = history_of gives id links before.keeper mid.keeper reflected.session.plain count ends.round.connections ends.round.passes ends.closed;
+    session = plays_of mid.keeper reflected.session.plain ends.closed;
+    served =
+        subst (λ (s : PlainSession). AreServed s.log ends.round.connections) (sym ends.closed.play)
+        (all_served gives id links mid.keeper.seen ends.round.connections ends.closed.sound ends.round.passes.talks);
+    stays =
+        subst (λ (s : PlainSession). StaysByVoid (callers_of ends.round.connections) mid.keeper.seen s.log) (sym ends.closed.play)
+        (stays_by_void gives id links mid.keeper.seen ends.round.connections ends.round.passes.talks (λ n other.
+        none_else (callers_of ends.round.connections) mid.keeper.seen n
+        (history_of gives id links before.keeper mid.keeper reflected.session.plain count ends.round.connections ends.round.passes ends.closed).whole other));
+  }
+
+  asks_now : (stopped : Option NetFault) (links_now : List L) (back : tells.asked now ≡ tells.asked mid.net) → AsksAccepts (tells.asked before.net) (tells.asked mid.net) links_now stopped
+      → AsksAccepts (tells.asked before.net) (tells.asked now) links_now stopped
+  asks_now stopped links_now back asks = subst (λ (o : Option (List NetCall)). AsksAccepts (tells.asked before.net) o links_now stopped) (sym back) asks
+
+  faults_now : (stopped : Option NetFault) → tells.faults now ≡ tells.faults mid.net → CountsStop (tells.faults before.net) (tells.faults mid.net) stopped
+      → CountsStop (tells.faults before.net) (tells.faults now) stopped
+  faults_now stopped back counts = subst (λ (n : ℕ). CountsStop (tells.faults before.net) n stopped) (sym back) counts
+
+  -- all links were served
+  reflected_all : (reflected : Reflected) → mid.stopped ≡ None → reflected.net_failed ≡ false → reflected.ends ≡ ended_of mid.served.items → Ends reflected.session.plain
+      → HasReflected gives id tells links [] count before.net now reflected
+  reflected_all reflected going fine ended ends =
+      let asks = subst (AsksAccepts _ _ (accepted_links ends.round.connections)) going (asks_now mid.stopped (accepted_links ends.round.connections) ends.returns.asked ends.round.net.asked) in
+      let counts = subst (CountsStop _ _) going (faults_now mid.stopped ends.returns.faults ends.round.net.faults) in
+      let number = subst (CountsLinks (length ends.round.connections) count) going ends.round.number in
+      reflected_as reflected ends
+      (subst (λ (b : Bool). tells.asked now ≡ grown (tells.asked before.net) (accepts_for (accepted_links ends.round.connections) b)) (sym fine) asks)
+      (subst (CountsFailure (tells.faults before.net) (tells.faults now)) (sym fine) counts)
+      (subst (CountsConnections (length ends.round.connections) count) (sym fine) number) ended
+
+  -- the net failed
+  reflected_some : (reflected : Reflected) → mid.stopped ≡ Some Failed → reflected.net_failed ≡ true → reflected.ends ≡ ended_of mid.served.items → Ends reflected.session.plain
+      → HasReflected gives id tells links [] count before.net now reflected
+  reflected_some reflected stopped failed ended ends =
+      let asks = subst (AsksAccepts _ _ (accepted_links ends.round.connections)) stopped (asks_now mid.stopped (accepted_links ends.round.connections) ends.returns.asked ends.round.net.asked) in
+      let counts = subst (CountsStop _ _) stopped (faults_now mid.stopped ends.returns.faults ends.round.net.faults) in
+      let number = subst (CountsLinks (length ends.round.connections) count) stopped ends.round.number in
+      reflected_as reflected ends
+      (subst (λ (b : Bool). tells.asked now ≡ grown (tells.asked before.net) (accepts_for (accepted_links ends.round.connections) b)) (sym failed) asks)
+      (subst (CountsFailure (tells.faults before.net) (tells.faults now)) (sym failed) counts.1)
+      (subst (CountsConnections (length ends.round.connections) count) (sym failed) number) ended
+
+  -- memory was wanted
+  wanted : (session : PlainSession) → mid.stopped ≡ Some WantOfMemory → Ends session → HasWanted gives id tells links count before.net now
+  wanted session stopped ends = record {
+    connections = ends.round.connections;
+    history = mid.keeper.seen;
+    net = net_of session ends;
+    number = subst (CountsLinks (length ends.round.connections) count) stopped ends.round.number;
+    talks = history_of gives id links before.keeper mid.keeper session count ends.round.connections ends.round.passes ends.closed;
+    sound = ends.closed.sound;
+    served = all_served gives id links mid.keeper.seen ends.round.connections ends.closed.sound ends.round.passes.talks;
+    faults = stop_later (tells.faults before.net) (tells.faults now) mid.stopped (faults_now mid.stopped ends.returns.faults ends.round.net.faults);
+  }
+
+  -- by what stopped the net
+  pub reflects_so : (session : SessionState) (ended : List Ended) (stopped : Option NetFault) → mid.stopped ≡ stopped → ended ≡ ended_of mid.served.items → Ends session.plain
+      → Reflects gives id tells links [] count before.net now (answer_for session ended stopped)
+  reflects_so session ended None is all ends = reflected_all (record { session = session; ends = ended; net_failed = false }) is refl all ends
+  reflects_so session ended (Some Failed) is all ends = reflected_some (record { session = session; ends = ended; net_failed = true }) is refl all ends
+  reflects_so session ended (Some WantOfMemory) is all ends = wanted session.plain is ends
+
+  pub reflects_when : (session : SessionState) (ended : List Ended) (result : Result Reflected ServeFault) → result ≡ answer_for session ended mid.stopped
+      → ended ≡ ended_of mid.served.items → Ends session.plain → Reflects gives id tells links [] count before.net now result
+  reflects_when session ended result is all ends =
+      subst (Reflects gives id tells links [] count before.net now) (sym is) (reflects_so session ended mid.stopped refl all ends)
+
+-- ---- before a link is accepted
+
+module _ (gives : ℕ → Type 0) (id : SessionId) {N L : Type 0} (tells : NetTells N L) (links : LinksTell L) where
+  -- nothing was called
+  nothing_called : IsHistoryOf gives id links [] []
+  nothing_called = record { talks = tt; apart = λ n. omega arith; whole = refl }
+
+  -- the net listens, or fails to
+  pub record Listens {T : Type 0} (address : List ℕ) (result : Result T NetFault) (before now : N) : Type 0 where
+    pub coming : tells.coming now ≡ tells.coming before
+    pub over : tells.over now ≡ tells.over before
+    pub lent : tells.lent now ≡ tells.lent before
+    pub counts : tells.link_counts now ≡ tells.link_counts before
+    pub asked : AsksNet (tells.asked before) (tells.asked now) (Listen address) result
+    pub cause : NetCause (tells.faults before) (tells.faults now) result
+
+  -- memory was wanted before, or while the net was to listen
+  pub wanted_before : (count : ℕ) (before now : N) → 1 ≤ count → tells.coming now ≡ tells.coming before → tells.over now ≡ tells.over before → tells.lent now ≡ tells.lent before
+      → tells.link_counts now ≡ tells.link_counts before → tells.faults before ≤ tells.faults now → HasWanted gives id tells links count before now
+  wanted_before count before now some coming over lent counts faults = record {
+    connections = [];
+    history = [];
+    net = nothing_back tells links before now coming over lent counts;
+    number = some;
+    talks = nothing_called;
+    sound = IsSoundSession-first;
+    served = tt;
+    faults = faults;
+  }
+
+  listened_back : {T : Type 0} (address : List ℕ) (value : T) (before mid now : N) (connections : List (ServedConnection L)) → Listens address (Ok value) before mid
+      → ReturnsLinks tells links mid now connections → ReturnsLinks tells links before now connections
+  listened_back address value before mid now connections listens back = record {
+    coming = subst (λ (o : Option (List L)). TakesAll o (tells.coming now) (accepted_links connections)) listens.coming back.coming;
+    over = back.over ∙ ap (λ (o : Option (List L)). grown o (returned_links connections)) listens.over;
+    lent = back.lent ∙ listens.lent;
+    counts = back.counts ∙ ap (λ (c : Counts). with_links links.counts c (returned_links connections)) listens.counts;
+  }
+
+  failure_later : (before mid now : ℕ) (failed : Bool) → before ≤ mid → CountsFailure mid now failed → CountsFailure before now failed
+  failure_later before mid now true later counts = omega (arith, counts)
+  failure_later before mid now false later counts = omega (arith, counts)
+
+  -- what came of it once the net listened
+  pub reflects_behind : {T : Type 0} (address : List ℕ) (value : T) (count : ℕ) (before mid now : N) (result : Result Reflected ServeFault) → Listens address (Ok value) before mid
+      → Reflects gives id tells links [] count mid now result → Reflects gives id tells links (Listen address ∷ []) count before now result
+  reflects_behind address value count before mid now (Ok reflected) listens told = record {
+    connections = told.connections;
+    history = told.history;
+    net = listened_back address value before mid now told.connections listens told.net;
+    asked =
+        told.asked
+        ∙ (ap (λ (o : Option (List NetCall)). grown o (accepts_for (accepted_links told.connections) reflected.net_failed)) listens.asked
+        ∙ grown_twice (tells.asked before) (Listen address ∷ []) (accepts_for (accepted_links told.connections) reflected.net_failed));
+    faults = failure_later (tells.faults before) (tells.faults mid) (tells.faults now) reflected.net_failed listens.cause.later told.faults;
+    number = told.number;
+    ends = told.ends;
+    talks = told.talks;
+    session = told.session;
+    served = told.served;
+    stays = told.stays;
+  }
+  reflects_behind address value count before mid now (Err ListenFault) listens told = record {
+    net = listened_back address value before mid now [] listens told.net;
+    asked = told.asked ∙ (grown_none (tells.asked mid) ∙ listens.asked);
+    faults = failure_later (tells.faults before) (tells.faults mid) (tells.faults now) true listens.cause.later told.faults;
+  }
+  reflects_behind address value count before mid now (Err serve_fault.WantOfMemory) listens told = record {
+    connections = told.connections;
+    history = told.history;
+    net = listened_back address value before mid now told.connections listens told.net;
+    number = told.number;
+    talks = told.talks;
+    sound = told.sound;
+    served = told.served;
+    faults = omega (arith, told.faults, listens.cause.later);
+  }

@@ -1,0 +1,22 @@
+use Rattle.std.proofs.Common.{◌≡◌, ◌+◌, ◌≤◌, ◌++◌, vec_len, vec_capacity}
+use Rattle.tea_io.specs.Told.{grown}
+use Rattle.reflect_server.specs.Rounds.{ended_of, links_of, with_links}
+use Rattle.reflect_server.proofs.reflecting.give_back.Given as goal
+
+abbrev pub invariant-loop-link : goal.invariant-loop-link
+invariant-loop-link g l = record {
+  within : vec_len l.served ≤ g.N.Net.lent l.net;
+  room : vec_len l.ends + vec_len l.served ≤ vec_capacity l.ends;
+  ends : l.ends.items ++ ended_of l.served.items ≡ l.fn.ends.items ++ ended_of l.fn.served.items;
+  over : grown (g.N.Net.over l.net) (links_of l.served.items) ≡ grown (g.N.Net.over l.initial.net) (links_of l.fn.served.items);
+  counts :
+      with_links g.N.Conn.Link.counts (g.N.Net.link_counts l.net) (links_of l.served.items)
+      ≡ with_links g.N.Conn.Link.counts (g.N.Net.link_counts l.initial.net) (links_of l.fn.served.items);
+  lent : g.N.Net.lent l.net + vec_len l.fn.served ≡ g.N.Net.lent l.initial.net + vec_len l.served;
+  coming : g.N.Net.coming l.net ≡ g.N.Net.coming l.initial.net;
+  asked : g.N.Net.asked l.net ≡ g.N.Net.asked l.initial.net;
+  faults : g.N.Net.faults l.net ≡ g.N.Net.faults l.initial.net;
+}
+
+abbrev pub decreases-loop-link : goal.decreases-loop-link
+decreases-loop-link g l = vec_len l.served

@@ -1,0 +1,16 @@
+use Rattle.std.proofs.Common.{◌≡◌, ◌+◌, ◌≤◌, refl, arith}
+use Rattle.reflect_server.proofs.Reflections.{reflects_behind, wanted_before}
+use Rattle.reflect_server.proofs.reflecting.reflect.Goals as goal
+
+pub returns-in_default : goal.returns-in_default
+returns-in_default g c = wanted_before _ _ _ _ c.args.server.now.connections c.args.net c.args.net c.requires.0 refl refl refl refl (omega arith)
+
+pub returns-in-Ok-listen : goal.returns-in-Ok-listen
+returns-in-Ok-listen g c =
+    let told = c.in-Ok-listen.ensures in
+    reflects_behind _ _ _ _ c.args.server.now.address.now c.in-Ok-listen.field-0 c.args.server.now.connections c.args.net c.listen.new.self c.serve_all.result.0 c.serve_all.result.1
+    (record { coming = told.coming; over = told.over; lent = told.lent; counts = told.counts; asked = told.asked; cause = told.cause })
+    c.serve_all.ensures
+
+pub returns : goal.returns
+returns g c = let told = c.listen.ensures in wanted_before _ _ _ _ c.args.server.now.connections c.args.net c.listen.new.self c.requires.0 told.coming told.over told.lent told.counts told.cause.later

@@ -1,0 +1,5 @@
+pub mod Connections
+pub mod Passes
+pub mod Rounds
+pub mod Reflects
+pub mod Views

@@ -1,0 +1,109 @@
+-- What a reflector answers, and what it has done to its net by then.
+use Rattle.std.specs.Prelude.{◌≡◌, ℕ, ◌≤◌, ◌<◌, Bool, true, false, List, [], ◌++◌, ◌+◌, length, All, vec_len, vec_capacity, Option, Some, None, Result, Ok, Err}
+use Rattle.tea_base.specs.declared.entry.SessionId.{SessionId}
+use Rattle.tea_io.specs.Told.{grown, Rose}
+use Rattle.tea_io.specs.declared.net.NetCall.{NetCall}
+use Rattle.run_steps.specs.Outside.{LinksTell, NetTells}
+use Rattle.tea_io.specs.declared.net.NetFault.{NetFault}
+use Rattle.tea_io.specs.declared.net.NetFault.TheVariants.{Failed}
+use Rattle.tea_io.specs.declared.net.NetFault.TheVariants as fault
+use Rattle.connection.specs.declared.ending.Ended.{Ended}
+use Rattle.reflector_core.specs.SessionState.{SessionState}
+use Rattle.reflector_core.specs.PlainSession.{PlainSession}
+use Rattle.reflector_core.specs.Play.{first_session, replies_from, TellsItsEvents}
+use Rattle.session_lock.specs.declared.knowledge.Item.{Item}
+use Rattle.session_lock.specs.Passes.{numbers_held}
+use Rattle.session_lock.specs.Rules.{all_numbers}
+use Rattle.session_lock.specs.History.{play, history_requests, IsSoundThrough}
+use Rattle.reflect_server.specs.declared.reflection.Reflected.{Reflected}
+use Rattle.reflect_server.specs.declared.reflection.ServeFault.{ServeFault}
+use Rattle.reflect_server.specs.declared.reflection.ServeFault.TheVariants.{ListenFault, WantOfMemory}
+use Rattle.reflect_server.specs.Connections.{ServedConnection, IsHistoryOf, AreServed, accepted_links, returned_links, ends_of, callers_of}
+use Rattle.reflect_server.specs.Views.{StaysByVoid}
+use Rattle.reflect_server.specs.Rounds.{TakesAll, accepts, accepts_more, with_links}
+use Rattle.reflect_server.specs.Passes.{IsFresh, HasNotCalled}
+use Rattle.reflect_server.specs.declared.reflecting.Prepared.{Prepared}
+
+-- the links that the net gave were all given back, in the order in which they were accepted
+pub record ReturnsLinks {N L : Type 0} (tells : NetTells N L) (links : LinksTell L) (before now : N) (connections : List (ServedConnection L)) : Type 0 where
+  pub coming : TakesAll (tells.coming before) (tells.coming now) (accepted_links connections)
+  pub over : tells.over now ≡ grown (tells.over before) (returned_links connections)
+  pub lent : tells.lent now ≡ tells.lent before
+  pub counts : tells.link_counts now ≡ with_links links.counts (tells.link_counts before) (returned_links connections)
+
+-- an accept for each link; where the net failed, one more was made
+abbrev pub accepts_for : {L : Type 0} → List L → Bool → List NetCall
+accepts_for links true = accepts_more links
+accepts_for links false = accepts links
+
+-- the net failed only where its count of faults rose
+abbrev pub CountsFailure : ℕ → ℕ → Bool → Type 0
+CountsFailure before now true = Rose before now
+CountsFailure before now false = before ≤ now
+
+-- all links were accepted; where the net failed, fewer were
+abbrev pub CountsConnections : ℕ → ℕ → Bool → Type 0
+CountsConnections links connections true = links < connections
+CountsConnections links connections false = links ≡ connections
+
+-- the session is the play of the history, which was sound at each place; its log has the events that were answered Stamped, and no others
+pub record Plays (history : List Item) (session : PlainSession) : Type 0 where
+  pub play : session ≡ play history
+  pub sound : IsSoundThrough first_session history
+  pub events : TellsItsEvents (history_requests history) (replies_from first_session (history_requests history)) session.log
+
+-- what was reflected, behind these first calls of the net
+pub record HasReflected (gives : ℕ → Type 0) (id : SessionId) {N L : Type 0} (tells : NetTells N L) (links : LinksTell L) (calls : List NetCall) (count : ℕ) (before now : N) (reflected : Reflected) : Type 0 where
+  pub connections : List (ServedConnection L)
+  pub history : List Item
+  pub net : ReturnsLinks tells links before now connections
+  pub asked : tells.asked now ≡ grown (tells.asked before) (calls ++ accepts_for (accepted_links connections) reflected.net_failed)
+  pub faults : CountsFailure (tells.faults before) (tells.faults now) reflected.net_failed
+  pub number : CountsConnections (length connections) count reflected.net_failed
+  pub ends : reflected.ends ≡ ends_of connections
+  pub talks : IsHistoryOf gives id links connections history
+  pub session : Plays history reflected.session.plain
+  pub served : AreServed reflected.session.plain.log connections
+  pub stays : StaysByVoid (callers_of connections) history reflected.session.plain.log
+
+-- the net did not listen
+pub record HasNotListened {N L : Type 0} (tells : NetTells N L) (links : LinksTell L) (calls : List NetCall) (before now : N) : Type 0 where
+  pub net : ReturnsLinks tells links before now []
+  pub asked : tells.asked now ≡ grown (tells.asked before) calls
+  pub faults : Rose (tells.faults before) (tells.faults now)
+
+-- No memory was found. Those links that were accepted, fewer than there were to be, were served to their ends, and given back.
+pub record HasWanted (gives : ℕ → Type 0) (id : SessionId) {N L : Type 0} (tells : NetTells N L) (links : LinksTell L) (count : ℕ) (before now : N) : Type 0 where
+  pub connections : List (ServedConnection L)
+  pub history : List Item
+  pub net : ReturnsLinks tells links before now connections
+  pub number : length connections < count
+  pub talks : IsHistoryOf gives id links connections history
+  pub sound : IsSoundThrough first_session history
+  pub served : AreServed (play history).log connections
+  pub faults : tells.faults before ≤ tells.faults now
+
+abbrev pub Reflects
+    : (ℕ → Type 0) → SessionId → {N L : Type 0} → NetTells N L → LinksTell L → List NetCall → ℕ → N → N → Result Reflected ServeFault → Type 0
+Reflects gives id tells links calls count before now (Ok reflected) = HasReflected gives id tells links calls count before now reflected
+Reflects gives id tells links calls count before now (Err ListenFault) = HasNotListened tells links calls before now
+Reflects gives id tells links calls count before now (Err WantOfMemory) = HasWanted gives id tells links count before now
+
+-- what is answered, by what stopped the net
+abbrev pub answer_for : SessionState → List Ended → Option NetFault → Result Reflected ServeFault
+answer_for session ends None = Ok (record { session = session; ends = ends; net_failed = false })
+answer_for session ends (Some Failed) = Ok (record { session = session; ends = ends; net_failed = true })
+answer_for session ends (Some fault.WantOfMemory) = Err WantOfMemory
+
+-- ---- what is made before
+
+-- the first pass and one for each connection, which hold all numbers and have made no call, and room for what comes back
+pub record IsPrepared {L : Type 0} (count : ℕ) (prepared : Prepared L) : Type 0 where
+  pub keeper : HasNotCalled prepared.shared.session prepared.keeper
+  pub passes : All (IsFresh prepared.shared.session) prepared.passes.items
+  pub number : vec_len prepared.passes ≡ count
+  pub numbers : numbers_held prepared.keeper + count ≡ all_numbers
+  pub none_served : prepared.served.items ≡ []
+  pub room_for_links : count ≤ vec_capacity prepared.served
+  pub none_ended : prepared.ends.items ≡ []
+  pub room_for_ends : count ≤ vec_capacity prepared.ends

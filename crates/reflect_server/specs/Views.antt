@@ -1,0 +1,50 @@
+-- Which views a caller holds by what it asked, and which views may be here in the end.
+use Rattle.std.specs.Prelude.{◌≡◌, ℕ, ◌==◌, Bool, true, false, not, ◌&&◌, ◌||◌, List, [], ◌∷◌, eqb}
+use Rattle.tea_base.specs.declared.entry.Entry.{Entry}
+use Rattle.tea_base.specs.Readings.{current, is_here}
+use Rattle.reflector_core.specs.declared.request.Request.TheVariants.{Join, Send, Tick, Leave, Offer, Pull}
+use Rattle.reflector_core.specs.declared.request.Reply.{Reply}
+use Rattle.reflector_core.specs.declared.request.Reply.TheVariants.{Joined, Left, Refused}
+use Rattle.reflector_core.specs.declared.request.Refusal.TheVariants.{Stale}
+use Rattle.session_lock.specs.declared.knowledge.Item.{Item}
+use Rattle.session_lock.specs.declared.knowledge.Item.TheVariants.{Did, Void}
+use Rattle.session_lock.specs.History.{has}
+use Rattle.connection.specs.Exchanges.{Exchange, Answered, Unanswered, exchanges_in}
+
+-- the exchange is a Join of the view that got this seq
+abbrev pub opens : ℕ → ℕ → Exchange → Bool
+opens view joined (Answered (Join v now want) (Joined seq time last from base)) = (v == view) && (seq == joined)
+opens view joined other = false
+
+-- the reply says that the caller holds its view no more
+abbrev pub ends_view : Reply → Bool
+ends_view (Left seq time) = true
+ends_view (Refused (Stale current)) = true
+ends_view other = false
+
+-- the exchange gives up the view that was joined so, or tells that it is gone
+abbrev pub closes : ℕ → ℕ → Exchange → Bool
+closes view joined (Answered (Leave v j now) given) = (v == view) && (j == joined)
+closes view joined (Answered (Send v j number payload now) given) = ((v == view) && (j == joined)) && ends_view given
+closes view joined (Answered (Offer v j time bytes) given) = ((v == view) && (j == joined)) && ends_view given
+closes view joined other = false
+
+-- the view is held that was joined so
+abbrev pub holds_on : ℕ → ℕ → Bool → List Exchange → Bool
+holds_on view joined held [] = held
+holds_on view joined held (exchange ∷ rest) = holds_on view joined (opens view joined exchange || (held && not (closes view joined exchange))) rest
+
+abbrev pub holds : ℕ → ℕ → List Exchange → Bool
+holds view joined asked = holds_on view joined false asked
+
+-- the caller made a call that found no memory
+abbrev pub has_void : ℕ → List Item → Bool
+has_void caller [] = false
+has_void caller (Did who request ∷ rest) = has_void caller rest
+has_void caller (Void who ∷ rest) = eqb who caller || has_void caller rest
+
+-- a view that is here is held by one of the callers, by its last Join, and this caller once found no memory
+abbrev pub StaysByVoid : List ℕ → List Item → List Entry → Type 0
+StaysByVoid callers history log =
+    (view : ℕ) → is_here log view ≡ true
+    → (caller : ℕ) × (has caller callers ≡ true) × (holds view (current log view) (exchanges_in history caller) ≡ true) × (has_void caller history ≡ true)

@@ -1,0 +1,150 @@
+//! Links that are accepted one after the other, each served in a thread beside the rest.
+ghost use Rattle.std.specs.Prelude.{◌≡◌, ◌+◌, ◌<◌, ◌≤◌, ◌++◌, ◌∷◌, [], All, Some, None, vec_len, vec_capacity};
+ghost use Rattle.std.specs.Thread.{IsSync};
+ghost use Rattle.tea_io.specs.Links.{no_counts};
+ghost use Rattle.run_steps.specs.Outside.{links_tell, net_tells};
+ghost use Rattle.session_lock.specs.Passes.{Merged, numbers_held};
+ghost use Rattle.reflect_server.specs.Passes.{IsFresh, HasNotCalled};
+ghost use Rattle.reflect_server.specs.Rounds.{GoesRound, Serves};
+
+use crate::passes::merge_all;
+use crate::reflection::Server;
+use connection::{Ended, serve_connection};
+use session_lock::{Pass, SharedSession, TrustAll};
+use std::alloc::Global;
+use std::sync::Wait;
+use std::thread::{Threads, join};
+use tea_io::{Clock, Gate, Link, Net, NetFault};
+
+/// A link that was served, and how its connection ended.
+#[derive(Drop)]
+pub struct ServedLink<L: Link + Drop> {
+    pub link: L,
+    pub ended: Ended,
+}
+
+/// A net with what was done by it so far: the pass that is kept, the links that were served, the last one first, and what stopped it.
+#[derive(Drop)]
+pub struct Round<N: Drop, L: Link + Drop> {
+    pub net: N,
+    pub keeper: Pass,
+    pub served: Vec<ServedLink<L>>,
+    pub stopped: Option<NetFault>,
+}
+
+/// What each thread is given.
+#[derive(Drop)]
+pub struct Post<'a, C: Clock, G: Gate, R: Wait> {
+    pub rt: &'a R,
+    pub alloc: Global,
+    pub shared: &'a SharedSession<TrustAll>,
+    pub server: &'a Server<'a, C, G>,
+}
+
+/// Serves one link, once the gate is passed.
+fn serve_one<L: Link + Drop, C: Clock, G: Gate, R: Wait>(
+    post: &Post<'_, C, G, R>,
+    mut pass: Pass,
+    mut link: L,
+    worker: u32,
+) -> (Pass, ServedLink<L>)
+    requires fresh { IsFresh post.now.shared.now.session pass }
+    ensures { Serves (C.gives post.now.server.now.clock.now) post.now.server.now.id (links_tell L.coming L.heard L.sent L.counts) pass link result.0 result.1 }
+{
+    let server = post.server;
+    server.gate.pass(worker, 1);
+    let ended = serve_connection(
+        post.rt,
+        post.alloc,
+        post.shared,
+        &mut pass,
+        server.id,
+        &mut link,
+        server.clock,
+    );
+    (pass, ServedLink { link, ended })
+}
+
+/// One more link was served, before those that the round has.
+fn with_one<N: Drop, L: Link + Drop>(
+    shared: &SharedSession<TrustAll>,
+    mut round: Round<N, L>,
+    pass: Pass,
+    one: ServedLink<L>,
+) -> Round<N, L>
+    requires keeper { round.keeper.session ≡ shared.now.session }
+    requires pass { pass.session ≡ shared.now.session }
+    requires room { vec_len round.served < vec_capacity round.served }
+    ensures merged { Merged round.keeper pass result.keeper }
+    ensures numbers { numbers_held result.keeper ≡ numbers_held round.keeper + numbers_held pass }
+    ensures served { result.served.items ≡ round.served.items ++ one ∷ [] }
+    ensures room { vec_capacity result.served ≡ vec_capacity round.served }
+    ensures rest { (result.net ≡ round.net) × (result.stopped ≡ round.stopped) }
+{
+    shared.merge(&mut round.keeper, pass);
+    round.served.push_reserved(one);
+    round
+}
+
+/// Nothing more is accepted.
+fn stop<N: Drop, L: Link + Drop>(
+    shared: &SharedSession<TrustAll>,
+    mut round: Round<N, L>,
+    passes: Vec<Pass>,
+    fault: NetFault,
+) -> Round<N, L>
+    requires keeper { HasNotCalled shared.now.session round.keeper }
+    requires passes { All (IsFresh shared.now.session) passes.items }
+    ensures keeper { HasNotCalled shared.now.session result.keeper }
+    ensures numbers { numbers_held result.keeper ≡ numbers_held round.keeper + vec_len passes }
+    ensures rest { (result.net ≡ round.net) × (result.served ≡ round.served) × (result.stopped ≡ Some fault) }
+{
+    round.keeper = merge_all(shared, round.keeper, passes);
+    round.stopped = Some(fault);
+    round
+}
+
+/// Accepts one link after the other, one for each pass, and serves each beside the rest.
+pub fn accept_all<N: Net + Drop, C: Clock + Sync, G: Gate + Sync, R: Threads + Wait + Sync>(
+    post: &Post<'_, C, G, R>,
+    mut round: Round<N, N::Conn>,
+    mut passes: Vec<Pass>,
+    worker: u32,
+) -> Round<N, N::Conn>
+    requires keeper { HasNotCalled post.now.shared.now.session round.keeper }
+    requires passes { All (IsFresh post.now.shared.now.session) passes.items }
+    requires few { vec_len passes + worker < 1000 }
+    requires room { vec_len passes ≤ vec_capacity round.served }
+    requires begins { (round.served.items ≡ []) × (round.stopped ≡ None) }
+    ensures room { vec_capacity result.served ≡ vec_capacity round.served }
+    ensures round { GoesRound (C.gives post.now.server.now.clock.now) post.now.server.now.id
+        (net_tells N.coming N.over N.asked N.faults N.lent N.link_counts) (links_tell N.Conn.coming N.Conn.heard N.Conn.sent N.Conn.counts)
+        (vec_len passes) round result }
+{
+    if passes.is_empty() {
+        return round;
+    }
+    let link = match round.net.accept() {
+        Ok(link) => link,
+        Err(fault) => return stop(post.shared, round, passes, fault),
+    };
+    let Some(pass) = passes.pop() else {
+        unreachable!()
+    };
+    let ((pass, one), round) = join(
+        post.rt,
+        || -> (Pass, ServedLink<N::Conn>)
+            requires { IsSync R.row × IsFresh post.now.shared.now.session pass }
+            ensures { Serves (C.gives post.entry.now.server.now.clock.now) post.entry.now.server.now.id (links_tell N.Conn.coming N.Conn.heard N.Conn.sent N.Conn.counts) pass link result.0 result.1 }
+        { serve_one(post, pass, link, worker) },
+        || -> Round<N, N::Conn>
+            requires { IsSync R.row × HasNotCalled post.now.shared.now.session round.keeper × All (IsFresh post.now.shared.now.session) passes.items
+                × (vec_len passes + worker + 1 < 1000) × (vec_len passes ≤ vec_capacity round.served) × (round.served.items ≡ []) × (round.stopped ≡ None) }
+            ensures room { vec_capacity result.served ≡ vec_capacity round.served }
+            ensures round { GoesRound (C.gives post.entry.now.server.now.clock.now) post.entry.now.server.now.id
+                (net_tells N.coming N.over N.asked N.faults N.lent N.link_counts) (links_tell N.Conn.coming N.Conn.heard N.Conn.sent N.Conn.counts)
+                (vec_len passes) round result }
+        { accept_all(post, round, passes, worker + 1) },
+    );
+    with_one(post.shared, round, pass, one)
+}

@@ -1,0 +1,161 @@
+//! A session that is reflected over a net.
+ghost use Rattle.std.specs.Prelude.{◌≡◌, ◌+◌, ◌≤◌, ◌++◌, ◌∷◌, [], All, IfOk, vec_len, vec_capacity};
+ghost use Rattle.run_steps.specs.Outside.{links_tell, net_tells};
+ghost use Rattle.tea_io.specs.Told.{grown};
+ghost use Rattle.tea_io.specs.declared.net.NetCall.TheVariants.{Listen};
+ghost use Rattle.session_lock.specs.Passes.{numbers_held};
+ghost use Rattle.session_lock.specs.Rules.{all_numbers};
+ghost use Rattle.reflect_server.specs.Passes.{IsFresh, HasNotCalled};
+ghost use Rattle.reflect_server.specs.Rounds.{ended_of, links_of, with_links};
+ghost use Rattle.reflect_server.specs.Reflects.{IsPrepared, Reflects, answer_for};
+
+use crate::accepting::{Post, Round, ServedLink, accept_all};
+use crate::passes::split_all;
+use crate::reflection::{Ends, Reflected, ServeFault, Server};
+use connection::Ended;
+use reflector_core::Session;
+use session_lock::{Pass, SharedSession, TrustAll};
+use std::alloc::Global;
+use std::sync::Wait;
+use std::thread::Threads;
+use tea_base::{List, SessionId, WantOfMemory};
+use tea_io::{Clock, Gate, Link, Net, NetFault};
+
+/// All that is made before a net is asked: the shared session, its first pass, one more for each connection, and room for what comes back.
+#[derive(Drop)]
+struct Prepared<L: Link + Drop> {
+    shared: SharedSession<TrustAll>,
+    keeper: Pass,
+    passes: Vec<Pass>,
+    served: Vec<ServedLink<L>>,
+    ends: Vec<Ended>,
+}
+
+fn prepare<L: Link + Drop>(
+    alloc: Global,
+    id: SessionId,
+    connections: u32,
+) -> Result<Prepared<L>, WantOfMemory>
+    requires { connections ≤ 64 }
+    ensures { IfOk result (λ prepared. IsPrepared connections prepared) }
+{
+    let served = Vec::with_capacity(alloc, connections as usize)?;
+    let ends = Vec::with_capacity(alloc, connections as usize)?;
+    let Ok((shared, mut keeper)) = SharedSession::new(alloc, id, Session::new(alloc), TrustAll)
+    else {
+        return Err(WantOfMemory);
+    };
+    let passes = split_all(alloc, &shared, &mut keeper, connections)?;
+    Ok(Prepared {
+        shared,
+        keeper,
+        passes,
+        served,
+        ends,
+    })
+}
+
+/// Gives the links back to their net, the last one first.
+fn give_back<N: Net>(
+    net: &mut N,
+    mut served: Vec<ServedLink<N::Conn>>,
+    mut ends: Vec<Ended>,
+) -> Vec<Ended>
+    requires lent { vec_len served ≤ N.lent net.old }
+    requires room { vec_len ends + vec_len served ≤ vec_capacity ends }
+    ensures ends { result.items ≡ ends.items ++ ended_of served.items }
+    ensures over { N.over net.new ≡ grown (N.over net.old) (links_of served.items) }
+    ensures counts { N.link_counts net.new ≡ with_links N.Conn.counts (N.link_counts net.old) (links_of served.items) }
+    ensures lent { N.lent net.new + vec_len served ≡ N.lent net.old }
+    ensures coming { N.coming net.new ≡ N.coming net.old }
+    ensures asked { N.asked net.new ≡ N.asked net.old }
+    ensures faults { N.faults net.new ≡ N.faults net.old }
+{
+    while let Some(ServedLink { link, ended }) = served.pop() {
+        net.back(link);
+        ends.push_reserved(ended);
+    }
+    ends
+}
+
+/// What is answered, by what stopped the net.
+fn answer(session: Session, ends: Ends, stopped: Option<NetFault>) -> Result<Reflected, ServeFault>
+    ensures { result ≡ answer_for session ends stopped }
+{
+    let net_failed = match stopped {
+        None => false,
+        Some(NetFault::Failed) => true,
+        Some(NetFault::WantOfMemory) => return Err(ServeFault::WantOfMemory),
+    };
+    Ok(Reflected {
+        session,
+        ends,
+        net_failed,
+    })
+}
+
+/// Serves, once the net listens.
+fn serve_all<N: Net + Drop, C: Clock + Sync, G: Gate + Sync, R: Threads + Wait + Sync>(
+    rt: &R,
+    alloc: Global,
+    server: &Server<'_, C, G>,
+    net: N,
+    prepared: Prepared<N::Conn>,
+) -> (N, Result<Reflected, ServeFault>)
+    requires connections { server.now.connections ≤ 64 }
+    requires prepared { IsPrepared server.now.connections prepared }
+    ensures { Reflects (C.gives server.now.clock.now) server.now.id
+        (net_tells N.coming N.over N.asked N.faults N.lent N.link_counts) (links_tell N.Conn.coming N.Conn.heard N.Conn.sent N.Conn.counts)
+        [] server.now.connections net result.0 result.1 }
+{
+    let Prepared {
+        shared,
+        keeper,
+        passes,
+        served,
+        ends,
+    } = prepared;
+    let post = Post {
+        rt,
+        alloc,
+        shared: &shared,
+        server,
+    };
+    let round = Round {
+        net,
+        keeper,
+        served,
+        stopped: None,
+    };
+    let Round {
+        mut net,
+        keeper,
+        served,
+        stopped,
+    } = accept_all(&post, round, passes, 0);
+    let ends = List::from_vec(give_back(&mut net, served, ends));
+    let session = shared.close(keeper);
+    (net, answer(session, ends, stopped))
+}
+
+/// Reflects a new session to so many links of a net.
+pub fn reflect<N: Net + Drop, C: Clock + Sync, G: Gate + Sync, R: Threads + Wait + Sync>(
+    rt: &R,
+    alloc: Global,
+    server: &Server<'_, C, G>,
+    mut net: N,
+) -> (N, Result<Reflected, ServeFault>)
+    requires { (1 ≤ server.now.connections) × (server.now.connections ≤ 64) }
+    ensures { Reflects (C.gives server.now.clock.now) server.now.id
+        (net_tells N.coming N.over N.asked N.faults N.lent N.link_counts) (links_tell N.Conn.coming N.Conn.heard N.Conn.sent N.Conn.counts)
+        (Listen server.now.address.now ∷ []) server.now.connections net result.0 result.1 }
+{
+    let Ok(prepared) = prepare(alloc, server.id, server.connections) else {
+        return (net, Err(ServeFault::WantOfMemory));
+    };
+    match net.listen(server.address) {
+        Ok(()) => serve_all(rt, alloc, server, net, prepared),
+        Err(NetFault::Failed) => (net, Err(ServeFault::ListenFault)),
+        Err(NetFault::WantOfMemory) => (net, Err(ServeFault::WantOfMemory)),
+    }
+}

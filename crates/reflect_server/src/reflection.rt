@@ -1,0 +1,35 @@
+//! What a reflector is to serve, and what comes of it.
+use connection::Ended;
+use reflector_core::Session;
+use tea_base::{List, SessionId, Text};
+use tea_io::{Clock, Gate};
+
+/// What a reflector is to serve: its session's id, the address at which it listens, and how many links it accepts. By the clock it asks
+/// the session; each thread passes the gate before it serves its link.
+#[derive(Drop)]
+pub struct Server<'a, C: Clock, G: Gate> {
+    pub id: SessionId,
+    pub address: &'a Text,
+    pub connections: u32,
+    pub clock: &'a C,
+    pub gate: &'a G,
+}
+
+/// How connections ended, in the order in which their links were accepted.
+pub type Ends = List<Ended>;
+
+/// What was served: the session in the end, and how each connection ended. `net_failed` says that the net failed to give one more.
+#[derive(Drop)]
+pub struct Reflected {
+    pub session: Session,
+    pub ends: Ends,
+    pub net_failed: bool,
+}
+
+/// Why nothing was reflected.
+#[derive(Clone, Copy, Debug, PartialEq, Eq)]
+pub enum ServeFault {
+    /// The net failed to listen. No link was accepted.
+    ListenFault,
+    WantOfMemory,
+}

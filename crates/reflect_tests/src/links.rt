@@ -1,0 +1,42 @@
+//! Links in memory whose frames are spelled by hand.
+ghost use Rattle.std.specs.Prelude.{IfOk};
+ghost use Rattle.tea_io.specs.MemNet.{HasNoCounts};
+
+use std::alloc::Global;
+use tea_base::{Blob, Numbers, WantOfMemory, push};
+use tea_io::{Blobs, MemLink};
+
+pub const LEAVE: &[u8] = &[4];
+
+/// The first event, without a payload.
+pub const FIRST_SEND: &[u8] = &[2, 0, 0, 0, 1, 0, 0, 0, 0];
+
+/// A JOIN of the session whose id is 32 sevens; it asks for the whole log.
+pub fn join_frame(alloc: Global, view: u8) -> Result<Blob, WantOfMemory> {
+    let mut bytes = Vec::new(alloc);
+    push(&mut bytes, 1)?;
+    for _ in 0..32 {
+        push(&mut bytes, 7)?;
+    }
+    for byte in [0, 0, 0, view, 1] {
+        push(&mut bytes, byte)?;
+    }
+    Ok(Blob::from_vec(bytes))
+}
+
+/// A link of the view, whose JOIN and then these frames come, and whose calls of these numbers fail.
+pub fn link_of(
+    alloc: Global,
+    view: u8,
+    frames: &[&[u8]],
+    fail: Numbers,
+) -> Result<MemLink, WantOfMemory>
+    ensures { IfOk result HasNoCounts }
+{
+    let mut coming = Blobs::new(alloc);
+    coming.push(join_frame(alloc, view)?)?;
+    for frame in frames {
+        coming.push(Blob::copy(alloc, frame)?)?;
+    }
+    Ok(MemLink::new(alloc, coming, fail, Numbers::new(alloc)))
+}
