@@ -1,5 +1,5 @@
 -- What a call adds to the exchanges of its caller.
-use Rattle.std.proofs.Common.{Result, Ok, Err, MatchResult, IfOk, ◌≡◌, ℕ, Bool, true, false, eqb, ◌||◌, List, [], ◌∷◌, ◌++◌, if◌then◌else◌, Option, Some, refl, sym, ap, ◌∙◌, subst, append_assoc, eq-eqb}
+use Rattle.std.proofs.Common.{Result, Ok, Err, MatchResult, IfOk, ◌≡◌, ◌⊎◌, inl, inr, ℕ, Bool, true, false, eqb, ◌||◌, List, [], ◌∷◌, ◌++◌, if◌then◌else◌, Option, Some, refl, sym, ap, ◌∙◌, subst, append_assoc, eq-eqb}
 use Rattle.std.proofs.lemmas.List.{append-nil}
 use Rattle.tea_base.specs.declared.want.WantOfMemory.{WantOfMemory}
 use Rattle.reflector_core.specs.PlainSession.{PlainSession, IsSoundSession}
@@ -34,7 +34,7 @@ use Rattle.std.specs.Str.{bytes_eq}
 use Rattle.connection.proofs.Lines.{pull_nothing}
 use Rattle.connection.specs.declared.ending.Halt.{Halt}
 use Rattle.connection.specs.Exchanges.{Exchange, Answered, Unanswered, exchange_in, exchanges_from, exchanges_in}
-use Rattle.connection.specs.Standing.{IsAnsweredAt, IsJoin, IsStanding, exchange_of}
+use Rattle.connection.specs.Standing.{IsAnsweredAt, IsJoin, IsStanding, SeesOn, exchange_of}
 
 -- ---- exchanges along a history
 
@@ -63,6 +63,23 @@ pub exchanges_same : (history more : List Item) (c : ℕ) → calls_of (c ∷ []
 exchanges_same history more c none =
     exchanges_both first_session c history more
     ∙ (ap (λ (l : List Exchange). exchanges_in history c ++ l) (exchanges_none (play history) c more none) ∙ append-nil (exchanges_in history c))
+
+-- ---- what was seen
+
+pub sees_still : (seen : List Item) → SeesOn seen seen
+sees_still seen = record { rest = []; grew = append-nil seen; sound = inl refl }
+
+pub sees_then : (a b c : List Item) → SeesOn a b → SeesOn b c → SeesOn a c
+sees_then a b c f g = record {
+  rest = f.rest ++ g.rest;
+  grew = sym (append_assoc a f.rest g.rest) ∙ (ap (λ (l : List Item). l ++ g.rest) f.grew ∙ g.grew);
+  sound = sound_on g.sound f.sound;
+}
+  where
+    sound_on : ((g.rest ≡ []) ⊎ IsSoundThrough first_session c) → ((f.rest ≡ []) ⊎ IsSoundThrough first_session b) → (f.rest ++ g.rest ≡ []) ⊎ IsSoundThrough first_session c
+    sound_on (inr sound) first = inr sound
+    sound_on (inl none) (inl still) = inl (ap (λ (l : List Item). l ++ g.rest) still ∙ none)
+    sound_on (inl none) (inr sound) = inr (subst (IsSoundThrough first_session) (sym (append-nil b) ∙ (ap (λ (l : List Item). b ++ l) (sym none) ∙ g.grew)) sound)
 
 -- ---- one call
 
@@ -113,6 +130,18 @@ pub grows_so : (IsTrusted : PlainSession → Type 0) (before after : PassState) 
     → GrowsTo (play before.seen) (play after.seen)
 grows_so IsTrusted before after request (Ok given) told = (adds before after told.history (Did (caller before) request) told.grew).grows
 grows_so IsTrusted before after request (Err want) told = (adds before after told.history (Void (caller before)) told.grew).grows
+
+sees_by : (before after : PassState) (history : List Item) (item : Item) → Grew before after history item → IsSoundThrough first_session after.seen → SeesOn before.seen after.seen
+sees_by before after history item g sound = record {
+  rest = g.saw.0 ++ item ∷ [];
+  grew = sym (append_assoc before.seen g.saw.0 (item ∷ [])) ∙ (ap (λ (h : List Item). h ++ item ∷ []) g.saw.1 ∙ sym (ap (λ (p : PassState). p.seen) g.same));
+  sound = inr sound;
+}
+
+pub sees_so : (IsTrusted : PlainSession → Type 0) (before after : PassState) (request : Request) (r : Result Reply WantOfMemory) → Called IsTrusted before after request r → IsSoundThrough first_session after.seen
+    → SeesOn before.seen after.seen
+sees_so IsTrusted before after request (Ok given) told sound = sees_by before after told.history (Did (caller before) request) told.grew sound
+sees_so IsTrusted before after request (Err want) told sound = sees_by before after told.history (Void (caller before)) told.grew sound
 
 -- the session at the place of the call is sound, as all of what was seen tells
 sound_before : (before after : PassState) (history : List Item) (item : Item) → Grew before after history item → IsSoundThrough first_session after.seen → IsSoundSession (play history)

@@ -25,7 +25,7 @@ use Rattle.system_plain.specs.ConnectionLine.{unread_frame}
 use Rattle.system_plain.specs.Steps.{answer_frames, joined_view}
 use Rattle.connection.specs.declared.ending.Ended.{Ended}
 use Rattle.connection.specs.declared.ending.Ended.TheVariants as ended
-use Rattle.connection.specs.Causes.{IsCounted, RoseBy}
+use Rattle.connection.specs.Causes.{IsCauseCounted, RoseBy}
 use Rattle.connection.specs.Phases.{TalkPhase, Opening, Reading, Joining, Ticking, Pulling, Hearing, Taking, Asking, Sending, Leaving, Over, Wrong, TalkEvent, Hears, Reads, Makes, MakesAt, Misses, Sends, Loses, Fails, Wants, acted_phase, ending_phase, entered_phase, greeted_phase, most_quiets, opened_phase, read_phase, refused_phase, reply_phase, sending_phase, talk_step, talk_walk, telling_phase}
 use Rattle.connection.specs.Talk.{Account, EventCounts, EventsCount, TalksOn}
 
@@ -48,7 +48,7 @@ rose_still : (start a b : Counts) (times : ℕ) → NoneFalls a b → RoseBy tim
 rose_still start a b times f h = let le = f.quiets in omega (arith, le, h)
 
 -- it still is where counts have risen
-because_on : (start a b : Counts) (how : Ended) → NoneFalls a b → IsCounted start a how → IsCounted start b how
+because_on : (start a b : Counts) (how : Ended) → NoneFalls a b → IsCauseCounted start a how → IsCauseCounted start b how
 because_on start a b ended.LinkEnd f h = let le = f.ends in omega (arith, le, h)
 because_on start a b ended.LinkFault f h = let le = f.faults in omega (arith, le, h)
 because_on start a b (ended.Idle quiets) f h = (h.0, rose_still start a b quiets f h.1)
@@ -65,8 +65,8 @@ CountsTo start now (Pulling cursor quiets) = RoseBy quiets start.quiets now.quie
 CountsTo start now (Hearing cursor quiets) = RoseBy quiets start.quiets now.quiets
 CountsTo start now (Sending frame frames next fails wants) =
     CountsTo start now next × ((later : Counts) → Rose start.faults later.faults → CountsTo start later fails) × CountsTo start now wants
-CountsTo start now (Leaving cursor how) = IsCounted start now how
-CountsTo start now (Over how) = IsCounted start now how
+CountsTo start now (Leaving cursor how) = IsCauseCounted start now how
+CountsTo start now (Over how) = IsCauseCounted start now how
 CountsTo start now other = Unit {0}
 
 counts_on : (start a b : Counts) (p : TalkPhase) → NoneFalls a b → CountsTo start a p → CountsTo start b p
@@ -120,12 +120,12 @@ read_counts start now cursor None at f = telling_counts start now cursor (unread
 read_counts start now cursor (Some frame) at f = acted_counts start now cursor (act_on cursor frame at) f
 
 -- a reply ends a connection only as Left or Stale
-ending_counts : (start now : Counts) (frames : List ServerFrame) (how : Ended) → ((later : Counts) → IsCounted start later how) → CountsTo start now (ending_phase frames how)
-ending_counts start now frames how any = sending_counts start now frames (Over how) (Over how) (Over how) (any now) (λ later rose. any later) (any now)
+ending_counts : (start now : Counts) (cursor : Cursor) (frames : List ServerFrame) (how : Ended) → ((later : Counts) → IsCauseCounted start later how) → CountsTo start now (ending_phase frames how (Leaving cursor ended.WantOfMemory))
+ending_counts start now cursor frames how any = sending_counts start now frames (Over how) (Over how) (Leaving cursor ended.WantOfMemory) (any now) (λ later rose. any later) tt
 
 answered_counts : (start now : Counts) (cursor : Cursor) (asked : Request) (r : Reply) → NoneFalls start now → CountsTo start now (reply_phase cursor asked r)
-answered_counts start now cursor asked (reply.Left seq time) f = ending_counts start now (answer_frames (answer_frame asked (reply.Left seq time))) ended.Left (λ later. tt)
-answered_counts start now cursor asked (reply.Refused (refusal.Stale current)) f = ending_counts start now (answer_frames (answer_frame asked (reply.Refused (refusal.Stale current)))) (ended.Stale current) (λ later. tt)
+answered_counts start now cursor asked (reply.Left seq time) f = ending_counts start now cursor (answer_frames (answer_frame asked (reply.Left seq time))) ended.Left (λ later. tt)
+answered_counts start now cursor asked (reply.Refused (refusal.Stale current)) f = ending_counts start now cursor (answer_frames (answer_frame asked (reply.Refused (refusal.Stale current)))) (ended.Stale current) (λ later. tt)
 answered_counts start now cursor asked r f = telling_counts start now cursor (answer_frames (answer_frame asked r)) (Ticking cursor 0) (none_yet start now f)
 
 rose_once : (start a b : Counts) (quiets : ℕ) → RoseBy quiets start.quiets a.quiets → NoneFalls a b → Rose a.quiets b.quiets → RoseBy (quiets + 1) start.quiets b.quiets
@@ -200,7 +200,7 @@ walk_counts id (event ∷ events) p start a b f h e =
     walk_counts id events (talk_step id p event).phase start e.0 b (falls_on start a e.0 f (event_falls event a e.0 e.1)) (step_counts id p event start a e.0 f h e.1) e.2
 
 -- the counts of a whole talk tell why it ended
-pub talk_counted : (gives : ℕ → Type 0) (id : SessionId) (how : Ended) (before now : Account) → TalksOn gives id (Opening 0) (Over how) before now → IsCounted before.link.counts now.link.counts how
+pub talk_counted : (gives : ℕ → Type 0) (id : SessionId) (how : Ended) (before now : Account) → TalksOn gives id (Opening 0) (Over how) before now → IsCauseCounted before.link.counts now.link.counts how
 talk_counted gives id how before now talk =
     let start = before.link.counts in
     subst (CountsTo start now.link.counts) talk.ends (walk_counts id talk.events (Opening 0) start start now.link.counts (none_falls start) (none_yet start start (none_falls start)) talk.counts)

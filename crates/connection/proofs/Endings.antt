@@ -1,5 +1,5 @@
 -- What was asked tells how a connection ends.
-use Rattle.std.proofs.Common.{◌≡◌, ℕ, ◌+◌, ◌≤◌, ◌==◌, Bool, true, false, if◌then◌else◌, List, [], ◌∷◌, ◌++◌, Option, Some, None, Result, Ok, Err, refl, sym, ◌∙◌, subst, append_assoc, arith}
+use Rattle.std.proofs.Common.{◌≡◌, inl, inr, ℕ, ◌+◌, ◌≤◌, ◌==◌, Bool, true, false, if◌then◌else◌, List, [], ◌∷◌, ◌++◌, Option, Some, None, Result, Ok, Err, refl, sym, ◌∙◌, subst, append_assoc, arith}
 use Rattle.std.proofs.lemmas.List.{append-nil}
 use Rattle.byte_fields.specs.Fields.{whole}
 use Rattle.tea_base.specs.declared.entry.SessionId.{SessionId}
@@ -30,7 +30,7 @@ use Rattle.session_lock.specs.declared.knowledge.Item.{Item}
 use Rattle.tea_io.specs.declared.link.Heard.{Heard}
 use Rattle.connection.specs.declared.ending.Ended.{Ended}
 use Rattle.connection.specs.declared.ending.Ended.TheVariants as ended
-use Rattle.connection.specs.Causes.{EndNothing, EndsElse, EndsExactly, EndsByReply, IsLastLeave, IsTurnedDown, end_of}
+use Rattle.connection.specs.Causes.{EndNothing, EndsElse, EndsExactly, EndsByReply, IsLastLeave, IsTurnedDown, LeavesStale, end_of}
 use Rattle.connection.specs.Exchanges.{Exchange, Answered, Unanswered, exchanges_in}
 use Rattle.connection.specs.Phases.{TalkPhase, Opening, Reading, Joining, Ticking, Pulling, Hearing, Taking, Asking, Sending, Leaving, Over, Wrong, TalkEvent, Hears, Reads, Makes, MakesAt, Misses, Sends, Loses, Fails, Wants, acted_phase, code_in, end_in, ending_phase, entered_phase, join_phase, most_quiets, opened_phase, read_phase, refused_phase, reply_phase, sending_phase, talk_step, talk_walk, telling_phase}
 use Rattle.connection.specs.Standing.{IsJoin}
@@ -59,19 +59,9 @@ AskedTo asked (Hearing cursor quiets) = EndNothing asked
 AskedTo asked (Taking cursor bytes) = EndNothing asked
 AskedTo asked (Asking cursor request) = EndNothing asked × IsOfFrame request
 AskedTo asked (Sending frame frames next fails wants) = AskedTo asked next × AskedTo asked fails × AskedTo asked wants
-AskedTo asked (Leaving cursor how) = EndNothing asked × ComesElse how
+AskedTo asked (Leaving cursor how) = (last : Exchange) → IsLastLeave (last ∷ []) → EndsExactly how (asked ++ last ∷ [])
 AskedTo asked (Over how) = EndsExactly how asked
 AskedTo asked Wrong = Unit {0}
-
-sending_asked : (asked : List Exchange) (frames : List ServerFrame) (next fails wants : TalkPhase) → AskedTo asked next → AskedTo asked fails → AskedTo asked wants → AskedTo asked (sending_phase frames next fails wants)
-sending_asked asked [] next fails wants h failing wanting = h
-sending_asked asked (frame ∷ frames) next fails wants h failing wanting = (h, failing, wanting)
-
-telling_asked : (asked : List Exchange) (cursor : Cursor) (frames : List ServerFrame) (next : TalkPhase) → EndNothing asked → AskedTo asked next → AskedTo asked (telling_phase cursor frames next)
-telling_asked asked cursor frames next none h = sending_asked asked frames next (Leaving cursor ended.LinkFault) (Leaving cursor ended.WantOfMemory) h (none, tt) (none, tt)
-
-refused_asked : (asked : List Exchange) (frame : ServerFrame) → IsTurnedDown (code_in frame) asked → AskedTo asked (refused_phase frame)
-refused_asked asked frame turned = (turned, turned, turned)
 
 -- an end that no reply brings
 else_ends : (asked : List Exchange) (how : Ended) → ComesElse how → EndsElse asked → EndsExactly how asked
@@ -81,10 +71,24 @@ else_ends asked (ended.Refused code) comes h = absurd comes
 else_ends asked ended.LinkEnd comes h = h
 else_ends asked ended.LinkFault comes h = h
 else_ends asked (ended.Idle quiets) comes h = h
-else_ends asked ended.WantOfMemory comes h = h
+else_ends asked ended.WantOfMemory comes h = inl h
+
+-- no reply has ended it, and it leaves
+left_ends : (asked : List Exchange) (how : Ended) → EndNothing asked → ComesElse how → (last : Exchange) → IsLastLeave (last ∷ []) → EndsExactly how (asked ++ last ∷ [])
+left_ends asked how none comes last leaves = else_ends (asked ++ last ∷ []) how comes (record { front = asked; rest = last ∷ []; asked_is = refl; before = none; leaves = leaves })
+
+sending_asked : (asked : List Exchange) (frames : List ServerFrame) (next fails wants : TalkPhase) → AskedTo asked next → AskedTo asked fails → AskedTo asked wants → AskedTo asked (sending_phase frames next fails wants)
+sending_asked asked [] next fails wants h failing wanting = h
+sending_asked asked (frame ∷ frames) next fails wants h failing wanting = (h, failing, wanting)
+
+telling_asked : (asked : List Exchange) (cursor : Cursor) (frames : List ServerFrame) (next : TalkPhase) → EndNothing asked → AskedTo asked next → AskedTo asked (telling_phase cursor frames next)
+telling_asked asked cursor frames next none h = sending_asked asked frames next (Leaving cursor ended.LinkFault) (Leaving cursor ended.WantOfMemory) h (left_ends asked ended.LinkFault none tt) (left_ends asked ended.WantOfMemory none tt)
 
 none_ends : (asked : List Exchange) → EndNothing asked → EndsElse asked
 none_ends asked none = record { front = asked; rest = []; asked_is = sym (append-nil asked); before = none; leaves = tt }
+
+refused_asked : (asked : List Exchange) (frame : ServerFrame) → EndNothing asked → IsTurnedDown (code_in frame) asked → AskedTo asked (refused_phase frame)
+refused_asked asked frame none turned = (turned, turned, inl (none_ends asked none))
 
 early_asked : (early : Early) (frame : ClientFrame) → IsTurnedDown (code_in (early_frame early frame)) []
 early_asked OtherSession frame = omega arith
@@ -92,17 +96,17 @@ early_asked NotJoined frame = omega arith
 
 opened_asked : (id : SessionId) (frame : ClientFrame) (now : ℕ) (r : Result Request Early) → first_request frame id now ≡ r → AskedTo [] (entered_phase frame r)
 opened_asked id frame now (Ok request) is = (refl, first_is_join frame id now request is)
-opened_asked id frame now (Err early) is = refused_asked [] (early_frame early frame) (early_asked early frame)
+opened_asked id frame now (Err early) is = refused_asked [] (early_frame early frame) tt (early_asked early frame)
 
 read_first : (id : SessionId) (frame : Option ClientFrame) (now : ℕ) → AskedTo [] (opened_phase id frame now)
-read_first id None now = let code : 12 ≤ 13 = omega arith in refused_asked [] unread_frame code
+read_first id None now = let code : 12 ≤ 13 = omega arith in refused_asked [] unread_frame tt code
 read_first id (Some frame) now = opened_asked id frame now (first_request frame id now) refl
 
 joined_asked : (request : Request) (given : Reply) → IsJoin request → AskedTo (Answered request given ∷ []) (join_phase request given)
 joined_asked (Join view now want) (reply.Joined seq time last from base) is =
     let cursor : Cursor = record { view = view; joined = seq; after = from; last_tick = 0 } in
     telling_asked (Answered (Join view now want) (reply.Joined seq time last from base) ∷ []) cursor (Sync seq last from base ∷ []) (Ticking cursor 0) (refl, tt) (refl, tt)
-joined_asked (Join view now want) (reply.Refused refusal) is = refused_asked (Answered (Join view now want) (reply.Refused refusal) ∷ []) (refused_frame 1 refusal) refl
+joined_asked (Join view now want) (reply.Refused refusal) is = refused_asked (Answered (Join view now want) (reply.Refused refusal) ∷ []) (refused_frame 1 refusal) (refl, tt) refl
 joined_asked (Join view now want) (reply.Stamped seq time) is = tt
 joined_asked (Join view now want) (reply.Again seq time) is = tt
 joined_asked (Join view now want) (reply.Ticked time) is = tt
@@ -132,8 +136,17 @@ frame_end (Leave view joined now) given is = refl
 frame_end (Offer view joined time bytes) given is = refl
 frame_end (Pull after limit) given is = absurd is
 
-ending_asked : (asked : List Exchange) (frames : List ServerFrame) (how : Ended) → EndsExactly how asked → AskedTo asked (ending_phase frames how)
-ending_asked asked frames how ends = sending_asked asked frames (Over how) (Over how) (Over how) ends ends ends
+ending_asked : (asked : List Exchange) (frames : List ServerFrame) (how : Ended) (wants : TalkPhase) → EndsExactly how asked → AskedTo asked wants → AskedTo asked (ending_phase frames how wants)
+ending_asked asked frames how wants ends wanting = sending_asked asked frames (Over how) (Over how) wants ends ends wanting
+
+-- a view that has left is told nothing
+left_untold : (request : Request) (seq time : ℕ) → answer_frame request (reply.Left seq time) ≡ None
+left_untold (Join view now want) seq time = refl
+left_untold (Send view joined number payload now) seq time = refl
+left_untold (Tick now) seq time = refl
+left_untold (Leave view joined now) seq time = refl
+left_untold (Offer view joined at bytes) seq time = refl
+left_untold (Pull after limit) seq time = refl
 
 -- the request of a frame was answered
 answered_asked : (asked : List Exchange) (cursor : Cursor) (request : Request) (given : Reply) → EndNothing asked → IsOfFrame request → AskedTo (asked ++ Answered request given ∷ []) (reply_phase cursor request given)
@@ -148,8 +161,13 @@ answered_asked asked cursor request given none of_frame = by_reply given (frame_
     tells : (r : Reply) → end_of (Answered request r) ≡ None → AskedTo (asked ++ Answered request r ∷ []) (telling_phase cursor (answer_frames (answer_frame request r)) (Ticking cursor 0))
     tells r is = telling_asked (asked ++ Answered request r ∷ []) cursor (answer_frames (answer_frame request r)) (Ticking cursor 0) (goes r is) (goes r is)
 
+    leaves_stale : (current : ℕ) → EndsByReply (ended.Stale current) (asked ++ Answered request (reply.Refused (refusal.Stale current)) ∷ []) → (last : Exchange) → IsLastLeave (last ∷ [])
+        → LeavesStale ((asked ++ Answered request (reply.Refused (refusal.Stale current)) ∷ []) ++ last ∷ [])
+    leaves_stale current stale last leaves = record { current = current; front = asked ++ Answered request (reply.Refused (refusal.Stale current)) ∷ []; leave = last; asked_is = refl; stale = stale; leaves = leaves }
+
     by_refusal : (r : Refusal) → end_of (Answered request (reply.Refused r)) ≡ end_in (reply.Refused r) → AskedTo (asked ++ Answered request (reply.Refused r) ∷ []) (reply_phase cursor request (reply.Refused r))
-    by_refusal (refusal.Stale current) is = ending_asked (asked ++ Answered request (reply.Refused (refusal.Stale current)) ∷ []) (answer_frames (answer_frame request (reply.Refused (refusal.Stale current)))) (ended.Stale current) (ends (reply.Refused (refusal.Stale current)) (ended.Stale current) is)
+    by_refusal (refusal.Stale current) is = ending_asked (asked ++ Answered request (reply.Refused (refusal.Stale current)) ∷ []) (answer_frames (answer_frame request (reply.Refused (refusal.Stale current)))) (ended.Stale current) (Leaving cursor ended.WantOfMemory)
+        (ends (reply.Refused (refusal.Stale current)) (ended.Stale current) is) (λ last leaves. inr (leaves_stale current (ends (reply.Refused (refusal.Stale current)) (ended.Stale current) is) last leaves))
     by_refusal (refusal.TooLong len) is = tells (reply.Refused (refusal.TooLong len)) is
     by_refusal (refusal.Differs seq) is = tells (reply.Refused (refusal.Differs seq)) is
     by_refusal (refusal.Gap expected) is = tells (reply.Refused (refusal.Gap expected)) is
@@ -162,7 +180,9 @@ answered_asked asked cursor request given none of_frame = by_reply given (frame_
     by_refusal (refusal.NoSuchSeq len) is = tells (reply.Refused (refusal.NoSuchSeq len)) is
 
     by_reply : (r : Reply) → end_of (Answered request r) ≡ end_in r → AskedTo (asked ++ Answered request r ∷ []) (reply_phase cursor request r)
-    by_reply (reply.Left seq time) is = ending_asked (asked ++ Answered request (reply.Left seq time) ∷ []) (answer_frames (answer_frame request (reply.Left seq time))) ended.Left (ends (reply.Left seq time) ended.Left is)
+    by_reply (reply.Left seq time) is =
+        subst (λ (o : Option ServerFrame). AskedTo (asked ++ Answered request (reply.Left seq time) ∷ []) (ending_phase (answer_frames o) ended.Left (Leaving cursor ended.WantOfMemory))) (sym (left_untold request seq time))
+        (ends (reply.Left seq time) ended.Left is)
     by_reply (reply.Refused r) is = by_refusal r is
     by_reply (reply.Joined seq time last from base) is = tells (reply.Joined seq time last from base) is
     by_reply (reply.Stamped seq time) is = tells (reply.Stamped seq time) is
@@ -170,9 +190,6 @@ answered_asked asked cursor request given none of_frame = by_reply given (frame_
     by_reply (reply.Ticked time) is = tells (reply.Ticked time) is
     by_reply reply.Kept is = tells reply.Kept is
     by_reply (reply.Batch entries tick) is = tells (reply.Batch entries tick) is
-
-left_ends : (asked : List Exchange) (how : Ended) (last : Exchange) → IsLastLeave (last ∷ []) → EndNothing asked → ComesElse how → EndsExactly how (asked ++ last ∷ [])
-left_ends asked how last leaves none comes = else_ends (asked ++ last ∷ []) how comes (record { front = asked; rest = last ∷ []; asked_is = refl; before = none; leaves = leaves })
 
 missed : (asked : List Exchange) → EndNothing asked → EndNothing (asked ++ Unanswered ∷ [])
 missed asked none = all_both asked (Unanswered ∷ []) none (refl, tt)
@@ -182,7 +199,7 @@ opening_row_asked asked true quiets is = subst (λ (l : List Exchange). EndsElse
 opening_row_asked asked false quiets is = is
 
 hearing_row_asked : (asked : List Exchange) (cursor : Cursor) (last : Bool) (quiets : ℕ) → EndNothing asked → AskedTo asked (if last then Leaving cursor (ended.Idle most_quiets) else Ticking cursor quiets)
-hearing_row_asked asked cursor true quiets none = (none, tt)
+hearing_row_asked asked cursor true quiets none = left_ends asked (ended.Idle most_quiets) none tt
 hearing_row_asked asked cursor false quiets none = none
 
 -- nothing was asked before
@@ -195,32 +212,32 @@ step_asked id (Opening quiets) (Hears (heard.Frame bytes)) asked h = at_first as
 step_asked id (Opening quiets) (Hears heard.Quiet) asked h = opening_row_asked (asked ++ []) (quiets + 1 == most_quiets) (quiets + 1) (append-nil asked ∙ h)
 step_asked id (Opening quiets) (Hears heard.End) asked h = at_first asked [] (Over ended.LinkEnd) h (none_ends [] tt)
 step_asked id (Opening quiets) (Hears heard.Failed) asked h = at_first asked [] (Over ended.LinkFault) h (none_ends [] tt)
-step_asked id (Opening quiets) (Hears heard.WantOfMemory) asked h = at_first asked [] (Over ended.WantOfMemory) h (none_ends [] tt)
+step_asked id (Opening quiets) (Hears heard.WantOfMemory) asked h = at_first asked [] (Over ended.WantOfMemory) h (inl (none_ends [] tt))
 step_asked id (Reading bytes) (Reads now) asked h = at_first asked [] (opened_phase id (whole client_at bytes) now) h (read_first id (whole client_at bytes) now)
-step_asked id (Reading bytes) Wants asked h = at_first asked [] (Over ended.WantOfMemory) h (none_ends [] tt)
+step_asked id (Reading bytes) Wants asked h = at_first asked [] (Over ended.WantOfMemory) h (inl (none_ends [] tt))
 step_asked id (Joining request) (Makes given) asked h = at_first asked (Answered request given ∷ []) (join_phase request given) h.0 (joined_asked request given h.1)
-step_asked id (Joining request) Misses asked h = at_first asked (Unanswered ∷ []) (Over ended.WantOfMemory) h.0 (none_ends (Unanswered ∷ []) (refl, tt))
+step_asked id (Joining request) Misses asked h = at_first asked (Unanswered ∷ []) (Over ended.WantOfMemory) h.0 (inl (none_ends (Unanswered ∷ []) (refl, tt)))
 step_asked id (Ticking cursor quiets) (MakesAt now given) asked h = all_both asked (Answered (Tick now) given ∷ []) h (refl, tt)
-step_asked id (Ticking cursor quiets) Misses asked h = (missed asked h, tt)
+step_asked id (Ticking cursor quiets) Misses asked h = left_ends (asked ++ Unanswered ∷ []) ended.WantOfMemory (missed asked h) tt
 step_asked id (Pulling cursor quiets) (Makes given) asked h =
     let more : EndNothing (asked ++ Answered (Pull cursor.after most_pulled) given ∷ []) = all_both asked (Answered (Pull cursor.after most_pulled) given ∷ []) h (refl, tt) in
     telling_asked (asked ++ Answered (Pull cursor.after most_pulled) given ∷ []) cursor (next_frames cursor given) (Hearing (next_cursor cursor given) quiets) more more
-step_asked id (Pulling cursor quiets) Misses asked h = (missed asked h, tt)
+step_asked id (Pulling cursor quiets) Misses asked h = left_ends (asked ++ Unanswered ∷ []) ended.WantOfMemory (missed asked h) tt
 step_asked id (Hearing cursor quiets) (Hears (heard.Frame bytes)) asked h = all_both asked [] h tt
 step_asked id (Hearing cursor quiets) (Hears heard.Quiet) asked h = hearing_row_asked (asked ++ []) cursor (quiets + 1 == most_quiets) (quiets + 1) (all_both asked [] h tt)
-step_asked id (Hearing cursor quiets) (Hears heard.End) asked h = (all_both asked [] h tt, tt)
-step_asked id (Hearing cursor quiets) (Hears heard.Failed) asked h = (all_both asked [] h tt, tt)
-step_asked id (Hearing cursor quiets) (Hears heard.WantOfMemory) asked h = (all_both asked [] h tt, tt)
+step_asked id (Hearing cursor quiets) (Hears heard.End) asked h = left_ends (asked ++ []) ended.LinkEnd (all_both asked [] h tt) tt
+step_asked id (Hearing cursor quiets) (Hears heard.Failed) asked h = left_ends (asked ++ []) ended.LinkFault (all_both asked [] h tt) tt
+step_asked id (Hearing cursor quiets) (Hears heard.WantOfMemory) asked h = left_ends (asked ++ []) ended.WantOfMemory (all_both asked [] h tt) tt
 step_asked id (Taking cursor bytes) (Reads now) asked h = read_asked (asked ++ []) cursor (whole client_at bytes) now (all_both asked [] h tt)
-step_asked id (Taking cursor bytes) Wants asked h = (all_both asked [] h tt, tt)
+step_asked id (Taking cursor bytes) Wants asked h = left_ends (asked ++ []) ended.WantOfMemory (all_both asked [] h tt) tt
 step_asked id (Asking cursor request) (Makes given) asked h = answered_asked asked cursor request given h.0 h.1
-step_asked id (Asking cursor request) Misses asked h = (missed asked h.0, tt)
+step_asked id (Asking cursor request) Misses asked h = left_ends (asked ++ Unanswered ∷ []) ended.WantOfMemory (missed asked h.0) tt
 step_asked id (Sending frame frames next fails wants) Sends asked h = subst (λ (l : List Exchange). AskedTo l (sending_phase frames next fails wants)) (sym (append-nil asked)) (sending_asked asked frames next fails wants h.0 h.1 h.2)
 step_asked id (Sending frame frames next fails wants) Loses asked h = subst (λ (l : List Exchange). AskedTo l fails) (sym (append-nil asked)) h.1
 step_asked id (Sending frame frames next fails wants) Fails asked h = subst (λ (l : List Exchange). AskedTo l fails) (sym (append-nil asked)) h.1
 step_asked id (Sending frame frames next fails wants) Wants asked h = subst (λ (l : List Exchange). AskedTo l wants) (sym (append-nil asked)) h.2
-step_asked id (Leaving cursor how) (MakesAt now given) asked h = left_ends asked how (Answered (Leave cursor.view cursor.joined now) given) tt h.0 h.1
-step_asked id (Leaving cursor how) Misses asked h = left_ends asked how Unanswered tt h.0 h.1
+step_asked id (Leaving cursor how) (MakesAt now given) asked h = h (Answered (Leave cursor.view cursor.joined now) given) tt
+step_asked id (Leaving cursor how) Misses asked h = h Unanswered tt
 step_asked id p event asked h = tt
 
 walk_asked : (id : SessionId) (events : List TalkEvent) (p : TalkPhase) (asked : List Exchange) → AskedTo asked p → AskedTo (asked ++ (talk_walk id p events).asked) (talk_walk id p events).phase

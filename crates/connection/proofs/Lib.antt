@@ -5,3 +5,4 @@ pub mod Talking
 pub mod Lines
 pub mod ServedFronts
 pub mod TalkLines
+pub mod WholeTalks

@@ -107,8 +107,9 @@ sending_beside id l given sent [] next fails wants is same beside failing wantin
     subst (λ (s : List ServerFrame). Beside id l given s next) (is ∙ append-nil sent) beside
 sending_beside id l given sent (frame ∷ frames) next fails wants is same beside failing wanting = (is, same, beside, failing, wanting)
 
-ending_beside : (id : SessionId) (l : ConnectionLine) (given : List (Option ClientFrame)) (sent frames : List ServerFrame) (how : Ended) → l.sent ≡ sent ++ frames → given ≡ l.given → Beside id l given sent (ending_phase frames how)
-ending_beside id l given sent frames how is same = sending_beside id l given sent frames (Over how) (Over how) (Over how) is same (part_whole l given same) tt tt
+ending_beside : (id : SessionId) (l : ConnectionLine) (given : List (Option ClientFrame)) (sent frames : List ServerFrame) (how : Ended) (wants : TalkPhase) → SaysNothing wants → l.sent ≡ sent ++ frames → given ≡ l.given
+    → Beside id l given sent (ending_phase frames how wants)
+ending_beside id l given sent frames how wants says is same = sending_beside id l given sent frames (Over how) (Over how) wants is same (part_whole l given same) tt says
 
 -- ---- what is left of a talk
 
@@ -160,7 +161,7 @@ entered_goes id l frame now given sent (Err early) is h =
     Turns next (record {
       is = ap (λ (r : Result Request Early). hears_first l frame r) is;
       same = refl;
-      beside = ending_beside id next given sent (early_frame early frame ∷ []) (ended.Refused (code_in (early_frame early frame))) (ap (λ (s : List ServerFrame). s ++ early_frame early frame ∷ []) (sym h.sent_is)) h.given_is;
+      beside = ending_beside id next given sent (early_frame early frame ∷ []) (ended.Refused (code_in (early_frame early frame))) (Over ended.WantOfMemory) tt (ap (λ (s : List ServerFrame). s ++ early_frame early frame ∷ []) (sym h.sent_is)) h.given_is;
     })
 
 opened_goes : (id : SessionId) (l : ConnectionLine) (frame : Option ClientFrame) (now : ℕ) (given : List (Option ClientFrame)) (sent : List ServerFrame) → IsToHear l None frame given sent
@@ -170,7 +171,7 @@ opened_goes id l None now given sent h =
     Turns next (record {
       is = refl;
       same = refl;
-      beside = ending_beside id next given sent (unread_frame ∷ []) (ended.Refused (code_in unread_frame)) (ap (λ (s : List ServerFrame). s ++ unread_frame ∷ []) (sym h.sent_is)) h.given_is;
+      beside = ending_beside id next given sent (unread_frame ∷ []) (ended.Refused (code_in unread_frame)) (Over ended.WantOfMemory) tt (ap (λ (s : List ServerFrame). s ++ unread_frame ∷ []) (sym h.sent_is)) h.given_is;
     })
 opened_goes id l (Some frame) now given sent h = entered_goes id l frame now given sent (first_request frame id now) refl h
 
@@ -214,7 +215,7 @@ greeted_beside : (id : SessionId) (s : PlainSession) (cursor : Option Cursor) (t
     → Beside id (record { session = s; cursor = cursor; over = is_none cursor; given = given; sent = sent ++ answer_frames told }) given sent (greeted_phase cursor told)
 greeted_beside id s (Some cursor) (Some frame) given sent =
     (refl, refl, record { at = refl; clear = refl; given_is = refl; sent_is = refl }, tt, tt)
-greeted_beside id s None (Some frame) given sent = ending_beside id (record { session = s; cursor = None; over = true; given = given; sent = sent ++ frame ∷ [] }) given sent (frame ∷ []) (ended.Refused (code_in frame)) refl refl
+greeted_beside id s None (Some frame) given sent = ending_beside id (record { session = s; cursor = None; over = true; given = given; sent = sent ++ frame ∷ [] }) given sent (frame ∷ []) (ended.Refused (code_in frame)) (Over ended.WantOfMemory) tt refl refl
 greeted_beside id s (Some cursor) None given sent = tt
 greeted_beside id s None None given sent = tt
 
@@ -244,7 +245,7 @@ stays_open (reply.Refused r) is = refused_open r is
 
 answered_beside : (id : SessionId) (s : PlainSession) (cursor : Cursor) (over : Bool) (end : Option Ended) (frames : List ServerFrame) (given : List (Option ClientFrame)) (sent : List ServerFrame) → (end ≡ None → over ≡ false)
     → Beside id (record { session = s; cursor = Some cursor; over = over; given = given; sent = sent ++ frames }) given sent (answered_by cursor end frames)
-answered_beside id s cursor over (Some how) frames given sent clear = ending_beside id (record { session = s; cursor = Some cursor; over = over; given = given; sent = sent ++ frames }) given sent frames how refl refl
+answered_beside id s cursor over (Some how) frames given sent clear = ending_beside id (record { session = s; cursor = Some cursor; over = over; given = given; sent = sent ++ frames }) given sent frames how (Leaving cursor ended.WantOfMemory) tt refl refl
 answered_beside id s cursor over None frames given sent clear =
     sending_beside id (record { session = s; cursor = Some cursor; over = over; given = given; sent = sent ++ frames }) given sent frames
     (Ticking cursor 0) (Leaving cursor ended.LinkFault) (Leaving cursor ended.WantOfMemory) refl refl (record { at = refl; clear = clear refl; given_is = refl; sent_is = refl }) tt tt

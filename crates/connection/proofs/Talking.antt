@@ -31,7 +31,6 @@ use Rattle.join_sync.specs.Answers.{answer_frame, first_cursor, join_answer}
 use Rattle.join_sync.specs.Requests.{act_on, first_request}
 use Rattle.system_plain.specs.Steps.{answer_frames, joined_view, most_pulled}
 use Rattle.reflector_core.specs.declared.request.Request.{Request}
-use Rattle.reflector_core.specs.Play.{first_session}
 use Rattle.session_lock.specs.declared.knowledge.Item.{Item}
 use Rattle.session_lock.specs.History.{calls_of}
 use Rattle.session_lock.specs.Passes.{PassState, caller}
@@ -40,11 +39,11 @@ use Rattle.join_sync.specs.Batches.{entry_frames, newer_tick, next_cursor, next_
 use Rattle.connection.specs.declared.ending.Ended.{Ended}
 use Rattle.connection.specs.declared.ending.Ended.TheVariants as ended
 use Rattle.connection.specs.declared.ending.Halt.{Halt}
-use Rattle.connection.specs.Exchanges.{Exchange, Answered, Unanswered, exchanges_in, IsTimely}
-use Rattle.connection.specs.Standing.{exchange_of}
+use Rattle.connection.specs.Exchanges.{Exchange, Answered, Unanswered, exchanges_in, IsAskedInTime}
+use Rattle.connection.specs.Standing.{SeesOn, exchange_of}
 use Rattle.connection.specs.Phases.{TalkPhase, Opening, Joining, Ticking, Pulling, Hearing, Asking, Sending, Leaving, Over, TalkEvent, Hears, Reads, Makes, MakesAt, Misses, Sends, Loses, Fails, Wants, answered_by, end_in, ending_phase, greeted_phase, halt_phase, heard_by, heard_in, hearing, hearing_row, join_phase, opening, opening_row, pulled_phase, reply_phase, sending_phase, talk_step, talk_walk, telling_phase}
-use Rattle.connection.specs.Talk.{Account, EventCounts, HasTalked, LinkAccount, SendsSpelled, Talk, TalksOn, TalksOrHalts, account, account_of}
-use Rattle.connection.proofs.Callers.{exchanges_none, exchanges_same}
+use Rattle.connection.specs.Talk.{Account, EventCounts, LinkAccount, SendsSpelled, Talk, TalksOn, TalksOrHalts, account, asked_by}
+use Rattle.connection.proofs.Callers.{exchanges_same, sees_still, sees_then}
 use Rattle.connection.proofs.Counting.{count_on, count_one, none_falls}
 
 -- ---- lists that are told
@@ -96,7 +95,8 @@ pub talks_still : (gives : ℕ → Type 0) (id : SessionId) (p : TalkPhase) (a :
 talks_still gives id p a = record {
   events = [];
   ends = refl;
-  asked = sym (append-nil a.asked);
+  asked = sym (append-nil (asked_by a.pass));
+  sees = sees_still a.pass.seen;
   heard = sym (grown_none a.link.heard);
   sent = sym (grown_none a.link.sent);
   counts = refl;
@@ -117,7 +117,8 @@ talks_then gives id p q r a b c f g =
       asked =
           g.asked
           ∙ (ap (λ (l : List Exchange). l ++ (talk_walk id q g.events).asked) f.asked
-          ∙ (append_assoc a.asked (talk_walk id p f.events).asked (talk_walk id q g.events).asked ∙ ap (λ (l : List Exchange). a.asked ++ l) (sym asked)));
+          ∙ (append_assoc (asked_by a.pass) (talk_walk id p f.events).asked (talk_walk id q g.events).asked ∙ ap (λ (l : List Exchange). asked_by a.pass ++ l) (sym asked)));
+      sees = sees_then a.pass.seen b.pass.seen c.pass.seen f.sees g.sees;
       heard =
           g.heard
           ∙ (ap (λ (l : Option (List Heard)). grown l (heard_in g.events)) f.heard
@@ -129,7 +130,7 @@ talks_then gives id p q r a b c f g =
           ∙ ap (λ (l : List (List ℕ)). grown a.link.sent l) (sym (ap (map server_spelling) sent ∙ map_both (talk_walk id p f.events).sent (talk_walk id q g.events).sent))));
       counts = count_on f.events g.events a.link.counts b.link.counts c.link.counts f.counts g.counts;
       spelled = subst (AllByRecursion IsServerFrame) (sym sent) (all_both IsServerFrame (talk_walk id p f.events).sent (talk_walk id q g.events).sent f.spelled g.spelled);
-      timely = subst (AllByRecursion (IsTimely gives)) (sym asked) (all_both (IsTimely gives) (talk_walk id p f.events).asked (talk_walk id q g.events).asked f.timely g.timely);
+      timely = subst (AllByRecursion (IsAskedInTime gives)) (sym asked) (all_both (IsAskedInTime gives) (talk_walk id p f.events).asked (talk_walk id q g.events).asked f.timely g.timely);
     }
 
 pub talks_to : (gives : ℕ → Type 0) (id : SessionId) (p q r : TalkPhase) (a b : Account) → r ≡ q → TalksOn gives id p q a b → TalksOn gives id p r a b
@@ -147,19 +148,20 @@ then_either gives id (Err halt) to p q a b c f g = talks_then gives id p q (halt
 -- ---- one event
 
 pub talks_by : (gives : ℕ → Type 0) (id : SessionId) (e : TalkEvent) (p : TalkPhase) (a b : Account)
-    → b.asked ≡ a.asked ++ (talk_step id p e).asked → b.link.heard ≡ grown a.link.heard (heard_by e)
+    → asked_by b.pass ≡ asked_by a.pass ++ (talk_step id p e).asked → SeesOn a.pass.seen b.pass.seen → b.link.heard ≡ grown a.link.heard (heard_by e)
     → b.link.sent ≡ grown a.link.sent (map server_spelling (talk_step id p e).sent) → EventCounts e a.link.counts b.link.counts
-    → AllByRecursion IsServerFrame (talk_step id p e).sent → AllByRecursion (IsTimely gives) (talk_step id p e).asked
+    → AllByRecursion IsServerFrame (talk_step id p e).sent → AllByRecursion (IsAskedInTime gives) (talk_step id p e).asked
     → TalksOn gives id p (talk_step id p e).phase a b
-talks_by gives id e p a b asked heard sent counts spelled timely = record {
+talks_by gives id e p a b asked sees heard sent counts spelled timely = record {
   events = e ∷ [];
   ends = refl;
-  asked = asked ∙ ap (λ (l : List Exchange). a.asked ++ l) (sym (append-nil (talk_step id p e).asked));
+  asked = asked ∙ ap (λ (l : List Exchange). asked_by a.pass ++ l) (sym (append-nil (talk_step id p e).asked));
+  sees = sees;
   heard = heard ∙ ap (λ (l : List Heard). grown a.link.heard l) (sym (append-nil (heard_by e)));
   sent = sent ∙ ap (λ (l : List ServerFrame). grown a.link.sent (map server_spelling l)) (sym (append-nil (talk_step id p e).sent));
   counts = count_one e a.link.counts b.link.counts counts;
   spelled = all_both IsServerFrame (talk_step id p e).sent [] spelled tt;
-  timely = all_both (IsTimely gives) (talk_step id p e).asked [] timely tt;
+  timely = all_both (IsAskedInTime gives) (talk_step id p e).asked [] timely tt;
 }
 
 -- an event that neither the link nor the session sees
@@ -167,22 +169,22 @@ pub talks_inwardly : (gives : ℕ → Type 0) (id : SessionId) (e : TalkEvent) (
     → EventCounts e a.link.counts a.link.counts → TalksOn gives id p (talk_step id p e).phase a a
 talks_inwardly gives id e p a none nothing quiet counts =
     talks_by gives id e p a a
-    (sym (append-nil a.asked) ∙ ap (λ (l : List Exchange). a.asked ++ l) (sym none))
+    (sym (append-nil (asked_by a.pass)) ∙ ap (λ (l : List Exchange). asked_by a.pass ++ l) (sym none)) (sees_still a.pass.seen)
     (sym (grown_none a.link.heard) ∙ ap (λ (l : List Heard). grown a.link.heard l) (sym quiet))
     (sym (grown_none a.link.sent) ∙ ap (λ (l : List ServerFrame). grown a.link.sent (map server_spelling l)) (sym nothing))
-    counts (subst (AllByRecursion IsServerFrame) (sym nothing) tt) (subst (AllByRecursion (IsTimely gives)) (sym none) tt)
+    counts (subst (AllByRecursion IsServerFrame) (sym nothing) tt) (subst (AllByRecursion (IsAskedInTime gives)) (sym none) tt)
 
 -- a call was made
 pub talks_asking : (gives : ℕ → Type 0) (id : SessionId) (e : TalkEvent) (p : TalkPhase) (exchange : Exchange) (a b : PassState) (link : LinkAccount)
-    → exchanges_in b.seen (caller b) ≡ exchanges_in a.seen (caller a) ++ exchange ∷ [] → (talk_step id p e).asked ≡ exchange ∷ [] → (talk_step id p e).sent ≡ [] → heard_by e ≡ []
-    → EventCounts e link.counts link.counts → IsTimely gives exchange
+    → exchanges_in b.seen (caller b) ≡ exchanges_in a.seen (caller a) ++ exchange ∷ [] → SeesOn a.seen b.seen → (talk_step id p e).asked ≡ exchange ∷ [] → (talk_step id p e).sent ≡ [] → heard_by e ≡ []
+    → EventCounts e link.counts link.counts → IsAskedInTime gives exchange
     → TalksOn gives id p (talk_step id p e).phase (account a link) (account b link)
-talks_asking gives id e p exchange a b link grew one nothing quiet counts timely =
+talks_asking gives id e p exchange a b link grew sees one nothing quiet counts timely =
     talks_by gives id e p (account a link) (account b link)
-    (grew ∙ ap (λ (l : List Exchange). exchanges_in a.seen (caller a) ++ l) (sym one))
+    (grew ∙ ap (λ (l : List Exchange). exchanges_in a.seen (caller a) ++ l) (sym one)) sees
     (sym (grown_none link.heard) ∙ ap (λ (l : List Heard). grown link.heard l) (sym quiet))
     (sym (grown_none link.sent) ∙ ap (λ (l : List ServerFrame). grown link.sent (map server_spelling l)) (sym nothing))
-    counts (subst (AllByRecursion IsServerFrame) (sym nothing) tt) (subst (AllByRecursion (IsTimely gives)) (sym one) (timely, tt))
+    counts (subst (AllByRecursion IsServerFrame) (sym nothing) tt) (subst (AllByRecursion (IsAskedInTime gives)) (sym one) (timely, tt))
 
 -- ---- sends
 
@@ -199,39 +201,32 @@ phase_behind (Ok done) next fails wants = next
 phase_behind (Err fault.Failed) next fails wants = fails
 phase_behind (Err fault.WantOfMemory) next fails wants = wants
 
-pub sends_on : (gives : ℕ → Type 0) (id : SessionId) (r : Result (Unit {0}) LinkFault) (frame : ServerFrame) (rest : List ServerFrame) (next fails wants : TalkPhase) (asked : List Exchange) (a b : LinkAccount) → Sent a b frame r
-    → TalksOn gives id (Sending frame rest next fails wants) (phase_behind r (sending_phase rest next fails wants) fails wants) (account_of asked a) (account_of asked b)
-sends_on gives id (Ok done) frame rest next fails wants asked a b s =
-    talks_by gives id Sends (Sending frame rest next fails wants) (account_of asked a) (account_of asked b)
-    (sym (append-nil asked)) (s.heard ∙ sym (grown_none a.heard)) s.sent.1 s.later (s.sent.0, tt) tt
-sends_on gives id (Err fault.Failed) frame rest next fails wants asked a b s = fails_on s.sent
+pub sends_on : (gives : ℕ → Type 0) (id : SessionId) (r : Result (Unit {0}) LinkFault) (frame : ServerFrame) (rest : List ServerFrame) (next fails wants : TalkPhase) (pass : PassState) (a b : LinkAccount) → Sent a b frame r
+    → TalksOn gives id (Sending frame rest next fails wants) (phase_behind r (sending_phase rest next fails wants) fails wants) (account pass a) (account pass b)
+sends_on gives id (Ok done) frame rest next fails wants pass a b s =
+    talks_by gives id Sends (Sending frame rest next fails wants) (account pass a) (account pass b)
+    (sym (append-nil (asked_by pass))) (sees_still pass.seen) (s.heard ∙ sym (grown_none a.heard)) s.sent.1 s.later (s.sent.0, tt) tt
+sends_on gives id (Err fault.Failed) frame rest next fails wants pass a b s = fails_on s.sent
   where
     counts : NoneFalls a.counts b.counts × Rose a.counts.faults b.counts.faults
     counts = (s.later, s.cause refl)
 
     fails_on : ((b.sent ≡ a.sent) ⊎ (IsServerFrame frame × (b.sent ≡ grown a.sent (server_spelling frame ∷ []))))
-        → TalksOn gives id (Sending frame rest next fails wants) fails (account_of asked a) (account_of asked b)
+        → TalksOn gives id (Sending frame rest next fails wants) fails (account pass a) (account pass b)
     fails_on (inl same) =
-        talks_by gives id Fails (Sending frame rest next fails wants) (account_of asked a) (account_of asked b)
-        (sym (append-nil asked)) (s.heard ∙ sym (grown_none a.heard)) (same ∙ sym (grown_none a.sent)) counts tt tt
+        talks_by gives id Fails (Sending frame rest next fails wants) (account pass a) (account pass b)
+        (sym (append-nil (asked_by pass))) (sees_still pass.seen) (s.heard ∙ sym (grown_none a.heard)) (same ∙ sym (grown_none a.sent)) counts tt tt
     fails_on (inr went) =
-        talks_by gives id Loses (Sending frame rest next fails wants) (account_of asked a) (account_of asked b)
-        (sym (append-nil asked)) (s.heard ∙ sym (grown_none a.heard)) went.1 counts (went.0, tt) tt
-sends_on gives id (Err fault.WantOfMemory) frame rest next fails wants asked a b s =
-    talks_by gives id Wants (Sending frame rest next fails wants) (account_of asked a) (account_of asked b)
-    (sym (append-nil asked)) (s.heard ∙ sym (grown_none a.heard)) (s.sent ∙ sym (grown_none a.sent)) s.later tt tt
+        talks_by gives id Loses (Sending frame rest next fails wants) (account pass a) (account pass b)
+        (sym (append-nil (asked_by pass))) (sees_still pass.seen) (s.heard ∙ sym (grown_none a.heard)) went.1 counts (went.0, tt) tt
+sends_on gives id (Err fault.WantOfMemory) frame rest next fails wants pass a b s =
+    talks_by gives id Wants (Sending frame rest next fails wants) (account pass a) (account pass b)
+    (sym (append-nil (asked_by pass))) (sees_still pass.seen) (s.heard ∙ sym (grown_none a.heard)) (s.sent ∙ sym (grown_none a.sent)) s.later tt tt
 
-behind_same : (r : Result (Unit {0}) LinkFault) (over : TalkPhase) → phase_behind r over over over ≡ over
-behind_same (Ok done) over = refl
-behind_same (Err fault.Failed) over = refl
-behind_same (Err fault.WantOfMemory) over = refl
-
--- the last frame, whatever comes of it
-pub sends_last : (gives : ℕ → Type 0) (id : SessionId) (r : Result (Unit {0}) LinkFault) (frame : ServerFrame) (how : Ended) (asked : List Exchange) (a b : LinkAccount) → Sent a b frame r
-    → TalksOn gives id (ending_phase (frame ∷ []) how) (Over how) (account_of asked a) (account_of asked b)
-sends_last gives id r frame how asked a b s =
-    talks_to gives id (ending_phase (frame ∷ []) how) (phase_behind r (Over how) (Over how) (Over how)) (Over how) (account_of asked a) (account_of asked b)
-    (sym (behind_same r (Over how))) (sends_on gives id r frame [] (Over how) (Over how) (Over how) asked a b s)
+-- the last frame
+pub sends_last : (gives : ℕ → Type 0) (id : SessionId) (r : Result (Unit {0}) LinkFault) (frame : ServerFrame) (how : Ended) (wants : TalkPhase) (pass : PassState) (a b : LinkAccount) → Sent a b frame r
+    → TalksOn gives id (ending_phase (frame ∷ []) how wants) (phase_behind r (Over how) (Over how) wants) (account pass a) (account pass b)
+sends_last gives id r frame how wants pass a b s = sends_on gives id r frame [] (Over how) (Over how) wants pass a b s
 
 -- ---- receives
 
@@ -241,29 +236,29 @@ pub record HeardOnce (a b : LinkAccount) (what : Heard) : Type 0 where
   pub later : NoneFalls a.counts b.counts
   pub cause : CountRises a.counts b.counts what
 
-pub hears_in : (gives : ℕ → Type 0) (id : SessionId) (cursor : Cursor) (quiets : ℕ) (what : Heard) (asked : List Exchange) (a b : LinkAccount) → HeardOnce a b what
-    → TalksOn gives id (Hearing cursor quiets) (hearing cursor quiets what) (account_of asked a) (account_of asked b)
-hears_in gives id cursor quiets what asked a b h =
-    talks_by gives id (Hears what) (Hearing cursor quiets) (account_of asked a) (account_of asked b)
-    (sym (append-nil asked)) h.heard (h.sent ∙ sym (grown_none a.sent)) (h.later, h.cause) tt tt
+pub hears_in : (gives : ℕ → Type 0) (id : SessionId) (cursor : Cursor) (quiets : ℕ) (what : Heard) (pass : PassState) (a b : LinkAccount) → HeardOnce a b what
+    → TalksOn gives id (Hearing cursor quiets) (hearing cursor quiets what) (account pass a) (account pass b)
+hears_in gives id cursor quiets what pass a b h =
+    talks_by gives id (Hears what) (Hearing cursor quiets) (account pass a) (account pass b)
+    (sym (append-nil (asked_by pass))) (sees_still pass.seen) h.heard (h.sent ∙ sym (grown_none a.sent)) (h.later, h.cause) tt tt
 
-pub hears_first : (gives : ℕ → Type 0) (id : SessionId) (quiets : ℕ) (what : Heard) (asked : List Exchange) (a b : LinkAccount) → HeardOnce a b what
-    → TalksOn gives id (Opening quiets) (opening quiets what) (account_of asked a) (account_of asked b)
-hears_first gives id quiets what asked a b h =
-    talks_by gives id (Hears what) (Opening quiets) (account_of asked a) (account_of asked b)
-    (sym (append-nil asked)) h.heard (h.sent ∙ sym (grown_none a.sent)) (h.later, h.cause) tt tt
+pub hears_first : (gives : ℕ → Type 0) (id : SessionId) (quiets : ℕ) (what : Heard) (pass : PassState) (a b : LinkAccount) → HeardOnce a b what
+    → TalksOn gives id (Opening quiets) (opening quiets what) (account pass a) (account pass b)
+hears_first gives id quiets what pass a b h =
+    talks_by gives id (Hears what) (Opening quiets) (account pass a) (account pass b)
+    (sym (append-nil (asked_by pass))) (sees_still pass.seen) h.heard (h.sent ∙ sym (grown_none a.sent)) (h.later, h.cause) tt tt
 
 -- a row of Quiets that is not at its end
 pub opening_row_is : (quiets : ℕ) → quiets < 6000 → opening_row quiets ≡ Opening quiets
 opening_row_is quiets below = let other : (quiets == 6000) ≡ false = ne_eqb quiets 6000 (λ e. omega (arith, e, below)) in rw other refl
 
-pub opens : (gives : ℕ → Type 0) (id : SessionId) (quiets : ℕ) (what : Heard) (asked : List Exchange) (first : Account) (a b : LinkAccount) → quiets < 6000
-    → TalksOn gives id (Opening 0) (opening_row quiets) first (account_of asked a) → HeardOnce a b what
-    → TalksOn gives id (Opening 0) (opening quiets what) first (account_of asked b)
-opens gives id quiets what asked first a b below so_far h =
-    talks_then gives id (Opening 0) (Opening quiets) (opening quiets what) first (account_of asked a) (account_of asked b)
-    (talks_to gives id (Opening 0) (opening_row quiets) (Opening quiets) first (account_of asked a) (sym (opening_row_is quiets below)) so_far)
-    (hears_first gives id quiets what asked a b h)
+pub opens : (gives : ℕ → Type 0) (id : SessionId) (quiets : ℕ) (what : Heard) (pass : PassState) (first : Account) (a b : LinkAccount) → quiets < 6000
+    → TalksOn gives id (Opening 0) (opening_row quiets) first (account pass a) → HeardOnce a b what
+    → TalksOn gives id (Opening 0) (opening quiets what) first (account pass b)
+opens gives id quiets what pass first a b below so_far h =
+    talks_then gives id (Opening 0) (Opening quiets) (opening quiets what) first (account pass a) (account pass b)
+    (talks_to gives id (Opening 0) (opening_row quiets) (Opening quiets) first (account pass a) (sym (opening_row_is quiets below)) so_far)
+    (hears_first gives id quiets what pass a b h)
 
 pub opening_over : (gives : ℕ → Type 0) (id : SessionId) (quiets : ℕ) (first b : Account) → quiets ≡ 6000 → TalksOn gives id (Opening 0) (opening_row quiets) first b → TalksOn gives id (Opening 0) (opening_row 6000) first b
 opening_over gives id quiets first b is f = subst (λ (n : ℕ). TalksOn gives id (Opening 0) (opening_row n) first b) is f
@@ -288,29 +283,7 @@ talk_grows gives id history more c heard sent how none talk =
       said = talk.said;
       told = talk.told;
       spelled = talk.spelled;
-      timely = subst (AllByRecursion (IsTimely gives)) (sym same) talk.timely;
-    }
-
--- a caller that had asked nothing talks from the first frame to its end
-pub talks_whole : (gives : ℕ → Type 0) (id : SessionId) (before now : PassState) (old new : LinkAccount) (how : Ended) → calls_of (caller before ∷ []) before.seen ≡ []
-    → TalksOn gives id (Opening 0) (Over how) (account before old) (account now new) → HasTalked gives id now old new how
-talks_whole gives id before now old new how fresh talk =
-    let asked : exchanges_in now.seen (caller now) ≡ (talk_walk id (Opening 0) talk.events).asked =
-    talk.asked ∙ ap (λ (l : List Exchange). l ++ (talk_walk id (Opening 0) talk.events).asked) (exchanges_none first_session (caller before) before.seen fresh) in
-    record {
-      heard = heard_in talk.events;
-      sent = map server_spelling (talk_walk id (Opening 0) talk.events).sent;
-      talk = record {
-        events = talk.events;
-        ends = talk.ends;
-        asked = asked;
-        said = refl;
-        told = refl;
-        spelled = talk.spelled;
-        timely = subst (AllByRecursion (IsTimely gives)) (sym asked) talk.timely;
-      };
-      tells_heard = talk.heard;
-      tells_sent = talk.sent;
+      timely = subst (AllByRecursion (IsAskedInTime gives)) (sym same) talk.timely;
     }
 
 -- ---- what functions tell
@@ -377,47 +350,47 @@ hands_out gives id cursor new given quiets frames r a b frames_is new_is told =
     (subst (λ (fs : List ServerFrame). TalksOrHalts gives id (telling_phase cursor fs behind) (λ _. behind) r a b) frames_is (told behind))
 
 pub asks_leave : (gives : ℕ → Type 0) (id : SessionId) (r : Result Reply WantOfMemory) (cursor : Cursor) (now : ℕ) (how : Ended) (a b : PassState) (link : LinkAccount) → gives now
-    → exchanges_in b.seen (caller b) ≡ exchanges_in a.seen (caller a) ++ exchange_of (Leave cursor.view cursor.joined now) r ∷ [] → TalksOn gives id (Leaving cursor how) (Over how) (account a link) (account b link)
-asks_leave gives id (Ok given) cursor now how a b link timely grew =
-    talks_asking gives id (MakesAt now given) (Leaving cursor how) (Answered (Leave cursor.view cursor.joined now) given) a b link grew refl refl refl (none_falls link.counts) timely
-asks_leave gives id (Err want) cursor now how a b link timely grew = talks_asking gives id Misses (Leaving cursor how) Unanswered a b link grew refl refl refl (none_falls link.counts) tt
+    → exchanges_in b.seen (caller b) ≡ exchanges_in a.seen (caller a) ++ exchange_of (Leave cursor.view cursor.joined now) r ∷ [] → SeesOn a.seen b.seen → TalksOn gives id (Leaving cursor how) (Over how) (account a link) (account b link)
+asks_leave gives id (Ok given) cursor now how a b link timely grew sees =
+    talks_asking gives id (MakesAt now given) (Leaving cursor how) (Answered (Leave cursor.view cursor.joined now) given) a b link grew sees refl refl refl (none_falls link.counts) timely
+asks_leave gives id (Err want) cursor now how a b link timely grew sees = talks_asking gives id Misses (Leaving cursor how) Unanswered a b link grew sees refl refl refl (none_falls link.counts) tt
 
 -- a call that is due is made; whether its time is one that the clock may give, only a request of its own time asks
 pub asks_join : {T : Type 0} (gives : ℕ → Type 0) (id : SessionId) (request : Request) (given : Reply) (made : Option Cursor) (frame : ServerFrame) (r : Result T Halt) (to : T → TalkPhase) (a b : PassState) (link new : LinkAccount)
-    → exchanges_in b.seen (caller b) ≡ exchanges_in a.seen (caller a) ++ Answered request given ∷ [] → IsTimely gives (Answered request given) → made ≡ first_cursor (joined_view request) given → Some frame ≡ join_answer given
+    → exchanges_in b.seen (caller b) ≡ exchanges_in a.seen (caller a) ++ Answered request given ∷ [] → SeesOn a.seen b.seen → IsAskedInTime gives (Answered request given) → made ≡ first_cursor (joined_view request) given → Some frame ≡ join_answer given
     → TalksOrHalts gives id (greeted_phase made (Some frame)) to r (account b link) (account b new) → TalksOrHalts gives id (Joining request) to r (account a link) (account b new)
-asks_join gives id request given made frame r to a b link new grew timely cursor_is frame_is rest =
+asks_join gives id request given made frame r to a b link new grew sees timely cursor_is frame_is rest =
     then_either gives id r to (Joining request) (join_phase request given) (account a link) (account b link) (account b new)
-    (talks_asking gives id (Makes given) (Joining request) (Answered request given) a b link grew refl refl refl (none_falls link.counts) timely)
+    (talks_asking gives id (Makes given) (Joining request) (Answered request given) a b link grew sees refl refl refl (none_falls link.counts) timely)
     (subst (λ (o : Option ServerFrame). TalksOrHalts gives id (greeted_phase (first_cursor (joined_view request) given) o) to r (account b link) (account b new)) frame_is
     (subst (λ (o : Option Cursor). TalksOrHalts gives id (greeted_phase o (Some frame)) to r (account b link) (account b new)) cursor_is rest))
 
 pub asks_frame : {T : Type 0} (gives : ℕ → Type 0) (id : SessionId) (cursor : Cursor) (request : Request) (given : Reply) (end : Option Ended) (frame : Option ServerFrame) (r : Result T Halt) (to : T → TalkPhase) (a b : PassState) (link new : LinkAccount)
-    → exchanges_in b.seen (caller b) ≡ exchanges_in a.seen (caller a) ++ Answered request given ∷ [] → IsTimely gives (Answered request given) → end ≡ end_in given → frame ≡ answer_frame request given
+    → exchanges_in b.seen (caller b) ≡ exchanges_in a.seen (caller a) ++ Answered request given ∷ [] → SeesOn a.seen b.seen → IsAskedInTime gives (Answered request given) → end ≡ end_in given → frame ≡ answer_frame request given
     → TalksOrHalts gives id (answered_by cursor end (answer_frames frame)) to r (account b link) (account b new) → TalksOrHalts gives id (Asking cursor request) to r (account a link) (account b new)
-asks_frame gives id cursor request given end frame r to a b link new grew timely end_is frame_is rest =
+asks_frame gives id cursor request given end frame r to a b link new grew sees timely end_is frame_is rest =
     then_either gives id r to (Asking cursor request) (reply_phase cursor request given) (account a link) (account b link) (account b new)
-    (talks_asking gives id (Makes given) (Asking cursor request) (Answered request given) a b link grew refl refl refl (none_falls link.counts) timely)
+    (talks_asking gives id (Makes given) (Asking cursor request) (Answered request given) a b link grew sees refl refl refl (none_falls link.counts) timely)
     (subst (λ (o : Option ServerFrame). TalksOrHalts gives id (answered_by cursor (end_in given) (answer_frames o)) to r (account b link) (account b new)) frame_is
     (subst (λ (o : Option Ended). TalksOrHalts gives id (answered_by cursor o (answer_frames frame)) to r (account b link) (account b new)) end_is rest))
 
 pub asks_pull : {T : Type 0} (gives : ℕ → Type 0) (id : SessionId) (cursor : Cursor) (quiets : ℕ) (given : Reply) (r : Result T Halt) (to : T → TalkPhase) (a b : PassState) (link new : LinkAccount)
-    → exchanges_in b.seen (caller b) ≡ exchanges_in a.seen (caller a) ++ Answered (Pull cursor.after most_pulled) given ∷ []
+    → exchanges_in b.seen (caller b) ≡ exchanges_in a.seen (caller a) ++ Answered (Pull cursor.after most_pulled) given ∷ [] → SeesOn a.seen b.seen
     → TalksOrHalts gives id (pulled_phase cursor quiets given) to r (account b link) (account b new) → TalksOrHalts gives id (Pulling cursor quiets) to r (account a link) (account b new)
-asks_pull gives id cursor quiets given r to a b link new grew rest =
+asks_pull gives id cursor quiets given r to a b link new grew sees rest =
     then_either gives id r to (Pulling cursor quiets) (pulled_phase cursor quiets given) (account a link) (account b link) (account b new)
-    (talks_asking gives id (Makes given) (Pulling cursor quiets) (Answered (Pull cursor.after most_pulled) given) a b link grew refl refl refl (none_falls link.counts) tt) rest
+    (talks_asking gives id (Makes given) (Pulling cursor quiets) (Answered (Pull cursor.after most_pulled) given) a b link grew sees refl refl refl (none_falls link.counts) tt) rest
 
 pub asks_tick : (gives : ℕ → Type 0) (id : SessionId) (cursor : Cursor) (quiets now : ℕ) (given : Reply) (a b : PassState) (link : LinkAccount) → gives now
-    → exchanges_in b.seen (caller b) ≡ exchanges_in a.seen (caller a) ++ Answered (Tick now) given ∷ [] → TalksOn gives id (Ticking cursor quiets) (Pulling cursor quiets) (account a link) (account b link)
-asks_tick gives id cursor quiets now given a b link timely grew =
-    talks_asking gives id (MakesAt now given) (Ticking cursor quiets) (Answered (Tick now) given) a b link grew refl refl refl (none_falls link.counts) timely
+    → exchanges_in b.seen (caller b) ≡ exchanges_in a.seen (caller a) ++ Answered (Tick now) given ∷ [] → SeesOn a.seen b.seen → TalksOn gives id (Ticking cursor quiets) (Pulling cursor quiets) (account a link) (account b link)
+asks_tick gives id cursor quiets now given a b link timely grew sees =
+    talks_asking gives id (MakesAt now given) (Ticking cursor quiets) (Answered (Tick now) given) a b link grew sees refl refl refl (none_falls link.counts) timely
 
 -- a call that is due finds no memory
-pub asks_nothing : (gives : ℕ → Type 0) (id : SessionId) (p q : TalkPhase) (a b : PassState) (link : LinkAccount) → exchanges_in b.seen (caller b) ≡ exchanges_in a.seen (caller a) ++ Unanswered ∷ []
+pub asks_nothing : (gives : ℕ → Type 0) (id : SessionId) (p q : TalkPhase) (a b : PassState) (link : LinkAccount) → exchanges_in b.seen (caller b) ≡ exchanges_in a.seen (caller a) ++ Unanswered ∷ [] → SeesOn a.seen b.seen
     → (talk_step id p Misses).asked ≡ Unanswered ∷ [] → (talk_step id p Misses).sent ≡ [] → (talk_step id p Misses).phase ≡ q → TalksOn gives id p q (account a link) (account b link)
-asks_nothing gives id p q a b link grew one nothing is =
-    talks_to gives id p (talk_step id p Misses).phase q (account a link) (account b link) (sym is) (talks_asking gives id Misses p Unanswered a b link grew one nothing refl (none_falls link.counts) tt)
+asks_nothing gives id p q a b link grew sees one nothing is =
+    talks_to gives id p (talk_step id p Misses).phase q (account a link) (account b link) (sym is) (talks_asking gives id Misses p Unanswered a b link grew sees one nothing refl (none_falls link.counts) tt)
 
 -- bytes that were found to be no frame have no reading
 pub has_no_reading : (found : FrameFault) (bytes given : List ℕ) → found ≡ unread.BadFrame → given ≡ bytes → ReadsFrame (Err found) (whole client_at given) → whole client_at bytes ≡ None
@@ -435,25 +408,25 @@ reads_either gives id now p q r to a b none nothing is rest =
     then_either gives id r to p q a a b (talks_to gives id p (talk_step id p (Reads now)).phase q a a (sym is) (talks_inwardly gives id (Reads now) p a none nothing refl (none_falls a.link.counts))) rest
 
 -- the time of a request is that of the frame
-pub first_timely : (gives : ℕ → Type 0) (frame : ClientFrame) (id : SessionId) (now : ℕ) (request : Request) (given : Reply) → gives now → first_request frame id now ≡ Ok request → IsTimely gives (Answered request given)
+pub first_timely : (gives : ℕ → Type 0) (frame : ClientFrame) (id : SessionId) (now : ℕ) (request : Request) (given : Reply) → gives now → first_request frame id now ≡ Ok request → IsAskedInTime gives (Answered request given)
 first_timely gives (client.Join session view want) id now request given timely is = entered (bytes_eq session.0 id.0) is
   where
-    entered : (same : Bool) → (if same then Ok (Join view now want) else Err OtherSession) ≡ Ok request → IsTimely gives (Answered request given)
-    entered true e = let it : Join view now want ≡ request = cc (e) in subst (λ (q : Request). IsTimely gives (Answered q given)) it timely
+    entered : (same : Bool) → (if same then Ok (Join view now want) else Err OtherSession) ≡ Ok request → IsAskedInTime gives (Answered request given)
+    entered true e = let it : Join view now want ≡ request = cc (e) in subst (λ (q : Request). IsAskedInTime gives (Answered q given)) it timely
     entered false e = absurd (cc (e))
 first_timely gives (client.Send number payload) id now request given timely is = absurd (cc (is))
 first_timely gives (client.Snap time bytes) id now request given timely is = absurd (cc (is))
 first_timely gives client.Leave id now request given timely is = absurd (cc (is))
 first_timely gives client.Alive id now request given timely is = absurd (cc (is))
 
-pub act_timely : (gives : ℕ → Type 0) (cursor : Cursor) (frame : ClientFrame) (now : ℕ) (request : Request) (given : Reply) → gives now → act_on cursor frame now ≡ Call request → IsTimely gives (Answered request given)
+pub act_timely : (gives : ℕ → Type 0) (cursor : Cursor) (frame : ClientFrame) (now : ℕ) (request : Request) (given : Reply) → gives now → act_on cursor frame now ≡ Call request → IsAskedInTime gives (Answered request given)
 act_timely gives cursor (client.Join session view want) now request given timely is = absurd (cc (is))
 act_timely gives cursor (client.Send number payload) now request given timely is =
-    let it : Send cursor.view cursor.joined number payload now ≡ request = cc (is) in subst (λ (q : Request). IsTimely gives (Answered q given)) it timely
+    let it : Send cursor.view cursor.joined number payload now ≡ request = cc (is) in subst (λ (q : Request). IsAskedInTime gives (Answered q given)) it timely
 act_timely gives cursor (client.Snap time bytes) now request given timely is =
-    let it : Offer cursor.view cursor.joined time bytes ≡ request = cc (is) in subst (λ (q : Request). IsTimely gives (Answered q given)) it tt
+    let it : Offer cursor.view cursor.joined time bytes ≡ request = cc (is) in subst (λ (q : Request). IsAskedInTime gives (Answered q given)) it tt
 act_timely gives cursor client.Leave now request given timely is =
-    let it : Leave cursor.view cursor.joined now ≡ request = cc (is) in subst (λ (q : Request). IsTimely gives (Answered q given)) it timely
+    let it : Leave cursor.view cursor.joined now ≡ request = cc (is) in subst (λ (q : Request). IsAskedInTime gives (Answered q given)) it timely
 act_timely gives cursor client.Alive now request given timely is = absurd (cc (is))
 
 pub kept_on : (p q r : PassState) → q ≡ record p { seen = q.seen } → r ≡ record q { seen = r.seen } → r ≡ record p { seen = r.seen }

@@ -1,5 +1,5 @@
 -- Why a connection ends.
-use Rattle.std.specs.Prelude.{◌≡◌, ℕ, ◌+◌, ◌-◌, ◌^◌, ◌≤◌, min, List, [], ◌∷◌, ◌++◌, Option, Some, None}
+use Rattle.std.specs.Prelude.{◌≡◌, ◌⊎◌, ℕ, ◌+◌, ◌-◌, ◌^◌, ◌≤◌, min, List, [], ◌∷◌, ◌++◌, Option, Some, None}
 use Rattle.std.specs.List.{AllByRecursion}
 use Rattle.tea_io.specs.Told.{Rose}
 use Rattle.tea_io.specs.Links.{Counts}
@@ -18,11 +18,11 @@ abbrev pub RoseBy : ℕ → ℕ → ℕ → Type 0
 RoseBy times before now = min (before + times) (2 ^ 64 - 1) ≤ now
 
 -- by its link's end, by a fault or by a row of Quiets only where the link counted one, or so many
-abbrev pub IsCounted : Counts → Counts → Ended → Type 0
-IsCounted before now ended.LinkEnd = Rose before.ends now.ends
-IsCounted before now ended.LinkFault = Rose before.faults now.faults
-IsCounted before now (ended.Idle quiets) = (quiets ≡ 6000) × RoseBy quiets before.quiets now.quiets
-IsCounted before now other = Unit {0}
+abbrev pub IsCauseCounted : Counts → Counts → Ended → Type 0
+IsCauseCounted before now ended.LinkEnd = Rose before.ends now.ends
+IsCauseCounted before now ended.LinkFault = Rose before.faults now.faults
+IsCauseCounted before now (ended.Idle quiets) = (quiets ≡ 6000) × RoseBy quiets before.quiets now.quiets
+IsCauseCounted before now other = Unit {0}
 
 -- ---- what the caller asked
 
@@ -59,15 +59,26 @@ pub record EndsElse (asked : List Exchange) : Type 0 where
   pub before : EndNothing front
   pub leaves : IsLastLeave rest
 
+-- the last reply to a frame would end it as Stale, and then it leaves
+pub record LeavesStale (asked : List Exchange) : Type 0 where
+  pub current : ℕ
+  pub front : List Exchange
+  pub leave : Exchange
+  pub asked_is : asked ≡ front ++ leave ∷ []
+  pub stale : EndsByReply (ended.Stale current) front
+  pub leaves : IsLastLeave (leave ∷ [])
+
 -- nothing was asked, or a Join that was refused
 abbrev pub IsTurnedDown : ℕ → List Exchange → Type 0
 IsTurnedDown code [] = 12 ≤ code
 IsTurnedDown code (Answered (Join view now want) (Refused refusal) ∷ []) = code ≡ code_in (refused_frame 1 refusal)
 IsTurnedDown code other = ⊥
 
--- it ends as Left or Stale where a frame's request was answered so, as Refused where its first frame was, and else by no reply
+-- It ends as Left or Stale where a frame's request was answered so, as Refused where its first frame was, and else by no reply. Where memory
+-- was wanted for the frame that tells of Stale, it leaves.
 abbrev pub EndsExactly : Ended → List Exchange → Type 0
 EndsExactly ended.Left asked = EndsByReply ended.Left asked
 EndsExactly (ended.Stale current) asked = EndsByReply (ended.Stale current) asked
 EndsExactly (ended.Refused code) asked = IsTurnedDown code asked
+EndsExactly ended.WantOfMemory asked = EndsElse asked ⊎ LeavesStale asked
 EndsExactly other asked = EndsElse asked

@@ -29,11 +29,11 @@ abbrev pub exchanges_in : List Item → ℕ → List Exchange
 exchanges_in history caller = exchanges_from first_session caller history
 
 -- the time that a request carries is one that the clock may give
-abbrev pub IsTimely : (ℕ → Type 0) → Exchange → Type 0
-IsTimely gives (Answered (Join view now want) given) = gives now
-IsTimely gives (Answered (Send view joined number payload now) given) = gives now
-IsTimely gives (Answered (Tick now) given) = gives now
-IsTimely gives (Answered (Leave view joined now) given) = gives now
-IsTimely gives (Answered (Offer view joined time bytes) given) = Unit {0}
-IsTimely gives (Answered (Pull after limit) given) = Unit {0}
-IsTimely gives Unanswered = Unit {0}
+abbrev pub IsAskedInTime : (ℕ → Type 0) → Exchange → Type 0
+IsAskedInTime gives (Answered (Join view now want) given) = gives now
+IsAskedInTime gives (Answered (Send view joined number payload now) given) = gives now
+IsAskedInTime gives (Answered (Tick now) given) = gives now
+IsAskedInTime gives (Answered (Leave view joined now) given) = gives now
+IsAskedInTime gives (Answered (Offer view joined time bytes) given) = Unit {0}
+IsAskedInTime gives (Answered (Pull after limit) given) = Unit {0}
+IsAskedInTime gives Unanswered = Unit {0}

@@ -102,9 +102,9 @@ abbrev pub sending_phase : List ServerFrame → TalkPhase → TalkPhase → Talk
 sending_phase [] next fails wants = next
 sending_phase (frame ∷ frames) next fails wants = Sending frame frames next fails wants
 
--- last frames are sent, and the connection ends so, also where their send fails
-abbrev pub ending_phase : List ServerFrame → Ended → TalkPhase
-ending_phase frames how = sending_phase frames (Over how) (Over how) (Over how)
+-- last frames are sent, and the connection ends so, also where their send fails; where memory is wanted, another phase comes
+abbrev pub ending_phase : List ServerFrame → Ended → TalkPhase → TalkPhase
+ending_phase frames how wants = sending_phase frames (Over how) (Over how) wants
 
 -- frames are sent to a view that has joined; where this fails, it leaves
 abbrev pub telling_phase : Cursor → List ServerFrame → TalkPhase → TalkPhase
@@ -117,7 +117,7 @@ code_in other = 0
 
 -- the first frame is refused
 abbrev pub refused_phase : ServerFrame → TalkPhase
-refused_phase frame = ending_phase (frame ∷ []) (ended.Refused (code_in frame))
+refused_phase frame = ending_phase (frame ∷ []) (ended.Refused (code_in frame)) (Over ended.WantOfMemory)
 
 abbrev pub entered_phase : ClientFrame → Result Request Early → TalkPhase
 entered_phase frame (Ok request) = Joining request
@@ -153,7 +153,7 @@ end_in (reply.Refused (refusal.Stale current)) = Some (ended.Stale current)
 end_in other = None
 
 abbrev pub answered_by : Cursor → Option Ended → List ServerFrame → TalkPhase
-answered_by cursor (Some how) frames = ending_phase frames how
+answered_by cursor (Some how) frames = ending_phase frames how (Leaving cursor ended.WantOfMemory)
 answered_by cursor None frames = telling_phase cursor frames (Ticking cursor 0)
 
 -- the request of a frame was answered

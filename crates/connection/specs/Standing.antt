@@ -1,13 +1,16 @@
 -- What a call tells of its place in the history, and where a cursor stands there.
-use Rattle.std.specs.Prelude.{◌≡◌, Result, Ok, Err}
+use Rattle.std.specs.Prelude.{◌≡◌, ◌⊎◌, List, [], ◌++◌, Result, Ok, Err}
 use Rattle.tea_base.specs.declared.want.WantOfMemory.{WantOfMemory}
 use Rattle.wire_frames.specs.Served.{Place}
 use Rattle.reflector_core.specs.PlainSession.{PlainSession, IsSoundSession}
 use Rattle.reflector_core.specs.Answer.{answer}
 use Rattle.reflector_core.specs.Growth.{GrowsTo}
+use Rattle.reflector_core.specs.Play.{first_session}
 use Rattle.reflector_core.specs.declared.request.Request.{Request}
 use Rattle.reflector_core.specs.declared.request.Request.TheVariants.{Join}
 use Rattle.reflector_core.specs.declared.request.Reply.{Reply}
+use Rattle.session_lock.specs.declared.knowledge.Item.{Item}
+use Rattle.session_lock.specs.History.{IsSoundThrough}
 use Rattle.join_sync.specs.declared.cursor.Cursor.{Cursor}
 use Rattle.join_sync.specs.Standing.{StandsAt}
 use Rattle.connection.specs.Exchanges.{Exchange, Answered, Unanswered}
@@ -16,6 +19,12 @@ use Rattle.connection.specs.Exchanges.{Exchange, Answered, Unanswered}
 abbrev pub exchange_of : Request → Result Reply WantOfMemory → Exchange
 exchange_of request (Ok given) = Answered request given
 exchange_of request (Err want) = Unanswered
+
+-- What was seen only grew. Where it did, the session was sound at each place of it.
+pub record SeesOn (before after : List Item) : Type 0 where
+  pub rest : List Item
+  pub grew : before ++ rest ≡ after
+  pub sound : (rest ≡ []) ⊎ IsSoundThrough first_session after
 
 -- a sound session on the way, from the one before to the one now, gave the reply
 pub record IsAnsweredAt (before at now : PlainSession) (request : Request) (given : Reply) : Type 0 where

@@ -11,10 +11,13 @@ use Rattle.wire_frames.specs.declared.frame.ServerFrame.{ServerFrame}
 use Rattle.wire_frames.specs.Frames.{IsServerFrame}
 use Rattle.wire_frames.specs.Spelling.{server_spelling}
 use Rattle.session_lock.specs.declared.knowledge.Item.{Item}
+use Rattle.session_lock.specs.History.{play}
 use Rattle.session_lock.specs.Passes.{PassState, caller}
 use Rattle.connection.specs.declared.ending.Ended.{Ended}
 use Rattle.connection.specs.declared.ending.Halt.{Halt}
-use Rattle.connection.specs.Exchanges.{Exchange, exchanges_in, IsTimely}
+use Rattle.connection.specs.Exchanges.{Exchange, exchanges_in, IsAskedInTime}
+use Rattle.connection.specs.Standing.{SeesOn}
+use Rattle.connection.specs.TalkServed.{IsTalkServed}
 use Rattle.connection.specs.Phases.{TalkPhase, Opening, Over, TalkEvent, Hears, Loses, Fails, talk_walk, heard_in, halt_phase}
 
 -- A talk from its first frame to its end: what the caller asked in the history, what the link was heard to say and was sent. Some events
@@ -26,7 +29,7 @@ pub record Talk (gives : ℕ → Type 0) (id : SessionId) (history : List Item) 
   pub said : heard ≡ heard_in events
   pub told : sent ≡ map server_spelling (talk_walk id (Opening 0) events).sent
   pub spelled : AllByRecursion IsServerFrame (talk_walk id (Opening 0) events).sent
-  pub timely : AllByRecursion (IsTimely gives) (exchanges_in history caller)
+  pub timely : AllByRecursion (IsAskedInTime gives) (exchanges_in history caller)
 
 -- ---- what a link tells
 
@@ -39,27 +42,6 @@ pub record LinkAccount : Type 0 where
 abbrev pub link_account : {L : Type 0} → (L → Option (List Heard)) → (L → Option (List (List ℕ))) → (L → Counts) → L → LinkAccount
 link_account heard sent counts link = record { heard = heard link; sent = sent link; counts = counts link }
 
--- the talk of a call that has ended: of what was heard and sent in it, which the link tells where it tells anything
-pub record HasTalked (gives : ℕ → Type 0) (id : SessionId) (pass : PassState) (old new : LinkAccount) (how : Ended) : Type 0 where
-  pub heard : List Heard
-  pub sent : List (List ℕ)
-  pub talk : Talk gives id pass.seen (caller pass) heard sent how
-  pub tells_heard : new.heard ≡ grown old.heard heard
-  pub tells_sent : new.sent ≡ grown old.sent sent
-
--- ---- a part of a talk
-
--- what was asked, and what the link tells
-pub record Account : Type 0 where
-  pub asked : List Exchange
-  pub link : LinkAccount
-
-abbrev pub account_of : List Exchange → LinkAccount → Account
-account_of asked link = record { asked = asked; link = link }
-
-abbrev pub account : PassState → LinkAccount → Account
-account pass link = account_of (exchanges_in pass.seen (caller pass)) link
-
 -- no count falls, and one rises that tells of the event
 abbrev pub EventCounts : TalkEvent → Counts → Counts → Type 0
 EventCounts (Hears what) before now = NoneFalls before now × CountRises before now what
@@ -71,16 +53,42 @@ abbrev pub EventsCount : List TalkEvent → Counts → Counts → Type 0
 EventsCount [] before now = now ≡ before
 EventsCount (event ∷ events) before now = (mid : Counts) × EventCounts event before mid × EventsCount events mid now
 
+-- The talk of a call that has ended: of what was heard and sent in it, which the link tells where it tells anything. The counts of the link go
+-- with its events. What was sent is served by the log of what the pass has seen.
+pub record HasTalked (gives : ℕ → Type 0) (id : SessionId) (pass : PassState) (old new : LinkAccount) (how : Ended) : Type 0 where
+  pub heard : List Heard
+  pub sent : List (List ℕ)
+  pub talk : Talk gives id pass.seen (caller pass) heard sent how
+  pub tells_heard : new.heard ≡ grown old.heard heard
+  pub tells_sent : new.sent ≡ grown old.sent sent
+  pub counts : EventsCount talk.events old.counts new.counts
+  pub served : IsTalkServed (play pass.seen).log heard sent
+
+-- ---- a part of a talk
+
+-- the pass, and what the link tells
+pub record Account : Type 0 where
+  pub pass : PassState
+  pub link : LinkAccount
+
+abbrev pub account : PassState → LinkAccount → Account
+account pass link = record { pass = pass; link = link }
+
+-- what its own caller has asked
+abbrev pub asked_by : PassState → List Exchange
+asked_by pass = exchanges_in pass.seen (caller pass)
+
 -- from one phase to another by events that add just this; what the link does not tell is left open
 pub record TalksOn (gives : ℕ → Type 0) (id : SessionId) (from to : TalkPhase) (before now : Account) : Type 0 where
   pub events : List TalkEvent
   pub ends : (talk_walk id from events).phase ≡ to
-  pub asked : now.asked ≡ before.asked ++ (talk_walk id from events).asked
+  pub asked : asked_by now.pass ≡ asked_by before.pass ++ (talk_walk id from events).asked
+  pub sees : SeesOn before.pass.seen now.pass.seen
   pub heard : now.link.heard ≡ grown before.link.heard (heard_in events)
   pub sent : now.link.sent ≡ grown before.link.sent (map server_spelling (talk_walk id from events).sent)
   pub counts : EventsCount events before.link.counts now.link.counts
   pub spelled : AllByRecursion IsServerFrame (talk_walk id from events).sent
-  pub timely : AllByRecursion (IsTimely gives) (talk_walk id from events).asked
+  pub timely : AllByRecursion (IsAskedInTime gives) (talk_walk id from events).asked
 
 -- to the phase that the result has, or to where the talk stops
 abbrev pub TalksOrHalts : {T : Type 0} → (ℕ → Type 0) → SessionId → TalkPhase → (T → TalkPhase) → Result T Halt → Account → Account → Type 0

@@ -5,7 +5,7 @@ ghost use Rattle.reflector_core.specs.Growth.{GrowsTo, is_offer};
 ghost use Rattle.session_lock.specs.History.{play};
 ghost use Rattle.session_lock.specs.Passes.{caller};
 ghost use Rattle.connection.specs.Exchanges.{exchanges_in};
-ghost use Rattle.connection.specs.Standing.{IsAnsweredAt, exchange_of};
+ghost use Rattle.connection.specs.Standing.{IsAnsweredAt, SeesOn, exchange_of};
 
 use reflector_core::{Reply, Request};
 use session_lock::{Pass, SharedSession, TrustAll};
@@ -47,6 +47,7 @@ pub fn ask<C: Clock, R: Wait>(
     requires session { pass.old.session ≡ service.now.shared.now.session }
     ensures kept { pass.new ≡ record pass.old { seen = pass.new.seen } }
     ensures asked { exchanges_in pass.new.seen (caller pass.new) ≡ exchanges_in pass.old.seen (caller pass.old) ++ exchange_of request.now result ∷ [] }
+    ensures sees { SeesOn pass.old.seen pass.new.seen }
     ensures grows { GrowsTo (play pass.old.seen) (play pass.new.seen) }
     ensures reply { IfOk result (λ given. (at : PlainSession) × IsAnsweredAt (play pass.old.seen) at (play pass.new.seen) request.now given) }
 {

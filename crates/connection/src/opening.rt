@@ -2,16 +2,17 @@
 ghost use Rattle.std.specs.Prelude.{◌≡◌, ℕ, List, [], ◌∷◌, Option, Some, None, IfOk, MatchResult};
 ghost use Rattle.reflector_core.specs.Growth.{GrowsTo};
 ghost use Rattle.session_lock.specs.History.{play};
+ghost use Rattle.session_lock.specs.Passes.{PassState};
 ghost use Rattle.byte_fields.specs.Fields.{whole};
 ghost use Rattle.wire_frames.specs.Reading.{client_at};
 ghost use Rattle.system_plain.specs.Steps.{joined_view};
 ghost use Rattle.join_sync.specs.Answers.{first_cursor, join_answer};
 ghost use Rattle.wire_frames.specs.declared.frame.ServerFrame.{ServerFrame};
 ghost use Rattle.reflector_core.specs.declared.request.Reply.{Reply};
-ghost use Rattle.connection.specs.Exchanges.{Answered, Exchange, IsTimely};
+ghost use Rattle.connection.specs.Exchanges.{Answered, IsAskedInTime};
 ghost use Rattle.connection.specs.Phases.{Joining, Opening, Over, Reading, Ticking, entered_phase, greeted_phase};
 ghost use Rattle.connection.specs.Standing.{IsJoin, IsStanding};
-ghost use Rattle.connection.specs.Talk.{TalksOn, TalksOrHalts, account, account_of, link_account};
+ghost use Rattle.connection.specs.Talk.{TalksOn, TalksOrHalts, account, link_account};
 
 use crate::asking::{Service, ask};
 use crate::ending::{Ended, Halt};
@@ -32,11 +33,11 @@ pub fn first_frame<C: Clock, R: Wait, L: Link>(
     service: &Service<'_, C, R>,
     link: &mut L,
 ) -> Result<Blob, Ended>
-    ensures { (asked : List Exchange) → MatchResult result
+    ensures { (pass : PassState) → MatchResult result
         (λ bytes. TalksOn (C.gives service.now.clock.now) service.now.id (Opening 0) (Reading bytes)
-        (account_of asked (link_account L.heard L.sent L.counts link.old)) (account_of asked (link_account L.heard L.sent L.counts link.new)))
+        (account pass (link_account L.heard L.sent L.counts link.old)) (account pass (link_account L.heard L.sent L.counts link.new)))
         (λ ended. TalksOn (C.gives service.now.clock.now) service.now.id (Opening 0) (Over ended)
-        (account_of asked (link_account L.heard L.sent L.counts link.old)) (account_of asked (link_account L.heard L.sent L.counts link.new))) }
+        (account pass (link_account L.heard L.sent L.counts link.old)) (account pass (link_account L.heard L.sent L.counts link.new))) }
 {
     for _quiets in 0..MOST_QUIETS {
         match link.recv() {
@@ -60,9 +61,9 @@ fn greet<C: Clock, R: Wait, L: Link>(
     frame: &ServerFrame,
 ) -> Result<Cursor, Halt>
     ensures cursor { IfOk result (λ joined. cursor ≡ Some joined) }
-    ensures talk { (asked : List Exchange) → TalksOrHalts (C.gives service.now.clock.now) service.now.id
+    ensures talk { (pass : PassState) → TalksOrHalts (C.gives service.now.clock.now) service.now.id
         (greeted_phase cursor (Some frame.now)) (λ joined. Ticking joined 0) result
-        (account_of asked (link_account L.heard L.sent L.counts link.old)) (account_of asked (link_account L.heard L.sent L.counts link.new)) }
+        (account pass (link_account L.heard L.sent L.counts link.old)) (account pass (link_account L.heard L.sent L.counts link.new)) }
 {
     let Some(cursor) = cursor else {
         return Err(refuse(service, link, frame));
@@ -93,7 +94,7 @@ fn join<C: Clock, R: Wait, L: Link>(
 ) -> Result<Cursor, Halt>
     requires session { pass.old.session ≡ service.now.shared.now.session }
     requires join { IsJoin request.now }
-    requires timely { (given : Reply) → IsTimely (C.gives service.now.clock.now) (Answered request.now given) }
+    requires timely { (given : Reply) → IsAskedInTime (C.gives service.now.clock.now) (Answered request.now given) }
     ensures kept { pass.new ≡ record pass.old { seen = pass.new.seen } }
     ensures standing { IfOk result (λ cursor. IsStanding (play pass.new.seen) cursor) }
     ensures talk { TalksOrHalts (C.gives service.now.clock.now) service.now.id

@@ -1,15 +1,14 @@
 //! Frames that go to a link.
-ghost use Rattle.std.specs.Prelude.{◌≡◌, ◌<◌, ◌^◌, length, List, IfOk, IsTrue, [], ◌∷◌, ◌++◌};
+ghost use Rattle.std.specs.Prelude.{◌≡◌, ◌<◌, ◌^◌, length, List, Some, IfOk, IsTrue, [], ◌∷◌, ◌++◌};
 ghost use Rattle.tea_io.specs.Links.{NoneFalls, SendCause};
 ghost use Rattle.entry_fields.specs.Spelling.{FitsWhat};
 ghost use Rattle.wire_frames.specs.Frames.{FitsServer, IsServerFrame};
 ghost use Rattle.wire_frames.specs.Spelling.{server_spelling};
 ghost use Rattle.wire_frames.specs.declared.frame.ServerFrame.{ServerFrame};
+ghost use Rattle.session_lock.specs.Passes.{PassState};
 ghost use Rattle.system_plain.specs.ConnectionLine.{unread_frame};
-ghost use Rattle.connection.specs.declared.ending.Ended.{Ended};
-ghost use Rattle.connection.specs.Exchanges.{Exchange};
-ghost use Rattle.connection.specs.Phases.{TalkPhase, Leaving, Over, code_in, ending_phase, halt_phase, refused_phase, telling_phase};
-ghost use Rattle.connection.specs.Talk.{SendsSpelled, TalksOn, TalksOrHalts, account_of, link_account};
+ghost use Rattle.connection.specs.Phases.{TalkPhase, Leaving, answered_by, code_in, ending_phase, halt_phase, refused_phase, telling_phase};
+ghost use Rattle.connection.specs.Talk.{SendsSpelled, TalksOn, TalksOrHalts, account, link_account};
 
 use crate::asking::Service;
 use crate::ending::{Ended, Halt};
@@ -95,9 +94,9 @@ pub fn tell<C: Clock, R: Wait, L: Link>(
     cursor: &Cursor,
     frame: &ServerFrame,
 ) -> Result<(), Halt>
-    ensures { (asked : List Exchange) (rest : List ServerFrame) (next : TalkPhase) → TalksOrHalts (C.gives service.now.clock.now) service.now.id
+    ensures { (pass : PassState) (rest : List ServerFrame) (next : TalkPhase) → TalksOrHalts (C.gives service.now.clock.now) service.now.id
         (telling_phase cursor.now (frame.now ∷ rest) next) (λ _. telling_phase cursor.now rest next) result
-        (account_of asked (link_account L.heard L.sent L.counts link.old)) (account_of asked (link_account L.heard L.sent L.counts link.new)) }
+        (account pass (link_account L.heard L.sent L.counts link.old)) (account pass (link_account L.heard L.sent L.counts link.new)) }
 {
     match send(service.alloc, link, frame) {
         Ok(()) => Ok(()),
@@ -113,9 +112,9 @@ pub fn tell_all<C: Clock, R: Wait, L: Link>(
     cursor: &Cursor,
     frames: &[ServerFrame],
 ) -> Result<(), Halt>
-    ensures { (asked : List Exchange) (next : TalkPhase) → TalksOrHalts (C.gives service.now.clock.now) service.now.id
+    ensures { (pass : PassState) (next : TalkPhase) → TalksOrHalts (C.gives service.now.clock.now) service.now.id
         (telling_phase cursor.now frames.now next) (λ _. next) result
-        (account_of asked (link_account L.heard L.sent L.counts link.old)) (account_of asked (link_account L.heard L.sent L.counts link.new)) }
+        (account pass (link_account L.heard L.sent L.counts link.old)) (account pass (link_account L.heard L.sent L.counts link.new)) }
 {
     for frame in frames {
         match tell(service, link, cursor, frame) {
@@ -126,17 +125,39 @@ pub fn tell_all<C: Clock, R: Wait, L: Link>(
     Ok(())
 }
 
-/// Sends the last frame of a connection, which ends also where this fails.
+/// Sends the last frame of a connection, which ends so also where the send fails. Where memory is wanted, it stops as `wants` says.
 pub fn tell_last<C: Clock, R: Wait, L: Link>(
     service: &Service<'_, C, R>,
     link: &mut L,
     frame: &ServerFrame,
-)
-    ensures { (asked : List Exchange) (how : Ended) → TalksOn (C.gives service.now.clock.now) service.now.id
-        (ending_phase (frame.now ∷ []) how) (Over how)
-        (account_of asked (link_account L.heard L.sent L.counts link.old)) (account_of asked (link_account L.heard L.sent L.counts link.new)) }
+    ended: Ended,
+    wants: Halt,
+) -> Halt
+    ensures { (pass : PassState) → TalksOn (C.gives service.now.clock.now) service.now.id
+        (ending_phase (frame.now ∷ []) ended (halt_phase wants)) (halt_phase result)
+        (account pass (link_account L.heard L.sent L.counts link.old)) (account pass (link_account L.heard L.sent L.counts link.new)) }
 {
-    let _ = send(service.alloc, link, frame);
+    match send(service.alloc, link, frame) {
+        Ok(()) => Halt::Over(ended),
+        Err(LinkFault::Failed) => Halt::Over(ended),
+        Err(LinkFault::WantOfMemory) => wants,
+    }
+}
+
+/// Sends the last frame to a view that has joined. Where memory is wanted, the view leaves.
+pub fn tell_end<C: Clock, R: Wait, L: Link>(
+    service: &Service<'_, C, R>,
+    link: &mut L,
+    cursor: &Cursor,
+    frame: &ServerFrame,
+    ended: Ended,
+) -> Halt
+    ensures { (pass : PassState) → TalksOn (C.gives service.now.clock.now) service.now.id
+        (answered_by cursor.now (Some ended) (frame.now ∷ [])) (halt_phase result)
+        (account pass (link_account L.heard L.sent L.counts link.old)) (account pass (link_account L.heard L.sent L.counts link.new)) }
+{
+    let wants = leave_at(cursor, Ended::WantOfMemory);
+    tell_last(service, link, frame, ended, wants)
 }
 
 /// The code of a refusal.
@@ -154,20 +175,19 @@ fn code_in(frame: &ServerFrame) -> u8
     }
 }
 
-/// Refuses the first frame of a connection.
+/// Refuses the first frame of a connection, which ends by it.
 pub fn refuse<C: Clock, R: Wait, L: Link>(
     service: &Service<'_, C, R>,
     link: &mut L,
     frame: &ServerFrame,
 ) -> Halt
-    ensures { (asked : List Exchange) → TalksOn (C.gives service.now.clock.now) service.now.id
+    ensures { (pass : PassState) → TalksOn (C.gives service.now.clock.now) service.now.id
         (refused_phase frame.now) (halt_phase result)
-        (account_of asked (link_account L.heard L.sent L.counts link.old)) (account_of asked (link_account L.heard L.sent L.counts link.new)) }
+        (account pass (link_account L.heard L.sent L.counts link.old)) (account pass (link_account L.heard L.sent L.counts link.new)) }
 {
-    tell_last(service, link, frame);
-    Halt::Over(Ended::Refused {
-        code: code_in(frame),
-    })
+    let code = code_in(frame);
+    let wants = Halt::Over(Ended::WantOfMemory);
+    tell_last(service, link, frame, Ended::Refused { code }, wants)
 }
 
 /// The frame that refuses one that could not be read.

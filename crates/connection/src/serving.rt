@@ -1,8 +1,9 @@
 //! A connection from its first frame to its end.
-ghost use Rattle.std.specs.Prelude.{◌≡◌, [], ◌∷◌};
+ghost use Rattle.std.specs.Prelude.{◌≡◌, List, [], ◌∷◌, ◌++◌};
+ghost use Rattle.session_lock.specs.declared.knowledge.Item.{Item};
 ghost use Rattle.session_lock.specs.History.{calls_of};
 ghost use Rattle.session_lock.specs.Passes.{caller};
-ghost use Rattle.connection.specs.Causes.{EndsExactly, IsCounted};
+ghost use Rattle.connection.specs.Causes.{EndsExactly, IsCauseCounted};
 ghost use Rattle.connection.specs.Exchanges.{exchanges_in};
 ghost use Rattle.connection.specs.Phases.{Opening, Over, halt_phase};
 ghost use Rattle.connection.specs.Talk.{HasTalked, TalksOn, account, link_account};
@@ -71,9 +72,10 @@ pub fn serve_connection<L: Link, C: Clock, R: Wait>(
     requires session { pass.old.session ≡ shared.now.session }
     requires fresh { calls_of (caller pass.old ∷ []) pass.old.seen ≡ [] }
     ensures kept { pass.new ≡ record pass.old { seen = pass.new.seen } }
+    ensures later { (rest : List Item) × (pass.old.seen ++ rest ≡ pass.new.seen) }
     ensures talk { HasTalked (C.gives clock.now) id pass.new (link_account L.heard L.sent L.counts link.old) (link_account L.heard L.sent L.counts link.new) result }
     ensures exactly { EndsExactly result (exchanges_in pass.new.seen (caller pass.new)) }
-    ensures cause { IsCounted (L.counts link.old) (L.counts link.new) result }
+    ensures cause { IsCauseCounted (L.counts link.old) (L.counts link.new) result }
 {
     let service = Service {
         rt,

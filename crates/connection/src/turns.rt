@@ -6,20 +6,21 @@ ghost use Rattle.wire_frames.specs.declared.frame.ServerFrame.{ServerFrame};
 ghost use Rattle.reflector_core.specs.Growth.{GrowsTo};
 ghost use Rattle.reflector_core.specs.PlainSession.{PlainSession};
 ghost use Rattle.session_lock.specs.History.{play};
+ghost use Rattle.session_lock.specs.Passes.{PassState};
 ghost use Rattle.join_sync.specs.Requests.{IsOfFrame};
 ghost use Rattle.connection.specs.declared.ending.Ended.{Ended};
 ghost use Rattle.join_sync.specs.Batches.{IsBatchAfter, next_cursor};
 ghost use Rattle.system_plain.specs.Steps.{answer_frames};
 ghost use Rattle.reflector_core.specs.declared.request.Reply.{Reply};
-ghost use Rattle.connection.specs.Exchanges.{Answered, Exchange, IsTimely};
+ghost use Rattle.connection.specs.Exchanges.{Answered, IsAskedInTime};
 ghost use Rattle.connection.specs.Phases.{Asking, Hearing, Leaving, Over, Pulling, Taking, Ticking, answered_by, end_in, halt_phase, most_quiets, pulled_phase};
 ghost use Rattle.connection.specs.Standing.{IsStanding};
-ghost use Rattle.connection.specs.Talk.{LinkAccount, TalksOn, TalksOrHalts, account, account_of, link_account};
+ghost use Rattle.connection.specs.Talk.{LinkAccount, TalksOn, TalksOrHalts, account, link_account};
 
 use crate::asking::{Service, ask};
 use crate::ending::{Ended, Halt};
 use crate::opening::MOST_QUIETS;
-use crate::sending::{leave_at, tell, tell_all, tell_last, unread_frame};
+use crate::sending::{leave_at, tell, tell_all, tell_end, unread_frame};
 use join_sync::{Act, Cursor};
 use reflector_core::{Refusal, Reply, Request};
 use session_lock::Pass;
@@ -52,18 +53,15 @@ fn answer<C: Clock, R: Wait, L: Link>(
     ended: Option<Ended>,
     answer: Option<ServerFrame>,
 ) -> Result<(), Halt>
-    ensures { (asked : List Exchange) → TalksOrHalts (C.gives service.now.clock.now) service.now.id
+    ensures { (pass : PassState) → TalksOrHalts (C.gives service.now.clock.now) service.now.id
         (answered_by cursor.now ended (answer_frames answer)) (λ _. Ticking cursor.now 0) result
-        (account_of asked (link_account L.heard L.sent L.counts link.old)) (account_of asked (link_account L.heard L.sent L.counts link.new)) }
+        (account pass (link_account L.heard L.sent L.counts link.old)) (account pass (link_account L.heard L.sent L.counts link.new)) }
 {
     match (ended, answer) {
         (None, None) => Ok(()),
         (None, Some(frame)) => tell(service, link, cursor, &frame),
         (Some(ended), None) => Err(Halt::Over(ended)),
-        (Some(ended), Some(frame)) => {
-            tell_last(service, link, &frame);
-            Err(Halt::Over(ended))
-        }
+        (Some(ended), Some(frame)) => Err(tell_end(service, link, cursor, &frame, ended)),
     }
 }
 
@@ -77,7 +75,7 @@ fn make<C: Clock, R: Wait, L: Link>(
 ) -> Result<(), Halt>
     requires session { pass.old.session ≡ service.now.shared.now.session }
     requires frame { IsOfFrame request.now }
-    requires timely { (given : Reply) → IsTimely (C.gives service.now.clock.now) (Answered request.now given) }
+    requires timely { (given : Reply) → IsAskedInTime (C.gives service.now.clock.now) (Answered request.now given) }
     ensures kept { pass.new ≡ record pass.old { seen = pass.new.seen } }
     ensures grows { GrowsTo (play pass.old.seen) (play pass.new.seen) }
     ensures talk { TalksOrHalts (C.gives service.now.clock.now) service.now.id
@@ -205,9 +203,9 @@ fn hand_out<C: Clock, R: Wait, L: Link>(
 ) -> Result<(), Halt>
     requires { IsBatchAfter cursor.old.after batch }
     ensures cursor { IfOk result (λ _. cursor.new ≡ next_cursor cursor.old batch) }
-    ensures talk { (asked : List Exchange) (quiets : ℕ) → TalksOrHalts (C.gives service.now.clock.now) service.now.id
+    ensures talk { (pass : PassState) (quiets : ℕ) → TalksOrHalts (C.gives service.now.clock.now) service.now.id
         (pulled_phase cursor.old quiets batch) (λ _. Hearing cursor.new quiets) result
-        (account_of asked (link_account L.heard L.sent L.counts link.old)) (account_of asked (link_account L.heard L.sent L.counts link.new)) }
+        (account pass (link_account L.heard L.sent L.counts link.old)) (account pass (link_account L.heard L.sent L.counts link.new)) }
 {
     let before = *cursor;
     let frames = match cursor.next(service.alloc, batch) {

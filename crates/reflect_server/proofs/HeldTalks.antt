@@ -136,8 +136,8 @@ sending_held asked (frame ∷ frames) next fails wants h failing wanting = (h, f
 telling_held : (asked : List Exchange) (cursor : Cursor) (frames : List ServerFrame) (next : TalkPhase) → HoldsOwn cursor asked → HeldIn asked next → HeldIn asked (telling_phase cursor frames next)
 telling_held asked cursor frames next own h = sending_held asked frames next (Leaving cursor ended.LinkFault) (Leaving cursor ended.WantOfMemory) h own own
 
-ending_held : (asked : List Exchange) (frames : List ServerFrame) (how : Ended) → IsOut asked → HeldIn asked (ending_phase frames how)
-ending_held asked frames how out = sending_held asked frames (Over how) (Over how) (Over how) out out out
+ending_held : (asked : List Exchange) (frames : List ServerFrame) (how : Ended) (wants : TalkPhase) → IsOut asked → HeldIn asked wants → HeldIn asked (ending_phase frames how wants)
+ending_held asked frames how wants out wanting = sending_held asked frames (Over how) (Over how) wants out out wanting
 
 nothing_held : IsOut []
 nothing_held v j is = absurd (cc (is))
@@ -201,10 +201,12 @@ answered_held asked cursor request given own mine = by_reply given
         let more = own_more cursor asked (Answered request r) (own_opens cursor request r mine) own in
         telling_held (asked ++ Answered request r ∷ []) cursor (answer_frames (answer_frame request r)) (Ticking cursor 0) more more
 
-    ends : (r : Reply) (how : Ended) → ends_view r ≡ true → HeldIn (asked ++ Answered request r ∷ []) (ending_phase (answer_frames (answer_frame request r)) how)
+    ends : (r : Reply) (how : Ended) → ends_view r ≡ true
+        → HeldIn (asked ++ Answered request r ∷ []) (ending_phase (answer_frames (answer_frame request r)) how (Leaving cursor ended.WantOfMemory))
     ends r how is =
-        ending_held (asked ++ Answered request r ∷ []) (answer_frames (answer_frame request r)) how
+        ending_held (asked ++ Answered request r ∷ []) (answer_frames (answer_frame request r)) how (Leaving cursor ended.WantOfMemory)
         (out_more cursor asked (Answered request r) (own_opens cursor request r mine) (own_closes cursor request r mine is) own)
+        (own_more cursor asked (Answered request r) (own_opens cursor request r mine) own)
 
     by_refusal : (r : Refusal) → HeldIn (asked ++ Answered request (reply.Refused r) ∷ []) (reply_phase cursor request (reply.Refused r))
     by_refusal (refusal.Stale current) = ends (reply.Refused (refusal.Stale current)) (ended.Stale current) refl

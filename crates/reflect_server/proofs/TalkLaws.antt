@@ -12,7 +12,7 @@ use Rattle.session_lock.specs.History.{has, calls_of, Saw}
 use Rattle.session_lock.specs.Numbers.{times}
 use Rattle.session_lock.specs.Passes.{PassState, caller}
 use Rattle.session_lock.proofs.Histories.{calls_append, saw_each}
-use Rattle.connection.specs.Causes.{EndsExactly, IsCounted}
+use Rattle.connection.specs.Causes.{EndsExactly, IsCauseCounted}
 use Rattle.connection.proofs.Callers.{exchanges_same}
 use Rattle.connection.proofs.Talking.{talk_grows}
 use Rattle.reflect_server.specs.declared.accepting.ServedLink.{ServedLink}
@@ -88,7 +88,7 @@ module _ (gives : ℕ → Type 0) (id : SessionId) {L : Type 0} (links : LinksTe
     sent = served.talk.tells_sent;
     exactly = served.exactly;
     new = new;
-    cause = subst (λ (counts : Counts). IsCounted counts (links.counts one.link) one.ended) new served.cause;
+    cause = subst (λ (counts : Counts). IsCauseCounted counts (links.counts one.link) one.ended) new served.cause;
   }
 
   pub served_at : (table : TableId) (fresh pass : PassState) (link : L) (one : ServedLink L) → IsFresh table fresh → Serves gives id links fresh link pass one → pass.session ≡ table

@@ -11,7 +11,7 @@ use Rattle.session_lock.specs.declared.knowledge.Item.{Item}
 use Rattle.session_lock.specs.History.{calls_of}
 use Rattle.session_lock.specs.Numbers.{times}
 use Rattle.connection.specs.declared.ending.Ended.{Ended}
-use Rattle.connection.specs.Causes.{EndsExactly, IsCounted}
+use Rattle.connection.specs.Causes.{EndsExactly, IsCauseCounted}
 use Rattle.connection.specs.Exchanges.{exchanges_in}
 use Rattle.connection.specs.Talk.{Talk, LinkAccount, link_account}
 use Rattle.connection.specs.TalkServed.{IsTalkServed}
@@ -48,7 +48,7 @@ pub record HasTalk (gives : ℕ → Type 0) (id : SessionId) {L : Type 0} (links
   pub sent : links.sent one.returned ≡ grown (links.sent one.accepted) one.sent
   pub exactly : EndsExactly one.ended (exchanges_in history one.caller)
   pub new : links.counts one.accepted ≡ no_counts
-  pub cause : IsCounted no_counts (links.counts one.returned) one.ended
+  pub cause : IsCauseCounted no_counts (links.counts one.returned) one.ended
 
 -- no number stands twice in the list
 abbrev pub HaveOwnNumbers : List ℕ → Type 0

@@ -11,7 +11,7 @@ use Rattle.tea_io.specs.declared.net.NetFault.TheVariants.{Failed, WantOfMemory}
 use Rattle.run_steps.specs.Outside.{LinksTell, NetTells}
 use Rattle.session_lock.specs.Passes.{PassState, caller}
 use Rattle.connection.specs.declared.ending.Ended.{Ended}
-use Rattle.connection.specs.Causes.{EndsExactly, IsCounted}
+use Rattle.connection.specs.Causes.{EndsExactly, IsCauseCounted}
 use Rattle.connection.specs.Exchanges.{exchanges_in}
 use Rattle.connection.specs.Talk.{HasTalked}
 use Rattle.reflect_server.specs.declared.accepting.ServedLink.{ServedLink}
@@ -72,7 +72,7 @@ pub record Serves (gives : ℕ → Type 0) (id : SessionId) {L : Type 0} (links 
   pub kept : pass ≡ record before { seen = pass.seen }
   pub talk : HasTalked gives id pass (account_in links link) (account_in links one.link) one.ended
   pub exactly : EndsExactly one.ended (exchanges_in pass.seen (caller pass))
-  pub cause : IsCounted (links.counts link) (links.counts one.link) one.ended
+  pub cause : IsCauseCounted (links.counts link) (links.counts one.link) one.ended
 
 -- what a thread has of a connection that has ended
 abbrev pub served_of : {L : Type 0} → ServedConnection L → ServedLink L

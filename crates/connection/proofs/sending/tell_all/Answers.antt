@@ -4,23 +4,23 @@ use Rattle.connection.proofs.Talking.{drop_whole, frame_at, talks_still, talks_t
 use Rattle.connection.proofs.sending.tell_all.Goals as goal
 
 pub loop-frame-init : goal.loop-frame-init
-loop-frame-init g c asked next = talks_still _ _ _ _
+loop-frame-init g c pass next = talks_still _ _ _ _
 
 pub returns-in-Err : goal.returns-in-Err
-returns-in-Err g c asked next =
+returns-in-Err g c pass next =
     let within : c.loop-frame.frame-index < length c.args.frames.now = omega arith in
     talks_then _ _ _ _ _ _ _ _
-    (talks_to _ _ _ _ _ _ _ (sym (ap (λ frames. telling_phase c.args.cursor.now frames next) (frame_at c.args.frames.now c.loop-frame.frame-index c.frame-item.result within c.frame-item.is))) (c.loop-frame.invariant asked next))
-    (c.in-Err.ensures asked (drop (c.loop-frame.frame-index + 1) c.args.frames.now) next)
+    (talks_to _ _ _ _ _ _ _ (sym (ap (λ frames. telling_phase c.args.cursor.now frames next) (frame_at c.args.frames.now c.loop-frame.frame-index c.frame-item.result within c.frame-item.is))) (c.loop-frame.invariant pass next))
+    (c.in-Err.ensures pass (drop (c.loop-frame.frame-index + 1) c.args.frames.now) next)
 
 pub loop-frame-preserved : goal.loop-frame-preserved
-loop-frame-preserved g c asked next =
+loop-frame-preserved g c pass next =
     let within : c.loop-frame.frame-index < length c.args.frames.now = omega arith in
     talks_then _ _ _ _ _ _ _ _
-    (talks_to _ _ _ _ _ _ _ (sym (ap (λ frames. telling_phase c.args.cursor.now frames next) (frame_at c.args.frames.now c.loop-frame.frame-index c.frame-item.result within c.frame-item.is))) (c.loop-frame.invariant asked next))
-    (c.in-Ok.ensures asked (drop (c.loop-frame.frame-index + 1) c.args.frames.now) next)
+    (talks_to _ _ _ _ _ _ _ (sym (ap (λ frames. telling_phase c.args.cursor.now frames next) (frame_at c.args.frames.now c.loop-frame.frame-index c.frame-item.result within c.frame-item.is))) (c.loop-frame.invariant pass next))
+    (c.in-Ok.ensures pass (drop (c.loop-frame.frame-index + 1) c.args.frames.now) next)
 
 pub returns : goal.returns
-returns g c asked next =
+returns g c pass next =
     let over : length c.args.frames.now ≤ c.loop-frame.frame-index = omega arith in
-    talks_to _ _ _ _ _ _ _ (sym (ap (λ frames. telling_phase c.args.cursor.now frames next) (drop_whole c.args.frames.now c.loop-frame.frame-index over))) (c.loop-frame.invariant asked next)
+    talks_to _ _ _ _ _ _ _ (sym (ap (λ frames. telling_phase c.args.cursor.now frames next) (drop_whole c.args.frames.now c.loop-frame.frame-index over))) (c.loop-frame.invariant pass next)
