@@ -1,6 +1,6 @@
 #!/usr/bin/env bash
 # Runs the commands that README.md and examples/README.md show, and compares what is printed. A ```sh block that calls
-# ./croquet is run; the ```text block behind it is what its commands print, and they print nothing where there is none.
+# ./croquet, or a script of examples/, is run; the ```text block behind it is what its commands print, and they print nothing where there is none.
 # Run it by hand, in any folder. It ends with 1 at the first block that prints something else, or in which a command fails.
 set -euo pipefail
 top=$(cd "$(dirname "${BASH_SOURCE[0]}")/.." && pwd)
@@ -32,7 +32,7 @@ walk() {
     mkdir -p "$room"
     ln -s "$top/croquet" "$top/examples" "$room"
     for block in "$parts"/*.sh; do
-        grep -q '\./croquet' "$block" || continue
+        grep -q '\./croquet\|^examples/' "$block" || continue
         wanted=${block%.sh}.text
         [ -e "$wanted" ] || : >"$wanted"
         if ! (cd "$room" && bash -e "$block") >"$work/printed"; then

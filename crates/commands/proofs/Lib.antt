@@ -1,12 +1,12 @@
 pub mod Agreement
 pub mod CheckLaws
 pub mod EventLaws
+pub mod NetLaws
 pub mod OneVerdict
 pub mod ProgramLaws
 pub mod ScriptLaws
 pub mod SomeVerdict
 pub mod StampLaws
-pub mod VisitLaws
 pub mod WaitLaws
 pub mod WordLaws
 pub mod WorldLaws

@@ -28,11 +28,12 @@ use Rattle.view_script.specs.ViewScript.{view_script_of}
 use Rattle.commands.specs.Address.{is_address}
 use Rattle.commands.specs.declared.words.ReplayRequest.{ReplayRequest}
 use Rattle.commands.specs.declared.words.JoinRequest.{JoinRequest}
+use Rattle.commands.specs.declared.words.ReflectRequest.{ReflectRequest}
 use Rattle.commands.specs.declared.words.Command.{Command}
-use Rattle.commands.specs.declared.words.Command.TheVariants.{Stamp, Check, Replay, Join}
+use Rattle.commands.specs.declared.words.Command.TheVariants.{Stamp, Check, Replay, Join, Reflect}
 use Rattle.commands.specs.PrintedText.{syntax_line}
 use Rattle.commands.specs.Script.{script_of}
-use Rattle.commands.specs.Verdict.{Closing, ByRefusal, ByVisit, ByWant, Verdict, AreAlike, AreDoneAlike, Coming, Free, IsLineOf, IsOneVerdict, IsFunction, IsRefused, IsRefusedBy, OfAddress, OfFile, OfGiven, OfJoin, OfLog, OfProgram, OfScript, OfSnapshot, OfTree, OfView, OfViewScript, OfWords, Only, Starts, ask_log, ask_program, ask_script, ask_snapshot, before, at_once, count_verdict, resumed_verdict, session_of, stamp_verdict, visit_to}
+use Rattle.commands.specs.Verdict.{Closing, ByRefusal, ByReflecting, ByVisit, ByWant, Verdict, AreAlike, AreDoneAlike, Coming, Free, IsLineOf, IsOneVerdict, IsFunction, IsRefused, IsRefusedBy, OfAddress, OfFile, OfGiven, OfJoin, OfLog, OfProgram, OfReflect, OfScript, OfSnapshot, OfTree, OfView, OfViewScript, OfWords, Only, Starts, ask_log, ask_program, ask_script, ask_snapshot, before, at_once, count_verdict, reflection_of, resumed_verdict, session_of, stamp_verdict, visit_to}
 
 -- what `model_lang::one_reading` says
 abbrev pub IsOneReading : Type 0
@@ -195,6 +196,12 @@ one_view request id tree =
 one_join : (request : JoinRequest) (id : List ℕ) (tree : ProgramTree) → IsOneVerdict (OfJoin request id tree)
 one_join request id tree = one_address (is_address (encode_utf8_all request.address)) (OfView request id tree) (one_view request id tree)
 
+-- ---- reflect
+
+one_reflect : (request : ReflectRequest) (id : List ℕ) → IsOneVerdict (OfReflect request id)
+one_reflect request id =
+    one_address (is_address (encode_utf8_all request.address)) (Only (at_once (ByReflecting (reflection_of request id)))) (one_only (at_once (ByReflecting (reflection_of request id))))
+
 -- ---- the commands
 
 one_words : IsOneReading → (command : Option Command) → IsOneVerdict (OfWords command)
@@ -208,6 +215,9 @@ one_words one (Some (Replay request)) =
 one_words one (Some (Join request)) =
     one_file input.Program (ask_program request.program) (λ bytes. OfProgram (OfJoin request (session_of request.name bytes)) bytes)
     (λ bytes. one_program one (OfJoin request (session_of request.name bytes)) (one_join request (session_of request.name bytes)) bytes)
+one_words one (Some (Reflect request)) =
+    one_file input.Program (ask_program request.program) (λ bytes. OfProgram (λ tree. OfReflect request (session_of request.name bytes)) bytes)
+    (λ bytes. one_program one (λ tree. OfReflect request (session_of request.name bytes)) (λ tree. one_reflect request (session_of request.name bytes)) bytes)
 
 pub is_function : IsOneReading → IsFunction
 is_function one command = one_free (OfWords command) (one_words one command)

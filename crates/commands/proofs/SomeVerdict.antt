@@ -17,11 +17,13 @@ use Rattle.view_script.specs.ViewScript.{view_script_of}
 use Rattle.commands.specs.Address.{is_address}
 use Rattle.commands.specs.declared.words.ReplayRequest.{ReplayRequest}
 use Rattle.commands.specs.declared.words.JoinRequest.{JoinRequest}
+use Rattle.commands.specs.declared.words.ReflectRequest.{ReflectRequest}
+use Rattle.commands.specs.declared.reflection.Reflection.{Reflection}
 use Rattle.commands.specs.declared.words.Command.{Command}
-use Rattle.commands.specs.declared.words.Command.TheVariants.{Stamp, Check, Replay, Join}
+use Rattle.commands.specs.declared.words.Command.TheVariants.{Stamp, Check, Replay, Join, Reflect}
 use Rattle.commands.specs.PrintedText.{check_line, counts_line, syntax_line, too_large_line}
 use Rattle.commands.specs.Script.{script_of}
-use Rattle.commands.specs.Verdict.{PlainVisit, Fine, ByRefusal, ByVisit, ByWant, AreGiven, Coming, IsLineOf, IsOnlyWant, OfAddress, OfCommand, OfFile, OfGiven, OfJoin, OfLog, OfProgram, OfScript, OfSnapshot, OfTree, OfView, OfViewScript, SomeVerdictComes, Starts, ask_log, ask_program, ask_script, ask_snapshot, at_once, before, count_verdict, fine, session_of, steps_of, visit_to}
+use Rattle.commands.specs.Verdict.{PlainVisit, Fine, ByRefusal, ByReflecting, ByVisit, ByWant, AreGiven, Coming, IsLineOf, IsOnlyWant, OfAddress, OfCommand, OfFile, OfGiven, OfJoin, OfLog, OfProgram, OfReflect, OfScript, OfSnapshot, OfTree, OfView, OfViewScript, SomeVerdictComes, Starts, ask_log, ask_program, ask_script, ask_snapshot, at_once, before, count_verdict, fine, reflection_of, session_of, steps_of, visit_to}
 
 abbrev pub Told : Type 0
 Told = Ask → Option (List ℕ)
@@ -30,12 +32,15 @@ Told = Ask → Option (List ℕ)
 abbrev pub IsSomeReading : Type 0
 IsSomeReading = (text : List ℕ) → ¬ ((reading : Reading) → ¬ IsReading text reading)
 
--- a refusal is no want of memory, a visit is none, and a text that was printed is none
+-- a refusal is no want of memory, a visit is none, a reflection is none, and a text that was printed is none
 refused_not_want : (told : Told) (coming : Coming) (why : Refusal) → coming (at_once (ByRefusal why)) → ¬ IsOnlyWant told coming
 refused_not_want told coming why comes only = let want : ByRefusal why ≡ ByWant = only (at_once (ByRefusal why)) comes tt in absurd cc
 
 visit_not_want : (told : Told) (coming : Coming) (visit : PlainVisit) → coming (at_once (ByVisit visit)) → ¬ IsOnlyWant told coming
 visit_not_want told coming visit comes only = let want : ByVisit visit ≡ ByWant = only (at_once (ByVisit visit)) comes tt in absurd cc
+
+reflection_not_want : (told : Told) (coming : Coming) (reflection : Reflection) → coming (at_once (ByReflecting reflection)) → ¬ IsOnlyWant told coming
+reflection_not_want told coming reflection comes only = let want : ByReflecting reflection ≡ ByWant = only (at_once (ByReflecting reflection)) comes tt in absurd cc
 
 no_file_given : (told : Told) (puts : List Put) (text : List ℕ) → AreGiven told (steps_of puts text)
 no_file_given told [] text = tt
@@ -127,6 +132,12 @@ join_not_want told request id tree =
     (file_not_want told input.Script (ask_script request.script) (λ bytes. OfViewScript request id tree (view_script_of bytes))
     (λ bytes. view_script_not_want told request id tree (view_script_of bytes)))
 
+-- ---- reflect
+
+reflect_not_want : (told : Told) (request : ReflectRequest) (id : List ℕ) → ¬ IsOnlyWant told (OfReflect request id)
+reflect_not_want told request id =
+    address_not_want told (is_address (encode_utf8_all request.address)) _ (reflection_not_want told (λ came. came ≡ at_once (ByReflecting (reflection_of request id))) (reflection_of request id) refl)
+
 -- ---- the commands
 
 command_not_want : IsSomeReading → (told : Told) (command : Command) → ¬ IsOnlyWant told (OfCommand command)
@@ -140,6 +151,9 @@ command_not_want some told (Replay request) =
 command_not_want some told (Join request) =
     file_not_want told input.Program (ask_program request.program) (λ bytes. OfProgram (OfJoin request (session_of request.name bytes)) bytes)
     (λ bytes. program_not_want some told (OfJoin request (session_of request.name bytes)) bytes (join_not_want told request (session_of request.name bytes)))
+command_not_want some told (Reflect request) =
+    file_not_want told input.Program (ask_program request.program) (λ bytes. OfProgram (λ tree. OfReflect request (session_of request.name bytes)) bytes)
+    (λ bytes. program_not_want some told (λ tree. OfReflect request (session_of request.name bytes)) bytes (λ tree. reflect_not_want told request (session_of request.name bytes)))
 
 pub some_verdict_comes : IsSomeReading → SomeVerdictComes
 some_verdict_comes some None told only = refused_not_want told _ refusal.Usage (inr refl) only

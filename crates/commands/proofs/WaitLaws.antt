@@ -4,7 +4,7 @@ use Rattle.model_lang.specs.TreeView.{program_tree}
 use Rattle.view_script.specs.ViewScript.{view_script_of}
 use Rattle.run_steps.specs.Steps.{Loads}
 use Rattle.commands.specs.declared.outcome.Refusal.TheVariants as refusal
-use Rattle.commands.specs.declared.words.Command.TheVariants.{Stamp, Check, Replay, Join}
+use Rattle.commands.specs.declared.words.Command.TheVariants.{Stamp, Check, Replay, Join, Reflect}
 use Rattle.commands.specs.declared.visit.ScriptWait.{ScriptWait}
 use Rattle.commands.specs.declared.work.Next.{Next}
 use Rattle.commands.specs.declared.work.Waiting.{Waiting}
@@ -18,6 +18,7 @@ above_limit (waiting.First (Stamp script log)) = (None, (_, refl, inr refl))
 above_limit (waiting.First (Check program)) = (None, (_, refl, inr refl))
 above_limit (waiting.First (Replay request)) = (None, (_, refl, inr refl))
 above_limit (waiting.First (Join request)) = (None, (_, refl, inr refl))
+above_limit (waiting.First (Reflect request)) = (None, (_, refl, inr refl))
 above_limit (waiting.Log wait) = (None, (_, refl, inr refl))
 above_limit (waiting.Snapshot wait) = (None, (_, refl, inr refl))
 above_limit (waiting.Script wait) = (None, (_, refl, inr refl))

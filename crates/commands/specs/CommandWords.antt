@@ -9,8 +9,9 @@ use Rattle.commands.specs.declared.words.Reader.{Reader}
 use Rattle.commands.specs.declared.words.Setting.{Setting}
 use Rattle.commands.specs.declared.words.ReplayRequest.{ReplayRequest}
 use Rattle.commands.specs.declared.words.JoinRequest.{JoinRequest}
+use Rattle.commands.specs.declared.words.ReflectRequest.{ReflectRequest}
 use Rattle.commands.specs.declared.words.Command.{Command}
-use Rattle.commands.specs.declared.words.Command.TheVariants.{Stamp, Check, Replay, Join}
+use Rattle.commands.specs.declared.words.Command.TheVariants.{Stamp, Check, Replay, Join, Reflect}
 
 -- the word begins with `-`
 abbrev pub is_option : LineWord → Bool
@@ -128,6 +129,39 @@ join_without settings positionals = None
 abbrev pub join_command : Parts → Option Command
 join_command parts = join_without parts.settings parts.positionals
 
+-- how many links a reflector accepts
+abbrev pub connections_of : LineWord → Option ℕ
+connections_of word = number_of_word 1 64 word
+
+abbrev pub reflect_to : LineWord → LineWord → LineWord → LineWord → ℕ → Command
+reflect_to program name address log connections =
+    Reflect (record { program = program; name = name; address = address; connections = connections; log = log })
+
+abbrev pub reflect_named : LineWord → LineWord → LineWord → LineWord → Option ℕ → Option Command
+reflect_named program name address log connections =
+    if nat_le (length (encode_utf8_all name)) most_name then option_map (reflect_to program name address log) connections else None
+
+-- `reflect` has three positionals
+abbrev pub reflect_words : List LineWord → LineWord → LineWord → Option Command
+reflect_words (program ∷ name ∷ address ∷ []) connections log = reflect_named program name address log (connections_of (encode_utf8_all connections))
+reflect_words positionals connections log = None
+
+-- both of its options stand
+abbrev pub reflect_options : List LineWord → Option LineWord → Option LineWord → Option Command
+reflect_options positionals (Some connections) (Some log) = reflect_words positionals connections log
+reflect_options positionals connections log = None
+
+-- and no setting is left once they are taken out
+abbrev pub reflect_with : List Setting → List LineWord → Option LineWord → Option LineWord → Option Command
+reflect_with [] positionals connections log = reflect_options positionals connections log
+reflect_with settings positionals connections log = None
+
+-- `reflect PROGRAM NAME ADDRESS --connections N --log FILE`
+abbrev pub reflect_of : Parts → Option Command
+reflect_of parts =
+    let others = without (codes "--connections") parts.settings in
+    reflect_with (without (codes "--log") others) parts.positionals (setting_value (codes "--connections") parts.settings) (setting_value (codes "--log") others)
+
 -- what the words after the command's name make: one row for each command
 abbrev pub command_named : LineWord → Parts → Option Command
 command_named name parts =
@@ -135,6 +169,7 @@ command_named name parts =
     else if bytes_eq name (codes "check") then check_of parts
     else if bytes_eq name (codes "replay") then replay_of parts
     else if bytes_eq name (codes "join") then join_command parts
+    else if bytes_eq name (codes "reflect") then reflect_of parts
     else None
 
 -- the command that the words ask for, where they follow the rules
@@ -142,10 +177,11 @@ abbrev pub command_of : List LineWord → Option Command
 command_of [] = None
 command_of (name ∷ words) = option_and_then (command_named name) (all_parts words)
 
--- the words ask for the command join
-abbrev pub IsJoin : Option Command → Type 0
-IsJoin (Some (Join request)) = ⊤
-IsJoin command = ⊥
+-- the words ask for a command that uses a net: join or reflect
+abbrev pub UsesNet : Option Command → Type 0
+UsesNet (Some (Join request)) = ⊤
+UsesNet (Some (Reflect request)) = ⊤
+UsesNet command = ⊥
 
 -- a replay has a name of at most so many bytes, and a time below the limit of times
 abbrev pub IsBounded : ReplayRequest → Type 0
@@ -155,11 +191,20 @@ IsBounded request = (length (encode_utf8_all request.name) ≤ most_name) × (re
 abbrev pub IsBoundedJoin : JoinRequest → Type 0
 IsBoundedJoin request = (length (encode_utf8_all request.name) ≤ most_name) × (1 ≤ request.view)
 
+-- from 1 to 64 links
+abbrev pub AreConnections : ℕ → Type 0
+AreConnections count = (1 ≤ count) × (count ≤ 64)
+
+-- a reflect has a name of at most so many bytes too, and so many connections
+abbrev pub IsBoundedReflect : ReflectRequest → Type 0
+IsBoundedReflect request = (length (encode_utf8_all request.name) ≤ most_name) × AreConnections request.connections
+
 abbrev pub IsWithinBounds : Command → Type 0
 IsWithinBounds (Stamp script log) = ⊤
 IsWithinBounds (Check program) = ⊤
 IsWithinBounds (Replay request) = IsBounded request
 IsWithinBounds (Join request) = IsBoundedJoin request
+IsWithinBounds (Reflect request) = IsBoundedReflect request
 
 -- what a reader makes of these words, after those that it has read
 abbrev pub read_on : Reader → List LineWord → Option Parts

@@ -1,5 +1,5 @@
--- The text of replies, the lines of a world and of a check, and the lines of a program's faults.
-use Rattle.std.specs.Prelude.{ℕ, List, [], ◌∷◌, ◌++◌, length, sum, encode_utf8_all, Option, Some, None, codes}
+-- The text of replies, the lines of a world and of a check, the text of a session that was reflected, and the lines of a program's faults.
+use Rattle.std.specs.Prelude.{ℕ, ◌+◌, List, [], ◌∷◌, ◌++◌, length, sum, encode_utf8_all, Option, Some, None, codes}
 use Rattle.std.specs.List.{sum_by}
 use Rattle.text_lines.specs.Lines.{numbered}
 use Rattle.hex.specs.Hex.{encode_lower}
@@ -12,6 +12,9 @@ use Rattle.model_lang.specs.declared.fault.Bound.{Bound}
 use Rattle.model_lang.specs.declared.fault.Bound.TheVariants as bound
 use Rattle.model_check.specs.declared.fault.CheckFault.TheVariants.{Twice, NoName, NoClass, NoField, Count, NoRoot, WantOfMemory}
 use Rattle.wire_frames.specs.declared.start.Base.{Base}
+use Rattle.connection.specs.declared.ending.Ended.{Ended}
+use Rattle.connection.specs.declared.ending.Ended.TheVariants as ended
+use Rattle.reflector_core.specs.PlainSession.{PlainSession}
 use Rattle.reflector_core.specs.declared.request.Reply.{Reply}
 use Rattle.reflector_core.specs.declared.request.Reply.TheVariants.{Joined, Stamped, Again, Ticked, Left, Kept, Batch, Refused}
 use Rattle.reflector_core.specs.declared.request.Refusal.{Refusal}
@@ -60,6 +63,34 @@ reply_line reply = said_of reply ++ codes "\n"
 abbrev pub text_of : List Reply → List ℕ
 text_of [] = []
 text_of (reply ∷ replies) = reply_line reply ++ text_of replies
+
+-- how a connection has ended, and the value that comes with it
+abbrev pub end_part : Ended → List ℕ
+end_part ended.Left = codes " left"
+end_part ended.LinkEnd = codes " link-end"
+end_part ended.LinkFault = codes " link-fault"
+end_part (ended.Idle quiets) = codes " idle"
+end_part (ended.Stale current) = numbered (codes " stale") (current ∷ [])
+end_part (ended.Refused code) = numbered (codes " refused") (code ∷ [])
+end_part ended.WantOfMemory = codes " memory"
+
+-- the line of the connection of this number
+abbrev pub end_line : ℕ → Ended → List ℕ
+end_line number how = numbered (codes "connection") (number ∷ []) ++ end_part how ++ codes "\n"
+
+-- the lines of connections, numbered from here on
+abbrev pub end_lines : ℕ → List Ended → List ℕ
+end_lines number [] = []
+end_lines number (how ∷ ends) = end_line number how ++ end_lines (number + 1) ends
+
+-- the line of a session: how many entries its log has, and its horizon
+abbrev pub session_line : PlainSession → List ℕ
+session_line session =
+    numbered (codes "entries") (length session.log ∷ []) ++ numbered (codes " time") (session.horizon ∷ []) ++ codes "\n"
+
+-- the text of a session that was reflected: a line for each connection, and then its own
+abbrev pub reflected_text : List Ended → PlainSession → List ℕ
+reflected_text ends session = end_lines 0 ends ++ session_line session
 
 -- the numbers of a world
 abbrev pub counts_part : WorldRecord → List ℕ

@@ -2,6 +2,8 @@
 use Rattle.std.specs.Prelude.{◌≡◌, ◌≢◌, ◌⊎◌, ℕ, ◌≤◌, ◌<◌, Bool, true, false, nat_lt, if◌then◌else◌, List, [], ◌∷◌, ◌++◌, length, encode_utf8_all, Option, Some, None}
 use Rattle.tea_base.specs.Legal.{IsLegal}
 use Rattle.tea_base.specs.declared.entry.Entry.{Entry}
+use Rattle.connection.specs.declared.ending.Ended.{Ended}
+use Rattle.reflector_core.specs.PlainSession.{PlainSession}
 use Rattle.session_log.specs.Spelling.{log_spelling}
 use Rattle.reflector_core.specs.declared.request.Request.{Request}
 use Rattle.reflector_core.specs.Play.{first_session, after_all, replies_from, TellsItsEvents}
@@ -28,11 +30,13 @@ use Rattle.commands.specs.declared.outcome.Refusal.TheVariants as refusal
 use Rattle.commands.specs.declared.outcome.Put.{Put}
 use Rattle.commands.specs.declared.words.ReplayRequest.{ReplayRequest}
 use Rattle.commands.specs.declared.words.JoinRequest.{JoinRequest}
+use Rattle.commands.specs.declared.words.ReflectRequest.{ReflectRequest}
+use Rattle.commands.specs.declared.reflection.Reflection.{Reflection}
 use Rattle.commands.specs.declared.words.Command.{Command}
-use Rattle.commands.specs.declared.words.Command.TheVariants.{Stamp, Check, Replay, Join}
+use Rattle.commands.specs.declared.words.Command.TheVariants.{Stamp, Check, Replay, Join, Reflect}
 use Rattle.commands.specs.Address.{is_address}
 use Rattle.commands.specs.Script.{script_of}
-use Rattle.commands.specs.PrintedText.{text_of, counts_line, world_line, syntax_line, too_large_line, check_line}
+use Rattle.commands.specs.PrintedText.{text_of, counts_line, world_line, reflected_text, syntax_line, too_large_line, check_line}
 
 -- the visit of a view to a session: its program, the session's id, the number of the view, the address of its reflector, and what it
 -- does, line by line
@@ -51,8 +55,12 @@ pub data Closing : Type 0 where
   ByRefusal : Refusal → Closing
   -- memory is wanted
   ByWant : Closing
+  -- the net has failed
+  ByNetFault : Closing
   -- the run goes on as this view's
   ByVisit : PlainVisit → Closing
+  -- the run goes on as a reflector's, which serves this
+  ByReflecting : Reflection → Closing
 
 -- what comes of a command: its steps, and how it is closed behind them
 pub record Verdict : Type 0 where
@@ -223,6 +231,29 @@ OfView request id tree = OfFile input.Script (ask_script request.script) (λ byt
 abbrev pub OfJoin : JoinRequest → List ℕ → ProgramTree → Coming
 OfJoin request id tree = OfAddress (is_address (encode_utf8_all request.address)) (OfView request id tree)
 
+-- ---- reflect
+
+abbrev pub reflection_of : ReflectRequest → List ℕ → Reflection
+reflection_of request id =
+    record { id = record { 0 = id }; address = request.address; connections = request.connections; log = request.log }
+
+-- once the program was read, the address is checked, and then the session of this id is reflected
+abbrev pub OfReflect : ReflectRequest → List ℕ → Coming
+OfReflect request id = OfAddress (is_address (encode_utf8_all request.address)) (Only (at_once (ByReflecting (reflection_of request id))))
+
+-- a session that was reflected is told by how its connections ended, and its log is put
+abbrev pub reflected_steps : List ℕ → List Ended → PlainSession → List Step
+reflected_steps log ends session = steps_of (record { name = log; bytes = log_spelling session.log } ∷ []) (reflected_text ends session)
+
+abbrev pub reflected_closing : Bool → Closing
+reflected_closing true = ByNetFault
+reflected_closing false = Fine
+
+-- what comes of a session behind its reflector, whose net may have failed
+abbrev pub reflected_verdict : List ℕ → List Ended → PlainSession → Bool → Verdict
+reflected_verdict log ends session net_failed =
+    record { steps = reflected_steps log ends session; closing = reflected_closing net_failed }
+
 -- ---- the commands
 
 -- what comes of a command: a row for each
@@ -233,6 +264,8 @@ OfCommand (Replay request) =
     OfFile input.Program (ask_program request.program) (λ bytes. OfProgram (OfTree request (session_of request.name bytes)) bytes)
 OfCommand (Join request) =
     OfFile input.Program (ask_program request.program) (λ bytes. OfProgram (OfJoin request (session_of request.name bytes)) bytes)
+OfCommand (Reflect request) =
+    OfFile input.Program (ask_program request.program) (λ bytes. OfProgram (λ tree. OfReflect request (session_of request.name bytes)) bytes)
 
 -- what comes of words: those that break their rules are refused
 abbrev pub OfWords : Option Command → Coming

@@ -15,7 +15,7 @@ use Rattle.run_steps.specs.Steps.{Ask}
 use Rattle.commands.specs.declared.outcome.Input.{Input}
 use Rattle.commands.specs.declared.outcome.Input.TheVariants as input
 use Rattle.commands.specs.declared.words.Command.{Command}
-use Rattle.commands.specs.declared.words.Command.TheVariants.{Stamp, Check, Replay, Join}
+use Rattle.commands.specs.declared.words.Command.TheVariants.{Stamp, Check, Replay, Join, Reflect}
 use Rattle.commands.specs.declared.program.ProgramFault.{ProgramFault}
 use Rattle.commands.specs.declared.program.ProgramFault.TheVariants.{Refused, WantOfMemory}
 use Rattle.commands.specs.declared.recording.Recording.{Recording}
@@ -26,9 +26,9 @@ use Rattle.commands.specs.declared.work.Waiting.TheVariants as waiting
 use Rattle.commands.specs.declared.work.Next.{Next}
 use Rattle.commands.specs.declared.work.Next.TheVariants as next
 use Rattle.view_script.specs.PlainLine.{plain_lines}
-use Rattle.commands.specs.CommandWords.{IsBounded, IsBoundedJoin, IsWithinBounds}
+use Rattle.commands.specs.CommandWords.{AreConnections, IsBounded, IsBoundedJoin, IsWithinBounds}
 use Rattle.commands.specs.PrintedText.{check_line, syntax_line, too_large_line, world_line}
-use Rattle.commands.specs.Verdict.{Verdict, PlainVisit, ByRefusal, ByVisit, ByWant, Coming, Only, OfFile, IsRefused, IsFaultless, OfCommand, OfSnapshot, OfTree, OfView, at_once, fine, steps_of, ask_log, ask_program, ask_script, ask_snapshot}
+use Rattle.commands.specs.Verdict.{Verdict, PlainVisit, ByRefusal, ByReflecting, ByVisit, ByWant, Coming, Only, OfFile, IsRefused, IsFaultless, OfCommand, OfSnapshot, OfTree, OfView, at_once, fine, steps_of, ask_log, ask_program, ask_script, ask_snapshot}
 
 -- ---- a command that waits for a file
 
@@ -38,6 +38,7 @@ first_ask (Stamp script log) = ask_script script
 first_ask (Check program) = ask_program program
 first_ask (Replay request) = ask_program request.program
 first_ask (Join request) = ask_program request.program
+first_ask (Reflect request) = ask_program request.program
 
 -- the file that is waited for
 abbrev pub ask_of : Waiting → Ask
@@ -52,6 +53,7 @@ first_input (Stamp script log) = input.Script
 first_input (Check program) = input.Program
 first_input (Replay request) = input.Program
 first_input (Join request) = input.Program
+first_input (Reflect request) = input.Program
 
 abbrev pub input_of : Waiting → Input
 input_of (waiting.First command) = first_input command
@@ -97,11 +99,13 @@ ComesNext (next.Reads wait) = Remains wait
 ComesNext (next.Refuses refusal) = Only (at_once (ByRefusal refusal))
 ComesNext (next.Gives outcome) = Only (fine (steps_of outcome.files outcome.text))
 ComesNext (next.Visits request) = Only (at_once (ByVisit (visit_of request)))
+ComesNext (next.Reflects reflection) = Only (at_once (ByReflecting reflection))
 ComesNext next.WantOfMemory = Only (at_once ByWant)
 
 abbrev pub IsBoundedNext : Next → Type 0
 IsBoundedNext (next.Reads wait) = IsBoundedWait wait
 IsBoundedNext (next.Visits request) = 1 ≤ request.view
+IsBoundedNext (next.Reflects reflection) = AreConnections reflection.connections
 IsBoundedNext other = ⊤
 
 abbrev pub reads_left : Next → ℕ

@@ -3,7 +3,7 @@ ghost use Rattle.std.specs.Prelude.{◌≡◌, ◌<◌, ◌≤◌, ℕ, [], ◌�
 ghost use Rattle.std.specs.List.{list_all};
 ghost use Rattle.std.specs.Str.{bytes_eq};
 ghost use Rattle.text_lines.specs.Lines.{is_empty};
-ghost use Rattle.commands.specs.CommandWords.{command_of, command_named, stamp_of, check_of, replay_of, replay_words, join_command, join_named, join_words, view_of, all_parts, is_option, setting_value, without, IsFirstOf, IsWithinBounds, HasNone};
+ghost use Rattle.commands.specs.CommandWords.{command_of, command_named, stamp_of, check_of, replay_of, replay_words, join_command, join_named, join_words, view_of, reflect_of, reflect_options, reflect_words, reflect_named, connections_of, AreConnections, all_parts, is_option, setting_value, without, IsFirstOf, IsWithinBounds, HasNone};
 
 use crate::script::time_in;
 use std::alloc::Global;
@@ -24,6 +24,8 @@ pub enum Command {
     Replay(ReplayRequest),
     /// `join PROGRAM NAME ADDRESS VIEW SCRIPT`
     Join(JoinRequest),
+    /// `reflect PROGRAM NAME ADDRESS --connections N --log FILE`
+    Reflect(ReflectRequest),
 }
 
 /// What a replay is asked for.
@@ -51,6 +53,19 @@ pub struct JoinRequest {
     /// The number of the view, from 1.
     pub view: u32,
     pub script: Text,
+}
+
+/// What a reflector is asked for.
+#[derive(Drop)]
+pub struct ReflectRequest {
+    pub program: Text,
+    /// The name of the session, of at most 255 bytes.
+    pub name: Text,
+    pub address: Text,
+    /// How many links it accepts, from 1 to 64.
+    pub connections: u32,
+    /// Where the log of the session is put.
+    pub log: Text,
 }
 
 /// An option and its value.
@@ -332,6 +347,88 @@ fn join_named(
     }))
 }
 
+/// How many links a reflector accepts.
+fn connections_of(word: &str) -> Option<u32>
+    ensures read { result ≡ connections_of word.now }
+    ensures bound { IfSome result AreConnections }
+{
+    match number(word, 1, 64) {
+        Some(connections) => Some(connections as u32),
+        None => None,
+    }
+}
+
+/// `reflect PROGRAM NAME ADDRESS --connections N --log FILE`
+fn reflect(parts: Parts) -> Option<Command>
+    ensures read { result ≡ reflect_of parts }
+    ensures bounds { IfSome result IsWithinBounds }
+{
+    let Parts {
+        positionals,
+        settings,
+    } = parts;
+    let mut settings = settings.into_vec();
+    let connections = take_setting(&mut settings, "--connections");
+    let log = take_setting(&mut settings, "--log");
+    if !settings.is_empty() {
+        return None;
+    }
+    reflect_options(positionals, connections, log)
+}
+
+/// The reflector that positionals and the values of both options ask for.
+fn reflect_options(
+    positionals: Words,
+    connections: Option<Text>,
+    log: Option<Text>,
+) -> Option<Command>
+    ensures read { result ≡ reflect_options positionals connections log }
+    ensures bounds { IfSome result IsWithinBounds }
+{
+    let connections = connections?;
+    let log = log?;
+    reflect_words(positionals, &connections, log)
+}
+
+/// The reflector that three positionals ask for.
+fn reflect_words(positionals: Words, connections: &Text, log: Text) -> Option<Command>
+    ensures read { result ≡ reflect_words positionals connections.now log }
+    ensures bounds { IfSome result IsWithinBounds }
+{
+    let mut positionals = positionals.into_vec();
+    let address = positionals.pop()?;
+    let name = positionals.pop()?;
+    let program = positionals.pop()?;
+    if !positionals.is_empty() {
+        return None;
+    }
+    reflect_named(program, name, address, connections, log)
+}
+
+/// The reflector of a session of this name, with so many links.
+fn reflect_named(
+    program: Text,
+    name: Text,
+    address: Text,
+    connections: &Text,
+    log: Text,
+) -> Option<Command>
+    ensures read { result ≡ reflect_named program name address log (connections_of (encode_utf8_all connections.now)) }
+    ensures bounds { IfSome result IsWithinBounds }
+{
+    if name.bytes().len() > MOST_NAME {
+        return None;
+    }
+    let connections = connections_of(connections.as_str())?;
+    Some(Command::Reflect(ReflectRequest {
+        program,
+        name,
+        address,
+        connections,
+        log,
+    }))
+}
+
 /// The command of this name, where the words after it follow its rules.
 fn command_named(name: &Text, parts: Parts) -> Option<Command>
     ensures read { result ≡ command_named name.now parts }
@@ -345,6 +442,8 @@ fn command_named(name: &Text, parts: Parts) -> Option<Command>
         replay(parts)
     } else if is_word(name, "join") {
         join(parts)
+    } else if is_word(name, "reflect") {
+        reflect(parts)
     } else {
         None
     }

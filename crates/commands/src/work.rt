@@ -9,6 +9,7 @@ ghost use Rattle.commands.specs.Work.{ComesNext, IsBoundedNext, IsBoundedWait, L
 use crate::check::check;
 use crate::outcome::{Input, Outcome, Refusal};
 use crate::recording::{LogWait, SnapshotWait, take_log, take_program, take_snapshot};
+use crate::reflection::{Reflection, take_reflector_program};
 use crate::stamp::stamp;
 use crate::visit::{ScriptWait, VisitRequest, take_view_program, take_view_script};
 use crate::words::Command;
@@ -39,6 +40,8 @@ pub enum Next {
     Gives(Outcome),
     /// It goes on as a view's run.
     Visits(VisitRequest),
+    /// It goes on as a reflector's run.
+    Reflects(Reflection),
     WantOfMemory,
 }
 
@@ -75,6 +78,7 @@ impl Command {
             Command::Check { program } => program,
             Command::Replay(request) => &request.program,
             Command::Join(request) => &request.program,
+            Command::Reflect(request) => &request.program,
         }
     }
 }
@@ -101,6 +105,7 @@ impl Waiting {
             Waiting::First(Command::Check { .. }) => Input::Program,
             Waiting::First(Command::Replay(_)) => Input::Program,
             Waiting::First(Command::Join(_)) => Input::Program,
+            Waiting::First(Command::Reflect(_)) => Input::Program,
             Waiting::Log(_) => Input::Log,
             Waiting::Snapshot(_) => Input::Snapshot,
             Waiting::Script(_) => Input::Script,
@@ -154,5 +159,6 @@ fn take_first(alloc: Global, command: Command, bytes: &[u8]) -> Next
         Command::Check { program: _ } => check(alloc, bytes),
         Command::Replay(request) => take_program(alloc, request, bytes),
         Command::Join(request) => take_view_program(alloc, request, bytes),
+        Command::Reflect(request) => take_reflector_program(alloc, request, bytes),
     }
 }

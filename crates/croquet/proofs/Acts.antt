@@ -8,11 +8,11 @@ use Rattle.run_steps.specs.Outside.{Acts, Cut, Failed, WantedMemory, Well, Files
 use Rattle.croquet.specs.declared.status.Status.{Status}
 use Rattle.croquet.specs.declared.status.Status.TheVariants as status
 use Rattle.croquet.specs.Calls.{TellsUnput}
-use Rattle.croquet.specs.Run.{Does, EndsWell, TellsEnd, TellsMemory}
+use Rattle.croquet.specs.Run.{Does, Ending, TellsEnd, TellsMemory}
 
--- these steps are done, and then it is told that all went well, or where they were cut
-abbrev pub DoesAll : {F W : Type 0} → FilesTell F → OutputTells W → List Step → F → W → F → W → Status → Type 0
-DoesAll files out steps f w f' w' result = Does (desk_tells files out) steps EndsWell (desk f w) (desk f' w') result
+-- these steps are done, and then this end is told, or where they were cut
+abbrev pub DoesAll : {F W : Type 0} → FilesTell F → OutputTells W → List Step → Ending → F → W → F → W → Status → Type 0
+DoesAll files out steps ending f w f' w' result = Does (desk_tells files out) steps ending (desk f w) (desk f' w') result
 
 abbrev pub ActsSo : {F W : Type 0} → FilesTell F → OutputTells W → List Step → Option Cut → F → W → F → W → Type 0
 ActsSo files out steps cut f w f' w' = Acts (desk_tells files out) steps cut (desk f w) (desk f' w')
@@ -22,10 +22,10 @@ abbrev pub LeadsOn : {F W : Type 0} → FilesTell F → OutputTells W → List S
 LeadsOn {F = F} {W = W} files out steps f w all f0 w0 = (cut : Option Cut) (f' : F) (w' : W) → ActsSo files out steps cut f w f' w' → ActsSo files out all cut f0 w0 f' w'
 
 -- steps that were done, and told
-does_so
-    : {F W : Type 0} (files : FilesTell F) (out : OutputTells W) (steps : List Step) (cut : Option Cut) (f mid : F) (w next w' : W) (result : Status)
-    → ActsSo files out steps cut f w mid next → TellsEnd out cut EndsWell next w' result → DoesAll files out steps f w mid w' result
-does_so files out steps cut f mid w next w' result acts told = record {
+pub does_so
+    : {F W : Type 0} (files : FilesTell F) (out : OutputTells W) (steps : List Step) (cut : Option Cut) (ending : Ending) (f mid : F) (w next w' : W) (result : Status)
+    → ActsSo files out steps cut f w mid next → TellsEnd out cut ending next w' result → DoesAll files out steps ending f w mid w' result
+does_so files out steps cut ending f mid w next w' result acts told = record {
   cut = cut;
   done = desk mid next;
   acts = acts;
@@ -50,9 +50,9 @@ module _ {F W : Type 0} (files : FilesTell F) (out : OutputTells W) (puts : List
   put_next quiet same well cut f' w' acts =
       here cut f' w' (inl (desk next w, (well, refl), subst (λ (o : W). ActsSo files out (steps_of (drop (i + 1) puts) text) cut next o f' w') same acts))
 
-  pub unput : (w' : W) (result : Status) → TellsUnput files out put f w next w' result → DoesAll files out all f0 w0 next w' result
-  unput w' result (inl (failed, told)) = does_so files out all _ f0 next w0 w w' result (here _ next w (inr (inl ((failed, refl), refl)))) told
-  unput w' result (inr (wanted, told)) = does_so files out all _ f0 next w0 w w' result (here _ next w (inr (inr ((wanted, refl), refl)))) told
+  pub unput : (w' : W) (result : Status) → TellsUnput files out put f w next w' result → (ending : Ending) → DoesAll files out all ending f0 w0 next w' result
+  unput w' result (inl (failed, told)) ending = does_so files out all _ ending f0 next w0 w w' result (here _ next w (inr (inl ((failed, refl), refl)))) told
+  unput w' result (inr (wanted, told)) ending = does_so files out all _ ending f0 next w0 w w' result (here _ next w (inr (inr ((wanted, refl), refl)))) told
 
 -- the text is printed, or the run is cut at it
 module _ {F W : Type 0} (files : FilesTell F) (out : OutputTells W) (puts : List Put) (text : List ℕ) (left : puts ≡ [])
@@ -60,11 +60,11 @@ module _ {F W : Type 0} (files : FilesTell F) (out : OutputTells W) (puts : List
   last : (cut : Option Cut) → ActsSo files out (Prints text ∷ []) cut f w f next → ActsSo files out all cut f0 w0 f next
   last cut acts = on cut f next (subst (λ (ps : List Put). ActsSo files out (steps_of ps text) cut f w f next) (sym left) acts)
 
-  pub printed_well : PrintsText out Well text w next → DoesAll files out all f0 w0 f next status.Ok
-  printed_well well = does_so files out all None f0 f w0 next next status.Ok (last None (inl (desk f next, (well, refl), refl))) (refl, refl)
+  pub printed_well : PrintsText out Well text w next → ActsSo files out all None f0 w0 f next
+  printed_well well = last None (inl (desk f next, (well, refl), refl))
 
-  pub printed_failed : PrintsText out Failed text w next → DoesAll files out all f0 w0 f next status.WriteFault
-  printed_failed failed = does_so files out all _ f0 f w0 next next status.WriteFault (last _ (inr (inl ((failed, refl), refl)))) (refl, refl)
+  pub printed_failed : PrintsText out Failed text w next → (ending : Ending) → DoesAll files out all ending f0 w0 f next status.WriteFault
+  printed_failed failed ending = does_so files out all _ ending f0 f w0 next next status.WriteFault (last _ (inr (inl ((failed, refl), refl)))) (refl, refl)
 
-  pub printed_wanting : (w' : W) (result : Status) → PrintsText out WantedMemory text w next → TellsMemory out next w' result → DoesAll files out all f0 w0 f w' result
-  printed_wanting w' result wanted told = does_so files out all _ f0 f w0 next w' result (last _ (inr (inr ((wanted, refl), refl)))) told
+  pub printed_wanting : (w' : W) (result : Status) → PrintsText out WantedMemory text w next → TellsMemory out next w' result → (ending : Ending) → DoesAll files out all ending f0 w0 f w' result
+  printed_wanting w' result wanted told ending = does_so files out all _ ending f0 f w0 next w' result (last _ (inr (inr ((wanted, refl), refl)))) told

@@ -1,3 +1,4 @@
 pub mod Acts
 pub mod Runs
 pub mod VisitRuns
+pub mod ReflectorRuns

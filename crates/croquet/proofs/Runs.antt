@@ -14,11 +14,11 @@ use Rattle.croquet.specs.declared.status.Status.TheVariants as status
 use Rattle.croquet.specs.declared.top.Turn.{Turn}
 use Rattle.croquet.specs.declared.top.Turn.TheVariants as turn
 use Rattle.croquet.specs.Calls.{Turns}
-use Rattle.croquet.specs.Run.{Concludes, Course, Does, Ending, EndsRefused, EndsWanting, EndsWell, Ran, Tells, TellsCut, TellsEnding, TellsMemory}
+use Rattle.croquet.specs.Run.{Concludes, Course, Does, Ending, EndsRefused, EndsWanting, EndsWell, RanBySteps, Reaches, Tells, TellsCut, TellsEnding, TellsMemory}
 
 -- a run over files and an output alone
 abbrev pub RanSo : {F W : Type 0} → FilesTell F → OutputTells W → Coming → F → W → F → W → Status → Type 0
-RanSo files out coming f w f' w' result = Ran (desk_tells files out) coming (desk f w) (desk f' w') result
+RanSo files out coming f w f' w' result = RanBySteps (desk_tells files out) coming (desk f w) (desk f' w') result
 
 -- and a command that has come so far over them
 abbrev pub TurnsSo : {F W : Type 0} → FilesTell F → OutputTells W → Turn → Coming → F → W → F → W → Type 0
@@ -32,6 +32,18 @@ later step coming other steps ending leads course = record {
   more = course.more;
   concludes = course.concludes;
   all = ap (λ (s : List Step). step ∷ s) course.all;
+}
+
+-- a file was read, and handed over, and the run goes on behind the command
+reaches_on
+    : {F W : Type 0} (files : FilesTell F) (out : OutputTells W) (wait : Waiting) (given : Option (List ℕ)) (next : Next) (closing : Closing) (f mid f' : F) (w w' : W)
+    → ReadsFile files Well (ask_of wait) given f mid
+    → ((rest : Verdict) → ComesNext next rest → Remains wait (before (Loads (ask_of wait) given) rest))
+    → Reaches (desk_tells files out) (ComesNext next) closing (desk mid w) (desk f' w') → Reaches (desk_tells files out) (Remains wait) closing (desk f w) (desk f' w')
+reaches_on files out wait given next closing f mid f' w w' read leads reached = record {
+  steps = Loads (ask_of wait) given ∷ reached.steps;
+  comes = leads _ reached.comes;
+  acts = inl (desk mid w, (read, refl), reached.acts);
 }
 
 -- a file was read, and handed over
@@ -53,11 +65,8 @@ turns_on files out wait given next (turn.Over result) f mid f' w w' read leads r
     told = ran.does.told;
   };
 }
-turns_on files out wait given next (turn.Visits request) f mid f' w w' read leads reached = record {
-  steps = Loads (ask_of wait) given ∷ reached.steps;
-  comes = leads _ reached.comes;
-  acts = inl (desk mid w, (read, refl), reached.acts);
-}
+turns_on files out wait given next (turn.Visits request) f mid f' w w' read leads reached = reaches_on files out wait given next _ f mid f' w w' read leads reached
+turns_on files out wait given next (turn.Reflects reflection) f mid f' w w' read leads reached = reaches_on files out wait given next _ f mid f' w w' read leads reached
 
 -- where a file is not read, what comes of one above its limit stands for what would have come
 unread : (wait : Waiting) → Course (Remains wait) (Loads (ask_of wait) None ∷ []) (EndsRefused (refusal.Input (input_of wait)))
@@ -160,8 +169,5 @@ turns_freely files out coming other (turn.Over result) f f' w w' leads ran = rec
   };
   does = ran.does;
 }
-turns_freely files out coming other (turn.Visits request) f f' w w' leads reached = record {
-  steps = reached.steps;
-  comes = inr (leads _ reached.comes);
-  acts = reached.acts;
-}
+turns_freely files out coming other (turn.Visits request) f f' w w' leads reached = record { steps = reached.steps; comes = inr (leads _ reached.comes); acts = reached.acts }
+turns_freely files out coming other (turn.Reflects reflection) f f' w w' leads reached = record { steps = reached.steps; comes = inr (leads _ reached.comes); acts = reached.acts }

@@ -12,8 +12,8 @@ use Rattle.view_shell.specs.Viewers.{first_phase}
 use Rattle.view_shell.specs.ViewRun.{EndsBy, IsCutEnd, ViewRan}
 use Rattle.commands.specs.Verdict.{ByVisit, Coming, PlainVisit}
 use Rattle.croquet.specs.declared.status.Status.{Status}
-use Rattle.croquet.specs.Calls.{Reaches, TellsViewEnd, VisitRan}
-use Rattle.croquet.specs.Run.{EndsView, Ran, TellsCut, TellsEnd, TellsEnding, TellsMemory}
+use Rattle.croquet.specs.Calls.{TellsViewEnd, VisitRan}
+use Rattle.croquet.specs.Run.{EndsView, RanBySteps, Reaches, TellsCut, TellsEnd, TellsEnding, TellsMemory}
 
 -- ---- the end of a view's run
 
@@ -98,7 +98,7 @@ none_went_back files out (Some there) old new (well, never, kept) = absurd never
 -- a run over files and an output alone is one with any net
 pub ran_beside
     : {F W N L : Type 0} (files : FilesTell F) (out : OutputTells W) (net : NetTells N L) (links : LinksTell L) (held : N) (coming : Coming) (f f' : F) (w w' : W) (result : Status)
-    → Ran (desk_tells files out) coming (desk f w) (desk f' w') result → Ran (outside_tells files out net links) coming (outside f w held None) (outside f' w' held None) result
+    → RanBySteps (desk_tells files out) coming (desk f w) (desk f' w') result → RanBySteps (outside_tells files out net links) coming (outside f w held None) (outside f' w' held None) result
 ran_beside {F = F} {W = W} {N = N} {L = L} files out net links held coming f f' w w' result ran =
     let beside = λ (o : Outside F W ⊤ ⊤). outside {F = F} {W = W} {N = N} {L = L} o.files o.out held None in
     let does = ran.does in
@@ -126,8 +126,8 @@ goes_back_beside files out net links held (Some link) old new back = acts_with_f
 -- a command that goes on as a view's run
 pub ran_visiting
     : {F W N L : Type 0} (files : FilesTell F) (out : OutputTells W) (net : NetTells N L) (links : LinksTell L) (coming : Coming) (visit : PlainVisit) (f f' : F) (w next w' : W) (n n' : N) (result : Status)
-    → Reaches (desk_tells files out) coming visit (desk f w) (desk f' next) → VisitRan (booth_tells out net links) visit (booth next n None) (booth w' n' None) result
-    → Ran (outside_tells files out net links) coming (outside f w n None) (outside f' w' n' None) result
+    → Reaches (desk_tells files out) coming (ByVisit visit) (desk f w) (desk f' next) → VisitRan (booth_tells out net links) visit (booth next n None) (booth w' n' None) result
+    → RanBySteps (outside_tells files out net links) coming (outside f w n None) (outside f' w' n' None) result
 ran_visiting {F = F} {W = W} {N = N} {L = L} files out net links coming visit f f' w next w' n n' result reached ran =
     let beside = λ (o : Outside ⊤ W N L). outside {F = F} {W = W} {N = N} {L = L} f' o.out o.net o.link in
     let does = ran.does in

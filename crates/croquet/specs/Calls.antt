@@ -1,17 +1,20 @@
 -- What the parts of a run do, and what they tell.
-use Rattle.std.specs.Prelude.{◌⊎◌, List, None, codes}
+use Rattle.std.specs.Prelude.{◌⊎◌, ⊤, Bool, true, false, List, None, Result, Ok, Err, codes}
 use Rattle.run_steps.specs.Steps.{Step}
 use Rattle.run_steps.specs.Outside.{Outside, OutsideTells, Failed, WantedMemory, FilesTell, OutputTells, PutsFile, Acts}
+use Rattle.reflect_server.specs.declared.reflection.ServeFault.{ServeFault}
+use Rattle.reflect_server.specs.declared.reflection.ServeFault.TheVariants as serve_fault
 use Rattle.view_shell.specs.declared.ending.ViewEnd.{ViewEnd}
 use Rattle.view_shell.specs.declared.ending.ViewEnd.TheVariants as view_end
 use Rattle.commands.specs.declared.outcome.Put.{Put}
-use Rattle.commands.specs.Verdict.{ByVisit, Coming, PlainVisit}
+use Rattle.commands.specs.CommandWords.{AreConnections}
+use Rattle.commands.specs.Verdict.{ByReflecting, ByVisit, Coming, PlainVisit}
 use Rattle.commands.specs.Work.{visit_of}
 use Rattle.croquet.specs.declared.status.Status.{Status}
 use Rattle.croquet.specs.declared.status.Status.TheVariants as status
 use Rattle.croquet.specs.declared.top.Turn.{Turn}
 use Rattle.croquet.specs.declared.top.Turn.TheVariants as turn
-use Rattle.croquet.specs.Run.{Does, Ending, EndsView, Ran, Tells, TellsEnding, TellsMemory, Visits}
+use Rattle.croquet.specs.Run.{Does, Ending, EndsOnNetFault, EndsView, EndsWanting, EndsWell, RanBySteps, Reaches, Tells, TellsEnding, TellsMemory, Visits}
 
 -- a file was not put, and this was told
 abbrev pub TellsUnput : {F W : Type 0} → FilesTell F → OutputTells W → Put → F → W → F → W → Status → Type 0
@@ -25,16 +28,31 @@ TellsViewEnd out (view_end.Refused code kept) old new result =
     TellsEnding out (EndsView (view_end.Refused code kept)) old new result ⊎ TellsMemory out old new result
 TellsViewEnd out end old new result = TellsEnding out (EndsView end) old new result
 
--- a command has done its steps, and the run goes on as this view's
-pub record Reaches {F W N L : Type 0} (tells : OutsideTells F W N L) (coming : Coming) (visit : PlainVisit) (old new : Outside F W N L) : Type 0 where
-  pub steps : List Step
-  pub comes : coming (record { steps = steps; closing = ByVisit visit })
-  pub acts : Acts tells steps None old new
+-- steps are all done; or they are cut, and this is told, whatever was to come behind them
+abbrev pub Completes : {F W N L : Type 0} → OutsideTells F W N L → List Step → Result ⊤ Status → Outside F W N L → Outside F W N L → Type 0
+Completes tells steps (Ok done) old new = Acts tells steps None old new
+Completes tells steps (Err result) old new = (ending : Ending) → Does tells steps ending old new result
 
--- a command is over, or its run goes on as a view's
+-- how the run of a reflector ends behind all its steps
+abbrev pub reflected_ending : Bool → Ending
+reflected_ending true = EndsOnNetFault
+reflected_ending false = EndsWell
+
+-- and the run of one that has no session to tell of
+abbrev pub fault_ending : ServeFault → Ending
+fault_ending serve_fault.ListenFault = EndsOnNetFault
+fault_ending serve_fault.WantOfMemory = EndsWanting
+
+-- a command is over, or its run goes on as a view's or a reflector's
 abbrev pub Turns : {F W N L : Type 0} → OutsideTells F W N L → Turn → Coming → Outside F W N L → Outside F W N L → Type 0
-Turns tells (turn.Over result) coming old new = Ran tells coming old new result
-Turns tells (turn.Visits request) coming old new = Reaches tells coming (visit_of request) old new
+Turns tells (turn.Over result) coming old new = RanBySteps tells coming old new result
+Turns tells (turn.Visits request) coming old new = Reaches tells coming (ByVisit (visit_of request)) old new
+Turns tells (turn.Reflects reflection) coming old new = Reaches tells coming (ByReflecting reflection) old new
+
+-- a reflector accepts from 1 to 64 links
+abbrev pub IsBoundedTurn : Turn → Type 0
+IsBoundedTurn (turn.Reflects reflection) = AreConnections reflection.connections
+IsBoundedTurn other = ⊤
 
 -- a view's run is done, and its end told
 pub record VisitRan {F W N L : Type 0} (tells : OutsideTells F W N L) (visit : PlainVisit) (old new : Outside F W N L) (result : Status) : Type 0 where

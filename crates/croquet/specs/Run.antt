@@ -1,8 +1,13 @@
 -- What a run does to the outside: all that comes of its command, or this up to one place, and then the line of its fault.
-use Rattle.std.specs.Prelude.{◌≡◌, ℕ, List, [], ◌∷◌, ◌++◌, ◌⊎◌, Option, Some, None, codes}
+use Rattle.std.specs.Prelude.{◌≡◌, ℕ, List, [], ◌∷◌, ◌++◌, ◌⊎◌, Option, Some, None, Result, Ok, Err, codes}
 use Rattle.text_lines.specs.Lines.{numbered}
 use Rattle.run_steps.specs.Steps.{Step, Loads, Puts, Prints}
-use Rattle.run_steps.specs.Outside.{Outside, OutsideTells, OutputTells, Came, Well, Failed, WantedMemory, PrintsText, Cut, Acts, LinkGoesBack}
+use Rattle.run_steps.specs.Outside.{Outside, OutsideTells, OutputTells, Came, Well, Failed, WantedMemory, PrintsText, Cut, Acts, LinkGoesBack, OnPart}
+use Rattle.tea_io.specs.declared.net.NetCall.TheVariants.{Listen}
+use Rattle.reflect_server.specs.Reflects.{Reflects}
+use Rattle.reflect_server.specs.declared.reflection.Reflected.{Reflected}
+use Rattle.reflect_server.specs.declared.reflection.ServeFault.{ServeFault}
+use Rattle.reflect_server.specs.declared.reflection.ServeFault.TheVariants.{ListenFault, WantOfMemory}
 use Rattle.view_shell.specs.declared.ending.ViewEnd.{ViewEnd}
 use Rattle.view_shell.specs.declared.ending.ViewEnd.TheVariants as view_end
 use Rattle.view_shell.specs.Phases.{Phase, Walks}
@@ -12,7 +17,8 @@ use Rattle.commands.specs.declared.outcome.Input.{Input}
 use Rattle.commands.specs.declared.outcome.Input.TheVariants as input
 use Rattle.commands.specs.declared.outcome.Refusal.{Refusal}
 use Rattle.commands.specs.declared.outcome.Refusal.TheVariants as refusal
-use Rattle.commands.specs.Verdict.{Closing, Fine, ByRefusal, ByWant, ByVisit, Verdict, PlainVisit, Coming}
+use Rattle.commands.specs.declared.reflection.Reflection.{Reflection}
+use Rattle.commands.specs.Verdict.{Closing, Fine, ByRefusal, ByWant, ByNetFault, ByVisit, ByReflecting, Verdict, PlainVisit, Coming, Free, Only, at_once, reflected_verdict}
 use Rattle.croquet.specs.declared.status.Status.{Status}
 use Rattle.croquet.specs.declared.status.Status.TheVariants as status
 
@@ -26,6 +32,8 @@ pub data Ending : Type 0 where
   EndsRefused : Refusal → Ending
   -- memory is wanted
   EndsWanting : Ending
+  -- its net has failed
+  EndsOnNetFault : Ending
   -- it went on as a view's run, which ends so
   EndsView : ViewEnd → Ending
 
@@ -42,7 +50,10 @@ abbrev pub Concludes : Closing → List Step → Ending → Type 0
 Concludes Fine steps ending = (steps ≡ []) × (ending ≡ EndsWell)
 Concludes (ByRefusal refusal) steps ending = (steps ≡ []) × (ending ≡ EndsRefused refusal)
 Concludes ByWant steps ending = (steps ≡ []) × (ending ≡ EndsWanting)
+Concludes ByNetFault steps ending = (steps ≡ []) × (ending ≡ EndsOnNetFault)
 Concludes (ByVisit visit) steps ending = Visits visit steps ending
+-- No run by steps alone ends so: a reflector serves many links at once. `RanAsReflector` says how it does.
+Concludes (ByReflecting reflection) steps ending = ⊥
 
 -- these steps, and this end, come of a command: those of a verdict that comes, and then those that its closing comes to
 pub record Course (coming : Coming) (steps : List Step) (ending : Ending) : Type 0 where
@@ -91,6 +102,7 @@ abbrev pub ending_told : Ending → LastLine
 ending_told EndsWell = (None, status.Ok)
 ending_told (EndsRefused refusal) = refusal_told refusal
 ending_told EndsWanting = (Some (codes "memory\n"), status.WantOfMemory)
+ending_told EndsOnNetFault = (Some (codes "net-fault\n"), status.NetFault)
 ending_told (EndsView end) = view_told end
 
 -- and those of a step that failed: an output that failed takes no line
@@ -155,8 +167,44 @@ pub record Does {F W N L : Type 0} (tells : OutsideTells F W N L) (steps : List 
 
 -- There are steps and an end that come of a command, and what was read, put, printed, made, heard and sent is what they give, up to
 -- the place where the run was cut, and then the last line.
-pub record Ran {F W N L : Type 0} (tells : OutsideTells F W N L) (coming : Coming) (old new : Outside F W N L) (result : Status) : Type 0 where
+pub record RanBySteps {F W N L : Type 0} (tells : OutsideTells F W N L) (coming : Coming) (old new : Outside F W N L) (result : Status) : Type 0 where
   pub steps : List Step
   pub ending : Ending
   pub course : Course coming steps ending
   pub does : Does tells steps ending old new result
+
+-- ---- a reflector's run
+
+-- the steps of a verdict that comes of a command, which is closed so, are all done
+pub record Reaches {F W N L : Type 0} (tells : OutsideTells F W N L) (coming : Coming) (closing : Closing) (old new : Outside F W N L) : Type 0 where
+  pub steps : List Step
+  pub comes : coming (record { steps = steps; closing = closing })
+  pub acts : Acts tells steps None old new
+
+-- a reflector has done this to the net, by a clock that may give these values, and answers so; nothing else moves
+abbrev pub ServesNet
+    : (ℕ → Type 0) → {F W N L : Type 0} → OutsideTells F W N L → Reflection → Result Reflected ServeFault → Outside F W N L → Outside F W N L
+    → Type 0
+ServesNet gives tells reflection answer old new =
+    OnPart tells.net (λ net. OnPart tells.links (λ links. Reflects gives reflection.id net links (Listen reflection.address ∷ []) reflection.connections old.net new.net answer))
+    × (new ≡ record old { net = new.net })
+
+-- what comes of a reflector's answer: the log of its session is put under this name, and its text is printed, also where the net failed
+abbrev pub OfReflected : List ℕ → Result Reflected ServeFault → Coming
+OfReflected log (Ok reflected) = Free (Only (reflected_verdict log reflected.ends reflected.session.plain reflected.net_failed))
+OfReflected log (Err ListenFault) = Only (at_once ByNetFault)
+OfReflected log (Err WantOfMemory) = Only (at_once ByWant)
+
+-- a command has done its steps, a reflector has served the net, and what comes of its answer is done
+pub record RanAsReflector (gives : ℕ → Type 0) {F W N L : Type 0} (tells : OutsideTells F W N L) (coming : Coming) (old new : Outside F W N L) (result : Status) : Type 0 where
+  pub reflection : Reflection
+  pub ready : Outside F W N L
+  pub reaches : Reaches tells coming (ByReflecting reflection) old ready
+  pub answer : Result Reflected ServeFault
+  pub served : Outside F W N L
+  pub serves : ServesNet gives tells reflection answer ready served
+  pub behind : RanBySteps tells (OfReflected reflection.log answer) served new result
+
+-- a command has run: by steps, or as a reflector
+abbrev pub Ran : (ℕ → Type 0) → {F W N L : Type 0} → OutsideTells F W N L → Coming → Outside F W N L → Outside F W N L → Status → Type 0
+Ran gives tells coming old new result = RanBySteps tells coming old new result ⊎ RanAsReflector gives tells coming old new result

@@ -1,22 +1,25 @@
 //! The top call: all that the program does.
-ghost use Rattle.std.specs.Prelude.{◌≡◌, None, IfErr, OnOk};
+ghost use Rattle.std.specs.Prelude.{◌≡◌, None};
 ghost use Rattle.run_steps.specs.Calls.{came_of, given_of};
-ghost use Rattle.run_steps.specs.Outside.{PutsFile, ReadsFile, Well, desk, desk_tells, files_tell, links_tell, net_tells, output_tells, outside, outside_tells};
-ghost use Rattle.commands.specs.CommandWords.{IsJoin, command_of};
-ghost use Rattle.commands.specs.Verdict.{Comes, IsFunction, LogsTellTheirEvents, SnapshotsAgree, SomeVerdictComes, steps_of};
+ghost use Rattle.run_steps.specs.Outside.{ReadsFile, desk, desk_tells, files_tell, links_tell, net_tells, output_tells, outside, outside_tells};
+ghost use Rattle.commands.specs.CommandWords.{UsesNet, command_of};
+ghost use Rattle.commands.specs.Verdict.{Comes, IsFunction, LogsTellTheirEvents, SnapshotsAgree, SomeVerdictComes};
 ghost use Rattle.commands.specs.Work.{ComesNext, IsBoundedNext, ask_of};
 ghost use Rattle.view_shell.specs.OneRun.{IsOneRun};
-ghost use Rattle.croquet.specs.Calls.{TellsUnput, Turns};
-ghost use Rattle.croquet.specs.Run.{Does, EndsWell, Ran};
+ghost use Rattle.croquet.specs.Calls.{IsBoundedTurn, Turns};
+ghost use Rattle.croquet.specs.Run.{Ran};
 
+use crate::giving::finish;
+use crate::reflecting::tell_reflected;
 use crate::status::Status;
 use crate::telling::{tell, tell_refusal, tell_want_of_memory};
 use crate::visiting::run_visit;
 use commands::{
-    Next, Outcome, Put, VisitRequest, Waiting, logs_tell_their_events, one_verdict, read_command,
+    Next, Reflection, VisitRequest, Waiting, logs_tell_their_events, one_verdict, read_command,
     snapshots_agree, some_verdict,
 };
-use run_steps::{CallFault, print_text, put_file, read_file};
+use reflect_server::{Server, reflect};
+use run_steps::{CallFault, read_file};
 use std::alloc::Global;
 use std::sync::Wait;
 use std::thread::Threads;
@@ -24,11 +27,12 @@ use tea_base::{Blob, WantOfMemory, Words};
 use tea_io::{Clock, Files, Gate, Net, Sink};
 use view_shell::one_run;
 
-/// A command is over, or the run goes on as a view's.
+/// A command is over, or the run goes on as a view's or a reflector's.
 #[derive(Drop)]
 enum Turn {
     Over(Status),
     Visits(VisitRequest),
+    Reflects(Reflection),
 }
 
 /// Reads the file that a command waits for.
@@ -38,43 +42,12 @@ fn read_asked<F: Files>(files: &mut F, waiting: &Waiting) -> Result<Option<Blob>
     read_file(files, waiting.name(), waiting.limit())
 }
 
-/// Puts a file, or tells why it was not put.
-fn put_or_tell<F: Files, W: Sink>(put: &Put, files: &mut F, out: &mut W) -> Result<(), Status>
-    ensures put { OnOk result (PutsFile (files_tell F.held F.asked F.faults) Well put.now.name put.now.bytes files.old files.new) }
-    ensures quiet { OnOk result (out.new ≡ out.old) }
-    ensures told { IfErr result (TellsUnput (files_tell F.held F.asked F.faults) (output_tells W.written W.faults W.wants)
-        put.now files.old out.old files.new out.new) }
-{
-    match put_file(files, &put.name, put.bytes.bytes()) {
-        Ok(()) => Ok(()),
-        Err(CallFault::Failed) => Err(tell(out, "write-fault\n", Status::WriteFault)),
-        Err(CallFault::WantOfMemory) => Err(tell_want_of_memory(out)),
-    }
-}
-
-/// Puts the files of a command, and prints its text.
-fn finish<F: Files, W: Sink>(outcome: &Outcome, files: &mut F, out: &mut W) -> Status
-    ensures { Does (desk_tells (files_tell F.held F.asked F.faults) (output_tells W.written W.faults W.wants))
-        (steps_of outcome.now.files outcome.now.text) EndsWell (desk files.old out.old) (desk files.new out.new) result }
-{
-    for put in outcome.files.as_slice() {
-        match put_or_tell(put, files, out) {
-            Ok(()) => {}
-            Err(status) => return status,
-        }
-    }
-    match print_text(out, outcome.text.bytes()) {
-        Ok(()) => Status::Ok,
-        Err(CallFault::Failed) => Status::WriteFault,
-        Err(CallFault::WantOfMemory) => tell_want_of_memory(out),
-    }
-}
-
 /// Runs a command from here on.
 fn go_on<F: Files, W: Sink>(alloc: Global, next: Next, files: &mut F, out: &mut W) -> Turn
     requires { IsBoundedNext next }
-    ensures { Turns (desk_tells (files_tell F.held F.asked F.faults) (output_tells W.written W.faults W.wants))
+    ensures turns { Turns (desk_tells (files_tell F.held F.asked F.faults) (output_tells W.written W.faults W.wants))
         result (ComesNext next) (desk files.old out.old) (desk files.new out.new) }
+    ensures bounded { IsBoundedTurn result }
 {
     match next {
         Next::Reads(waiting) => match read_asked(files, &waiting) {
@@ -85,14 +58,16 @@ fn go_on<F: Files, W: Sink>(alloc: Global, next: Next, files: &mut F, out: &mut 
         Next::Refuses(refusal) => Turn::Over(tell_refusal(out, &refusal)),
         Next::Gives(outcome) => Turn::Over(finish(&outcome, files, out)),
         Next::Visits(request) => Turn::Visits(request),
+        Next::Reflects(reflection) => Turn::Reflects(reflection),
         Next::WantOfMemory => Turn::Over(tell_want_of_memory(out)),
     }
 }
 
-/// Runs what the words ask for up to its end, or up to a view's run.
+/// Runs what the words ask for up to its end, or up to a view's run or a reflector's.
 fn begin<F: Files, W: Sink>(alloc: Global, words: &Words, files: &mut F, out: &mut W) -> Turn
-    ensures { Turns (desk_tells (files_tell F.held F.asked F.faults) (output_tells W.written W.faults W.wants))
+    ensures turns { Turns (desk_tells (files_tell F.held F.asked F.faults) (output_tells W.written W.faults W.wants))
         result (Comes (command_of words.now)) (desk files.old out.old) (desk files.new out.new) }
+    ensures bounded { IsBoundedTurn result }
 {
     match read_command(alloc, words) {
         Ok(command) => go_on(alloc, Next::of_command(command), files, out),
@@ -103,7 +78,8 @@ fn begin<F: Files, W: Sink>(alloc: Global, words: &Words, files: &mut F, out: &m
 /// Runs what the words ask for over these files and this net, and writes its text, or the line of its one fault, to `out`. It gives
 /// the net back. This is all that the program does once it has its words.
 ///
-/// All commands but `join` wait for nobody, so they return. The run of `join` ends when its script does, or its net.
+/// All commands but `join` and `reflect` wait for nobody, so they return. The run of `join` ends when its script does, or its net; that
+/// of `reflect` when it has accepted all its links, and all of them have ended.
 pub fn croquet<
     R: Threads + Wait + Sync,
     F: Files,
@@ -116,14 +92,15 @@ pub fn croquet<
     alloc: Global,
     words: &Words,
     files: &mut F,
-    _clock: &C,
+    clock: &C,
     mut net: N,
-    _gate: &G,
+    gate: &G,
     out: &mut W,
 ) -> (N, Status)
     // There are steps and an end that come of the words, and what was read, put, printed, heard and sent is what they give, up to
-    // the place where the run was cut, and then the last line.
-    ensures ran { Ran (outside_tells (files_tell F.held F.asked F.faults) (output_tells W.written W.faults W.wants)
+    // the place where the run was cut, and then the last line. Behind the steps of `reflect` its reflector serves the net, and more
+    // steps and an end come of what it answers.
+    ensures ran { Ran (C.gives clock.now) (outside_tells (files_tell F.held F.asked F.faults) (output_tells W.written W.faults W.wants)
         (net_tells N.coming N.over N.asked N.faults N.lent N.link_counts)
         (links_tell N.Conn.coming N.Conn.heard N.Conn.sent N.Conn.counts))
         (Comes (command_of words.now)) (outside files.old out.old net None) (outside files.new out.new result.0 None) result.1 }
@@ -135,8 +112,8 @@ pub fn croquet<
     ensures some { SomeVerdictComes }
     // The log that a script leaves has each event that was answered Stamped, once and in order.
     ensures events { LogsTellTheirEvents }
-    // No command but `join` has a net.
-    ensures net { ¬ IsJoin (command_of words.now) → result.0 ≡ net }
+    // No command but `join` and `reflect` has a net.
+    ensures net { ¬ UsesNet (command_of words.now) → result.0 ≡ net }
     // Where the snapshot of a replay is of a world that follows the log, the same comes of it as without it.
     ensures agree { SnapshotsAgree }
 {
@@ -149,6 +126,24 @@ pub fn croquet<
         Turn::Over(status) => (net, status),
         Turn::Visits(request) => {
             let status = run_visit(rt, alloc, request, &mut net, out);
+            (net, status)
+        }
+        Turn::Reflects(reflection) => {
+            let Reflection {
+                id,
+                address,
+                connections,
+                log,
+            } = reflection;
+            let server = Server {
+                id,
+                address: &address,
+                connections,
+                clock,
+                gate,
+            };
+            let (net, answer) = reflect(rt, alloc, &server, net);
+            let status = tell_reflected(alloc, log, answer, files, out);
             (net, status)
         }
     }

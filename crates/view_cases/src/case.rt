@@ -15,12 +15,34 @@ pub(crate) struct Faults {
     pub(crate) wanting_output: u32,
 }
 
+/// Which command a case is of.
+#[derive(Clone, Copy)]
+pub(crate) enum NetCases {
+    /// `join`
+    Views,
+    /// `reflect`
+    Reflectors,
+}
+
+impl NetCases {
+    /// The kind of a word, if there is one.
+    pub(crate) fn of_word(word: &str) -> Option<NetCases> {
+        match word {
+            "views" => Some(NetCases::Views),
+            "reflectors" => Some(NetCases::Reflectors),
+            _ => None,
+        }
+    }
+}
+
 /// A case: words of the command, what its files hold, its links as they are written, and what fails.
 #[derive(Drop)]
 pub(crate) struct Case<'a> {
+    pub(crate) kind: NetCases,
     pub(crate) name: &'a str,
     pub(crate) address: &'a str,
-    pub(crate) view: &'a str,
+    /// The number of the view, or how many links the reflector accepts.
+    pub(crate) number: &'a str,
     pub(crate) program: &'a [u8],
     pub(crate) script: Vec<u8>,
     pub(crate) links: Vec<&'a str>,
@@ -51,10 +73,14 @@ pub(crate) fn number_of(digits: &str) -> Result<u32, CaseFault> {
 
 impl<'a> Case<'a> {
     /// The case that the bytes spell. The program and the script may be any bytes.
-    pub(crate) fn read(alloc: Global, case: &'a [u8]) -> Result<Case<'a>, CaseFault> {
+    pub(crate) fn read(
+        alloc: Global,
+        kind: NetCases,
+        case: &'a [u8],
+    ) -> Result<Case<'a>, CaseFault> {
         let (head, rest) = split_once(case, BETWEEN).ok_or(CaseFault::NoCase)?;
         let (program, parts) = split_once(rest, BETWEEN).unwrap_or((rest, &[]));
-        let mut case = Case::of_words(alloc, head, program)?;
+        let mut case = Case::of_words(alloc, kind, head, program)?;
         if !parts.is_empty() {
             for part in text_of(parts)?.split(BETWEEN) {
                 case.add(part)?;
@@ -63,14 +89,23 @@ impl<'a> Case<'a> {
         Ok(case)
     }
 
-    /// A case of `NAME VIEW SCRIPT` and a program, with no link.
-    fn of_words(alloc: Global, head: &'a [u8], program: &'a [u8]) -> Result<Case<'a>, CaseFault> {
+    /// A case of `NAME VIEW SCRIPT`, or of `NAME N`, and a program, with no link.
+    fn of_words(
+        alloc: Global,
+        kind: NetCases,
+        head: &'a [u8],
+        program: &'a [u8],
+    ) -> Result<Case<'a>, CaseFault> {
         let (name, rest) = split_once(head, " ").ok_or(CaseFault::NoCase)?;
-        let (view, script) = split_once(rest, " ").ok_or(CaseFault::NoCase)?;
+        let (number, script) = match kind {
+            NetCases::Views => split_once(rest, " ").ok_or(CaseFault::NoCase)?,
+            NetCases::Reflectors => (rest, b"-".as_slice()),
+        };
         Ok(Case {
+            kind,
             name: text_of(name)?,
             address: "localhost:8080",
-            view: text_of(view)?,
+            number: text_of(number)?,
             program,
             script: lines_of(
                 alloc,

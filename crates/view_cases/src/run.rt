@@ -1,5 +1,5 @@
-//! A run of `join` over files, a net and an output in memory.
-use crate::case::{Case, Faults};
+//! A run of `join` or `reflect` over files, a net and an output in memory.
+use crate::case::{Case, Faults, NetCases};
 use crate::link::net_of;
 use case_lines::{CaseFault, WantingSink};
 use croquet::{Status, croquet};
@@ -14,10 +14,11 @@ use tea_io::{Files, FixedClock, MemFiles, MemNet, MemSink, NamedBlobs, OpenGate}
 pub(crate) struct Run {
     pub(crate) status: Status,
     pub(crate) text: Blob,
+    pub(crate) files: MemFiles,
     pub(crate) net: MemNet,
 }
 
-/// Runs a case: the program lies in the file `p`, and the script in the file `s`.
+/// Runs a case: the program lies in the file `p`, and the script in the file `s`. A reflector's log is put under `f`.
 pub(crate) fn run_case<R: Threads + Wait + Sync + AllocGlobal>(
     rt: &R,
     case: &Case,
@@ -42,14 +43,37 @@ pub(crate) fn run_case<R: Threads + Wait + Sync + AllocGlobal>(
     Ok(Run {
         status,
         text: out.into_bytes(),
+        files,
         net,
     })
 }
 
 fn words_of(alloc: Global, case: &Case) -> Result<Words, WantOfMemory> {
+    match case.kind {
+        NetCases::Views => copied(
+            alloc,
+            &["join", "p", case.name, case.address, case.number, "s"],
+        ),
+        NetCases::Reflectors => copied(
+            alloc,
+            &[
+                "reflect",
+                "p",
+                case.name,
+                case.address,
+                "--connections",
+                case.number,
+                "--log",
+                "f",
+            ],
+        ),
+    }
+}
+
+fn copied(alloc: Global, texts: &[&str]) -> Result<Words, WantOfMemory> {
     let mut words = Words::new(alloc);
-    for word in ["join", "p", case.name, case.address, case.view, "s"] {
-        words.push(Text::copy(alloc, word)?)?;
+    for text in texts {
+        words.push(Text::copy(alloc, text)?)?;
     }
     Ok(words)
 }

@@ -1,17 +1,23 @@
 //! What a run comes to, in one line of a case.
+use crate::case::{Case, NetCases};
 use crate::run::Run;
 use case_lines::told_lines;
 use std::alloc::{AllocError, Global};
-use tea_base::WantOfMemory;
+use tea_base::{Text, WantOfMemory};
 use tea_io::{MemLink, MemNet, NetCall};
 
-/// What is printed and the status, what was sent on each link that was given back, and how many were given back and asked for.
-pub(crate) fn told_run(alloc: Global, address: &str, run: &Run) -> Result<String, WantOfMemory> {
+/// What is printed and the status, a reflector's log, what was sent on each link that was given back, and how many were given back
+/// and asked for.
+pub(crate) fn told_run(alloc: Global, case: &Case, run: &Run) -> Result<String, WantOfMemory> {
     let mut told = told_lines(alloc, run.text.bytes(), run.status.number())?;
+    if let Some(log) = run.files.get(&Text::copy(alloc, "f")?) {
+        told.push_str(" f=")?;
+        told.push_str(hex::encode(alloc, log.bytes())?.as_str())?;
+    }
     for link in run.net.over() {
         put_link(alloc, &mut told, link)?;
     }
-    put_calls(alloc, &mut told, address, &run.net)?;
+    put_calls(alloc, &mut told, case, &run.net)?;
     Ok(told)
 }
 
@@ -29,20 +35,47 @@ fn put_link(alloc: Global, told: &mut String, link: &MemLink) -> Result<(), Allo
 fn put_calls(
     alloc: Global,
     told: &mut String,
-    address: &str,
+    case: &Case,
     net: &MemNet,
 ) -> Result<(), AllocError> {
-    let calls = net.asked();
-    let connects = calls
+    let calls = asked_for_links(case, net.asked());
+    let asked = calls
         .iter()
-        .filter(|call| is_connect(call, address))
+        .filter(|call| asks_for_link(case, call))
         .count();
     let back = net.over().len();
-    told.push_str(format!(in alloc; " ; {back} back of {connects} asked")?.as_str())?;
-    if connects != calls.len() {
+    told.push_str(format!(in alloc; " ; {back} back of {asked} asked")?.as_str())?;
+    if asked != calls.len() {
         told.push_str(", and another call")?;
     }
     Ok(())
+}
+
+/// The calls of a net, behind the one by which a reflector listens at its address.
+fn asked_for_links<'a>(case: &Case, calls: &'a [NetCall]) -> &'a [NetCall] {
+    match calls {
+        [first, rest @ ..] if is_listen(case, first) => rest,
+        _ => calls,
+    }
+}
+
+/// Whether a call asks for one of the command's links.
+fn asks_for_link(case: &Case, call: &NetCall) -> bool {
+    match case.kind {
+        NetCases::Views => is_connect(call, case.address),
+        NetCases::Reflectors => matches!(call, NetCall::Accept),
+    }
+}
+
+/// Whether a call is that by which the command's reflector listens.
+fn is_listen(case: &Case, call: &NetCall) -> bool {
+    match case.kind {
+        NetCases::Views => false,
+        NetCases::Reflectors => match call {
+            NetCall::Listen(at) => at.as_str() == case.address,
+            _ => false,
+        },
+    }
 }
 
 fn is_connect(call: &NetCall, address: &str) -> bool {

@@ -1,20 +1,29 @@
-use Rattle.std.proofs.Common.{refl}
+use Rattle.std.proofs.Common.{inl, inr}
 use Rattle.commands.specs.CommandWords.{command_of}
 use Rattle.commands.specs.Verdict.{Comes}
 use Rattle.commands.specs.Work.{visit_of}
-use Rattle.commands.proofs.VisitLaws.{never_visits}
+use Rattle.commands.proofs.NetLaws.{never_on_net}
+use Rattle.croquet.proofs.ReflectorRuns.{ran_reflecting}
 use Rattle.croquet.proofs.VisitRuns.{ran_beside, ran_visiting}
 use Rattle.croquet.proofs.top.croquet.Goals as goal
 
 pub returns-in-Over-clause-ran : goal.returns-in-Over-clause-ran
 returns-in-Over-clause-ran g c =
-    ran_beside _ _ _ _ c.args.net (Comes (command_of c.args.words.now)) c.args.files.now c.begin.new.files c.args.out.now c.begin.new.out c.in-Over.status c.in-Over.ensures
+    inl (ran_beside _ _ _ _ c.args.net (Comes (command_of c.args.words.now)) c.args.files.now c.begin.new.files c.args.out.now c.begin.new.out c.in-Over.status c.in-Over.ensures.turns)
 
 pub returns-in-Visits-clause-ran : goal.returns-in-Visits-clause-ran
 returns-in-Visits-clause-ran g c =
-    ran_visiting _ _ _ _ (Comes (command_of c.args.words.now)) (visit_of c.in-Visits.request) c.args.files.now c.begin.new.files c.args.out.now c.begin.new.out c.run_visit-status.new.out c.args.net c.run_visit-status.new.net
-    c.run_visit-status.result c.in-Visits.ensures c.run_visit-status.ensures
+    inl (ran_visiting _ _ _ _ (Comes (command_of c.args.words.now)) (visit_of c.in-Visits.request) c.args.files.now c.begin.new.files c.args.out.now c.begin.new.out c.run_visit-status.new.out c.args.net c.run_visit-status.new.net
+    c.run_visit-status.result c.in-Visits.ensures.turns c.run_visit-status.ensures)
 
--- a command that goes on as a view's run is `join`
+pub returns-in-Reflects-clause-ran : goal.returns-in-Reflects-clause-ran
+returns-in-Reflects-clause-ran g c =
+    inr (ran_reflecting _ _ _ _ _ (Comes (command_of c.args.words.now)) c.in-Reflects.reflection c.reflect-net.result.1 c.args.files.now c.begin.new.files c.tell_reflected-status.new.files c.args.out.now c.begin.new.out c.tell_reflected-status.new.out
+    c.args.net c.reflect-net.result.0 c.tell_reflected-status.result c.in-Reflects.ensures.turns c.reflect-net.ensures c.tell_reflected-status.ensures)
+
+-- a command that goes on with a net is `join` or `reflect`
 pub returns-in-Visits-clause-net : goal.returns-in-Visits-clause-net
-returns-in-Visits-clause-net g c = λ other. absurd (never_visits (command_of c.args.words.now) other _ (visit_of c.in-Visits.request) c.in-Visits.ensures.comes refl)
+returns-in-Visits-clause-net g c = λ other. absurd (never_on_net (command_of c.args.words.now) other _ c.in-Visits.ensures.turns.comes tt)
+
+pub returns-in-Reflects-clause-net : goal.returns-in-Reflects-clause-net
+returns-in-Reflects-clause-net g c = λ other. absurd (never_on_net (command_of c.args.words.now) other _ c.in-Reflects.ensures.turns.comes tt)

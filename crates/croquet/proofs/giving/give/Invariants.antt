@@ -2,7 +2,7 @@ use Rattle.std.proofs.Common.{drop}
 use Rattle.commands.specs.Verdict.{steps_of}
 use Rattle.run_steps.specs.Outside.{files_tell, output_tells}
 use Rattle.croquet.proofs.Acts.{LeadsOn}
-use Rattle.croquet.proofs.top.finish.Given as goal
+use Rattle.croquet.proofs.giving.give.Given as goal
 
 -- what comes of the files that are left, and of the text, comes of all
 abbrev pub invariant-loop-put : goal.invariant-loop-put

@@ -1,7 +1,7 @@
 use Rattle.std.proofs.Common.{◌≡◌, ◌<◌, [], drop, length, arith}
 use Rattle.std.proofs.lemmas.List.{drop_all}
 use Rattle.croquet.proofs.Acts.{put_next, unput, printed_well, printed_failed, printed_wanting}
-use Rattle.croquet.proofs.top.finish.Goals as goal
+use Rattle.croquet.proofs.giving.give.Goals as goal
 
 pub returns-in-Err : goal.returns-in-Err
 returns-in-Err g c =

@@ -1,0 +1,10 @@
+use Rattle.std.proofs.Common.{subst, List, ℕ}
+use Rattle.model_lang.specs.TreeView.{program_tree}
+use Rattle.commands.specs.Verdict.{Free, OfReflect, session_of}
+use Rattle.commands.proofs.ProgramLaws.{of_program}
+use Rattle.commands.proofs.reflection.take_reflector_program.Goals as goal
+
+pub returns-in-Ok-clause-leads : goal.returns-in-Ok-clause-leads
+returns-in-Ok-clause-leads c verdict comes =
+    of_program (λ tree. OfReflect c.args.request (session_of c.args.request.name c.args.text.now)) c.args.text.now (program_tree c.in-Ok.field-0) verdict c.in-Ok.ensures
+    (subst (λ (id : List ℕ). Free (OfReflect c.args.request id) verdict) c.session_id-id.ensures (c.take_address.ensures.leads verdict comes))

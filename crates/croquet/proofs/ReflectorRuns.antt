@@ -1,0 +1,89 @@
+-- The run of a reflector, and what is told behind it.
+use Rattle.std.proofs.Common.{◌≡◌, inr, ℕ, Bool, true, false, List, [], ◌∷◌, None, Result, Err, refl, sym, subst}
+use Rattle.std.proofs.lemmas.List.{append-nil}
+use Rattle.tea_io.specs.declared.net.NetCall.TheVariants.{Listen}
+use Rattle.connection.specs.declared.ending.Ended.{Ended}
+use Rattle.reflector_core.specs.PlainSession.{PlainSession}
+use Rattle.reflect_server.specs.Reflects.{Reflects}
+use Rattle.reflect_server.specs.declared.reflection.Reflected.{Reflected}
+use Rattle.reflect_server.specs.declared.reflection.ServeFault.{ServeFault}
+use Rattle.reflect_server.specs.declared.reflection.ServeFault.TheVariants.{ListenFault, WantOfMemory}
+use Rattle.run_steps.specs.Steps.{Step}
+use Rattle.run_steps.specs.Outside.{Acts, FilesTell, OutputTells, NetTells, LinksTell, desk, desk_tells, outside, outside_tells}
+use Rattle.run_steps.proofs.Beside.{all_beside_net}
+use Rattle.commands.specs.declared.reflection.Reflection.{Reflection}
+use Rattle.commands.specs.Verdict.{ByNetFault, ByReflecting, ByWant, Coming, Free, Only, reflected_closing, reflected_steps, reflected_verdict}
+use Rattle.croquet.specs.declared.status.Status.{Status}
+use Rattle.croquet.specs.Calls.{fault_ending, reflected_ending}
+use Rattle.croquet.specs.Run.{Concludes, Ending, EndsOnNetFault, EndsWanting, OfReflected, RanAsReflector, Reaches, TellsEnding}
+use Rattle.croquet.proofs.Acts.{DoesAll, does_so}
+use Rattle.croquet.proofs.Runs.{RanSo, ran_closed}
+use Rattle.croquet.proofs.VisitRuns.{ran_beside}
+
+concludes : (net_failed : Bool) → Concludes (reflected_closing net_failed) [] (reflected_ending net_failed)
+concludes true = (refl, refl)
+concludes false = (refl, refl)
+
+-- the log of a session was put and its text printed, or this was cut
+module _ {F W : Type 0} (files : FilesTell F) (out : OutputTells W) (log : List ℕ) (ends : List Ended) (session : PlainSession) (net_failed : Bool) (steps : List Step) (same : steps ≡ reflected_steps log ends session) (f f' : F) (w w' : W) (result : Status) where
+  pub ran_cut : ((ending : Ending) → DoesAll files out steps ending f w f' w' result) → RanSo files out (Free (Only (reflected_verdict log ends session net_failed))) f w f' w' result
+  ran_cut does = record {
+    steps = reflected_steps log ends session;
+    ending = reflected_ending net_failed;
+    course = record {
+      verdict = reflected_verdict log ends session net_failed;
+      comes = inr refl;
+      more = [];
+      concludes = concludes net_failed;
+      all = sym (append-nil (reflected_steps log ends session));
+    };
+    does = subst (λ (given : List Step). DoesAll files out given (reflected_ending net_failed) f w f' w' result) same (does (reflected_ending net_failed));
+  }
+
+-- they were done, and the end was told
+module _ {F W : Type 0} (files : FilesTell F) (out : OutputTells W) (log : List ℕ) (ends : List Ended) (session : PlainSession) (net_failed : Bool) (steps : List Step) (same : steps ≡ reflected_steps log ends session) (f f' : F) (w next w' : W) (result : Status) where
+  pub ran_told
+      : Acts (desk_tells files out) steps None (desk f w) (desk f' next) → TellsEnding out (reflected_ending net_failed) next w' result
+      → RanSo files out (Free (Only (reflected_verdict log ends session net_failed))) f w f' w' result
+  ran_told acts told = record {
+    steps = reflected_steps log ends session;
+    ending = reflected_ending net_failed;
+    course = record {
+      verdict = reflected_verdict log ends session net_failed;
+      comes = inr refl;
+      more = [];
+      concludes = concludes net_failed;
+      all = sym (append-nil (reflected_steps log ends session));
+    };
+    does = subst (λ (given : List Step). DoesAll files out given (reflected_ending net_failed) f w f' w' result) same
+        (does_so files out steps None (reflected_ending net_failed) f f' w next w' result acts told);
+  }
+
+-- the fault of one that has no session to tell of was told
+pub ran_failed
+    : {F W : Type 0} (files : FilesTell F) (out : OutputTells W) (log : List ℕ) (fault : ServeFault) (f : F) (w w' : W) (result : Status)
+    → TellsEnding out (fault_ending fault) w w' result → RanSo files out (OfReflected log (Err fault)) f w f w' result
+ran_failed files out log ListenFault f w w' result told = ran_closed files out ByNetFault EndsOnNetFault f w w' result (refl, refl) told
+ran_failed files out log WantOfMemory f w w' result told = ran_closed files out ByWant EndsWanting f w w' result (refl, refl) told
+
+-- a command that goes on as a reflector's run
+pub ran_reflecting
+    : {F W N L : Type 0} (gives : ℕ → Type 0) (files : FilesTell F) (out : OutputTells W) (net : NetTells N L) (links : LinksTell L) (coming : Coming) (reflection : Reflection) (answer : Result Reflected ServeFault)
+    (f mid f' : F) (w next w' : W) (n n' : N) (result : Status)
+    → Reaches (desk_tells files out) coming (ByReflecting reflection) (desk f w) (desk mid next)
+    → Reflects gives reflection.id net links (Listen reflection.address ∷ []) reflection.connections n n' answer
+    → RanSo files out (OfReflected reflection.log answer) mid next f' w' result
+    → RanAsReflector gives (outside_tells files out net links) coming (outside f w n None) (outside f' w' n' None) result
+ran_reflecting gives files out net links coming reflection answer f mid f' w next w' n n' result reached reflects ran = record {
+  reflection = reflection;
+  ready = outside mid next n None;
+  reaches = record {
+    steps = reached.steps;
+    comes = reached.comes;
+    acts = all_beside_net net links (desk_tells files out) n refl refl reached.steps None (desk f w) (desk mid next) reached.acts;
+  };
+  answer = answer;
+  served = outside mid next n' None;
+  serves = (reflects, refl);
+  behind = ran_beside files out net links n' (OfReflected reflection.log answer) mid f' next w' result ran;
+}

@@ -1,0 +1,10 @@
+use Rattle.std.proofs.Common.{None, refl}
+use Rattle.croquet.specs.Run.{EndsWell}
+use Rattle.croquet.proofs.Acts.{does_so}
+use Rattle.croquet.proofs.giving.finish.Goals as goal
+
+pub returns-in-Ok : goal.returns-in-Ok
+returns-in-Ok g c = does_so _ _ _ None EndsWell c.args.files.now c.give.new.files c.args.out.now c.give.new.out c.give.new.out _ c.in-Ok.ensures (refl, refl)
+
+pub returns-in-Err : goal.returns-in-Err
+returns-in-Err g c = c.in-Err.ensures EndsWell

@@ -1,0 +1,59 @@
+//! What a command gives: its files are put, and then its text is printed.
+ghost use Rattle.std.specs.Prelude.{◌≡◌, IfErr, OnOk};
+ghost use Rattle.run_steps.specs.Outside.{PutsFile, Well, desk, desk_tells, files_tell, output_tells};
+ghost use Rattle.commands.specs.Verdict.{steps_of};
+ghost use Rattle.croquet.specs.Calls.{Completes, TellsUnput};
+ghost use Rattle.croquet.specs.Run.{Does, EndsWell};
+
+use crate::status::Status;
+use crate::telling::{tell, tell_want_of_memory};
+use commands::{Outcome, Put};
+use run_steps::{CallFault, print_text, put_file};
+use tea_io::{Files, Sink};
+
+/// Puts a file, or tells why it was not put.
+fn put_or_tell<F: Files, W: Sink>(put: &Put, files: &mut F, out: &mut W) -> Result<(), Status>
+    ensures put { OnOk result (PutsFile (files_tell F.held F.asked F.faults) Well put.now.name put.now.bytes files.old files.new) }
+    ensures quiet { OnOk result (out.new ≡ out.old) }
+    ensures told { IfErr result (TellsUnput (files_tell F.held F.asked F.faults) (output_tells W.written W.faults W.wants)
+        put.now files.old out.old files.new out.new) }
+{
+    match put_file(files, &put.name, put.bytes.bytes()) {
+        Ok(()) => Ok(()),
+        Err(CallFault::Failed) => Err(tell(out, "write-fault\n", Status::WriteFault)),
+        Err(CallFault::WantOfMemory) => Err(tell_want_of_memory(out)),
+    }
+}
+
+/// Puts the files of a command and prints its text, or tells why this was not done.
+pub(crate) fn give<F: Files, W: Sink>(
+    outcome: &Outcome,
+    files: &mut F,
+    out: &mut W,
+) -> Result<(), Status>
+    ensures { Completes (desk_tells (files_tell F.held F.asked F.faults) (output_tells W.written W.faults W.wants))
+        (steps_of outcome.now.files outcome.now.text) result (desk files.old out.old) (desk files.new out.new) }
+{
+    for put in outcome.files.as_slice() {
+        match put_or_tell(put, files, out) {
+            Ok(()) => {}
+            Err(status) => return Err(status),
+        }
+    }
+    match print_text(out, outcome.text.bytes()) {
+        Ok(()) => Ok(()),
+        Err(CallFault::Failed) => Err(Status::WriteFault),
+        Err(CallFault::WantOfMemory) => Err(tell_want_of_memory(out)),
+    }
+}
+
+/// Puts the files of a command and prints its text, which is all that it does.
+pub(crate) fn finish<F: Files, W: Sink>(outcome: &Outcome, files: &mut F, out: &mut W) -> Status
+    ensures { Does (desk_tells (files_tell F.held F.asked F.faults) (output_tells W.written W.faults W.wants))
+        (steps_of outcome.now.files outcome.now.text) EndsWell (desk files.old out.old) (desk files.new out.new) result }
+{
+    match give(outcome, files, out) {
+        Ok(()) => Status::Ok,
+        Err(status) => status,
+    }
+}

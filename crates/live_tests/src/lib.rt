@@ -1,0 +1,7 @@
+//! Tests of `reflect` and `join` over sockets, on 127.0.0.1, in one process. Without its tests this library is empty.
+#![tactic(auto)]
+
+#[cfg(test)]
+mod runs;
+#[cfg(test)]
+mod sessions;

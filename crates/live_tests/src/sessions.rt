@@ -1,0 +1,192 @@
+//! Sessions over sockets.
+use crate::runs::{Run, Task, free_address, join_at, reflect_to, run_by, run_over};
+use croquet::Status;
+use std::alloc::{AllocError, Global};
+use std::sync::Wait;
+use std::sync::atomic::{AtomicU32, Ordering};
+use std::test::Fail;
+use std::thread::{Threads, join};
+use tea_base::{Blob, Numbers, Text, WantOfMemory};
+use tea_io::{Blobs, Gate, Heard, Link, ListClock, MemLink, MemLinks, MemNet, Net, Times};
+use ws_link::WsNet;
+
+/// What the reflector at time 0 tells view 7, which joins, sends one event of topic `a` `b` with data 5, and leaves.
+const FRAMES: [&[u8]; 6] = [
+    b"\x41\0\0\0\x01\0\0\0\0\0\0\0\0\0",
+    b"\x42\0\0\0\x01\0\0\0\0\0\0\0\x01\0\0\0\x07\x01",
+    b"\x43\0\0\0\0\0\0\0\x01",
+    b"\x44\0\0\0\x01\0\0\0\x02\0\0\0\0\0\0\0\x02",
+    b"\x42\0\0\0\x02\0\0\0\0\0\0\0\x02\0\0\0\x07\x03\0\0\0\x01\0\0\0\x13\0\0\0\x01a\0\0\0\x01b\x03\0\0\0\0\0\0\0\x05",
+    b"\x43\0\0\0\0\0\0\0\x02",
+];
+
+const SCRIPT: &str = "publish \"a\" \"b\" 5\nsettle\nwait 2\n";
+
+/// A net with one link, which gives these frames.
+fn net_of(alloc: Global, frames: &[&[u8]]) -> Result<MemNet, WantOfMemory> {
+    let mut held = Blobs::new(alloc);
+    for frame in frames {
+        held.push(Blob::copy(alloc, frame)?)?;
+    }
+    let mut links = MemLinks::new(alloc);
+    links.push(MemLink::new(alloc, held, Numbers::new(alloc), Numbers::new(alloc)))?;
+    Ok(MemNet::new(alloc, links, Numbers::new(alloc)))
+}
+
+/// The same view over a net in memory.
+fn join_in_memory<R: Threads + Wait + Sync>(rt: &R, alloc: Global) -> Result<Run, WantOfMemory> {
+    let task = Task {
+        words: &["join", "p", "a", "localhost:1", "7", "s"],
+        script: SCRIPT,
+    };
+    run_over(rt, alloc, task, net_of(alloc, &FRAMES)?)
+}
+
+#[test]
+fn a_view_is_the_same_over_sockets_and_in_memory(rt: HostRuntime) -> Result<(), Fail> {
+    let alloc = rt.alloc();
+    let address = free_address(alloc, &rt)?;
+    let (reflected, joined) = join(
+        &rt,
+        || reflect_to(rt, alloc, address.as_str(), "1"),
+        || join_at(rt, alloc, address.as_str(), "7", SCRIPT),
+    );
+    let (reflected, joined, again) = (reflected?, joined?, join_in_memory(&rt, alloc)?);
+    assert!(rt; reflected.status == Status::Ok && joined.status == Status::Ok);
+    assert!(rt;
+        reflected
+            .text
+            .is_bytes(b"connection 0 left\nentries 3 time 3\n")
+    );
+    assert!(rt; joined.text.is_bytes(again.text.bytes()));
+    assert!(rt;
+        joined
+            .text
+            .bytes()
+            .starts_with(b"settled 1\ntime 2\nview 7 time 2 seq 2 digest ")
+    );
+    Ok(())
+}
+
+/// The JOIN of a view of the session `a` of the program of one empty class. It wants the whole log.
+fn join_frame(view: u8) -> [u8; 38] {
+    let mut frame = [0; 38];
+    frame.copy_from_slice(
+        b"\x01\x05\x50\xd4\x05\x31\xb8\x43\x2a\x28\x0f\x45\x4c\x30\xa6\xb7\x47\xd3\x20\x7b\x8e\xfc\x0e\xef\xc2\x65\x3a\x82\x6a\xd1\xf2\x6b\xec\0\0\0\0\x01",
+    );
+    frame[36] = view;
+    frame
+}
+
+/// A link to a reflector, once it listens.
+fn link_to<N: Net>(net: &mut N, address: &Text) -> Option<N::Conn> {
+    for _ in 0..100_000u32 {
+        if let Ok(link) = net.connect(address) {
+            return Some(link);
+        }
+    }
+    None
+}
+
+/// Whether a link tells its end, behind frames.
+fn ends<L: Link>(link: &mut L) -> bool {
+    for _ in 0..10_000u32 {
+        match link.recv() {
+            Heard::End => return true,
+            Heard::Frame(_) | Heard::Quiet => {}
+            Heard::Failed | Heard::WantOfMemory => return false,
+        }
+    }
+    false
+}
+
+/// Whether views 1 to 64 join, each by a link of its own, and then leave, and each link ends.
+fn join_and_leave<N: Net>(alloc: Global, net: &mut N, address: &Text) -> Result<bool, AllocError> {
+    let mut links = Vec::new(alloc);
+    for view in 1..=64u8 {
+        let Some(mut link) = link_to(net, address) else {
+            return Ok(false);
+        };
+        if link.send(&join_frame(view)).is_err() {
+            return Ok(false);
+        }
+        links.push(link)?;
+    }
+    for link in &mut links {
+        if link.send(b"\x04").is_err() {
+            return Ok(false);
+        }
+    }
+    Ok(links.iter_mut().all(|link| ends(link)))
+}
+
+#[test]
+fn sixty_four_links_are_served_at_once(rt: HostRuntime) -> Result<(), Fail> {
+    let alloc = rt.alloc();
+    let address = free_address(alloc, &rt)?;
+    let mut net = WsNet::new(alloc, rt);
+    let (reflected, ended) = join(
+        &rt,
+        || reflect_to(rt, alloc, address.as_str(), "64"),
+        || join_and_leave(alloc, &mut net, &address),
+    );
+    let reflected = reflected?;
+    assert!(rt; matches!(ended, Ok(true)));
+    assert!(rt; reflected.status == Status::Ok);
+    assert!(rt;
+        reflected
+            .text
+            .bytes()
+            .starts_with(b"connection 0 left\nconnection 1 left\n")
+    );
+    assert!(rt;
+        reflected
+            .text
+            .bytes()
+            .ends_with(b"connection 63 left\nentries 128 time 128\n")
+    );
+    Ok(())
+}
+
+/// Counts how often workers passed.
+#[derive(Drop)]
+struct CountingGate {
+    passes: AtomicU32,
+}
+
+impl Gate for CountingGate {
+    fn pass(&self, _worker: u32, _turn: u32) {
+        self.passes.fetch_add(1, Ordering::SeqCst);
+    }
+}
+
+#[test]
+fn a_reflector_goes_by_the_clock_and_the_gate(rt: HostRuntime) -> Result<(), Fail> {
+    let alloc = rt.alloc();
+    // The JOIN, the tick behind it, and the LEAVE.
+    let clock = ListClock::new(Times::from_vec(vec![in alloc; 1000, 2000, 3000]?));
+    let gate = CountingGate {
+        passes: AtomicU32::new(0),
+    };
+    let task = Task {
+        words: &[
+            "reflect",
+            "p",
+            "a",
+            "localhost:1",
+            "--connections",
+            "1",
+            "--log",
+            "f",
+        ],
+        script: "",
+    };
+    let net = net_of(alloc, &[&join_frame(7), b"\x04"])?;
+    let run = run_by(&rt, alloc, task, net, (&clock, &gate))?;
+    assert!(rt;
+        run.text
+            .is_bytes(b"connection 0 left\nentries 2 time 3000\n")
+    );
+    assert_eq!(rt; gate.passes.load(Ordering::SeqCst), 1);
+    Ok(())
+}

@@ -1,0 +1,186 @@
+//! Peers that speak by hand, byte for byte, and what the tests share.
+ghost use Rattle.std.specs.Prelude.{◌<◌, OnOk};
+
+use std::alloc::Global;
+use std::io::{Read, Write};
+use std::net::{Net as Sockets, TcpListener, TcpStream};
+use std::random::RandomSource;
+use std::test::Fail;
+use std::time::{Clock, Duration};
+use tea_base::Text;
+use tea_io::{Heard, Link, Net};
+use ws_link::WsNet;
+
+/// The request of RFC 6455, 1.3, with its key.
+pub const REQUEST: &[u8] =
+    b"GET / HTTP/1.1\r\nHost: 127.0.0.1\r\nUpgrade: websocket\r\nConnection: Upgrade\r\nSec-WebSocket-Key: dGhlIHNhbXBsZSBub25jZQ==\r\nSec-WebSocket-Version: 13\r\n\r\n";
+
+/// What answers that key, as RFC 6455, 1.3 works it out.
+pub const ACCEPT: &[u8] = b"s3pPLMBiTxaQ9kYGzzhZRbK+xOo=";
+
+/// A client's binary message with the bytes `abc`, masked by the key 0.
+pub const ABC: &[u8] = b"\x82\x83\0\0\0\0abc";
+
+/// A net that listens at 127.0.0.1, and its address.
+pub fn listening<R>(alloc: Global, rt: R) -> Result<(WsNet<R>, Text), Fail>
+where
+    R: Sockets<Listener = TcpListener, Stream = TcpStream> + Clock + RandomSource + Copy + Send,
+{
+    let address = free_address(alloc, &rt)?;
+    let mut net = WsNet::new(alloc, rt);
+    net.listen(&address)?;
+    Ok((net, address))
+}
+
+/// An address of 127.0.0.1 at which nobody listens.
+pub fn free_address<R>(alloc: Global, rt: &R) -> Result<Text, Fail>
+where
+    R: Sockets<Listener = TcpListener, Stream = TcpStream>,
+{
+    let listener = TcpListener::bind(rt, "127.0.0.1:0")?;
+    let port = listener.local_addr()?.port();
+    let text = format!(in alloc; "127.0.0.1:{port}")?;
+    Ok(Text::copy(alloc, text.as_str())?)
+}
+
+/// A link, and the peer at its other end.
+#[derive(Drop)]
+pub struct Pair<L> {
+    pub link: L,
+    pub peer: TcpStream,
+}
+
+/// A link to a peer that has said nothing yet.
+pub fn meet<R, N: Net>(rt: &R, net: &mut N, address: &Text) -> Result<Pair<N::Conn>, Fail>
+where
+    R: Sockets<Listener = TcpListener, Stream = TcpStream>,
+    ensures { OnOk result (0 < N.lent net.new) }
+{
+    let peer = TcpStream::connect(rt, address.as_str())?;
+    peer.set_nodelay(true)?;
+    peer.set_read_timeout(Some(Duration::from_millis(20)))?;
+    let link = net.accept()?;
+    Ok(Pair { link, peer })
+}
+
+/// A link that a peer has asked for by hand, and that has answered.
+pub fn greet<R, N: Net>(rt: &R, net: &mut N, address: &Text) -> Result<Pair<N::Conn>, Fail>
+where
+    R: Sockets<Listener = TcpListener, Stream = TcpStream>,
+    ensures { OnOk result (0 < N.lent net.new) }
+{
+    let mut pair = meet(rt, net, address)?;
+    pair.peer.write_all(REQUEST)?;
+    let _ = answer(&mut pair.link, &mut pair.peer);
+    Ok(pair)
+}
+
+/// What reads have given.
+#[derive(Drop)]
+pub struct Piece {
+    bytes: [u8; 512],
+    count: usize,
+}
+
+impl Piece {
+    pub fn bytes(&self) -> &[u8] {
+        self.bytes.get(..self.count).unwrap_or(&[])
+    }
+}
+
+/// What the peer reads next, if it comes soon. At the end that is no byte.
+pub fn read_soon(peer: &mut TcpStream) -> Option<Piece> {
+    let mut bytes = [0u8; 512];
+    match peer.read(&mut bytes) {
+        Ok(count) => Some(Piece { bytes, count }),
+        Err(_) => None,
+    }
+}
+
+/// What the peer reads next.
+pub fn read_next(peer: &mut TcpStream) -> Option<Piece> {
+    for _ in 0..250u32 {
+        if let Some(piece) = read_soon(peer) {
+            return Some(piece);
+        }
+    }
+    None
+}
+
+/// What a link answers while it is quiet.
+pub fn answer<L: Link>(link: &mut L, peer: &mut TcpStream) -> Option<Piece> {
+    for _ in 0..250u32 {
+        if !is_quiet(link) {
+            return None;
+        }
+        if let Some(piece) = read_soon(peer) {
+            return Some(piece);
+        }
+    }
+    None
+}
+
+/// Whether a link answers by these bytes while it is quiet.
+pub fn answers<L: Link>(pair: &mut Pair<L>, bytes: &[u8]) -> bool {
+    answer(&mut pair.link, &mut pair.peer).is_some_and(|piece| piece.bytes() == bytes)
+}
+
+/// Whether the peer reads these bytes next.
+pub fn reads(peer: &mut TcpStream, bytes: &[u8]) -> bool {
+    read_next(peer).is_some_and(|piece| piece.bytes() == bytes)
+}
+
+/// Whether the peer could write these bytes.
+pub fn says(peer: &mut TcpStream, bytes: &[u8]) -> bool {
+    peer.write_all(bytes).is_ok()
+}
+
+/// What a link tells next that is not quiet.
+pub fn told<L: Link>(link: &mut L) -> Heard {
+    for _ in 0..500u32 {
+        match link.recv() {
+            Heard::Quiet => {}
+            told => return told,
+        }
+    }
+    Heard::Quiet
+}
+
+pub fn is_quiet<L: Link>(link: &mut L) -> bool {
+    matches!(link.recv(), Heard::Quiet)
+}
+
+/// Goes on with the handshakes of two links, each at its calls. They are quiet meanwhile.
+pub fn shake<L: Link>(client: &mut L, server: &mut L) -> bool {
+    for _ in 0..10u32 {
+        if !is_quiet(client) || !is_quiet(server) {
+            return false;
+        }
+    }
+    true
+}
+
+/// Whether a link tells its end next.
+pub fn ends<L: Link>(link: &mut L) -> bool {
+    matches!(told(link), Heard::End)
+}
+
+/// Whether a link tells a failure next.
+pub fn fails<L: Link>(link: &mut L) -> bool {
+    matches!(told(link), Heard::Failed)
+}
+
+/// Whether a link tells this frame next.
+pub fn tells<L: Link>(link: &mut L, frame: &[u8]) -> bool {
+    matches!(told(link), Heard::Frame(next) if next.is_bytes(frame))
+}
+
+/// Whether a frame could be sent.
+pub fn sends<L: Link>(link: &mut L, frame: &[u8]) -> bool {
+    link.send(frame).is_ok()
+}
+
+/// Whether a link still carries what its peer says.
+pub fn goes_on<L: Link>(pair: &mut Pair<L>) -> bool {
+    says(&mut pair.peer, ABC) && tells(&mut pair.link, b"abc")
+}

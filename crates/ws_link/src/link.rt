@@ -1,0 +1,76 @@
+//! A link over a WebSocket.
+ghost use Rattle.std.specs.Prelude.{◌≡◌, None};
+ghost use Rattle.tea_io.specs.Links.{no_counts};
+ghost use Rattle.ws_link.specs.Counting.{counts_of};
+
+use crate::counters::Counters;
+use crate::stage::{Last, Stage};
+use std::alloc::Global;
+use std::mem;
+use std::random::RandomSource;
+use std::time::{Clock, Instant};
+use tea_io::{Heard, Link, LinkFault};
+
+/// A link over a WebSocket (RFC 6455) on TCP: each frame is one binary message of at most 8,388,608 bytes. The handshake is
+/// made at the first calls. A receive that has no message after about 10 milliseconds is quiet, also while the handshake is
+/// not finished. A Close and an orderly end of TCP are the end. All else is a failure: a bad handshake, a text, a message that
+/// is too long, a breach of the protocol, a reset. A receive that wants memory may have lost a message. After each of these the
+/// link answers so at each receive, and no frame is sent. A send fails where the peer has read nothing for 5 seconds, or did not
+/// finish the handshake in about that time.
+#[derive(Drop)]
+pub struct WsLink<R: Clock + RandomSource + Copy> {
+    alloc: Global,
+    stage: Stage<R>,
+    counters: Counters,
+}
+
+impl<R: Clock + RandomSource + Copy> WsLink<R> {
+    /// A link at this stage. Takes no memory.
+    pub(crate) fn new(alloc: Global, stage: Stage<R>) -> WsLink<R>
+        ensures { counts_of result.counters ≡ no_counts }
+    {
+        WsLink {
+            alloc,
+            stage,
+            counters: Counters::new(),
+        }
+    }
+
+    /// How often a call failed, a receive was quiet, and a receive told the end.
+    pub(crate) fn counters(&self) -> Counters
+        ensures { result ≡ self.now.counters }
+    {
+        self.counters
+    }
+
+    /// Closes in good manners: sends Close, stops sending, and reads on to the peer's end, for a second since that time at the most.
+    pub(crate) fn close(self, since: Option<Instant>) {
+        self.stage.close(since);
+    }
+}
+
+impl<R: Clock + RandomSource + Copy> Link for WsLink<R> {
+    ghost coming = { λ link. None };
+
+    ghost heard = { λ link. None };
+
+    ghost sent = { λ link. None };
+
+    ghost counts = { λ link. counts_of link.counters };
+
+    fn recv(&mut self) -> Heard {
+        let stage = mem::replace(&mut self.stage, Stage::Over(None, Last::Failed));
+        let (stage, heard) = stage.recv(self.alloc);
+        self.stage = stage;
+        self.counters.note_heard(&heard);
+        heard
+    }
+
+    fn send(&mut self, frame: &[u8]) -> Result<(), LinkFault> {
+        let stage = mem::replace(&mut self.stage, Stage::Over(None, Last::Failed));
+        let (stage, sent) = stage.send(self.alloc, frame);
+        self.stage = stage;
+        self.counters.note_sent(sent);
+        sent
+    }
+}
