@@ -1,5 +1,6 @@
 pub mod Agreement
 pub mod CheckLaws
+pub mod DrillLaws
 pub mod EventLaws
 pub mod NetLaws
 pub mod OneVerdict

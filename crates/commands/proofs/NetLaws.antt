@@ -11,10 +11,10 @@ use Rattle.commands.specs.declared.outcome.Refusal.{Refusal}
 use Rattle.commands.specs.declared.outcome.Refusal.TheVariants as refusal
 use Rattle.commands.specs.declared.words.ReplayRequest.{ReplayRequest}
 use Rattle.commands.specs.declared.words.Command.{Command}
-use Rattle.commands.specs.declared.words.Command.TheVariants.{Stamp, Check, Replay, Join, Reflect}
+use Rattle.commands.specs.declared.words.Command.TheVariants.{Stamp, Check, Replay, Join, Reflect, Drill}
 use Rattle.commands.specs.CommandWords.{UsesNet}
 use Rattle.commands.specs.Script.{script_of}
-use Rattle.commands.specs.Verdict.{ByRefusal, ByReflecting, ByVisit, ByWant, Closing, Coming, Comes, Free, Only, OfFile, OfGiven, OfLog, OfProgram, OfScript, OfSnapshot, OfTree, OfWords, Starts, Verdict, ask_log, ask_program, ask_script, ask_snapshot, at_once, count_verdict, fine, resumed_verdict, session_of, stamp_verdict, world_verdict}
+use Rattle.commands.specs.Verdict.{ByDrill, ByRefusal, ByReflecting, ByVisit, ByWant, Closing, Coming, Comes, Free, Only, OfFile, OfGiven, OfLog, OfProgram, OfScript, OfSnapshot, OfTree, OfWords, Starts, Verdict, ask_log, ask_program, ask_script, ask_snapshot, at_once, count_verdict, fine, session_of, stamp_verdict}
 
 -- the run goes on with a net
 abbrev pub IsOnNet : Closing → Type 0
@@ -94,6 +94,7 @@ words_never (Some (Replay request)) other =
     (λ bytes. program_never (OfTree request (session_of request.name bytes)) bytes (tree_never request (session_of request.name bytes)))
 words_never (Some (Join request)) other = absurd (other tt)
 words_never (Some (Reflect request)) other = absurd (other tt)
+words_never (Some (Drill request)) other = only_never (at_once (ByDrill request)) (λ on. absurd on)
 
 -- what comes of another command does not go on with a net
 pub never_on_net : (command : Option Command) → ¬ UsesNet command → NeverOnNet (Comes command)

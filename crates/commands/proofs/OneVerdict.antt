@@ -30,10 +30,10 @@ use Rattle.commands.specs.declared.words.ReplayRequest.{ReplayRequest}
 use Rattle.commands.specs.declared.words.JoinRequest.{JoinRequest}
 use Rattle.commands.specs.declared.words.ReflectRequest.{ReflectRequest}
 use Rattle.commands.specs.declared.words.Command.{Command}
-use Rattle.commands.specs.declared.words.Command.TheVariants.{Stamp, Check, Replay, Join, Reflect}
+use Rattle.commands.specs.declared.words.Command.TheVariants.{Stamp, Check, Replay, Join, Reflect, Drill}
 use Rattle.commands.specs.PrintedText.{syntax_line}
 use Rattle.commands.specs.Script.{script_of}
-use Rattle.commands.specs.Verdict.{Closing, ByRefusal, ByReflecting, ByVisit, ByWant, Verdict, AreAlike, AreDoneAlike, Coming, Free, IsLineOf, IsOneVerdict, IsFunction, IsRefused, IsRefusedBy, OfAddress, OfFile, OfGiven, OfJoin, OfLog, OfProgram, OfReflect, OfScript, OfSnapshot, OfTree, OfView, OfViewScript, OfWords, Only, Starts, ask_log, ask_program, ask_script, ask_snapshot, before, at_once, count_verdict, reflection_of, resumed_verdict, session_of, stamp_verdict, visit_to}
+use Rattle.commands.specs.Verdict.{Closing, ByDrill, ByRefusal, ByReflecting, ByVisit, ByWant, Verdict, AreAlike, AreDoneAlike, Coming, Free, IsLineOf, IsOneVerdict, IsFunction, IsRefused, IsRefusedBy, OfAddress, OfFile, OfGiven, OfJoin, OfLog, OfProgram, OfReflect, OfScript, OfSnapshot, OfTree, OfView, OfViewScript, OfWords, Only, Starts, ask_log, ask_program, ask_script, ask_snapshot, before, at_once, count_verdict, reflection_of, resumed_verdict, session_of, stamp_verdict, visit_to}
 
 -- what `model_lang::one_reading` says
 abbrev pub IsOneReading : Type 0
@@ -218,6 +218,7 @@ one_words one (Some (Join request)) =
 one_words one (Some (Reflect request)) =
     one_file input.Program (ask_program request.program) (λ bytes. OfProgram (λ tree. OfReflect request (session_of request.name bytes)) bytes)
     (λ bytes. one_program one (λ tree. OfReflect request (session_of request.name bytes)) (λ tree. one_reflect request (session_of request.name bytes)) bytes)
+one_words one (Some (Drill request)) = one_only (at_once (ByDrill request))
 
 pub is_function : IsOneReading → IsFunction
 is_function one command = one_free (OfWords command) (one_words one command)

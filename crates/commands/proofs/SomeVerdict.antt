@@ -18,12 +18,13 @@ use Rattle.commands.specs.Address.{is_address}
 use Rattle.commands.specs.declared.words.ReplayRequest.{ReplayRequest}
 use Rattle.commands.specs.declared.words.JoinRequest.{JoinRequest}
 use Rattle.commands.specs.declared.words.ReflectRequest.{ReflectRequest}
+use Rattle.commands.specs.declared.words.DrillRequest.{DrillRequest}
 use Rattle.commands.specs.declared.reflection.Reflection.{Reflection}
 use Rattle.commands.specs.declared.words.Command.{Command}
-use Rattle.commands.specs.declared.words.Command.TheVariants.{Stamp, Check, Replay, Join, Reflect}
+use Rattle.commands.specs.declared.words.Command.TheVariants.{Stamp, Check, Replay, Join, Reflect, Drill}
 use Rattle.commands.specs.PrintedText.{check_line, counts_line, syntax_line, too_large_line}
 use Rattle.commands.specs.Script.{script_of}
-use Rattle.commands.specs.Verdict.{PlainVisit, Fine, ByRefusal, ByReflecting, ByVisit, ByWant, AreGiven, Coming, IsLineOf, IsOnlyWant, OfAddress, OfCommand, OfFile, OfGiven, OfJoin, OfLog, OfProgram, OfReflect, OfScript, OfSnapshot, OfTree, OfView, OfViewScript, SomeVerdictComes, Starts, ask_log, ask_program, ask_script, ask_snapshot, at_once, before, count_verdict, fine, reflection_of, session_of, steps_of, visit_to}
+use Rattle.commands.specs.Verdict.{PlainVisit, Fine, ByDrill, ByRefusal, ByReflecting, ByVisit, ByWant, AreGiven, Coming, IsLineOf, IsOnlyWant, OfAddress, OfCommand, OfFile, OfGiven, OfJoin, OfLog, OfProgram, OfReflect, OfScript, OfSnapshot, OfTree, OfView, OfViewScript, SomeVerdictComes, Starts, ask_log, ask_program, ask_script, ask_snapshot, at_once, before, count_verdict, fine, reflection_of, session_of, steps_of, visit_to}
 
 abbrev pub Told : Type 0
 Told = Ask → Option (List ℕ)
@@ -32,7 +33,7 @@ Told = Ask → Option (List ℕ)
 abbrev pub IsSomeReading : Type 0
 IsSomeReading = (text : List ℕ) → ¬ ((reading : Reading) → ¬ IsReading text reading)
 
--- a refusal is no want of memory, a visit is none, a reflection is none, and a text that was printed is none
+-- a refusal is no want of memory, a visit is none, a reflection is none, a drill is none, and a text that was printed is none
 refused_not_want : (told : Told) (coming : Coming) (why : Refusal) → coming (at_once (ByRefusal why)) → ¬ IsOnlyWant told coming
 refused_not_want told coming why comes only = let want : ByRefusal why ≡ ByWant = only (at_once (ByRefusal why)) comes tt in absurd cc
 
@@ -41,6 +42,9 @@ visit_not_want told coming visit comes only = let want : ByVisit visit ≡ ByWan
 
 reflection_not_want : (told : Told) (coming : Coming) (reflection : Reflection) → coming (at_once (ByReflecting reflection)) → ¬ IsOnlyWant told coming
 reflection_not_want told coming reflection comes only = let want : ByReflecting reflection ≡ ByWant = only (at_once (ByReflecting reflection)) comes tt in absurd cc
+
+drill_not_want : (told : Told) (coming : Coming) (request : DrillRequest) → coming (at_once (ByDrill request)) → ¬ IsOnlyWant told coming
+drill_not_want told coming request comes only = let want : ByDrill request ≡ ByWant = only (at_once (ByDrill request)) comes tt in absurd cc
 
 no_file_given : (told : Told) (puts : List Put) (text : List ℕ) → AreGiven told (steps_of puts text)
 no_file_given told [] text = tt
@@ -154,6 +158,7 @@ command_not_want some told (Join request) =
 command_not_want some told (Reflect request) =
     file_not_want told input.Program (ask_program request.program) (λ bytes. OfProgram (λ tree. OfReflect request (session_of request.name bytes)) bytes)
     (λ bytes. program_not_want some told (λ tree. OfReflect request (session_of request.name bytes)) bytes (λ tree. reflect_not_want told request (session_of request.name bytes)))
+command_not_want some told (Drill request) = drill_not_want told (OfCommand (Drill request)) request refl
 
 pub some_verdict_comes : IsSomeReading → SomeVerdictComes
 some_verdict_comes some None told only = refused_not_want told _ refusal.Usage (inr refl) only

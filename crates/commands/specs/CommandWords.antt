@@ -10,8 +10,9 @@ use Rattle.commands.specs.declared.words.Setting.{Setting}
 use Rattle.commands.specs.declared.words.ReplayRequest.{ReplayRequest}
 use Rattle.commands.specs.declared.words.JoinRequest.{JoinRequest}
 use Rattle.commands.specs.declared.words.ReflectRequest.{ReflectRequest}
+use Rattle.commands.specs.declared.words.DrillRequest.{DrillRequest}
 use Rattle.commands.specs.declared.words.Command.{Command}
-use Rattle.commands.specs.declared.words.Command.TheVariants.{Stamp, Check, Replay, Join, Reflect}
+use Rattle.commands.specs.declared.words.Command.TheVariants.{Stamp, Check, Replay, Join, Reflect, Drill}
 
 -- the word begins with `-`
 abbrev pub is_option : LineWord → Bool
@@ -162,6 +163,46 @@ reflect_of parts =
     let others = without (codes "--connections") parts.settings in
     reflect_with (without (codes "--log") others) parts.positionals (setting_value (codes "--connections") parts.settings) (setting_value (codes "--log") others)
 
+-- the seed of a drill
+abbrev pub seed_of : LineWord → Option ℕ
+seed_of word = number_of_word 0 4294967295 word
+
+-- how many views it has
+abbrev pub views_of : LineWord → Option ℕ
+views_of word = number_of_word 1 8 word
+
+-- how many events each of them publishes
+abbrev pub events_of : LineWord → Option ℕ
+events_of word = number_of_word 0 10000 word
+
+-- all three are numbers within their bounds
+abbrev pub drill_numbered : LineWord → LineWord → Option ℕ → Option ℕ → Option ℕ → Option Command
+drill_numbered log snapshots (Some seed) (Some views) (Some events) =
+    Some (Drill (record { seed = seed; views = views; events = events; log = log; snapshots = snapshots }))
+drill_numbered log snapshots seed views events = None
+
+-- `drill` has three positionals
+abbrev pub drill_words : List LineWord → LineWord → LineWord → Option Command
+drill_words (seed ∷ views ∷ events ∷ []) log snapshots =
+    drill_numbered log snapshots (seed_of (encode_utf8_all seed)) (views_of (encode_utf8_all views)) (events_of (encode_utf8_all events))
+drill_words positionals log snapshots = None
+
+-- both of its options stand
+abbrev pub drill_options : List LineWord → Option LineWord → Option LineWord → Option Command
+drill_options positionals (Some log) (Some snapshots) = drill_words positionals log snapshots
+drill_options positionals log snapshots = None
+
+-- and no setting is left once they are taken out
+abbrev pub drill_with : List Setting → List LineWord → Option LineWord → Option LineWord → Option Command
+drill_with [] positionals log snapshots = drill_options positionals log snapshots
+drill_with settings positionals log snapshots = None
+
+-- `drill SEED VIEWS EVENTS --log FILE --snapshots PREFIX`
+abbrev pub drill_of : Parts → Option Command
+drill_of parts =
+    let others = without (codes "--log") parts.settings in
+    drill_with (without (codes "--snapshots") others) parts.positionals (setting_value (codes "--log") parts.settings) (setting_value (codes "--snapshots") others)
+
 -- what the words after the command's name make: one row for each command
 abbrev pub command_named : LineWord → Parts → Option Command
 command_named name parts =
@@ -170,6 +211,7 @@ command_named name parts =
     else if bytes_eq name (codes "replay") then replay_of parts
     else if bytes_eq name (codes "join") then join_command parts
     else if bytes_eq name (codes "reflect") then reflect_of parts
+    else if bytes_eq name (codes "drill") then drill_of parts
     else None
 
 -- the command that the words ask for, where they follow the rules
@@ -199,12 +241,21 @@ AreConnections count = (1 ≤ count) × (count ≤ 64)
 abbrev pub IsBoundedReflect : ReflectRequest → Type 0
 IsBoundedReflect request = (length (encode_utf8_all request.name) ≤ most_name) × AreConnections request.connections
 
+-- from 1 to 8 views
+abbrev pub AreViews : ℕ → Type 0
+AreViews count = (1 ≤ count) × (count ≤ 8)
+
+-- a drill has so many views, of at most 10,000 events each
+abbrev pub IsBoundedDrill : DrillRequest → Type 0
+IsBoundedDrill request = AreViews request.views × (request.events ≤ 10000)
+
 abbrev pub IsWithinBounds : Command → Type 0
 IsWithinBounds (Stamp script log) = ⊤
 IsWithinBounds (Check program) = ⊤
 IsWithinBounds (Replay request) = IsBounded request
 IsWithinBounds (Join request) = IsBoundedJoin request
 IsWithinBounds (Reflect request) = IsBoundedReflect request
+IsWithinBounds (Drill request) = IsBoundedDrill request
 
 -- what a reader makes of these words, after those that it has read
 abbrev pub read_on : Reader → List LineWord → Option Parts

@@ -1,5 +1,6 @@
--- The text of replies, the lines of a world and of a check, the text of a session that was reflected, and the lines of a program's faults.
-use Rattle.std.specs.Prelude.{ℕ, ◌+◌, List, [], ◌∷◌, ◌++◌, length, sum, encode_utf8_all, Option, Some, None, codes}
+-- The text of replies, the lines of a world and of a check, the text of a session that was reflected, the line of a drill, and the lines of a program's faults.
+use Rattle.std.specs.Prelude.{ℕ, ℤ, ◌+◌, ◌*◌, List, [], ◌∷◌, ◌++◌, length, sum, encode_utf8_all, Option, Some, None, codes}
+use Rattle.std.specs.Fmt.{signed_decimal}
 use Rattle.std.specs.List.{sum_by}
 use Rattle.text_lines.specs.Lines.{numbered}
 use Rattle.hex.specs.Hex.{encode_lower}
@@ -12,6 +13,7 @@ use Rattle.model_lang.specs.declared.fault.Bound.{Bound}
 use Rattle.model_lang.specs.declared.fault.Bound.TheVariants as bound
 use Rattle.model_check.specs.declared.fault.CheckFault.TheVariants.{Twice, NoName, NoClass, NoField, Count, NoRoot, WantOfMemory}
 use Rattle.wire_frames.specs.declared.start.Base.{Base}
+use Rattle.commands.specs.declared.words.DrillRequest.{DrillRequest}
 use Rattle.connection.specs.declared.ending.Ended.{Ended}
 use Rattle.connection.specs.declared.ending.Ended.TheVariants as ended
 use Rattle.reflector_core.specs.PlainSession.{PlainSession}
@@ -91,6 +93,20 @@ session_line session =
 -- the text of a session that was reflected: a line for each connection, and then its own
 abbrev pub reflected_text : List Ended → PlainSession → List ℕ
 reflected_text ends session = end_lines 0 ends ++ session_line session
+
+-- what the total of its views adds to the line of a drill
+abbrev pub total_part : ℤ → List ℕ
+total_part total = codes " total " ++ signed_decimal total
+
+-- the line of a drill: its size, how many entries its log has, the total of its views, and how many of them agree
+abbrev pub drilled_line : DrillRequest → ℕ → ℤ → ℕ → List ℕ
+drilled_line request entries total agree =
+    numbered (codes "views") (request.views ∷ [])
+    ++ numbered (codes " events") (request.views * request.events ∷ [])
+    ++ numbered (codes " entries") (entries ∷ [])
+    ++ total_part total
+    ++ numbered (codes " agree") (agree ∷ [])
+    ++ codes "\n"
 
 -- the numbers of a world
 abbrev pub counts_part : WorldRecord → List ℕ

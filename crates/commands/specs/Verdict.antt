@@ -1,5 +1,6 @@
 -- What comes of a command: the steps that it does, one after the other, and how it is closed.
-use Rattle.std.specs.Prelude.{◌≡◌, ◌≢◌, ◌⊎◌, ℕ, ◌≤◌, ◌<◌, Bool, true, false, nat_lt, if◌then◌else◌, List, [], ◌∷◌, ◌++◌, length, encode_utf8_all, Option, Some, None}
+use Rattle.std.specs.Prelude.{◌≡◌, ◌≢◌, ◌⊎◌, ℕ, ℤ, ◌+◌, ◌≤◌, ◌<◌, Bool, true, false, nat_lt, if◌then◌else◌, List, [], ◌∷◌, ◌++◌, length, encode_utf8_all, Option, Some, None}
+use Rattle.std.specs.Fmt.{decimal}
 use Rattle.tea_base.specs.Legal.{IsLegal}
 use Rattle.tea_base.specs.declared.entry.Entry.{Entry}
 use Rattle.connection.specs.declared.ending.Ended.{Ended}
@@ -31,12 +32,13 @@ use Rattle.commands.specs.declared.outcome.Put.{Put}
 use Rattle.commands.specs.declared.words.ReplayRequest.{ReplayRequest}
 use Rattle.commands.specs.declared.words.JoinRequest.{JoinRequest}
 use Rattle.commands.specs.declared.words.ReflectRequest.{ReflectRequest}
+use Rattle.commands.specs.declared.words.DrillRequest.{DrillRequest}
 use Rattle.commands.specs.declared.reflection.Reflection.{Reflection}
 use Rattle.commands.specs.declared.words.Command.{Command}
-use Rattle.commands.specs.declared.words.Command.TheVariants.{Stamp, Check, Replay, Join, Reflect}
+use Rattle.commands.specs.declared.words.Command.TheVariants.{Stamp, Check, Replay, Join, Reflect, Drill}
 use Rattle.commands.specs.Address.{is_address}
 use Rattle.commands.specs.Script.{script_of}
-use Rattle.commands.specs.PrintedText.{text_of, counts_line, world_line, reflected_text, syntax_line, too_large_line, check_line}
+use Rattle.commands.specs.PrintedText.{text_of, counts_line, world_line, reflected_text, drilled_line, syntax_line, too_large_line, check_line}
 
 -- the visit of a view to a session: its program, the session's id, the number of the view, the address of its reflector, and what it
 -- does, line by line
@@ -61,6 +63,8 @@ pub data Closing : Type 0 where
   ByVisit : PlainVisit → Closing
   -- the run goes on as a reflector's, which serves this
   ByReflecting : Reflection → Closing
+  -- the run goes on as this drill
+  ByDrill : DrillRequest → Closing
 
 -- what comes of a command: its steps, and how it is closed behind them
 pub record Verdict : Type 0 where
@@ -254,6 +258,21 @@ abbrev pub reflected_verdict : List ℕ → List Ended → PlainSession → Bool
 reflected_verdict log ends session net_failed =
     record { steps = reflected_steps log ends session; closing = reflected_closing net_failed }
 
+-- ---- drill
+
+-- snapshots, each under a name that ends in the number of its view, for the views from this one on
+abbrev pub snapshot_puts : List ℕ → ℕ → List (List ℕ) → List Put
+snapshot_puts prefix view [] = []
+snapshot_puts prefix view (bytes ∷ snapshots) = record { name = prefix ++ decimal view; bytes = bytes } ∷ snapshot_puts prefix (view + 1) snapshots
+
+-- of a drill the log is put and the snapshot of each view, and its line is printed
+abbrev pub drilled_steps : DrillRequest → List Entry → List (List ℕ) → ℤ → ℕ → List Step
+drilled_steps request log snapshots total agree =
+    steps_of (record { name = request.log; bytes = log_spelling log } ∷ snapshot_puts request.snapshots 1 snapshots) (drilled_line request (length log) total agree)
+
+abbrev pub drilled_verdict : DrillRequest → List Entry → List (List ℕ) → ℤ → ℕ → Verdict
+drilled_verdict request log snapshots total agree = fine (drilled_steps request log snapshots total agree)
+
 -- ---- the commands
 
 -- what comes of a command: a row for each
@@ -266,6 +285,8 @@ OfCommand (Join request) =
     OfFile input.Program (ask_program request.program) (λ bytes. OfProgram (OfJoin request (session_of request.name bytes)) bytes)
 OfCommand (Reflect request) =
     OfFile input.Program (ask_program request.program) (λ bytes. OfProgram (λ tree. OfReflect request (session_of request.name bytes)) bytes)
+-- a drill reads no file
+OfCommand (Drill request) = Only (at_once (ByDrill request))
 
 -- what comes of words: those that break their rules are refused
 abbrev pub OfWords : Option Command → Coming

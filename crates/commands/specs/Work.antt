@@ -14,7 +14,6 @@ use Rattle.snapshot_codec.specs.Spelling.{world_spelling}
 use Rattle.run_steps.specs.Steps.{Ask}
 use Rattle.commands.specs.declared.outcome.Input.{Input}
 use Rattle.commands.specs.declared.outcome.Input.TheVariants as input
-use Rattle.commands.specs.declared.words.Command.{Command}
 use Rattle.commands.specs.declared.words.Command.TheVariants.{Stamp, Check, Replay, Join, Reflect}
 use Rattle.commands.specs.declared.program.ProgramFault.{ProgramFault}
 use Rattle.commands.specs.declared.program.ProgramFault.TheVariants.{Refused, WantOfMemory}
@@ -26,44 +25,41 @@ use Rattle.commands.specs.declared.work.Waiting.TheVariants as waiting
 use Rattle.commands.specs.declared.work.Next.{Next}
 use Rattle.commands.specs.declared.work.Next.TheVariants as next
 use Rattle.view_script.specs.PlainLine.{plain_lines}
-use Rattle.commands.specs.CommandWords.{AreConnections, IsBounded, IsBoundedJoin, IsWithinBounds}
+use Rattle.commands.specs.CommandWords.{AreConnections, IsBounded, IsBoundedDrill, IsBoundedJoin, IsBoundedReflect}
 use Rattle.commands.specs.PrintedText.{check_line, syntax_line, too_large_line, world_line}
-use Rattle.commands.specs.Verdict.{Verdict, PlainVisit, ByRefusal, ByReflecting, ByVisit, ByWant, Coming, Only, OfFile, IsRefused, IsFaultless, OfCommand, OfSnapshot, OfTree, OfView, at_once, fine, steps_of, ask_log, ask_program, ask_script, ask_snapshot}
+use Rattle.commands.specs.Verdict.{Verdict, PlainVisit, ByDrill, ByRefusal, ByReflecting, ByVisit, ByWant, Coming, Only, OfFile, IsRefused, IsFaultless, OfCommand, OfSnapshot, OfTree, OfView, at_once, fine, steps_of, ask_log, ask_program, ask_script, ask_snapshot}
 
 -- ---- a command that waits for a file
 
--- the file that a command reads first
-abbrev pub first_ask : Command → Ask
-first_ask (Stamp script log) = ask_script script
-first_ask (Check program) = ask_program program
-first_ask (Replay request) = ask_program request.program
-first_ask (Join request) = ask_program request.program
-first_ask (Reflect request) = ask_program request.program
-
 -- the file that is waited for
 abbrev pub ask_of : Waiting → Ask
-ask_of (waiting.First command) = first_ask command
+ask_of (waiting.Stamp script log) = ask_script script
+ask_of (waiting.Check program) = ask_program program
+ask_of (waiting.Replay request) = ask_program request.program
+ask_of (waiting.Join request) = ask_program request.program
+ask_of (waiting.Reflect request) = ask_program request.program
 ask_of (waiting.Log wait) = ask_log wait.request.log
 ask_of (waiting.Snapshot wait) = ask_snapshot wait.from
 ask_of (waiting.Script wait) = ask_script wait.request.script
 
 -- which of the inputs it is
-abbrev pub first_input : Command → Input
-first_input (Stamp script log) = input.Script
-first_input (Check program) = input.Program
-first_input (Replay request) = input.Program
-first_input (Join request) = input.Program
-first_input (Reflect request) = input.Program
-
 abbrev pub input_of : Waiting → Input
-input_of (waiting.First command) = first_input command
+input_of (waiting.Stamp script log) = input.Script
+input_of (waiting.Check program) = input.Program
+input_of (waiting.Replay request) = input.Program
+input_of (waiting.Join request) = input.Program
+input_of (waiting.Reflect request) = input.Program
 input_of (waiting.Log wait) = input.Log
 input_of (waiting.Snapshot wait) = input.Snapshot
 input_of (waiting.Script wait) = input.Script
 
 -- what comes of the files that are read from here on
 abbrev pub Remains : Waiting → Coming
-Remains (waiting.First command) = OfCommand command
+Remains (waiting.Stamp script log) = OfCommand (Stamp script log)
+Remains (waiting.Check program) = OfCommand (Check program)
+Remains (waiting.Replay request) = OfCommand (Replay request)
+Remains (waiting.Join request) = OfCommand (Join request)
+Remains (waiting.Reflect request) = OfCommand (Reflect request)
 Remains (waiting.Log wait) = OfTree wait.request wait.id.0 (program_tree wait.program)
 Remains (waiting.Snapshot wait) =
     OfFile input.Snapshot (ask_snapshot wait.from) (OfSnapshot wait.request (program_tree wait.recording.program) wait.recording.id.0 wait.recording.log.entries)
@@ -71,14 +67,18 @@ Remains (waiting.Script wait) = OfView wait.request wait.id.0 (program_tree wait
 
 -- so many files are still read at most
 abbrev pub files_left : Waiting → ℕ
-files_left (waiting.First command) = 3
 files_left (waiting.Log wait) = 2
 files_left (waiting.Snapshot wait) = 1
 files_left (waiting.Script wait) = 1
+files_left first = 3
 
 -- its words are within their bounds
 abbrev pub IsBoundedWait : Waiting → Type 0
-IsBoundedWait (waiting.First command) = IsWithinBounds command
+IsBoundedWait (waiting.Stamp script log) = ⊤
+IsBoundedWait (waiting.Check program) = ⊤
+IsBoundedWait (waiting.Replay request) = IsBounded request
+IsBoundedWait (waiting.Join request) = IsBoundedJoin request
+IsBoundedWait (waiting.Reflect request) = IsBoundedReflect request
 IsBoundedWait (waiting.Log wait) = IsBounded wait.request
 IsBoundedWait (waiting.Snapshot wait) = IsBounded wait.request
 IsBoundedWait (waiting.Script wait) = IsBoundedJoin wait.request
@@ -100,12 +100,14 @@ ComesNext (next.Refuses refusal) = Only (at_once (ByRefusal refusal))
 ComesNext (next.Gives outcome) = Only (fine (steps_of outcome.files outcome.text))
 ComesNext (next.Visits request) = Only (at_once (ByVisit (visit_of request)))
 ComesNext (next.Reflects reflection) = Only (at_once (ByReflecting reflection))
+ComesNext (next.Drills request) = Only (at_once (ByDrill request))
 ComesNext next.WantOfMemory = Only (at_once ByWant)
 
 abbrev pub IsBoundedNext : Next → Type 0
 IsBoundedNext (next.Reads wait) = IsBoundedWait wait
 IsBoundedNext (next.Visits request) = 1 ≤ request.view
 IsBoundedNext (next.Reflects reflection) = AreConnections reflection.connections
+IsBoundedNext (next.Drills request) = IsBoundedDrill request
 IsBoundedNext other = ⊤
 
 abbrev pub reads_left : Next → ℕ

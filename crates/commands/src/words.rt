@@ -3,7 +3,7 @@ ghost use Rattle.std.specs.Prelude.{◌≡◌, ◌<◌, ◌≤◌, ℕ, [], ◌�
 ghost use Rattle.std.specs.List.{list_all};
 ghost use Rattle.std.specs.Str.{bytes_eq};
 ghost use Rattle.text_lines.specs.Lines.{is_empty};
-ghost use Rattle.commands.specs.CommandWords.{command_of, command_named, stamp_of, check_of, replay_of, replay_words, join_command, join_named, join_words, view_of, reflect_of, reflect_options, reflect_words, reflect_named, connections_of, AreConnections, all_parts, is_option, setting_value, without, IsFirstOf, IsWithinBounds, HasNone};
+ghost use Rattle.commands.specs.CommandWords.{command_of, command_named, stamp_of, check_of, replay_of, replay_words, join_command, join_named, join_words, view_of, reflect_of, reflect_options, reflect_words, reflect_named, connections_of, AreConnections, drill_of, drill_options, drill_words, drill_numbered, seed_of, views_of, events_of, AreViews, all_parts, is_option, setting_value, without, IsFirstOf, IsWithinBounds, HasNone};
 
 use crate::script::time_in;
 use std::alloc::Global;
@@ -26,6 +26,8 @@ pub enum Command {
     Join(JoinRequest),
     /// `reflect PROGRAM NAME ADDRESS --connections N --log FILE`
     Reflect(ReflectRequest),
+    /// `drill SEED VIEWS EVENTS --log FILE --snapshots PREFIX`
+    Drill(DrillRequest),
 }
 
 /// What a replay is asked for.
@@ -66,6 +68,21 @@ pub struct ReflectRequest {
     pub connections: u32,
     /// Where the log of the session is put.
     pub log: Text,
+}
+
+/// What a drill is asked for.
+#[derive(Drop)]
+pub struct DrillRequest {
+    /// From which number its sources start.
+    pub seed: u32,
+    /// How many views it has, from 1 to 8.
+    pub views: u32,
+    /// How many events each of them publishes, at most 10,000.
+    pub events: u32,
+    /// Where the log of the session is put.
+    pub log: Text,
+    /// Where the snapshots of the replicas are put: each name is this, and then the number of the view.
+    pub snapshots: Text,
 }
 
 /// An option and its value.
@@ -429,6 +446,104 @@ fn reflect_named(
     }))
 }
 
+/// The seed of a drill.
+fn seed_of(word: &str) -> Option<u32>
+    ensures { result ≡ seed_of word.now }
+{
+    match number(word, 0, 4294967295) {
+        Some(seed) => Some(seed as u32),
+        None => None,
+    }
+}
+
+/// How many views a drill has.
+fn views_of(word: &str) -> Option<u32>
+    ensures read { result ≡ views_of word.now }
+    ensures bound { IfSome result AreViews }
+{
+    match number(word, 1, 8) {
+        Some(views) => Some(views as u32),
+        None => None,
+    }
+}
+
+/// How many events each view of a drill publishes.
+fn events_of(word: &str) -> Option<u32>
+    ensures read { result ≡ events_of word.now }
+    ensures bound { IfSome result (λ events. events ≤ 10000) }
+{
+    match number(word, 0, 10000) {
+        Some(events) => Some(events as u32),
+        None => None,
+    }
+}
+
+/// `drill SEED VIEWS EVENTS --log FILE --snapshots PREFIX`
+fn drill(parts: Parts) -> Option<Command>
+    ensures read { result ≡ drill_of parts }
+    ensures bounds { IfSome result IsWithinBounds }
+{
+    let Parts {
+        positionals,
+        settings,
+    } = parts;
+    let mut settings = settings.into_vec();
+    let log = take_setting(&mut settings, "--log");
+    let snapshots = take_setting(&mut settings, "--snapshots");
+    if !settings.is_empty() {
+        return None;
+    }
+    drill_options(positionals, log, snapshots)
+}
+
+/// The drill that positionals and the values of both options ask for.
+fn drill_options(positionals: Words, log: Option<Text>, snapshots: Option<Text>) -> Option<Command>
+    ensures read { result ≡ drill_options positionals log snapshots }
+    ensures bounds { IfSome result IsWithinBounds }
+{
+    let log = log?;
+    let snapshots = snapshots?;
+    drill_words(positionals, log, snapshots)
+}
+
+/// The drill that three positionals ask for.
+fn drill_words(positionals: Words, log: Text, snapshots: Text) -> Option<Command>
+    ensures read { result ≡ drill_words positionals log snapshots }
+    ensures bounds { IfSome result IsWithinBounds }
+{
+    let mut positionals = positionals.into_vec();
+    let events = positionals.pop()?;
+    let views = positionals.pop()?;
+    let seed = positionals.pop()?;
+    if !positionals.is_empty() {
+        return None;
+    }
+    drill_numbered(&seed, &views, &events, log, snapshots)
+}
+
+/// The drill of this size.
+fn drill_numbered(
+    seed: &Text,
+    views: &Text,
+    events: &Text,
+    log: Text,
+    snapshots: Text,
+) -> Option<Command>
+    ensures read { result ≡ drill_numbered log snapshots (seed_of (encode_utf8_all seed.now)) (views_of (encode_utf8_all views.now)) (events_of (encode_utf8_all events.now)) }
+    ensures bounds { IfSome result IsWithinBounds }
+{
+    let seed = seed_of(seed.as_str())?;
+    let views = views_of(views.as_str())?;
+    let events = events_of(events.as_str())?;
+    Some(Command::Drill(DrillRequest {
+        seed,
+        views,
+        events,
+        log,
+        snapshots,
+    }))
+}
+
 /// The command of this name, where the words after it follow its rules.
 fn command_named(name: &Text, parts: Parts) -> Option<Command>
     ensures read { result ≡ command_named name.now parts }
@@ -444,6 +559,8 @@ fn command_named(name: &Text, parts: Parts) -> Option<Command>
         join(parts)
     } else if is_word(name, "reflect") {
         reflect(parts)
+    } else if is_word(name, "drill") {
+        drill(parts)
     } else {
         None
     }

@@ -1,10 +1,10 @@
 //! A command at work: it waits for a file, or it has come to its end.
-ghost use Rattle.std.specs.Prelude.{◌≡◌, ◌<◌, Some};
+ghost use Rattle.std.specs.Prelude.{◌≡◌, ◌<◌};
 ghost use Rattle.std.specs.Option.{IfSome};
 ghost use Rattle.commands.specs.CommandWords.{IsWithinBounds};
 ghost use Rattle.run_steps.specs.Steps.{Loads};
-ghost use Rattle.commands.specs.Verdict.{OfCommand, OfWords, Verdict, before};
-ghost use Rattle.commands.specs.Work.{ComesNext, IsBoundedNext, IsBoundedWait, Leads, Remains, ask_of, files_left, first_ask, input_of, reads_left};
+ghost use Rattle.commands.specs.Verdict.{OfWords, Verdict, before};
+ghost use Rattle.commands.specs.Work.{ComesNext, IsBoundedNext, IsBoundedWait, Leads, Remains, ask_of, files_left, input_of, reads_left};
 
 use crate::check::check;
 use crate::outcome::{Input, Outcome, Refusal};
@@ -12,15 +12,23 @@ use crate::recording::{LogWait, SnapshotWait, take_log, take_program, take_snaps
 use crate::reflection::{Reflection, take_reflector_program};
 use crate::stamp::stamp;
 use crate::visit::{ScriptWait, VisitRequest, take_view_program, take_view_script};
-use crate::words::Command;
+use crate::words::{Command, DrillRequest, JoinRequest, ReflectRequest, ReplayRequest};
 use std::alloc::Global;
 use tea_base::{Blob, MOST_SNAPSHOT, Text};
 
 /// A command that waits for the bytes of a file.
 #[derive(Drop)]
 pub enum Waiting {
-    /// It has read nothing yet.
-    First(Command),
+    /// A stamp that has read nothing yet.
+    Stamp { script: Text, log: Option<Text> },
+    /// A check that has read nothing yet.
+    Check { program: Text },
+    /// A replay that has read nothing yet.
+    Replay(ReplayRequest),
+    /// A view that has read nothing yet.
+    Join(JoinRequest),
+    /// A reflector that has read nothing yet.
+    Reflect(ReflectRequest),
     /// A replay that has read its program.
     Log(LogWait),
     /// A replay that has read its program and its log.
@@ -42,6 +50,8 @@ pub enum Next {
     Visits(VisitRequest),
     /// It goes on as a reflector's run.
     Reflects(Reflection),
+    /// It goes on as a drill.
+    Drills(DrillRequest),
     WantOfMemory,
 }
 
@@ -62,23 +72,13 @@ impl Next {
         ensures bounded { IsBoundedNext result }
     {
         match command {
-            Some(command) => Next::Reads(Waiting::First(command)),
+            Some(Command::Stamp { script, log }) => Next::Reads(Waiting::Stamp { script, log }),
+            Some(Command::Check { program }) => Next::Reads(Waiting::Check { program }),
+            Some(Command::Replay(request)) => Next::Reads(Waiting::Replay(request)),
+            Some(Command::Join(request)) => Next::Reads(Waiting::Join(request)),
+            Some(Command::Reflect(request)) => Next::Reads(Waiting::Reflect(request)),
+            Some(Command::Drill(request)) => Next::Drills(request),
             None => Next::Refuses(Refusal::Usage),
-        }
-    }
-}
-
-impl Command {
-    /// The file that it reads first.
-    fn first_name(&self) -> &Text
-        ensures { result.now ≡ (first_ask self.now).name }
-    {
-        match self {
-            Command::Stamp { script, .. } => script,
-            Command::Check { program } => program,
-            Command::Replay(request) => &request.program,
-            Command::Join(request) => &request.program,
-            Command::Reflect(request) => &request.program,
         }
     }
 }
@@ -89,7 +89,11 @@ impl Waiting {
         ensures { result.now ≡ (ask_of self.now).name }
     {
         match self {
-            Waiting::First(command) => command.first_name(),
+            Waiting::Stamp { script, .. } => script,
+            Waiting::Check { program } => program,
+            Waiting::Replay(request) => &request.program,
+            Waiting::Join(request) => &request.program,
+            Waiting::Reflect(request) => &request.program,
             Waiting::Log(wait) => &wait.request.log,
             Waiting::Snapshot(wait) => &wait.from,
             Waiting::Script(wait) => &wait.request.script,
@@ -101,11 +105,11 @@ impl Waiting {
         ensures { result ≡ input_of self.now }
     {
         match self {
-            Waiting::First(Command::Stamp { .. }) => Input::Script,
-            Waiting::First(Command::Check { .. }) => Input::Program,
-            Waiting::First(Command::Replay(_)) => Input::Program,
-            Waiting::First(Command::Join(_)) => Input::Program,
-            Waiting::First(Command::Reflect(_)) => Input::Program,
+            Waiting::Stamp { .. } => Input::Script,
+            Waiting::Check { .. } => Input::Program,
+            Waiting::Replay(_) => Input::Program,
+            Waiting::Join(_) => Input::Program,
+            Waiting::Reflect(_) => Input::Program,
             Waiting::Log(_) => Input::Log,
             Waiting::Snapshot(_) => Input::Snapshot,
             Waiting::Script(_) => Input::Script,
@@ -138,27 +142,17 @@ impl Waiting {
             return Next::Refuses(Refusal::Input(self.input()));
         };
         match self {
-            Waiting::First(command) => take_first(alloc, command, bytes.bytes()),
+            Waiting::Stamp {
+                script: _script,
+                log,
+            } => stamp(alloc, log, bytes.bytes()),
+            Waiting::Check { program: _program } => check(alloc, bytes.bytes()),
+            Waiting::Replay(request) => take_program(alloc, request, bytes.bytes()),
+            Waiting::Join(request) => take_view_program(alloc, request, bytes.bytes()),
+            Waiting::Reflect(request) => take_reflector_program(alloc, request, bytes.bytes()),
             Waiting::Log(wait) => take_log(alloc, wait, bytes.bytes()),
             Waiting::Snapshot(wait) => take_snapshot(alloc, wait, bytes.bytes()),
             Waiting::Script(wait) => take_view_script(alloc, wait, bytes.bytes()),
         }
-    }
-}
-
-/// Goes on with the bytes of the file that a command reads first.
-fn take_first(alloc: Global, command: Command, bytes: &[u8]) -> Next
-    requires { IsWithinBounds command }
-    ensures leads { (rest : Verdict) → ComesNext result rest
-        → OfCommand command (before (Loads (first_ask command) (Some bytes.now)) rest) }
-    ensures bounded { IsBoundedNext result }
-    ensures fewer { reads_left result < 3 }
-{
-    match command {
-        Command::Stamp { script: _, log } => stamp(alloc, log, bytes),
-        Command::Check { program: _ } => check(alloc, bytes),
-        Command::Replay(request) => take_program(alloc, request, bytes),
-        Command::Join(request) => take_view_program(alloc, request, bytes),
-        Command::Reflect(request) => take_reflector_program(alloc, request, bytes),
     }
 }

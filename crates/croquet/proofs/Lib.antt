@@ -2,3 +2,4 @@ pub mod Acts
 pub mod Runs
 pub mod VisitRuns
 pub mod ReflectorRuns
+pub mod DrillRuns

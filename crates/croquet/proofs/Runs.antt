@@ -67,6 +67,7 @@ turns_on files out wait given next (turn.Over result) f mid f' w w' read leads r
 }
 turns_on files out wait given next (turn.Visits request) f mid f' w w' read leads reached = reaches_on files out wait given next _ f mid f' w w' read leads reached
 turns_on files out wait given next (turn.Reflects reflection) f mid f' w w' read leads reached = reaches_on files out wait given next _ f mid f' w w' read leads reached
+turns_on files out wait given next (turn.Drills request) f mid f' w w' read leads reached = reaches_on files out wait given next _ f mid f' w w' read leads reached
 
 -- where a file is not read, what comes of one above its limit stands for what would have come
 unread : (wait : Waiting) → Course (Remains wait) (Loads (ask_of wait) None ∷ []) (EndsRefused (refusal.Input (input_of wait)))
@@ -153,21 +154,29 @@ ran_wanting files out coming f w w' result told = record {
   does = told_at_once files out EndsWanting f w w' result told;
 }
 
--- what comes of a command may come of what is free
-pub turns_freely
-    : {F W : Type 0} (files : FilesTell F) (out : OutputTells W) (coming other : Coming) (came : Turn) (f f' : F) (w w' : W)
-    → ((verdict : Verdict) → coming verdict → other verdict) → TurnsSo files out came coming f w f' w' → TurnsSo files out came (Free other) f w f' w'
-turns_freely files out coming other (turn.Over result) f f' w w' leads ran = record {
+-- what comes of one coming may come of another
+pub ran_leading
+    : {F W : Type 0} (files : FilesTell F) (out : OutputTells W) (coming other : Coming) (f f' : F) (w w' : W) (result : Status)
+    → ((verdict : Verdict) → coming verdict → other verdict) → RanSo files out coming f w f' w' result → RanSo files out other f w f' w' result
+ran_leading files out coming other f f' w w' result leads ran = record {
   steps = ran.steps;
   ending = ran.ending;
   course = record {
     verdict = ran.course.verdict;
-    comes = inr (leads ran.course.verdict ran.course.comes);
+    comes = leads ran.course.verdict ran.course.comes;
     more = ran.course.more;
     concludes = ran.course.concludes;
     all = ran.course.all;
   };
   does = ran.does;
 }
+
+-- what comes of a command may come of what is free
+pub turns_freely
+    : {F W : Type 0} (files : FilesTell F) (out : OutputTells W) (coming other : Coming) (came : Turn) (f f' : F) (w w' : W)
+    → ((verdict : Verdict) → coming verdict → other verdict) → TurnsSo files out came coming f w f' w' → TurnsSo files out came (Free other) f w f' w'
+turns_freely files out coming other (turn.Over result) f f' w w' leads ran =
+    ran_leading files out coming (Free other) f f' w w' result (λ verdict comes. inr (leads verdict comes)) ran
 turns_freely files out coming other (turn.Visits request) f f' w w' leads reached = record { steps = reached.steps; comes = inr (leads _ reached.comes); acts = reached.acts }
 turns_freely files out coming other (turn.Reflects reflection) f f' w w' leads reached = record { steps = reached.steps; comes = inr (leads _ reached.comes); acts = reached.acts }
+turns_freely files out coming other (turn.Drills request) f f' w w' leads reached = record { steps = reached.steps; comes = inr (leads _ reached.comes); acts = reached.acts }

@@ -1,14 +1,19 @@
 -- What the parts of a run do, and what they tell.
-use Rattle.std.specs.Prelude.{◌⊎◌, ⊤, Bool, true, false, List, None, Result, Ok, Err, codes}
+use Rattle.std.specs.Prelude.{◌⊎◌, ℕ, ⊤, Bool, true, false, List, None, Result, Ok, Err, codes, map}
 use Rattle.run_steps.specs.Steps.{Step}
 use Rattle.run_steps.specs.Outside.{Outside, OutsideTells, Failed, WantedMemory, FilesTell, OutputTells, PutsFile, Acts}
+use Rattle.tea_base.specs.declared.want.WantOfMemory.{WantOfMemory}
+use Rattle.snapshot_codec.specs.Spelling.{world_spelling}
+use Rattle.replica.specs.View.{ReplicaView}
+use Rattle.drill.specs.declared.report.DrillReport.{DrillReport}
 use Rattle.reflect_server.specs.declared.reflection.ServeFault.{ServeFault}
 use Rattle.reflect_server.specs.declared.reflection.ServeFault.TheVariants as serve_fault
 use Rattle.view_shell.specs.declared.ending.ViewEnd.{ViewEnd}
 use Rattle.view_shell.specs.declared.ending.ViewEnd.TheVariants as view_end
 use Rattle.commands.specs.declared.outcome.Put.{Put}
-use Rattle.commands.specs.CommandWords.{AreConnections}
-use Rattle.commands.specs.Verdict.{ByReflecting, ByVisit, Coming, PlainVisit}
+use Rattle.commands.specs.declared.words.DrillRequest.{DrillRequest}
+use Rattle.commands.specs.CommandWords.{AreConnections, IsBoundedDrill}
+use Rattle.commands.specs.Verdict.{ByDrill, ByReflecting, ByVisit, ByWant, Coming, Free, Only, PlainVisit, at_once, drilled_verdict}
 use Rattle.commands.specs.Work.{visit_of}
 use Rattle.croquet.specs.declared.status.Status.{Status}
 use Rattle.croquet.specs.declared.status.Status.TheVariants as status
@@ -43,15 +48,27 @@ abbrev pub fault_ending : ServeFault → Ending
 fault_ending serve_fault.ListenFault = EndsOnNetFault
 fault_ending serve_fault.WantOfMemory = EndsWanting
 
--- a command is over, or its run goes on as a view's or a reflector's
+-- the snapshot of a replica's world
+abbrev pub snapshot_of : ReplicaView → List ℕ
+snapshot_of r = world_spelling r.plain.world
+
+-- what comes of a drill's report
+abbrev pub OfReport : DrillRequest → Result DrillReport WantOfMemory → Coming
+OfReport request (Ok report) =
+    Free (Only (drilled_verdict request report.session.plain.log (map snapshot_of report.replicas) report.total report.agree))
+OfReport request (Err wanting) = Only (at_once ByWant)
+
+-- a command is over, or its run goes on as a view's, a reflector's, or a drill
 abbrev pub Turns : {F W N L : Type 0} → OutsideTells F W N L → Turn → Coming → Outside F W N L → Outside F W N L → Type 0
 Turns tells (turn.Over result) coming old new = RanBySteps tells coming old new result
 Turns tells (turn.Visits request) coming old new = Reaches tells coming (ByVisit (visit_of request)) old new
 Turns tells (turn.Reflects reflection) coming old new = Reaches tells coming (ByReflecting reflection) old new
+Turns tells (turn.Drills request) coming old new = Reaches tells coming (ByDrill request) old new
 
--- a reflector accepts from 1 to 64 links
+-- a reflector accepts from 1 to 64 links, and a drill is of the size that its words may ask for
 abbrev pub IsBoundedTurn : Turn → Type 0
 IsBoundedTurn (turn.Reflects reflection) = AreConnections reflection.connections
+IsBoundedTurn (turn.Drills request) = IsBoundedDrill request
 IsBoundedTurn other = ⊤
 
 -- a view's run is done, and its end told

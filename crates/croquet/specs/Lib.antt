@@ -1,3 +1,4 @@
 pub mod Status
+pub mod Drills
 pub mod Run
 pub mod Calls

@@ -1,13 +1,16 @@
 -- What a run does to the outside: all that comes of its command, or this up to one place, and then the line of its fault.
-use Rattle.std.specs.Prelude.{◌≡◌, ℕ, List, [], ◌∷◌, ◌++◌, ◌⊎◌, Option, Some, None, Result, Ok, Err, codes}
+use Rattle.std.specs.Prelude.{◌≡◌, ℕ, List, [], ◌∷◌, ◌++◌, ◌⊎◌, Option, Some, None, Result, Ok, Err, IfOk, codes}
 use Rattle.text_lines.specs.Lines.{numbered}
 use Rattle.run_steps.specs.Steps.{Step, Loads, Puts, Prints}
 use Rattle.run_steps.specs.Outside.{Outside, OutsideTells, OutputTells, Came, Well, Failed, WantedMemory, PrintsText, Cut, Acts, LinkGoesBack, OnPart}
 use Rattle.tea_io.specs.declared.net.NetCall.TheVariants.{Listen}
+use Rattle.drill.specs.declared.report.DrillReport.{DrillReport}
+use Rattle.drill.specs.Drill.{HasDrilled}
 use Rattle.reflect_server.specs.Reflects.{Reflects}
 use Rattle.reflect_server.specs.declared.reflection.Reflected.{Reflected}
 use Rattle.reflect_server.specs.declared.reflection.ServeFault.{ServeFault}
-use Rattle.reflect_server.specs.declared.reflection.ServeFault.TheVariants.{ListenFault, WantOfMemory}
+use Rattle.reflect_server.specs.declared.reflection.ServeFault.TheVariants as serve_fault
+use Rattle.tea_base.specs.declared.want.WantOfMemory.{WantOfMemory}
 use Rattle.view_shell.specs.declared.ending.ViewEnd.{ViewEnd}
 use Rattle.view_shell.specs.declared.ending.ViewEnd.TheVariants as view_end
 use Rattle.view_shell.specs.Phases.{Phase, Walks}
@@ -18,7 +21,9 @@ use Rattle.commands.specs.declared.outcome.Input.TheVariants as input
 use Rattle.commands.specs.declared.outcome.Refusal.{Refusal}
 use Rattle.commands.specs.declared.outcome.Refusal.TheVariants as refusal
 use Rattle.commands.specs.declared.reflection.Reflection.{Reflection}
-use Rattle.commands.specs.Verdict.{Closing, Fine, ByRefusal, ByWant, ByNetFault, ByVisit, ByReflecting, Verdict, PlainVisit, Coming, Free, Only, at_once, reflected_verdict}
+use Rattle.commands.specs.declared.words.DrillRequest.{DrillRequest}
+use Rattle.commands.specs.Verdict.{Closing, Fine, ByRefusal, ByWant, ByNetFault, ByVisit, ByReflecting, ByDrill, Verdict, PlainVisit, Coming, Free, Only, at_once, reflected_verdict}
+use Rattle.croquet.specs.Drills.{OfDrilled, size_of}
 use Rattle.croquet.specs.declared.status.Status.{Status}
 use Rattle.croquet.specs.declared.status.Status.TheVariants as status
 
@@ -54,6 +59,8 @@ Concludes ByNetFault steps ending = (steps ≡ []) × (ending ≡ EndsOnNetFault
 Concludes (ByVisit visit) steps ending = Visits visit steps ending
 -- No run by steps alone ends so: a reflector serves many links at once. `RanAsReflector` says how it does.
 Concludes (ByReflecting reflection) steps ending = ⊥
+-- Nor so: the views of a drill run in threads. `RanAsDrill` says what comes of them.
+Concludes (ByDrill request) steps ending = ⊥
 
 -- these steps, and this end, come of a command: those of a verdict that comes, and then those that its closing comes to
 pub record Course (coming : Coming) (steps : List Step) (ending : Ending) : Type 0 where
@@ -192,8 +199,8 @@ ServesNet gives tells reflection answer old new =
 -- what comes of a reflector's answer: the log of its session is put under this name, and its text is printed, also where the net failed
 abbrev pub OfReflected : List ℕ → Result Reflected ServeFault → Coming
 OfReflected log (Ok reflected) = Free (Only (reflected_verdict log reflected.ends reflected.session.plain reflected.net_failed))
-OfReflected log (Err ListenFault) = Only (at_once ByNetFault)
-OfReflected log (Err WantOfMemory) = Only (at_once ByWant)
+OfReflected log (Err serve_fault.ListenFault) = Only (at_once ByNetFault)
+OfReflected log (Err serve_fault.WantOfMemory) = Only (at_once ByWant)
 
 -- a command has done its steps, a reflector has served the net, and what comes of its answer is done
 pub record RanAsReflector (gives : ℕ → Type 0) {F W N L : Type 0} (tells : OutsideTells F W N L) (coming : Coming) (old new : Outside F W N L) (result : Status) : Type 0 where
@@ -205,6 +212,20 @@ pub record RanAsReflector (gives : ℕ → Type 0) {F W N L : Type 0} (tells : O
   pub serves : ServesNet gives tells reflection answer ready served
   pub behind : RanBySteps tells (OfReflected reflection.log answer) served new result
 
--- a command has run: by steps, or as a reflector
+-- ---- a drill
+
+-- a command has done its steps, a drill has run by a clock that may give these values, and what comes of its answer is done
+pub record RanAsDrill (gives : ℕ → Type 0) {F W N L : Type 0} (tells : OutsideTells F W N L) (coming : Coming) (old new : Outside F W N L) (result : Status) : Type 0 where
+  pub request : DrillRequest
+  pub ready : Outside F W N L
+  pub reaches : Reaches tells coming (ByDrill request) old ready
+  pub answer : Result DrillReport WantOfMemory
+  pub drilled : IfOk answer (HasDrilled gives (size_of request))
+  pub behind : RanBySteps tells (OfDrilled gives request answer) ready new result
+
+-- ---- every run
+
+-- a command has run: by steps, as a reflector, or as a drill
 abbrev pub Ran : (ℕ → Type 0) → {F W N L : Type 0} → OutsideTells F W N L → Coming → Outside F W N L → Outside F W N L → Status → Type 0
-Ran gives tells coming old new result = RanBySteps tells coming old new result ⊎ RanAsReflector gives tells coming old new result
+Ran gives tells coming old new result =
+    RanBySteps tells coming old new result ⊎ (RanAsReflector gives tells coming old new result ⊎ RanAsDrill gives tells coming old new result)

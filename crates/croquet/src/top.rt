@@ -9,15 +9,17 @@ ghost use Rattle.view_shell.specs.OneRun.{IsOneRun};
 ghost use Rattle.croquet.specs.Calls.{IsBoundedTurn, Turns};
 ghost use Rattle.croquet.specs.Run.{Ran};
 
+use crate::drilling::tell_drilled;
 use crate::giving::finish;
 use crate::reflecting::tell_reflected;
 use crate::status::Status;
 use crate::telling::{tell, tell_refusal, tell_want_of_memory};
 use crate::visiting::run_visit;
 use commands::{
-    Next, Reflection, VisitRequest, Waiting, logs_tell_their_events, one_verdict, read_command,
-    snapshots_agree, some_verdict,
+    DrillRequest, Next, Reflection, VisitRequest, Waiting, logs_tell_their_events, one_verdict,
+    read_command, snapshots_agree, some_verdict,
 };
+use drill::{Size, drill};
 use reflect_server::{Server, reflect};
 use run_steps::{CallFault, read_file};
 use std::alloc::Global;
@@ -27,12 +29,13 @@ use tea_base::{Blob, WantOfMemory, Words};
 use tea_io::{Clock, Files, Gate, Net, Sink};
 use view_shell::one_run;
 
-/// A command is over, or the run goes on as a view's or a reflector's.
+/// A command is over, or the run goes on as a view's, a reflector's, or a drill.
 #[derive(Drop)]
 enum Turn {
     Over(Status),
     Visits(VisitRequest),
     Reflects(Reflection),
+    Drills(DrillRequest),
 }
 
 /// Reads the file that a command waits for.
@@ -59,11 +62,12 @@ fn go_on<F: Files, W: Sink>(alloc: Global, next: Next, files: &mut F, out: &mut 
         Next::Gives(outcome) => Turn::Over(finish(&outcome, files, out)),
         Next::Visits(request) => Turn::Visits(request),
         Next::Reflects(reflection) => Turn::Reflects(reflection),
+        Next::Drills(request) => Turn::Drills(request),
         Next::WantOfMemory => Turn::Over(tell_want_of_memory(out)),
     }
 }
 
-/// Runs what the words ask for up to its end, or up to a view's run or a reflector's.
+/// Runs what the words ask for up to its end, or up to a view's run, a reflector's, or a drill.
 fn begin<F: Files, W: Sink>(alloc: Global, words: &Words, files: &mut F, out: &mut W) -> Turn
     ensures turns { Turns (desk_tells (files_tell F.held F.asked F.faults) (output_tells W.written W.faults W.wants))
         result (Comes (command_of words.now)) (desk files.old out.old) (desk files.new out.new) }
@@ -78,8 +82,8 @@ fn begin<F: Files, W: Sink>(alloc: Global, words: &Words, files: &mut F, out: &m
 /// Runs what the words ask for over these files and this net, and writes its text, or the line of its one fault, to `out`. It gives
 /// the net back. This is all that the program does once it has its words.
 ///
-/// All commands but `join` and `reflect` wait for nobody, so they return. The run of `join` ends when its script does, or its net; that
-/// of `reflect` when it has accepted all its links, and all of them have ended.
+/// All commands but `join`, `reflect` and `drill` wait for nobody, so they return. The run of `join` ends when its script does, or its
+/// net; that of `reflect` when it has accepted all its links, and all of them have ended; that of `drill` when its views have ended.
 pub fn croquet<
     R: Threads + Wait + Sync,
     F: Files,
@@ -99,7 +103,7 @@ pub fn croquet<
 ) -> (N, Status)
     // There are steps and an end that come of the words, and what was read, put, printed, heard and sent is what they give, up to
     // the place where the run was cut, and then the last line. Behind the steps of `reflect` its reflector serves the net, and more
-    // steps and an end come of what it answers.
+    // steps and an end come of what it answers. Of `drill` the log is put, and of each view the snapshot of the log's replay.
     ensures ran { Ran (C.gives clock.now) (outside_tells (files_tell F.held F.asked F.faults) (output_tells W.written W.faults W.wants)
         (net_tells N.coming N.over N.asked N.faults N.lent N.link_counts)
         (links_tell N.Conn.coming N.Conn.heard N.Conn.sent N.Conn.counts))
@@ -144,6 +148,16 @@ pub fn croquet<
             };
             let (net, answer) = reflect(rt, alloc, &server, net);
             let status = tell_reflected(alloc, log, answer, files, out);
+            (net, status)
+        }
+        Turn::Drills(request) => {
+            let size = Size {
+                seed: request.seed,
+                views: request.views,
+                events: request.events,
+            };
+            let answer = drill(rt, alloc, size, clock, gate);
+            let status = tell_drilled(alloc, request, answer, files, out);
             (net, status)
         }
     }

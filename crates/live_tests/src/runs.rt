@@ -34,13 +34,25 @@ pub fn run_by<R: Threads + Wait + Sync, N: Net + Send + Drop, C: Clock + Sync, G
     net: N,
     caller: (&C, &G),
 ) -> Result<Run, WantOfMemory> {
-    let mut words = Words::new(alloc);
-    for word in task.words {
-        words.push(Text::copy(alloc, word)?)?;
-    }
     let mut files = MemFiles::new(alloc, NamedBlobs::new(alloc), Numbers::new(alloc));
     let _ = files.write(&Text::copy(alloc, "p")?, b"class Root{init(o){}}");
     let _ = files.write(&Text::copy(alloc, "s")?, task.script.as_bytes());
+    run_on(rt, (alloc, files), task.words, net, caller)
+}
+
+/// Runs a command by this clock and this gate over files that are there.
+pub fn run_on<R: Threads + Wait + Sync, N: Net + Send + Drop, C: Clock + Sync, G: Gate + Sync>(
+    rt: &R,
+    held: (Global, MemFiles),
+    said: &[&str],
+    net: N,
+    caller: (&C, &G),
+) -> Result<Run, WantOfMemory> {
+    let (alloc, mut files) = held;
+    let mut words = Words::new(alloc);
+    for word in said {
+        words.push(Text::copy(alloc, word)?)?;
+    }
     let mut out = MemSink::new(alloc, Numbers::new(alloc));
     let (clock, gate) = caller;
     let (_net, status) = croquet(rt, alloc, &words, &mut files, clock, net, gate, &mut out);

@@ -150,8 +150,20 @@ fn sixty_four_links_are_served_at_once(rt: HostRuntime) -> Result<(), Fail> {
 
 /// Counts how often workers passed.
 #[derive(Drop)]
-struct CountingGate {
+pub struct CountingGate {
     passes: AtomicU32,
+}
+
+impl CountingGate {
+    pub fn new() -> CountingGate {
+        CountingGate {
+            passes: AtomicU32::new(0),
+        }
+    }
+
+    pub fn passes(&self) -> u32 {
+        self.passes.load(Ordering::SeqCst)
+    }
 }
 
 impl Gate for CountingGate {
@@ -165,9 +177,7 @@ fn a_reflector_goes_by_the_clock_and_the_gate(rt: HostRuntime) -> Result<(), Fai
     let alloc = rt.alloc();
     // The JOIN, the tick behind it, and the LEAVE.
     let clock = ListClock::new(Times::from_vec(vec![in alloc; 1000, 2000, 3000]?));
-    let gate = CountingGate {
-        passes: AtomicU32::new(0),
-    };
+    let gate = CountingGate::new();
     let task = Task {
         words: &[
             "reflect",
@@ -187,6 +197,6 @@ fn a_reflector_goes_by_the_clock_and_the_gate(rt: HostRuntime) -> Result<(), Fai
         run.text
             .is_bytes(b"connection 0 left\nentries 2 time 3000\n")
     );
-    assert_eq!(rt; gate.passes.load(Ordering::SeqCst), 1);
+    assert_eq!(rt; gate.passes(), 1);
     Ok(())
 }

@@ -3,6 +3,7 @@ use Rattle.commands.specs.CommandWords.{command_of}
 use Rattle.commands.specs.Verdict.{Comes}
 use Rattle.commands.specs.Work.{visit_of}
 use Rattle.commands.proofs.NetLaws.{never_on_net}
+use Rattle.croquet.proofs.DrillRuns.{ran_drilling}
 use Rattle.croquet.proofs.ReflectorRuns.{ran_reflecting}
 use Rattle.croquet.proofs.VisitRuns.{ran_beside, ran_visiting}
 use Rattle.croquet.proofs.top.croquet.Goals as goal
@@ -18,8 +19,13 @@ returns-in-Visits-clause-ran g c =
 
 pub returns-in-Reflects-clause-ran : goal.returns-in-Reflects-clause-ran
 returns-in-Reflects-clause-ran g c =
-    inr (ran_reflecting _ _ _ _ _ (Comes (command_of c.args.words.now)) c.in-Reflects.reflection c.reflect-net.result.1 c.args.files.now c.begin.new.files c.tell_reflected-status.new.files c.args.out.now c.begin.new.out c.tell_reflected-status.new.out
-    c.args.net c.reflect-net.result.0 c.tell_reflected-status.result c.in-Reflects.ensures.turns c.reflect-net.ensures c.tell_reflected-status.ensures)
+    inr (inl (ran_reflecting _ _ _ _ _ (Comes (command_of c.args.words.now)) c.in-Reflects.reflection c.reflect-net.result.1 c.args.files.now c.begin.new.files c.tell_reflected-status.new.files c.args.out.now c.begin.new.out c.tell_reflected-status.new.out
+    c.args.net c.reflect-net.result.0 c.tell_reflected-status.result c.in-Reflects.ensures.turns c.reflect-net.ensures c.tell_reflected-status.ensures))
+
+pub returns-in-Drills-clause-ran : goal.returns-in-Drills-clause-ran
+returns-in-Drills-clause-ran g c =
+    inr (inr (ran_drilling _ _ _ _ _ (Comes (command_of c.args.words.now)) c.in-Drills.request c.drill-answer.result c.args.files.now c.begin.new.files c.tell_drilled-status.new.files c.args.out.now c.begin.new.out c.tell_drilled-status.new.out
+    c.args.net c.tell_drilled-status.result c.in-Drills.ensures.turns c.drill-answer.ensures c.tell_drilled-status.ensures))
 
 -- a command that goes on with a net is `join` or `reflect`
 pub returns-in-Visits-clause-net : goal.returns-in-Visits-clause-net

@@ -1,0 +1,73 @@
+//! What a drill tells.
+ghost use Rattle.std.specs.Prelude.{◌≡◌, IfOk, map};
+ghost use Rattle.run_steps.specs.Outside.{desk, desk_tells, files_tell, output_tells};
+ghost use Rattle.commands.specs.Verdict.{drilled_steps, steps_of};
+ghost use Rattle.croquet.specs.Calls.{OfReport, snapshot_of};
+ghost use Rattle.croquet.specs.Run.{RanBySteps};
+
+use crate::giving::finish;
+use crate::status::Status;
+use crate::telling::tell_want_of_memory;
+use commands::{DrillRequest, Drilled, Outcome, drilled_outcome};
+use drill::{DrillReport, Replicas};
+use std::alloc::Global;
+use tea_base::{Blob, List, WantOfMemory};
+use tea_io::{Files, Sink};
+
+/// The snapshots of replicas, in order.
+fn snapshots(alloc: Global, replicas: &Replicas) -> Result<List<Blob>, WantOfMemory>
+    ensures { IfOk result (λ snapshots. snapshots ≡ map snapshot_of replicas.now) }
+{
+    let mut snapshots = List::new(alloc);
+    for replica in replicas.as_slice() {
+        let Ok(snapshot) = replica.snap() else {
+            return Err(WantOfMemory);
+        };
+        snapshots.push(snapshot)?;
+    }
+    Ok(snapshots)
+}
+
+/// What is put and printed of a drill.
+fn outcome_of(
+    alloc: Global,
+    request: DrillRequest,
+    report: DrillReport,
+) -> Result<Outcome, WantOfMemory>
+    ensures { IfOk result (λ outcome. steps_of outcome.files outcome.text
+        ≡ drilled_steps request report.session.plain.log (map snapshot_of report.replicas) report.total report.agree) }
+{
+    let DrillReport {
+        session,
+        replicas,
+        total,
+        agree,
+    } = report;
+    let drilled = Drilled {
+        session,
+        snapshots: snapshots(alloc, &replicas)?,
+        total,
+        agree,
+    };
+    drilled_outcome(alloc, request, drilled)
+}
+
+/// Tells what has come of a drill.
+pub(crate) fn tell_drilled<F: Files, W: Sink>(
+    alloc: Global,
+    request: DrillRequest,
+    answer: Result<DrillReport, WantOfMemory>,
+    files: &mut F,
+    out: &mut W,
+) -> Status
+    ensures { RanBySteps (desk_tells (files_tell F.held F.asked F.faults) (output_tells W.written W.faults W.wants))
+        (OfReport request answer) (desk files.old out.old) (desk files.new out.new) result }
+{
+    let Ok(report) = answer else {
+        return tell_want_of_memory(out);
+    };
+    match outcome_of(alloc, request, report) {
+        Ok(outcome) => finish(&outcome, files, out),
+        Err(WantOfMemory) => tell_want_of_memory(out),
+    }
+}

@@ -1,0 +1,114 @@
+-- What a call of a worker's pass comes to.
+use Rattle.std.proofs.Common.{IfOk, OnOk, MatchResult, Result, Ok, Err, ◌≡◌, ◌≤◌, ℕ, true, false, List, [], ◌∷◌, ◌++◌, length, slice_index, refl, sym, ap, ◌∙◌, subst, arith}
+use Rattle.std.specs.List.{AllByRecursion}
+use Rattle.std.specs.Arc.{arc_value}
+use Rattle.model_lang.specs.TreeView.{program_tree}
+use Rattle.tea_base.specs.declared.want.WantOfMemory.{WantOfMemory}
+use Rattle.reflector_core.specs.PlainSession.{PlainSession, IsSoundSession}
+use Rattle.reflector_core.specs.Answer.{answer}
+use Rattle.reflector_core.specs.Growth.{GrowsTo}
+use Rattle.reflector_core.specs.Play.{first_session}
+use Rattle.reflector_core.specs.declared.request.Request.{Request}
+use Rattle.reflector_core.specs.declared.request.Reply.{Reply}
+use Rattle.session_lock.specs.declared.knowledge.Item.{Item}
+use Rattle.session_lock.specs.declared.knowledge.Item.TheVariants.{Did}
+use Rattle.session_lock.specs.History.{IsSoundThrough, Saw, calls_of, play}
+use Rattle.session_lock.specs.Passes.{Grew, PassState, Replied, Voided, SharedState, caller, numbers_held, own_calls}
+use Rattle.session_lock.proofs.Histories.{history_grows, play_snoc, sound_end, sound_first}
+use Rattle.replica.specs.View.{ReplicaView}
+use Rattle.drill.specs.declared.trust.TrustReplay.{TrustReplay}
+use Rattle.drill.specs.declared.size.Size.{Size}
+use Rattle.drill.specs.declared.worker.Worker.{Worker}
+use Rattle.drill.specs.Asking.{IsAskedBy, IsAskedInDrill, IsDrillHistory}
+use Rattle.drill.specs.Workers.{GoesOn, HasAsked, IsTrustedReplay, IsWorker}
+use Rattle.drill.proofs.Histories.{apart, history_first, kept_on}
+
+-- a history that goes on without the view's caller
+pub saw_goes_on : (gives : ℕ → Type 0) (views view : ℕ) (seen history : List Item) → Saw (view ∷ []) seen history → GoesOn gives views view seen history
+saw_goes_on gives views view seen history saw =
+    subst (GoesOn gives views view seen) saw.1
+    (record {
+      grows = history_grows seen saw.0;
+      kept = λ time. kept_on time seen saw.0;
+      first = history_first gives views seen saw.0;
+      apart = λ whole. apart gives views view seen saw.0 whole saw.2;
+    })
+
+all_more : (P : Item → Type 0) (items : List Item) (item : Item) → AllByRecursion P items → P item → AllByRecursion P (items ++ item ∷ [])
+all_more P [] item all one = (one, tt)
+all_more P (first ∷ rest) item all one = (all.0, all_more P rest item all.1 one)
+
+module _ (gives : ℕ → Type 0) (size : Size) (shared : SharedState TrustReplay) (w : Worker) (after : PassState) (request : Request) where
+  -- the pass calls by the view's number
+  called_by : IsWorker gives size shared w → caller w.pass ≡ w.view
+  called_by worker = ap (λ (callers : List ℕ). slice_index callers 0) worker.callers
+
+  grown_by : (history : List Item) → IsWorker gives size shared w → Grew w.pass after history (Did (caller w.pass) request) → after.seen ≡ history ++ Did w.view request ∷ []
+  grown_by history worker grew = ap (λ (p : PassState). p.seen) grew.same ∙ ap (λ (n : ℕ). history ++ Did n request ∷ []) (called_by worker)
+
+  pub has_asked : (reply : Reply) → IsWorker gives size shared w → Replied (IsTrustedReplay shared) w.pass after request reply → IsSoundThrough first_session after.seen
+      → HasAsked gives size.views shared w.view w.pass after request reply
+  has_asked reply worker replied sound =
+      let seen = grown_by replied.history worker replied.grew in
+      let saw : Saw (w.view ∷ []) w.pass.seen replied.history = subst (λ (callers : List ℕ). Saw callers w.pass.seen replied.history) worker.callers replied.grew.saw in
+      record {
+        history = replied.history;
+        on = saw_goes_on gives size.views w.view w.pass.seen replied.history saw;
+        sound = sound_end first_session replied.history (sound_first first_session replied.history (Did w.view request ∷ []) (subst (IsSoundThrough first_session) seen sound));
+        trusted = replied.trusted;
+        seen = seen;
+        session = ap play seen ∙ play_snoc replied.history (Did w.view request);
+        replies = replied.replies;
+        own = replied.grew.own ∙ ap (λ (n : ℕ). own_calls w.pass ++ Did n request ∷ []) (called_by worker);
+        first = λ whole. history_first gives size.views replied.history (Did w.view request ∷ []) (subst (IsDrillHistory gives size.views) seen whole);
+      }
+
+  pub asks_on : (reply : Reply) → IsWorker gives size shared w → IsAskedBy gives w.view request → Replied (IsTrustedReplay shared) w.pass after request reply → IsSoundThrough first_session after.seen
+      → IsWorker gives size shared (record w { pass = after })
+  asks_on reply worker asked replied sound =
+      let same = replied.grew.same in
+      let own = replied.grew.own ∙ ap (λ (n : ℕ). own_calls w.pass ++ Did n request ∷ []) (called_by worker) in
+      record {
+        session = ap (λ (p : PassState). p.session) same ∙ worker.session;
+        callers = ap (λ (p : PassState). p.callers) same ∙ worker.callers;
+        numbers = ap numbers_held same ∙ worker.numbers;
+        named = worker.named;
+        asked = subst (AllByRecursion (IsAskedInDrill gives size.views)) (sym own)
+            (all_more (IsAskedInDrill gives size.views) (own_calls w.pass) (Did w.view request) worker.asked (worker.named.0, worker.named.1, asked));
+        sound = sound;
+        trusted = replied.trusted_after;
+        program = worker.program;
+        id = worker.id;
+        view = worker.view;
+        tree = worker.tree;
+      }
+
+  -- whatever the call comes to
+  pub told_asked : (result : Result Reply WantOfMemory) → IsWorker gives size shared w
+      → MatchResult result (λ reply. Replied (IsTrustedReplay shared) w.pass after request reply) (λ _. Voided (IsTrustedReplay shared) w.pass after request) → IsSoundThrough first_session after.seen
+      → IfOk result (λ reply. HasAsked gives size.views shared w.view w.pass after request reply)
+  told_asked (Ok reply) worker told sound = has_asked reply worker told sound
+  told_asked (Err want) worker told sound = tt
+
+  pub told_worker : (result : Result Reply WantOfMemory) → IsWorker gives size shared w → IsAskedBy gives w.view request → after ≡ record w.pass { seen = after.seen }
+      → MatchResult result (λ reply. Replied (IsTrustedReplay shared) w.pass after request reply) (λ _. Voided (IsTrustedReplay shared) w.pass after request) → IsSoundThrough first_session after.seen
+      → OnOk result (IsWorker gives size shared (record w { pass = after }))
+  told_worker (Ok reply) worker asked kept told sound = asks_on reply worker asked told sound
+  told_worker (Err want) worker asked kept told sound = tt
+
+-- with another replica of the same view, program and session
+pub with_replica : (gives : ℕ → Type 0) (size : Size) (shared : SharedState TrustReplay) (w : Worker) (r : ReplicaView) → IsWorker gives size shared w
+    → r.program ≡ w.replica.program → r.id ≡ w.replica.id → r.plain.view ≡ w.replica.plain.view → IsWorker gives size shared (record w { replica = r })
+with_replica gives size shared w r worker program id view = record {
+  session = worker.session;
+  callers = worker.callers;
+  numbers = worker.numbers;
+  named = worker.named;
+  asked = worker.asked;
+  sound = worker.sound;
+  trusted = worker.trusted;
+  program = program ∙ worker.program;
+  id = id ∙ worker.id;
+  view = view ∙ worker.view;
+  tree = worker.tree;
+}

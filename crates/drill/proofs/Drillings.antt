@@ -1,0 +1,155 @@
+-- What is left of a drill, once its session is closed.
+use Rattle.std.proofs.Common.{◌≡◌, ◌⊎◌, inl, inr, ℕ, zero, suc, ◌+◌, ◌≤◌, ◌<◌, Bool, true, false, eqb, ◌||◌, List, [], ◌∷◌, if◌then◌else◌, slice_index, All, ne_eqb, refl, sym, ap, ◌∙◌, subst, arith}
+use mathlib.Core.Logic.{dite}
+use native.Mathlib.Decide.{ℕ_discrete}
+use Rattle.std.specs.List.{AllByRecursion}
+use Rattle.std.proofs.lemmas.Bool.{eqb-true}
+use Rattle.std.proofs.lemmas.List.Elements.{recursion_from_All}
+use Rattle.reflector_core.specs.PlainSession.{PlainSession}
+use Rattle.reflector_core.specs.Play.{first_session}
+use Rattle.session_lock.specs.declared.knowledge.Item.{Item}
+use Rattle.session_lock.specs.History.{IsSoundThrough, Saw, caller_of, calls_of, has, play}
+use Rattle.session_lock.specs.Passes.{PassState, SharedState, own_calls}
+use Rattle.session_lock.proofs.Histories.{saw_own}
+use Rattle.drill.specs.declared.finished.Finished.{Finished}
+use Rattle.drill.specs.declared.size.Size.{Size}
+use Rattle.drill.specs.declared.trust.TrustReplay.{TrustReplay}
+use Rattle.drill.specs.Asking.{IsAskedInDrill, IsDrillHistory, entries_asked, most_asked}
+use Rattle.drill.specs.Doing.{HasFinished}
+use Rattle.drill.specs.Drilled.{Drilled, IsOfDrill, own}
+use Rattle.drill.specs.Drilling.{Gathers, numbers_from, views_of}
+use Rattle.drill.specs.Sizes.{IsOfSize}
+use Rattle.drill.specs.Turns.{HasEnded}
+use Rattle.drill.proofs.Callers.{EachAsks, drill_history}
+use Rattle.drill.proofs.Drills.{drilled}
+use Rattle.drill.proofs.Wholes.{IsDoneIn, done_in}
+
+-- ---- who calls
+
+is_or : (a b : Bool) → (a || b) ≡ true → (a ≡ true) ⊎ (b ≡ true)
+is_or true b is = inl refl
+is_or false b is = inr is
+
+alone : (n caller : ℕ) → has n (caller ∷ []) ≡ true → n ≡ caller
+alone n caller is = elim (is_or (eqb n caller) false is) [ inl same ↦ eqb-true n caller same | inr never ↦ absurd (cc (never)) ]
+
+-- among the calls of these is none of another
+none_among : (callers : List ℕ) (n : ℕ) (history : List Item) → has n callers ≡ false → calls_of (n ∷ []) (calls_of callers history) ≡ []
+none_among callers n [] other = refl
+none_among callers n (x ∷ xs) other = step (none_among callers n xs other) (has (caller_of x) callers) refl
+  where
+    own_call : calls_of (n ∷ []) (calls_of callers xs) ≡ [] → (b : Bool) → has (caller_of x) (n ∷ []) ≡ b → has (caller_of x) callers ≡ true
+        → (if b then x ∷ calls_of (n ∷ []) (calls_of callers xs) else calls_of (n ∷ []) (calls_of callers xs)) ≡ []
+    own_call rest true is among = absurd (cc (sym (ap (λ (m : ℕ). has m callers) (alone (caller_of x) n is)) ∙ among, other))
+    own_call rest false is among = rest
+
+    step : calls_of (n ∷ []) (calls_of callers xs) ≡ [] → (b : Bool) → has (caller_of x) callers ≡ b
+        → calls_of (n ∷ []) (if b then x ∷ calls_of callers xs else calls_of callers xs) ≡ []
+    step rest true is = own_call rest (has (caller_of x) (n ∷ [])) refl is
+    step rest false is = rest
+
+not_among : (n first count : ℕ) → ((first ≤ n) × (n < first + count) → ⊥) → has n (numbers_from first count) ≡ false
+not_among n first zero other = refl
+not_among n first (suc count) other =
+    rw (ne_eqb n first (λ same. other (omega (arith, same), omega (arith, same)))) (not_among n (first + 1) count (λ within. other (omega (arith, within.0), omega (arith, within.1))))
+
+-- ---- lists by their views
+
+abbrev others_of : List ℕ → List ℕ
+others_of [] = []
+others_of (n ∷ ns) = ns
+
+pub first_view : (one : Finished) (rest : List Finished) (first count : ℕ) → views_of (one ∷ rest) ≡ numbers_from first (suc count) → one.worker.view ≡ first
+first_view one rest first count views = ap (λ (ns : List ℕ). slice_index ns 0) views
+
+pub rest_views : (one : Finished) (rest : List Finished) (first count : ℕ) → views_of (one ∷ rest) ≡ numbers_from first (suc count) → views_of rest ≡ numbers_from (first + 1) count
+rest_views one rest first count views = ap others_of views
+
+-- the one of this view
+of_view : (P : Finished → Type 0) (ended : List Finished) (first count view : ℕ) → views_of ended ≡ numbers_from first count → AllByRecursion P ended → first ≤ view → view < first + count
+    → (one : Finished) × (one.worker.view ≡ view) × P one
+of_view P [] first zero view views all low high = absurd (omega (arith, low, high))
+of_view P [] first (suc count) view views all low high = absurd (cc (views))
+of_view P (one ∷ rest) first zero view views all low high = absurd (cc (views))
+of_view P (one ∷ rest) first (suc count) view views all low high = dite (ℕ_discrete first view)
+    (λ is. (one, first_view one rest first count views ∙ is, all.0))
+    (λ other. of_view P rest (first + 1) count view (rest_views one rest first count views) all.1 (omega (arith, low, other)) (omega (arith, high)))
+
+all_both : (P Q : Finished → Type 0) (xs : List Finished) → AllByRecursion P xs → AllByRecursion Q xs → AllByRecursion (λ x. P x × Q x) xs
+all_both P Q [] p q = tt
+all_both P Q (x ∷ xs) p q = ((p.0, q.0), all_both P Q xs p.1 q.1)
+
+all_weaker : (P Q : Finished → Type 0) → ((x : Finished) → P x → Q x) → (xs : List Finished) → AllByRecursion P xs → AllByRecursion Q xs
+all_weaker P Q so [] all = tt
+all_weaker P Q so (x ∷ xs) all = (so x all.0, all_weaker P Q so xs all.1)
+
+-- ---- the closed session
+
+-- those that have ended, the pass that theirs were merged into, and the session that it closed
+pub record IsClosed (gives : ℕ → Type 0) (size : Size) (shared : SharedState TrustReplay) (ended : List Finished) (keeper : PassState) (s : PlainSession) : Type 0 where
+  pub fits : IsOfSize size
+  pub each : All (HasEnded gives size shared) ended
+  pub views : views_of ended ≡ numbers_from 1 size.views
+  pub gathers : Gathers shared ended keeper
+  pub plays : s ≡ play keeper.seen
+  pub calls : own_calls keeper ≡ keeper.seen
+  pub sound : IsSoundThrough first_session keeper.seen
+
+-- one that has ended, by its own history and by the whole one
+pub record HasLeft (gives : ℕ → Type 0) (size : Size) (shared : SharedState TrustReplay) (s : PlainSession) (one : Finished) : Type 0 where
+  pub ended : HasEnded gives size shared one
+  pub done : IsDoneIn size s one
+
+module _ (gives : ℕ → Type 0) (size : Size) (shared : SharedState TrustReplay) (ended : List Finished) (keeper : PassState) (s : PlainSession) (closed : IsClosed gives size shared ended keeper s) where
+  abbrev IsSeen : Finished → Type 0
+  IsSeen one = HasEnded gives size shared one × Saw (one.worker.view ∷ []) one.worker.pass.seen keeper.seen
+
+  seen : AllByRecursion IsSeen ended
+  seen = all_both (HasEnded gives size shared) (λ one. Saw (one.worker.view ∷ []) one.worker.pass.seen keeper.seen) ended (recursion_from_All (HasEnded gives size shared) ended closed.each) closed.gathers.saw
+
+  found : (view : ℕ) → IsOfDrill size.views view → (one : Finished) × (one.worker.view ≡ view) × IsSeen one
+  found view of = of_view IsSeen ended 1 size.views view closed.views seen of.0 (omega (arith, of.1))
+
+  own_of : (view : ℕ) (one : Finished) → one.worker.view ≡ view → IsSeen one → calls_of (view ∷ []) keeper.seen ≡ own_calls one.worker.pass
+  own_of view one is saw =
+      ap (λ (n : ℕ). calls_of (n ∷ []) keeper.seen) (sym is)
+      ∙ saw_own (one.worker.view ∷ []) one.worker.pass.seen keeper.seen saw.1
+      ∙ ap (λ (ns : List ℕ). calls_of ns one.worker.pass.seen) (sym saw.0.worker.callers)
+
+  nobody_else : (caller : ℕ) → (IsOfDrill size.views caller → ⊥) → calls_of (caller ∷ []) keeper.seen ≡ []
+  nobody_else caller other = dite (ℕ_discrete caller 0)
+      (λ same. ap (λ (n : ℕ). calls_of (n ∷ []) keeper.seen) same ∙ closed.gathers.idle)
+      (λ some.
+      let away : has caller (numbers_from 1 size.views) ≡ false = not_among caller 1 size.views (λ within. other (within.0, omega (arith, within.1))) in
+      let out : has caller (0 ∷ views_of ended) ≡ false = rw (ne_eqb caller 0 some) (ap (has caller) closed.views ∙ away) in
+      ap (calls_of (caller ∷ [])) (sym closed.calls) ∙ none_among keeper.callers caller keeper.seen (ap (has caller) closed.gathers.callers ∙ out))
+
+  asks : EachAsks gives size.views size.events keeper.seen
+  asks = record {
+    each = λ view of. let one = found view of in subst (AllByRecursion (IsAskedInDrill gives size.views)) (sym (own_of view one.0 one.1 one.2)) one.2.0.worker.asked;
+    few = λ view of. let one = found view of in subst (λ (xs : List Item). entries_asked xs ≤ most_asked size.events) (sym (own_of view one.0 one.1 one.2)) one.2.0.few;
+    others = nobody_else;
+  }
+
+  whole : IsDrillHistory gives size.views keeper.seen
+  whole = drill_history gives size.views size.events keeper.seen closed.fits.views closed.fits.events asks
+
+  has_left : (one : Finished) → IsSeen one → HasLeft gives size shared s one
+  has_left one saw = record {
+    ended = saw.0;
+    done = subst (λ (t : PlainSession). IsDoneIn size t one) (sym closed.plays) (done_in gives size shared one keeper.seen saw.0 whole closed.sound saw.1);
+  }
+
+  pub all_left : AllByRecursion (HasLeft gives size shared s) ended
+  all_left = all_weaker IsSeen (HasLeft gives size shared s) has_left ended seen
+
+  finished : (view : ℕ) → IsOfDrill size.views view → HasFinished (play keeper.seen) view (own size.seed view size.events)
+  finished view of =
+      let one = found view of in
+      let left = has_left one.0 one.2 in
+      subst (λ (v : ℕ). HasFinished (play keeper.seen) v (own size.seed v size.events)) one.1
+      (subst (λ (t : PlainSession). HasFinished t one.0.worker.view (own size.seed one.0.worker.view size.events)) closed.plays left.done.ends.finished)
+
+  pub all_drilled : Drilled size.seed size.views size.events gives s.log s.horizon
+  all_drilled = subst (λ (t : PlainSession). Drilled size.seed size.views size.events gives t.log t.horizon) (sym closed.plays)
+      (drilled size.seed size.views size.events gives keeper.seen closed.sound whole finished)

@@ -1,0 +1,34 @@
+-- What a view does from one turn on, and the last multiple of 256.
+use Rattle.std.proofs.Common.{◌≡◌, if◌then◌else◌, ℕ, ◌+◌, ◌-◌, ◌%◌, Bool, List, [], ◌∷◌, ◌++◌, ap, ◌∙◌, arith, eq-eqb, ne_eqb, add-one}
+use Rattle.tea_base.specs.declared.entry.What.{What}
+use Rattle.tea_base.specs.declared.entry.What.TheVariants.{Join, Event}
+use Rattle.seeded_random.specs.Draw.{word_of, state_after, number_below}
+use Rattle.drill.specs.Drilled.{drawn_numbers, add_payload, joins_behind, own_turns}
+
+-- what is left before turn `number + 1` of a drill with count + 1 more events begins with its event
+pub turn_begins : (number count state : ℕ) → own_turns (number + 1) (drawn_numbers state (count + 1)) ≡ Event (number + 1) (add_payload (number_below 100 (word_of state))) ∷ joins_behind (number + 1) ++ own_turns (number + 2) (drawn_numbers (state_after state) count)
+turn_begins number count state =
+    let first : List What = Event (number + 1) (add_payload (number_below 100 (word_of state))) ∷ joins_behind (number + 1) in
+    let next : number + 1 + 1 ≡ number + 2 = omega arith in
+    ap (λ (n : ℕ). own_turns (number + 1) (drawn_numbers state n)) (add-one count)
+    ∙ ap (λ (n : ℕ). first ++ own_turns n (drawn_numbers (state_after state) count)) next
+
+pub joins_none : (number : ℕ) → (number % 64 ≡ 0 → ⊥) → joins_behind number ≡ []
+joins_none number other = ap (λ (b : Bool). if b then Join ∷ [] else []) (ne_eqb (number % 64) 0 other)
+
+pub joins_once : (number : ℕ) → number % 64 ≡ 0 → joins_behind number ≡ Join ∷ []
+joins_once number multiple = ap (λ (b : Bool). if b then Join ∷ [] else []) (eq-eqb (number % 64) 0 multiple)
+
+pub own_turns_some : (number : ℕ) (drawn : List ℕ) → own_turns number drawn ≡ [] → ⊥
+own_turns_some number [] none = cc (none)
+own_turns_some number (first ∷ rest) none = cc (none)
+
+pub multiple_of_64 : (number : ℕ) → number % 256 ≡ 0 → number % 64 ≡ 0
+multiple_of_64 number multiple = omega arith
+
+-- the last multiple of 256 stays, or is the next number
+pub mark_stays : (number : ℕ) → ((number + 1) % 256 ≡ 0 → ⊥) → (number + 1) - (number + 1) % 256 ≡ number - number % 256
+mark_stays number other = omega (arith, other)
+
+pub mark_moves : (number : ℕ) → (number + 1) % 256 ≡ 0 → (number + 1) - (number + 1) % 256 ≡ number + 1
+mark_moves number multiple = omega arith

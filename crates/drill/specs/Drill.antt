@@ -1,0 +1,50 @@
+-- What a drill has come to.
+use Rattle.std.specs.Prelude.{◌≡◌, ◌≤◌, ◌<◌, ℕ, ◌+◌, true, false, List, [], ◌∷◌, ◌++◌, length}
+use Rattle.byte_fields.specs.Fields.{text_field}
+use Rattle.sha2.specs.Sha256.{sha256}
+use Rattle.tea_base.specs.Limits.{end_of_time}
+use Rattle.model_lang.specs.Tree.{ProgramTree}
+use Rattle.model_lang.specs.TreeView.{program_tree}
+use Rattle.reflector_core.specs.PlainSession.{PlainSession}
+use Rattle.replica.specs.View.{ReplicaView}
+use Rattle.world.specs.Worlds.{replay}
+use Rattle.drill.specs.declared.size.Size.{Size}
+use Rattle.drill.specs.declared.report.DrillReport.{DrillReport}
+use Rattle.drill.specs.Doing.{HasBase}
+use Rattle.drill.specs.Drilled.{Drilled}
+use Rattle.drill.specs.Ending.{root_total}
+use Rattle.drill.specs.Program.{IsDrillProgram, drill_name, drill_text}
+
+-- the id of the session
+abbrev pub drill_id : List ℕ
+drill_id = sha256 (text_field drill_name ++ drill_text)
+
+-- the replica of a view, which has taken its Sync and all entries, and whose world is the replay of the log to the horizon
+pub record IsReplayOf (s : PlainSession) (tree : ProgramTree) (id : List ℕ) (view : ℕ) (r : ReplicaView) : Type 0 where
+  pub of_view : r.plain.view ≡ view
+  pub program : program_tree r.program ≡ tree
+  pub session : r.id ≡ id
+  pub whole : r.plain.broken ≡ false
+  pub synced : r.plain.synced ≡ true
+  pub seen : r.plain.seen ≡ length s.log
+  pub world : r.plain.world ≡ (replay tree id s.log s.horizon).world
+
+-- the replicas are those of this view and the next ones, in order
+abbrev pub AreReplays : PlainSession → ProgramTree → List ℕ → ℕ → List ReplicaView → Type 0
+AreReplays s tree id view [] = Unit {0}
+AreReplays s tree id view (r ∷ replicas) = IsReplayOf s tree id view r × AreReplays s tree id (view + 1) replicas
+
+-- each was made from a base at its last event whose number is a multiple of 256
+abbrev pub AreBased : PlainSession → ℕ → ℕ → List ReplicaView → Type 0
+AreBased s number view [] = Unit {0}
+AreBased s number view (r ∷ replicas) = HasBase s view number r.plain.base × AreBased s number (view + 1) replicas
+
+pub record HasDrilled (gives : ℕ → Type 0) (size : Size) (report : DrillReport) : Type 0 where
+  pub tree : ProgramTree
+  pub is_program : IsDrillProgram tree
+  pub drilled : Drilled size.seed size.views size.events gives report.session.plain.log report.session.plain.horizon
+  pub replicas : AreReplays report.session.plain tree drill_id 1 report.replicas
+  pub number : length report.replicas ≡ size.views
+  pub total : report.total ≡ root_total (replay tree drill_id report.session.plain.log report.session.plain.horizon).world
+  pub agree : report.agree ≡ size.views
+  pub based : 256 ≤ size.events → report.session.plain.horizon < end_of_time → AreBased report.session.plain size.events 1 report.replicas

@@ -1,0 +1,15 @@
+pub mod Asking
+pub mod Doing
+pub mod Drill
+pub mod Drilled
+pub mod Drilling
+pub mod Ending
+pub mod Program
+pub mod Replays
+pub mod Reports
+pub mod Sizes
+pub mod Taking
+pub mod Trust
+pub mod Workers
+pub mod Turns
+pub mod Working

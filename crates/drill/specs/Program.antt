@@ -1,0 +1,16 @@
+-- The program of the drill.
+use Rattle.std.specs.Prelude.{ℕ, List, codes}
+use Rattle.model_lang.specs.Tree.{ProgramTree}
+use Rattle.model_lang.specs.Program.{IsRead}
+
+-- the name of the session
+abbrev pub drill_name : List ℕ
+drill_name = codes "drill"
+
+-- the text: it adds what views send, and tells the sum at each sixteenth event
+abbrev pub drill_text : List ℕ
+drill_text = codes "class Root{field total;field n;init(o){this.total=0;this.n=0;subscribe(\"drill\",\"add\",\"add\");}add(v){this.total=this.total+v;this.n=this.n+1;if(this.n%16==0){this.future(1).mark();}}mark(){publish(\"drill\",\"mark\",this.total);}}"
+
+-- the one tree that the text is read as
+abbrev pub IsDrillProgram : ProgramTree → Type 0
+IsDrillProgram tree = IsRead drill_text tree

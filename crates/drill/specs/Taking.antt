@@ -1,0 +1,30 @@
+-- Frames that a replica has to take.
+use Rattle.std.specs.Prelude.{◌≡◌, List, [], ◌∷◌, None}
+use Rattle.wire_frames.specs.declared.frame.ServerFrame.{ServerFrame}
+use Rattle.replica_plain.specs.Taking.{taken}
+use Rattle.replica.specs.View.{ReplicaView, IsTimely, with_plain, worlds_of}
+
+-- the frame has no fault for the replica
+pub record IsFine (r : ReplicaView) (frame : ServerFrame) : Type 0 where
+  pub none : (taken (worlds_of r) r.plain frame).fault ≡ None
+
+-- the replica has taken it
+pub record HasTaken (r : ReplicaView) (frame : ServerFrame) (new : ReplicaView) : Type 0 where
+  pub is : new ≡ with_plain r (taken (worlds_of r) r.plain frame).replica
+
+-- what it is then
+abbrev pub after : ReplicaView → ServerFrame → ReplicaView
+after r frame = with_plain r (taken (worlds_of r) r.plain frame).replica
+
+abbrev pub after_all : ReplicaView → List ServerFrame → ReplicaView
+after_all r [] = r
+after_all r (frame ∷ rest) = after_all (after r frame) rest
+
+-- no frame of these has a fault for a replica that takes them in order, and each has a time of TeaTime
+abbrev pub AreFine : ReplicaView → List ServerFrame → Type 0
+AreFine r [] = Unit {0}
+AreFine r (frame ∷ rest) = IsFine r frame × IsTimely frame × AreFine (after r frame) rest
+
+-- it has taken all of them
+pub record HasTakenAll (r : ReplicaView) (frames : List ServerFrame) (new : ReplicaView) : Type 0 where
+  pub all : new ≡ after_all r frames

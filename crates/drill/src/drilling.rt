@@ -1,0 +1,256 @@
+//! The drill.
+ghost use Rattle.std.specs.Prelude.{◌≡◌, ◌+◌, ◌*◌, ◌≤◌, ◌++◌, ◌∷◌, [], All, IfOk, IsOkAnd, OnOk, map, vec_len};
+ghost use Rattle.std.specs.List.{AllZip};
+ghost use Rattle.std.specs.Thread.{IsSync};
+ghost use Rattle.session_lock.specs.Passes.{first_pass, numbers_held};
+ghost use Rattle.drill.specs.Drill.{HasDrilled};
+ghost use Rattle.drill.specs.Drilling.{AllAnswer, Answers, ComesToEnd, Gathers, HasPass, HaveEnded, IsPrepared, MayRest, keeper_after, numbers_from, rested_of, views_of_workers};
+ghost use Rattle.drill.specs.Sizes.{IsOfSize};
+ghost use Rattle.drill.specs.Workers.{IsFirst};
+
+use crate::ending::{join_closed, report, take_rest};
+use crate::finished::Finished;
+use crate::program::{NAME, PROGRAM, drill_program};
+use crate::report::{DrillReport, Replicas};
+use crate::size::Size;
+use crate::trust::TrustReplay;
+use crate::worker::{Hall, Worker};
+use model_check::{Checked, checked_crosses_threads};
+use reflector_core::Session;
+use replica::{Replica, replica_crosses_threads};
+use seeded_random::Source64;
+use session_lock::{Pass, SharedSession};
+use snapshot_codec::session_id;
+use std::alloc::Global;
+use std::sync::{Arc, Wait};
+use std::thread::{Threads, join};
+use tea_base::{SessionId, Text, WantOfMemory};
+use tea_io::{Clock, Gate};
+
+/// One more has ended, behind the others.
+fn with_last(
+    ended: Result<Vec<Finished>, WantOfMemory>,
+    last: Result<Finished, WantOfMemory>,
+) -> Result<Vec<Finished>, WantOfMemory>
+    ensures { IfOk result (λ all. IsOkAnd ended (λ before. IsOkAnd last (λ one. all.items ≡ before.items ++ one ∷ []))) }
+{
+    let (mut ended, last) = (ended?, last?);
+    ended.push(last)?;
+    Ok(ended)
+}
+
+/// Has all workers work, each in a thread beside those before it.
+fn work_all<C: Clock + Sync, G: Gate + Sync, R: Threads + Wait + Sync>(
+    hall: &Hall<'_, C, G, R>,
+    mut workers: Vec<Worker>,
+) -> Result<Vec<Finished>, WantOfMemory>
+    requires size { IsOfSize hall.now.size }
+    requires first { All (IsFirst (C.gives hall.now.clock.now) hall.now.size hall.now.shared.now) workers.items }
+    ensures { IfOk result (λ ended. HaveEnded (C.gives hall.now.clock.now) hall.now.size hall.now.shared.now workers.items ended.items) }
+{
+    let Some(worker) = workers.pop() else {
+        return Ok(Vec::new(hall.alloc));
+    };
+    checked_crosses_threads();
+    replica_crosses_threads();
+    // Each thread makes a hall of its own: of a closure that captures one whole, what it ensures is not known here.
+    let Hall {
+        rt,
+        alloc,
+        shared,
+        size,
+        clock,
+        gate,
+    } = *hall;
+    let (last, ended) = join(
+        rt,
+        || -> Result<Finished, WantOfMemory>
+            requires { IsSync R.row × IsOfSize size × IsFirst (C.gives clock.now) size shared.now worker }
+            ensures { Answers (C.gives clock.entry.now) size shared.entry.now worker result }
+        {
+            worker.work(&Hall {
+                rt,
+                alloc,
+                shared,
+                size,
+                clock,
+                gate,
+            })
+        },
+        || -> Result<Vec<Finished>, WantOfMemory>
+            requires { IsSync R.row × IsOfSize size × All (IsFirst (C.gives clock.now) size shared.now) workers.items }
+            ensures { AllAnswer (C.gives clock.entry.now) size shared.entry.now workers.items result }
+        {
+            let hall = Hall {
+                rt,
+                alloc,
+                shared,
+                size,
+                clock,
+                gate,
+            };
+            work_all(&hall, workers)
+        },
+    );
+    with_last(ended, last)
+}
+
+/// The program of a drill, its session's id, and the session.
+#[derive(Drop)]
+struct Prepared {
+    program: Arc<Checked, Global>,
+    id: SessionId,
+    shared: SharedSession<TrustReplay>,
+}
+
+/// All that is made before the workers, and the session's first pass.
+fn prepare(alloc: Global) -> Result<(Prepared, Pass), WantOfMemory>
+    ensures prepared { IfOk result (λ made. IsPrepared made.0) }
+    ensures keeper { IfOk result (λ made. made.1 ≡ first_pass made.0.shared.session) }
+{
+    let name = Text::copy(alloc, NAME)?;
+    let program = Arc::new(alloc, drill_program(alloc)?)?;
+    let trust = TrustReplay {
+        program: program.clone()?,
+    };
+    let id = session_id(&name, PROGRAM);
+    let Ok((shared, keeper)) = SharedSession::new(alloc, id, Session::new(alloc), trust) else {
+        return Err(WantOfMemory);
+    };
+    let prepared = Prepared {
+        program,
+        id,
+        shared,
+    };
+    Ok((prepared, keeper))
+}
+
+/// The source of what a view publishes, by its place among the views.
+fn source_of(seed: u32, place: u32) -> Source64
+    ensures { result ≡ seed * 8 + place }
+{
+    Source64::from_state(u64::from(seed) * 8 + u64::from(place))
+}
+
+/// The workers, by their views. The pass of each is split off the one that is kept.
+fn make_workers<C: Clock, G, R: Wait>(
+    hall: &Hall<'_, C, G, R>,
+    prepared: &Prepared,
+    keeper: &mut Pass,
+) -> Result<Vec<Worker>, WantOfMemory>
+    requires prepared { IsPrepared prepared.now }
+    requires shared { hall.now.shared.now ≡ prepared.now.shared }
+    requires size { IsOfSize hall.now.size }
+    requires keeper { keeper.old ≡ first_pass hall.now.shared.now.session }
+    ensures first { IfOk result (λ workers. All (IsFirst (C.gives hall.now.clock.now) hall.now.size hall.now.shared.now) workers.items) }
+    ensures views { IfOk result (λ workers. views_of_workers workers.items ≡ numbers_from 1 hall.now.size.views) }
+    ensures keeper { OnOk result (keeper.new ≡ keeper_after hall.now.shared.now hall.now.size.views) }
+{
+    let size = hall.size;
+    let mut workers = Vec::new(hall.alloc);
+    for made in 0..size.views {
+        let view = made + 1;
+        workers.push(Worker {
+            view,
+            replica: Replica::found(hall.alloc, prepared.program.clone()?, prepared.id, view)?,
+            source: source_of(size.seed, made),
+            pass: hall.shared.split(keeper, 0)?,
+        })?;
+    }
+    Ok(workers)
+}
+
+/// A view's replica, once the view has ended, and whether it has taken the Sync of its newest Join.
+#[derive(Drop)]
+struct Rested {
+    replica: Replica,
+    is_synced: bool,
+}
+
+/// Merges the passes into the one that is kept.
+fn merge_all(
+    alloc: Global,
+    shared: &SharedSession<TrustReplay>,
+    keeper: &mut Pass,
+    ended: Vec<Finished>,
+) -> Result<Vec<Rested>, WantOfMemory>
+    requires keeper { Gathers shared.now [] keeper.old }
+    requires passes { All (HasPass shared.now) ended.items }
+    ensures gathered { OnOk result (Gathers shared.now ended.items keeper.new) }
+    ensures numbers { OnOk result (numbers_held keeper.new ≡ numbers_held keeper.old + vec_len ended) }
+    ensures rested { IfOk result (λ rested. rested.items ≡ map rested_of ended.items) }
+{
+    let mut rested = Vec::new(alloc);
+    for one in ended {
+        let Finished { worker, is_synced } = one;
+        let Worker { replica, pass, .. } = worker;
+        shared.merge(keeper, pass);
+        rested.push(Rested { replica, is_synced })?;
+    }
+    Ok(rested)
+}
+
+/// A replica comes to the end of the closed log.
+fn catch_up(rested: Rested, session: &Session) -> Result<Replica, WantOfMemory>
+    requires { MayRest session.now.plain rested }
+    ensures { IfOk result (λ replica. ComesToEnd session.now.plain rested replica) }
+{
+    let Rested {
+        mut replica,
+        is_synced,
+    } = rested;
+    if !is_synced {
+        join_closed(&mut replica, session)?;
+    }
+    take_rest(&mut replica, session)?;
+    Ok(replica)
+}
+
+/// Each replica comes to the end of the closed log.
+fn catch_up_all(
+    alloc: Global,
+    session: &Session,
+    rested: Vec<Rested>,
+) -> Result<Replicas, WantOfMemory>
+    requires { All (MayRest session.now.plain) rested.items }
+    ensures { IfOk result (λ replicas. AllZip (ComesToEnd session.now.plain) rested.items replicas) }
+{
+    let mut replicas = Replicas::new(alloc);
+    for one in rested {
+        replicas.push(catch_up(one, session)?)?;
+    }
+    Ok(replicas)
+}
+
+/// Runs a drill of 1 to 8 views and at most 10,000 events a view.
+pub fn drill<C: Clock + Sync, G: Gate + Sync, R: Threads + Wait + Sync>(
+    rt: &R,
+    alloc: Global,
+    size: Size,
+    clock: &C,
+    gate: &G,
+) -> Result<DrillReport, WantOfMemory>
+    requires { (1 ≤ size.views) × (size.views ≤ 8) × (size.events ≤ 10000) }
+    ensures { IfOk result (λ report. HasDrilled (C.gives clock.now) size report) }
+{
+    let (prepared, mut keeper) = prepare(alloc)?;
+    let hall = Hall {
+        rt,
+        alloc,
+        shared: &prepared.shared,
+        size,
+        clock,
+        gate,
+    };
+    let workers = make_workers(&hall, &prepared, &mut keeper)?;
+    let ended = work_all(&hall, workers)?;
+    let rested = merge_all(alloc, &prepared.shared, &mut keeper, ended)?;
+    let Prepared {
+        program,
+        id,
+        shared,
+    } = prepared;
+    let session = shared.close(keeper);
+    let replicas = catch_up_all(alloc, &session, rested)?;
+    report(alloc, &program, &id, session, replicas)
+}

@@ -1,0 +1,7 @@
+//! Tests of the drill. Without its tests this library is empty.
+#![tactic(auto)]
+
+#[cfg(test)]
+mod drills;
+#[cfg(test)]
+mod gates;
