@@ -1,10 +1,10 @@
 -- Neighbours tell whether names and messages are in order, since both orders are transitive.
-use Rattle.std.proofs.Common.{◌≡◌, ℕ, ◌+◌, ◌-◌, ◌<◌, ◌≤◌, List, [], ◌∷◌, length, get_or, take, drop, map, sym, ap, ap₂, ◌∙◌, subst, arith}
+use Rattle.std.proofs.Common.{◌≡◌, ℕ, ◌+◌, ◌-◌, ◌<◌, ◌≤◌, List, [], ◌∷◌, length, get_or, drop, map, sym, ap, ap₂, ◌∙◌, subst, arith}
 use Rattle.std.specs.Prelude.{◌↔◌}
-use Rattle.std.proofs.lemmas.List.{drop_more, length-drop, take_all}
+use Rattle.std.proofs.lemmas.List.{drop_more, length-drop}
 use Rattle.world_plain.specs.Messages.{plain_message}
 use Rattle.tea_base.specs.Order.{IsBefore}
-use Rattle.world_plain.specs.Valid.{KnownRise, Precedes, AreInOrder, IsUnused, NumbersDiffer}
+use Rattle.world_plain.specs.Valid.{KnownRise, Precedes, AreInOrder}
 use Rattle.world_plain.specs.declared.message.Message.{Message}
 use Rattle.world_plain.specs.declared.world.Known.{Known}
 use Rattle.world_plain.proofs.Order.{IsBeforeAll-trans, AreInOrder-cons}
@@ -56,19 +56,3 @@ order_parts m n ns order = (order.0.0, order.1)
 
 pub order_whole : (m n : Message) (ns : List Message) → Precedes (plain_message m) (plain_message n) → AreInOrder (map plain_message (n ∷ ns)) → AreInOrder (map plain_message (m ∷ n ∷ ns))
 order_whole m n ns before order = AreInOrder-cons (plain_message m) (plain_message n) (map plain_message ns) before order
-
--- one more message has a number that none behind it has
-pub differs_on :
-    (ms : List Message) (i : ℕ) (m : Message) → i < length ms → m ≡ get_or ms i m → IsUnused (get_or ms i m).number (map plain_message (take (length ms - (i + 1)) (drop (i + 1) ms)))
-    → (NumbersDiffer (map plain_message ms) ↔ NumbersDiffer (map plain_message (drop i ms)))
-    → (NumbersDiffer (map plain_message ms) ↔ NumbersDiffer (map plain_message (drop (i + 1) ms)))
-differs_on ms i m h is unused so_far =
-    let here : drop i ms ≡ m ∷ drop (i + 1) ms = drop_more ms i m h ∙ ap (λ x. x ∷ drop (i + 1) ms) (sym is) in
-    let behind : List Message = drop (i + 1) ms in
-    let whole : take (length ms - (i + 1)) behind ≡ behind = take_all (length ms - (i + 1)) behind (simp length-drop (omega arith)) in
-    let new : IsUnused m.number (map plain_message behind) =
-    subst (λ (n : Message). IsUnused n.number (map plain_message behind)) (sym is) (subst (λ ns. IsUnused (get_or ms i m).number (map plain_message ns)) whole unused) in
-    let family : List Message → Type 0 = λ ns. NumbersDiffer (map plain_message ns) in (
-      λ all. (subst family here (so_far.0 all)).1,
-      λ rest. so_far.1 (subst family (sym here) (new, rest)),
-    )

@@ -1,5 +1,5 @@
 -- The test of a world is true exactly where the world is valid.
-use Rattle.std.proofs.Common.{◌≡◌, ℕ, ◌≤◌, Bool, true, false, ◌&&◌, not, nat_eq, nat_lt, nat_le, List, [], ◌∷◌, length, map, Option, Some, None, refl, ap, ◌∙◌}
+use Rattle.std.proofs.Common.{◌≡◌, ℕ, ◌≤◌, Bool, true, ◌&&◌, not, nat_eq, nat_lt, nat_le, List, [], ◌∷◌, length, map, Option, Some, None, refl, ap, ◌∙◌}
 use Rattle.std.specs.Prelude.{Decides, bytes_eq, is_some, slice_get}
 use Rattle.std.specs.List.{AllByRecursion, list_all}
 use Rattle.std.proofs.lemmas.Bool.{leb-true, le-leb, false≢true}
@@ -79,7 +79,7 @@ subscription-Decides objects s =
     four (is_fit_text s.scope) (is_fit_text s.event) (is_fit_text s.method) (holds_object objects s.object)
     (text-Decides s.scope) (text-Decides s.event) (text-Decides s.method) (held-Decides objects s.object)
 
-same_parts : (s t : Subscription) → s.scope ≡ t.scope → s.event ≡ t.event → s.object ≡ t.object → s.method ≡ t.method → s ≡ t
+pub same_parts : (s t : Subscription) → s.scope ≡ t.scope → s.event ≡ t.event → s.object ≡ t.object → s.method ≡ t.method → s ≡ t
 same_parts s t scope event object method =
     let by_scope : List ℕ → Subscription = λ x. record { scope = x; event = s.event; object = s.object; method = s.method } in
     let by_event : List ℕ → Subscription = λ x. record { scope = t.scope; event = x; object = s.object; method = s.method } in

@@ -4,3 +4,4 @@ pub mod Valid
 pub mod ValidTest
 pub mod WorldCode
 pub mod Ids
+pub mod Order

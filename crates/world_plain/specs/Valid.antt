@@ -1,5 +1,5 @@
 -- Which worlds are valid for a program, by the number of fields of each of its classes.
-use Rattle.std.specs.Prelude.{◌≡◌, ◌⊎◌, ◌≤◌, ◌<◌, ◌^◌, ℕ, Bool, true, false, List, [], ◌∷◌, map, length, Option, Some, None, nat_eq, slice_get}
+use Rattle.std.specs.Prelude.{◌≡◌, ◌⊎◌, ◌≤◌, ◌<◌, ℕ, Bool, true, false, List, [], ◌∷◌, map, length, Option, Some, None, nat_eq, slice_get}
 use Rattle.std.specs.List.{AllByRecursion}
 use Rattle.tea_base.specs.Limits.{time_limit, most_here}
 use Rattle.tea_base.specs.Order.{IsBefore}

@@ -11,6 +11,7 @@ mod limits;
 mod message;
 mod messages;
 mod objects;
+mod places;
 mod refusal;
 mod subscriptions;
 mod validity;

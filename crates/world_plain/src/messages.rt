@@ -1,14 +1,16 @@
 //! What is asked of the pending messages of a world.
-ghost use Rattle.std.specs.Prelude.{◌≤◌, ◌<◌, ◌↔◌, map, length, IsTrue};
+ghost use Rattle.std.specs.Prelude.{◌≡◌, ◌≤◌, ◌<◌, ◌↔◌, map, length, slice_get, IsTrue};
+ghost use Rattle.std.specs.Option.{option_map};
 ghost use Rattle.world_plain.specs.Messages.{plain_message};
 ghost use Rattle.tea_base.specs.Limits.{time_limit};
-ghost use Rattle.world_plain.specs.Valid.{most_parameters, Precedes, AreInOrder, IsUnused, NumbersDiffer, MessageFits, MessagesFit};
+ghost use Rattle.world_plain.specs.Valid.{most_parameters, most_pending, Precedes, AreInOrder, NumbersDiffer, MessageFits, MessagesFit};
 ghost use Rattle.world_plain.specs.World.{object_record};
 ghost use Rattle.world_plain.specs.Ids.{HaveRisingIds};
 
-use crate::limits::MOST_ARGUMENTS;
+use crate::limits::{MOST_ARGUMENTS, MOST_MESSAGES};
 use crate::message::Message;
 use crate::objects::is_held;
+use crate::places::number_places;
 use crate::world::PlainWorld;
 use model_value::{are_in_bounds, text_fits};
 use tea_base::TIME_LIMIT;
@@ -32,28 +34,23 @@ fn precedes(message: &Message, other: &Message) -> bool
     message.time < other.time || (message.time == other.time && message.number < other.number)
 }
 
-/// Whether no two messages have the same number. It compares each with each.
+/// Whether no two messages have the same number. It sorts their places, and takes no memory.
 pub fn numbers_differ(messages: &[Message]) -> bool
+    requires { length messages.now ≤ most_pending }
     ensures { IsTrue result ↔ NumbersDiffer (map plain_message messages.now) }
 {
-    for i in 0..messages.len() {
-        if !is_unused(messages[i].number, &messages[i + 1..]) {
-            return false;
-        }
-    }
-    true
+    let mut all = [0; MOST_MESSAGES];
+    let places = &mut all[..messages.len()];
+    number_places(places);
+    places.sort_unstable_by_key(|place| number_at(messages, *place));
+    places.is_sorted_by(|a, b| number_at(messages, *a) < number_at(messages, *b))
 }
 
-/// Whether no message has this number.
-fn is_unused(number: u64, messages: &[Message]) -> bool
-    ensures { IsTrue result ↔ IsUnused number (map plain_message messages.now) }
+/// The number of the message at a place, if one is there.
+fn number_at(messages: &[Message], place: u16) -> Option<u64>
+    ensures { result ≡ option_map (λ m. m.number) (slice_get (map plain_message messages.now) place) }
 {
-    for message in messages {
-        if message.number == number {
-            return false;
-        }
-    }
-    true
+    Some(messages.get(usize::from(place))?.number)
 }
 
 /// Whether each message is one that is still to come in the world, for an object that is held.

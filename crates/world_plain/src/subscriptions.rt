@@ -1,45 +1,52 @@
 //! What is asked of the subscriptions of a world.
-ghost use Rattle.std.specs.Prelude.{◌≡◌, ◌↔◌, map, IsTrue};
-ghost use Rattle.world_plain.specs.Valid.{DiffersFromAll, SubscriptionsDiffer, SubscriptionFits, SubscriptionsFit};
+ghost use Rattle.std.specs.Prelude.{◌≡◌, ◌≤◌, ◌↔◌, map, length, slice_get, IsTrue};
+ghost use Rattle.std.specs.Option.{option_cmp};
+ghost use Rattle.world_plain.specs.Valid.{most_pending, SubscriptionsDiffer, SubscriptionFits, SubscriptionsFit};
 ghost use Rattle.world_plain.specs.World.{object_record};
 ghost use Rattle.world_plain.specs.Ids.{HaveRisingIds};
+ghost use Rattle.world_plain.specs.Order.{subscription_order};
 
+use crate::limits::MOST_SUBSCRIPTIONS;
 use crate::message::Subscription;
 use crate::objects::is_held;
+use crate::places::number_places;
 use crate::world::PlainObject;
 use model_value::text_fits;
+use std::cmp::Ordering;
 
-/// Whether no two subscriptions are the same. It compares each with each.
+/// Whether no two subscriptions are the same. It sorts their places, and takes no memory.
 pub fn subscriptions_differ(subscriptions: &[Subscription]) -> bool
+    requires { length subscriptions.now ≤ most_pending }
     ensures { IsTrue result ↔ SubscriptionsDiffer subscriptions.now }
 {
-    for i in 0..subscriptions.len() {
-        if !is_new(&subscriptions[i], &subscriptions[i + 1..]) {
-            return false;
-        }
-    }
-    true
+    let mut all = [0; MOST_SUBSCRIPTIONS];
+    let places = &mut all[..subscriptions.len()];
+    number_places(places);
+    places.sort_unstable_by(|a, b| order_at(subscriptions, *a, *b));
+    places.is_sorted_by(|a, b| order_at(subscriptions, *a, *b).is_lt())
 }
 
-/// Whether a subscription is none of the others.
-fn is_new(subscription: &Subscription, others: &[Subscription]) -> bool
-    ensures { IsTrue result ↔ DiffersFromAll subscription.now others.now }
+/// How the subscriptions at two places compare. A place without one stands first.
+fn order_at(subscriptions: &[Subscription], a: u16, b: u16) -> Ordering
+    ensures { result ≡ option_cmp subscription_order (slice_get subscriptions.now a) (slice_get subscriptions.now b) }
 {
-    for other in others {
-        if is_same(subscription, other) {
-            return false;
-        }
+    let a = subscriptions.get(usize::from(a));
+    let b = subscriptions.get(usize::from(b));
+    match (a, b) {
+        (Some(a), Some(b)) => order(a, b),
+        (a, b) => a.is_some().cmp(&b.is_some()),
     }
-    true
 }
 
-fn is_same(a: &Subscription, b: &Subscription) -> bool
-    ensures { IsTrue result ↔ (a.now ≡ b.now) }
+/// By the object, then by the scope, the event and the method.
+fn order(a: &Subscription, b: &Subscription) -> Ordering
+    ensures { result ≡ subscription_order a.now b.now }
 {
-    a.object == b.object
-        && a.scope.is_text(&b.scope)
-        && a.event.is_text(&b.event)
-        && a.method.is_text(&b.method)
+    a.object
+        .cmp(&b.object)
+        .then_with(|| a.scope.order(&b.scope))
+        .then_with(|| a.event.order(&b.event))
+        .then_with(|| a.method.order(&b.method))
 }
 
 /// Whether each subscription has texts that fit, and is of an object that is held.

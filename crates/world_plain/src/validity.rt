@@ -39,7 +39,7 @@ fn has_valid_parts(world: &PlainWorld, counts: &[u32]) -> bool
     ensures { IsTrue result ↔ Valid counts.now (world_record world.now) }
 {
     // Each value is found in bounds before the world is weighed, since weighing goes as deep as its lists nest. The counts
-    // come first, and what compares each with each last, since that would take too long on more.
+    // come first, and the sorts last, so that what is sorted is few and light.
     has_few_parts(world)
         && has_fit_numbers(world)
         && rise(world.views.as_slice())
