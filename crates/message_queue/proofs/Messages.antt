@@ -1,21 +1,19 @@
--- Texts compared, lists with a message more or fewer, and the bounds of weights.
-use Rattle.std.proofs.Common.{◌≡◌, ℕ, zero, suc, ◌+◌, ◌*◌, ◌<◌, ◌≤◌, ◌↔◌, Bool, true, false, cond, List, [], ◌∷◌, length, get_or, remove, refl, sym, ap, ◌∙◌, append_assoc, arith, drop, IsTrue}
+-- Texts compared, the messages that are kept, and the bounds of weights.
+use Rattle.std.proofs.Common.{◌≡◌, ℕ, zero, suc, ◌+◌, ◌*◌, ◌<◌, ◌≤◌, ◌↔◌, Bool, true, false, cond, List, [], ◌∷◌, length, get_or, refl, sym, ap, ◌∙◌, arith, drop, IsTrue}
 use Rattle.std.specs.List.{filter}
 use Rattle.std.specs.Str.{bytes_eq}
 use Rattle.std.specs.Cmp.Lexicographic.{bytes_decides}
-use Rattle.std.proofs.lemmas.List.{length-map, map-append}
+use Rattle.std.proofs.lemmas.List.{length-map}
 use Rattle.model_value.specs.Plain.{weight}
 use Rattle.world_plain.specs.Messages.{PlainMessage, plain_message}
-use Rattle.world_plain.specs.Valid.{IsUnused, most_pending}
+use Rattle.world_plain.specs.Valid.{most_pending}
 use Rattle.world_plain.specs.declared.message.Message.{Message}
 use Rattle.model_value.specs.declared.value.Value.{Value}
 use Rattle.model_value.specs.Plain.{values_weight}
 use Rattle.world_plain.specs.World.{message_weight, total_weight}
 use Rattle.model_value.specs.View.{plain, plain_values}
-use Rattle.message_queue.specs.Queue.{IsQueue, IsLightMessage, AreLightMessages, insert_in_order}
+use Rattle.message_queue.specs.Queue.{IsLightMessage, AreLightMessages}
 use Rattle.message_queue.specs.View.{messages_seen}
-use Rattle.message_queue.proofs.Filtered.{IsQueue-filtered}
-use Rattle.message_queue.proofs.Order.{IsQueue-inserted}
 
 -- ---- texts
 
@@ -31,37 +29,7 @@ is_same told xs ys h = told_same told (bytes_eq xs ys) xs ys refl h
 
 pub ruleset by_text = (is_same)
 
--- ---- places
-
-pub ruleset by_place = (map-append, append_assoc)
-
--- ---- a message more
-
-pub with_one : (ms new : List PlainMessage) (m : PlainMessage) (next more : ℕ)
-    → IsQueue (record { messages = ms; next = next })
-    → new ≡ insert_in_order m ms
-    → IsUnused m.number ms
-    → m.number < more
-    → next ≤ more
-    → length ms < most_pending
-    → IsLightMessage m
-    → IsQueue (record { messages = new; next = more })
-with_one ms new m next more q is unused below later few light =
-    rw is (IsQueue-inserted m (record { messages = ms; next = next }) more q unused below later few light)
-
--- ---- the first message taken
-
-pub without_first : (ms : List Message) (next : ℕ) → IsQueue (record { messages = messages_seen ms; next = next }) → IsQueue (record { messages = messages_seen (remove ms 0); next = next })
-without_first [] next q = q
-without_first (m ∷ ms) next q = record { order = q.order.1; differ = q.differ.1; next = q.next.1; light = q.light.1; few = omega (arith, q.few) }
-
 -- ---- messages fewer
-
-pub filtered : (test : PlainMessage → Bool) (ms new : List PlainMessage) (next : ℕ)
-    → IsQueue (record { messages = ms; next = next })
-    → new ≡ filter test ms
-    → IsQueue (record { messages = new; next = next })
-filtered test ms new next q e = rw e (IsQueue-filtered test (record { messages = ms; next = next }) q)
 
 kept_one : (b : Bool) (m : Message) (ms : List Message) → messages_seen (cond b (m ∷ ms) ms) ≡ cond b (plain_message m ∷ messages_seen ms) (messages_seen ms)
 kept_one true m ms = refl
@@ -86,7 +54,7 @@ message_at [] i d h = absurd (omega arith)
 message_at (m ∷ ms) zero d h = omega arith
 message_at (m ∷ ms) (suc i) d h = message_at ms i d (omega arith)
 
-total_bound : (ms : List PlainMessage) → AreLightMessages ms → total_weight message_weight ms ≤ length ms * 131072
+pub total_bound : (ms : List PlainMessage) → AreLightMessages ms → total_weight message_weight ms ≤ length ms * 131072
 total_bound [] h = omega arith
 total_bound (m ∷ ms) h = omega (arith, h.0, total_bound ms h.1)
 

@@ -1,6 +1,5 @@
 -- A message more, in its place: the order, the numbers, counts and weights.
-use Rattle.std.proofs.Common.{◌≡◌, ℕ, ◌+◌, ◌*◌, ◌≤◌, ◌<◌, inl, inr, Bool, true, false, ◌&&◌, ◌||◌, List, [], ◌∷◌, length, nat_eq, nat_lt, refl, sym, ◌∙◌, arith, if◌then◌else◌}
-use Rattle.std.proofs.lemmas.Bool.{ltb-true, ltb-false, eqb-true, eqb-false}
+use Rattle.std.proofs.Common.{◌≡◌, ℕ, ◌+◌, ◌*◌, ◌≤◌, ◌<◌, Bool, true, false, List, [], ◌∷◌, length, refl, sym, arith, if◌then◌else◌}
 use Rattle.model_value.specs.Plain.{PlainValue}
 use Rattle.model_value.specs.Plain.{values_weight}
 use Rattle.world_plain.specs.World.{total_weight}
@@ -9,6 +8,7 @@ use Rattle.model_value.specs.Plain.{AllInBounds, TextFits}
 use Rattle.world_plain.specs.Valid.{Precedes, PrecedesAll, AreInOrder, IsUnused, NumbersDiffer, most_parameters, most_pending}
 use Rattle.message_queue.specs.Queue.{QueueRecord, IsQueue, insert_in_order, IsLightMessage, AreLightMessages, NumbersBelow}
 use Rattle.world_plain.specs.ValidTest.{is_due_before}
+use Rattle.message_queue.proofs.Before.{precedes-true, precedes-false, Precedes-trans}
 
 -- what holds in each branch, by its test, holds of a test
 pub if_either : {A : Type 0} (P : A → Type 0) (b : Bool) (x y : A) → (b ≡ true → P x) → (b ≡ false → P y) → P (if b then x else y)
@@ -26,34 +26,13 @@ inserted-all Q m first rest more (n ∷ ns) h =
 
 -- ---- the order
 
-precedes-tells : (b c d : Bool) (m n : PlainMessage) → (b ≡ true → m.time < n.time) → (c ≡ true → m.time ≡ n.time) → (d ≡ true → m.number < n.number) → (b || c && d) ≡ true → Precedes m n
-precedes-tells true c d m n f g h e = inl (f refl)
-precedes-tells false true true m n f g h e = inr (g refl, h refl)
-precedes-tells false true false m n f g h e = absurd cc
-precedes-tells false false d m n f g h e = absurd cc
-
-precedes-true : (m n : PlainMessage) → is_due_before m n ≡ true → Precedes m n
-precedes-true m n e = precedes-tells (nat_lt m.time n.time) (nat_eq m.time n.time) (nat_lt m.number n.number) m n (ltb-true m.time n.time) (eqb-true m.time n.time) (ltb-true m.number n.number) e
-
-follows-tells : (b c d : Bool) (m n : PlainMessage) → (b ≡ false → n.time ≤ m.time) → (c ≡ false → ¬ (m.time ≡ n.time)) → (c ≡ true → m.time ≡ n.time) → (d ≡ false → n.number ≤ m.number) → ¬ (m.number ≡ n.number) → (b || c && d) ≡ false → Precedes n m
-follows-tells true c d m n f g k h u e = absurd cc
-follows-tells false true true m n f g k h u e = absurd cc
-follows-tells false true false m n f g k h u e = let at : m.time ≡ n.time = k refl in let above : n.number ≤ m.number = h refl in inr (sym at, omega (arith, u))
-follows-tells false false d m n f g k h u e = let behind : n.time ≤ m.time = f refl in let apart : ¬ (m.time ≡ n.time) = g refl in inl (omega (arith, apart))
-
-precedes-false : (m n : PlainMessage) → ¬ (m.number ≡ n.number) → is_due_before m n ≡ false → Precedes n m
-precedes-false m n u e =
-    follows-tells (nat_lt m.time n.time) (nat_eq m.time n.time) (nat_lt m.number n.number) m n (ltb-false m.time n.time) (eqb-false m.time n.time) (eqb-true m.time n.time) (ltb-false m.number n.number) u e
-
-Precedes-trans : (l m n : PlainMessage) → Precedes l m → Precedes m n → Precedes l n
-Precedes-trans l m n (inl h) (inl g) = inl (omega arith)
-Precedes-trans l m n (inl h) (inr g) = inl (omega arith)
-Precedes-trans l m n (inr h) (inl g) = inl (omega arith)
-Precedes-trans l m n (inr h) (inr g) = inr (h.0 ∙ g.0, omega arith)
-
 PrecedesAll-trans : (l m : PlainMessage) (ns : List PlainMessage) → Precedes l m → PrecedesAll m ns → PrecedesAll l ns
 PrecedesAll-trans l m [] h g = tt
 PrecedesAll-trans l m (n ∷ ns) h g = (Precedes-trans l m n h g.0, PrecedesAll-trans l m ns h g.1)
+
+-- a message before the first of messages in order is before each
+pub PrecedesAll-first : (m n : PlainMessage) (ns : List PlainMessage) → Precedes m n → PrecedesAll n ns → PrecedesAll m (n ∷ ns)
+PrecedesAll-first m n ns h g = (h, PrecedesAll-trans m n ns h g)
 
 pub PrecedesAll-inserted : (l m : PlainMessage) (ns : List PlainMessage) → Precedes l m → PrecedesAll l ns → PrecedesAll l (insert_in_order m ns)
 PrecedesAll-inserted l m ns h = inserted-all (PrecedesAll l) m (λ ns g. (h, g)) (λ n ns g. g.1) (λ n ns os g f. (g.0, f)) ns
@@ -62,7 +41,7 @@ pub AreInOrder-inserted : (m : PlainMessage) (ns : List PlainMessage) → IsUnus
 AreInOrder-inserted m [] u h = (tt, tt)
 AreInOrder-inserted m (n ∷ ns) u h =
     if_either AreInOrder (is_due_before m n) (m ∷ n ∷ ns) (n ∷ insert_in_order m ns)
-    (λ e. let first : Precedes m n = precedes-true m n e in ((first, PrecedesAll-trans m n ns first h.0), h))
+    (λ e. (PrecedesAll-first m n ns (precedes-true m n e) h.0, h))
     (λ e. (PrecedesAll-inserted n m ns (precedes-false m n u.0 e) h.0, AreInOrder-inserted m ns u.1 h.1))
 
 -- ---- the numbers

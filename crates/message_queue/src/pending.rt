@@ -1,51 +1,17 @@
-//! Messages in memory, in their order: one more of them, and those that are taken away.
-ghost use Rattle.std.specs.Prelude.{◌≡◌, ◌≤◌, ◌+◌, ◌++◌, ◌∷◌, length, take, drop, not, nat_eq, OnOk, OnErr};
+//! Messages in memory: those that are taken away, and what they weigh.
+ghost use Rattle.std.specs.Prelude.{◌≡◌, ◌≤◌, length, not, nat_eq};
 ghost use Rattle.std.specs.List.{filter};
 ghost use Rattle.world_plain.specs.Messages.{plain_message};
 ghost use Rattle.model_value.specs.View.{plain_values};
 ghost use Rattle.world_plain.specs.Valid.{most_pending};
 ghost use Rattle.model_value.specs.Plain.{values_weight as weight_of_values, text_weight as weight_of_text};
 ghost use Rattle.world_plain.specs.World.{message_weight, total_weight, most_world_weight};
-ghost use Rattle.message_queue.specs.Queue.{AreLightMessages, IsLightMessage, calls, insert_in_order};
-ghost use Rattle.world_plain.specs.ValidTest.{is_due_before as is_before};
+ghost use Rattle.message_queue.specs.Queue.{AreLightMessages, IsLightMessage, calls};
 ghost use Rattle.message_queue.specs.View.{messages_seen};
 
 use model_value::{Value, weight};
-use tea_base::{Text, WantOfMemory};
+use tea_base::Text;
 use world_plain::Message;
-
-/// Whether a message is due before another: at a lower time, or at the same time with a lower number.
-fn precedes(one: &Message, other: &Message) -> bool
-    ensures { result ≡ is_before (plain_message one.now) (plain_message other.now) }
-{
-    one.time < other.time || (one.time == other.time && one.number < other.number)
-}
-
-/// Puts a message in its place. Without memory the messages stay as they were.
-#[tactic(auto, using(crate::proofs::Messages::by_place))]
-pub fn insert(messages: &mut Vec<Message>, message: Message) -> Result<(), WantOfMemory>
-    ensures ok { OnOk result (messages_seen messages.new.items ≡ insert_in_order (plain_message message) (messages_seen messages.old.items)) }
-    ensures err { OnErr result (messages.new.items ≡ messages.old.items) }
-{
-    let place = place_for(messages, &message);
-    messages.insert(place, message)?;
-    Ok(())
-}
-
-/// The place of the first message that comes behind this one, or the end.
-#[tactic(auto, using(crate::proofs::Messages::by_place))]
-fn place_for(messages: &[Message], message: &Message) -> usize
-    ensures bound { result ≤ length messages.now }
-    ensures place { let m = plain_message message.now in
-        insert_in_order m (messages_seen messages.now) ≡ messages_seen (take result messages.now) ++ m ∷ messages_seen (drop result messages.now) }
-{
-    for i in 0..messages.len() {
-        if precedes(message, &messages[i]) {
-            return i;
-        }
-    }
-    messages.len()
-}
 
 /// Takes away the calls of a method of an object.
 pub fn remove_calls(messages: &mut Vec<Message>, object: u32, method: &Text)
@@ -85,7 +51,7 @@ pub fn weight_of(messages: &[Message]) -> u64
 }
 
 /// How much a message weighs: 3, its method's name and its arguments.
-fn message_weight_of(message: &Message) -> u64
+pub fn message_weight_of(message: &Message) -> u64
     requires { IsLightMessage (plain_message message.now) }
     ensures { result ≡ message_weight (plain_message message.now) }
 {

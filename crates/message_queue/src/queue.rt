@@ -1,19 +1,22 @@
 //! The queue of a world's messages.
-ghost use Rattle.std.specs.Prelude.{◌≡◌, ◌<◌, ◌+◌, ◌↔◌, [], length, IsTrue, OnOk, OnErr};
+ghost use Rattle.std.specs.Prelude.{◌≡◌, ◌<◌, ◌+◌, ◌↔◌, [], length, map, IsTrue, IfOk, OnOk, OnErr};
 ghost use Rattle.std.specs.Option.{option_map};
 ghost use Rattle.world_plain.specs.Messages.{plain_message};
 ghost use Rattle.model_value.specs.View.{plain_values};
 ghost use Rattle.world_plain.specs.Valid.{IsUnused, most_pending};
 ghost use Rattle.world_plain.specs.World.{message_weight, total_weight};
 ghost use Rattle.message_queue.specs.Queue.{IsLightMessage, IsQueue, TakesLeast, Pushes, empty_queue, least_of, new_message, queue_with, without_calls, without_messages_to};
-ghost use Rattle.message_queue.specs.View.{messages_seen};
+ghost use Rattle.message_queue.specs.Heap.{CountsFew};
 
-use crate::pending::{insert, remove_calls, remove_object, weight_of};
+use crate::heap::{insert, put_in_order, take_first};
+use crate::pending::{message_weight_of, remove_calls, remove_object, weight_of};
+use crate::steps::Steps;
 use model_value::Values;
 use std::alloc::Global;
 use std::marker::Model;
-use tea_base::{Text, WantOfMemory};
-use world_plain::{MOST_MESSAGES, Message, StoreRefusal};
+use std::sync::ledger::Ledger;
+use tea_base::{List, Text, WantOfMemory};
+use world_plain::{MOST_MESSAGES, Message, Messages, StoreRefusal, copy_messages};
 
 /// The messages to come of a world. Contracts see them as a list by rising time, and at one time by rising number, with
 /// the number that the next message gets.
@@ -24,19 +27,20 @@ use world_plain::{MOST_MESSAGES, Message, StoreRefusal};
 pub struct Queue {
     messages: Vec<Message>,
     next: u64,
+    weight: u64,
 }
 
 impl Model for Queue {
-    ghost use Rattle.message_queue.specs.Queue.{QueueRecord, coded_queue, IsQueue};
-    ghost use Rattle.message_queue.specs.View.{messages_seen};
+    ghost use Rattle.message_queue.specs.Queue.{QueueRecord, coded_queue};
+    ghost use Rattle.message_queue.specs.View.{queue_seen, IsHeld};
 
     ghost Value = { QueueRecord };
 
     ghost coded = { coded_queue };
 
-    ghost view = { λ q. record { messages = messages_seen q.messages.items; next = q.next } };
+    ghost view = { λ q. queue_seen q.messages.items q.next };
 
-    ghost invariant = { λ q. IsQueue (record { messages = messages_seen q.messages.items; next = q.next }) };
+    ghost invariant = { λ q. IsHeld q.messages.items q.next q.weight };
 }
 
 impl Queue {
@@ -54,6 +58,7 @@ impl Queue {
         Queue {
             messages: Vec::new(alloc),
             next,
+            weight: 0,
         }
     }
 
@@ -70,7 +75,9 @@ impl Queue {
         ensures ok { OnOk result (self.new ≡ queue_with (plain_message m) self.old) }
         ensures err { OnErr result (self.new ≡ self.old) }
     {
+        let weight = message_weight_of(&m);
         insert(&mut self.messages, m)?;
+        self.weight += weight;
         Ok(())
     }
 
@@ -108,7 +115,9 @@ impl Queue {
             method,
             args,
         };
+        let weight = message_weight_of(&message);
         insert(&mut self.messages, message)?;
+        self.weight += weight;
         self.next += 1;
         Ok(number)
     }
@@ -134,20 +143,24 @@ impl Queue {
         self.messages.is_empty()
     }
 
-    /// The messages by rising time and number. Takes no memory.
-    pub fn messages(&self) -> &[Message]
-        ensures { messages_seen result.now ≡ self.now.messages }
+    /// The messages by rising time and number, in memory of their own.
+    pub fn ordered(&self, alloc: Global) -> Result<Messages, WantOfMemory>
+        ensures { IfOk result (λ messages. map plain_message messages ≡ self.now.messages) }
     {
-        &self.messages
+        let mut copies = copy_messages(alloc, &self.messages)?.into_vec();
+        put_in_order(&mut copies);
+        Ok(List::from_vec(copies))
     }
 
     /// The time and the number of the message that is due first: of those of the least time that of the least number.
     /// None where no message is held. Takes no memory.
     ///
-    /// In each queue the first message precedes all others.
-    pub fn least(&self) -> Option<(u64, u64)>
+    /// In each queue the first message precedes all others. Comparisons of messages are counted: over a number of messages
+    /// of d binary digits at most 2d + 2.
+    pub fn least<L: Ledger>(&self, steps: &mut Steps<L>) -> Option<(u64, u64)>
         ensures least { result ≡ least_of self.now.messages }
         ensures queue { IsQueue self.now }
+        ensures count { CountsFew (length self.now.messages) steps.old steps.new }
     {
         let first = self.messages.first()?;
         Some((first.time, first.number))
@@ -155,13 +168,15 @@ impl Queue {
 
     /// Takes out the message that is due first. None where no message is held, and the queue stays as it was. Takes no
     /// memory.
-    pub fn take_least(&mut self) -> Option<Message>
-        ensures { TakesLeast (option_map plain_message result) self.old self.new }
+    ///
+    /// Comparisons of messages are counted: over a number of messages of d binary digits at most 2d + 2.
+    pub fn take_least<L: Ledger>(&mut self, steps: &mut Steps<L>) -> Option<Message>
+        ensures taken { TakesLeast (option_map plain_message result) self.old self.new }
+        ensures count { CountsFew (length self.old.messages) steps.old steps.new }
     {
-        if self.messages.is_empty() {
-            return None;
-        }
-        Some(self.messages.remove(0))
+        let first = take_first(&mut self.messages, steps)?;
+        self.weight -= message_weight_of(&first);
+        Some(first)
     }
 
     /// Takes away all calls of a method of an object, and gives their number. Takes no memory.
@@ -171,6 +186,8 @@ impl Queue {
     {
         let before = self.messages.len();
         remove_calls(&mut self.messages, object, method);
+        put_in_order(&mut self.messages);
+        self.weight = weight_of(&self.messages);
         (before - self.messages.len()) as u32
     }
 
@@ -181,6 +198,8 @@ impl Queue {
     {
         let before = self.messages.len();
         remove_object(&mut self.messages, object);
+        put_in_order(&mut self.messages);
+        self.weight = weight_of(&self.messages);
         (before - self.messages.len()) as u32
     }
 
@@ -192,6 +211,6 @@ impl Queue {
         ensures weight { result ≡ total_weight message_weight self.now.messages }
         ensures queue { IsQueue self.now }
     {
-        weight_of(&self.messages)
+        self.weight
     }
 }
