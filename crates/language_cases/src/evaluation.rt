@@ -83,7 +83,7 @@ fn run_text(alloc: Global, text: &[u8]) -> Result<String, Stopped> {
     let outcome = run(alloc, &program, &mut state, &mut budget);
     let mut out = outcome_text(alloc, outcome, "no program")?;
     write!(out, " left {}", budget.fuel)?;
-    write_world(&mut out, &program, &state)?;
+    write_world(alloc, &mut out, &program, &state)?;
     Ok(out)
 }
 

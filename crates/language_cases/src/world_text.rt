@@ -3,12 +3,14 @@ use crate::spelling::{write_text, write_value, write_values};
 use model_check::Checked;
 use model_eval::State;
 use object_store::Object;
+use std::alloc::Global;
 use tea_base::WantOfMemory;
 use world_plain::{Known, Message, Outgoing, Subscription};
 
 /// Writes a world: the next numbers, and then each object, known name, subscription, message to come and published event.
 /// `; ` stands before each part.
 pub(crate) fn write_world(
+    alloc: Global,
     out: &mut String,
     program: &Checked,
     state: &State,
@@ -22,7 +24,7 @@ pub(crate) fn write_world(
     write_objects(out, program, state.objects.objects())?;
     write_known_names(out, state.known.as_slice())?;
     write_subscriptions(out, state.topics.subscriptions())?;
-    write_messages(out, state.pending.messages())?;
+    write_messages(out, state.pending.ordered(alloc)?.as_slice())?;
     write_published(out, state.published.as_slice())
 }
 

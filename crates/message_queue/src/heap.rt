@@ -43,7 +43,7 @@ pub fn put_in_order(messages: &mut Vec<Message>)
     ensures held { IsPermutation messages.old.items messages.new.items }
     ensures sorted { IsSortedBy is_sooner messages.new.items }
 {
-    messages.sort_unstable_by(|one, other| due_order(one, other));
+    messages.sort_unstable_by(due_order);
 }
 
 /// Adds a message to a heap. Without memory the messages stay as they were.

@@ -14,7 +14,7 @@ use std::alloc::Global;
 use tea_base::{List, Numbers, SessionId, WantOfMemory};
 use world_plain::{
     KnownNames, MOST_WORLD_WEIGHT, PlainObject, PlainObjects, PlainWorld, Published,
-    copy_known_names, copy_messages, copy_numbers, copy_subscriptions, room_behind_known,
+    copy_known_names, copy_numbers, copy_subscriptions, room_behind_known,
 };
 
 /// A world, and what its models published since the list was last taken.
@@ -53,7 +53,7 @@ impl State {
         let objects = copy_objects(alloc, self.objects.objects())?;
         let known = copy_known_names(alloc, self.known.as_slice())?;
         let subscriptions = copy_subscriptions(alloc, self.topics.subscriptions())?;
-        let pending = copy_messages(alloc, self.pending.messages())?;
+        let pending = self.pending.ordered(alloc)?;
         Ok(PlainWorld {
             id: self.id,
             time: self.time,
