@@ -1,14 +1,17 @@
 //! Messages of a world, run one after the other.
-ghost use Rattle.std.specs.Prelude.{◌≡◌, OnOk};
+ghost use Rattle.std.specs.Prelude.{◌≡◌, ◌<◌, OnOk};
 ghost use Rattle.world_plain.specs.Messages.{plain_message};
 ghost use Rattle.model_value.specs.View.{plain, plain_values};
 ghost use Rattle.model_lang.specs.TreeView.{program_tree};
 ghost use Rattle.world.specs.Worlds.{after_method, after_telling, with_fault, with_count, bad_event, with_next_turn, at_later_time, scene_with_world, fault_number};
 ghost use Rattle.world.specs.View.{scene, TakesDue};
 
+use message_queue::Steps;
 use model_check::Checked;
 use model_eval::{Budget, Call, EvalStop, Event, Fault, State, run_method, tell_models};
 use std::alloc::Global;
+use std::marker::Brand;
+use std::sync::ledger::{Blank, Ledger};
 use tea_base::WantOfMemory;
 use world_plain::{MOST_TURNS, Message};
 
@@ -114,11 +117,22 @@ pub fn move_to(state: &mut State, time: u64)
 pub fn take_due(state: &mut State, time: u64) -> Option<Message>
     ensures { TakesDue result time (scene state.old) (scene state.new) }
 {
-    let (due, _) = state.pending.least()?;
+    take_due_counted::<Brand>(state, time, Blank::new(1))
+}
+
+/// Takes the least pending message, if its time is at most this one. Comparisons are counted by a counter of its own.
+fn take_due_counted<L: Ledger>(state: &mut State, time: u64, blank: Blank) -> Option<Message>
+    requires name { blank.name ≡ L.name }
+    requires parts { blank.parts ≡ L.parts }
+    requires some { 0 < blank.parts }
+    ensures { TakesDue result time (scene state.old) (scene state.new) }
+{
+    let mut steps = Steps::<L>::new(blank);
+    let (due, _) = state.pending.least(&mut steps)?;
     if due > time {
         return None;
     }
-    state.pending.take_least()
+    state.pending.take_least(&mut steps)
 }
 
 /// Runs a pending message that was taken.

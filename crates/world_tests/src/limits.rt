@@ -1,12 +1,14 @@
 //! What holds objects, messages and subscriptions, at numbers that no program reaches.
-ghost use Rattle.std.specs.Prelude.{◌≤◌, length, IfOk};
+ghost use Rattle.std.specs.Prelude.{◌≡◌, ◌≤◌, ◌<◌, ◌+◌, length, IfOk};
 ghost use Rattle.model_value.specs.Plain.{TextFits};
 ghost use Rattle.pubsub.specs.Topics.{IsLightSubscription};
 
-use message_queue::Queue;
+use message_queue::{Queue, Steps};
 use object_store::Store;
 use pubsub::Topics;
 use std::alloc::Global;
+use std::marker::Brand;
+use std::sync::ledger::{Blank, Ledger};
 use std::test::Fail;
 use tea_base::{List, Text, WantOfMemory};
 use world_plain::{Message, StoreRefusal, Subscription};
@@ -30,6 +32,41 @@ fn name(alloc: Global, text: &str) -> Result<Text, WantOfMemory>
     Text::copy(alloc, text)
 }
 
+/// The time and the number of the message that is due first.
+fn least(queue: &Queue) -> Option<(u64, u64)> {
+    least_counted::<Brand>(queue, Blank::new(1))
+}
+
+fn least_counted<L: Ledger>(queue: &Queue, blank: Blank) -> Option<(u64, u64)>
+    requires name { blank.name ≡ L.name }
+    requires parts { blank.parts ≡ L.parts }
+    requires some { 0 < blank.parts }
+{
+    queue.least(&mut Steps::<L>::new(blank))
+}
+
+/// Takes out the message that is due first: its time and its number.
+fn take(queue: &mut Queue) -> Option<(u64, u64)> {
+    take_by::<Brand>(queue, Blank::new(1))
+}
+
+fn take_by<L: Ledger>(queue: &mut Queue, blank: Blank) -> Option<(u64, u64)>
+    requires name { blank.name ≡ L.name }
+    requires parts { blank.parts ≡ L.parts }
+    requires some { 0 < blank.parts }
+{
+    let message = take_counted(queue, &mut Steps::<L>::new(blank))?;
+    Some((message.time, message.number))
+}
+
+/// Takes out the message that is due first. 16,384 has 15 binary digits, and 8,192 has 14.
+fn take_counted<L: Ledger>(queue: &mut Queue, steps: &mut Steps<L>) -> Option<Message>
+    ensures of_all { length queue.old.messages ≤ 16384 → steps.new ≤ steps.old + 32 }
+    ensures of_half { length queue.old.messages ≤ 8192 → steps.new ≤ steps.old + 30 }
+{
+    queue.take_least(steps)
+}
+
 #[test]
 fn the_last_number_is_given_once(rt: HostRuntime) -> Result<(), Fail> {
     let alloc = rt.alloc();
@@ -46,7 +83,36 @@ fn the_last_number_is_given_once(rt: HostRuntime) -> Result<(), Fail> {
     assert_eq!(rt; last, Ok(u64::MAX - 1));
     let none = queue.push(1, 1, name(alloc, "a")?, List::new(alloc));
     assert_eq!(rt; none, Err(StoreRefusal::Spent));
-    assert_eq!(rt; queue.least(), Some((2, u64::MAX - 1)));
+    assert_eq!(rt; least(&queue), Some((2, u64::MAX - 1)));
+    Ok(())
+}
+
+#[test]
+fn a_full_queue_is_emptied_in_order(rt: HostRuntime) -> Result<(), Fail> {
+    let alloc = rt.alloc();
+    let mut queue = Queue::new(alloc);
+    for i in 0..16_384u64 {
+        let object = 1 + u32::from(i % 2 == 1);
+        let pushed = queue.push(
+            (16_383 - i) / 4,
+            object,
+            name(alloc, "a")?,
+            List::new(alloc),
+        );
+        assert_eq!(rt; pushed, Ok(i));
+    }
+    assert_eq!(rt; take(&mut queue), Some((0, 16_380)));
+    let last = queue.push(5, 1, name(alloc, "a")?, List::new(alloc));
+    assert_eq!(rt; last, Ok(16_384));
+    assert_eq!(rt; queue.drop_object(2), 8192);
+    let mut before = None;
+    for _ in 0..8192 {
+        let next = take(&mut queue);
+        assert!(rt; before < next);
+        before = next;
+    }
+    assert_eq!(rt; before, Some((4095, 2)));
+    assert!(rt; queue.is_empty());
     Ok(())
 }
 
