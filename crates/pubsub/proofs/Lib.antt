@@ -1,1 +1,4 @@
+pub mod Indexed
+pub mod Lookups
+pub mod Names
 pub mod Subscriptions

@@ -1,6 +1,6 @@
 -- Subscriptions compared, lists with one more or fewer, and the bounds of weights.
 use Rattle.std.proofs.Common.{◌≡◌, ℕ, zero, suc, ◌*◌, ◌<◌, ◌≤◌, Bool, true, false, cond, List, [], ◌∷◌, ◌++◌, length, get_or, drop, refl, sym, ap, subst, ◌∙◌, arith}
-use Rattle.std.specs.Prelude.{◌&&◌, ◌||◌, nat_eq, bytes_eq, Result, Ok, Err, is_ok, is_err}
+use Rattle.std.specs.Prelude.{◌&&◌, ◌||◌, nat_eq, bytes_eq}
 use Rattle.std.specs.List.{filter}
 use Rattle.std.proofs.lemmas.Bool.{false≢true}
 use Rattle.std.proofs.lemmas.List.{length-append}
@@ -17,11 +17,11 @@ pub ruleset by_texts = (bytes_eq-Decides)
 
 -- ---- a subscription more
 
-both : (a b : Bool) → (a && b) ≡ true → (a ≡ true) × (b ≡ true)
+pub both : (a b : Bool) → (a && b) ≡ true → (a ≡ true) × (b ≡ true)
 both true b e = (refl, e)
 both false b e = absurd (false≢true e)
 
-neither : (a b : Bool) → (a || b) ≡ false → (a ≡ false) × (b ≡ false)
+pub neither : (a b : Bool) → (a || b) ≡ false → (a ≡ false) × (b ≡ false)
 neither true b e = absurd (false≢true (sym e))
 neither false b e = (refl, e)
 
@@ -63,20 +63,14 @@ light_push : (s : Subscription) (ts : List Subscription) → AreLightSubscriptio
 light_push s [] h e = (e, tt)
 light_push s (t ∷ ts) h e = (h.0, light_push s ts h.1 e)
 
-added : {X T E : Type 0} (r : Result T E) (new old more : List X) → new ≡ cond (is_ok r) more old → is_err r ≡ false → new ≡ more
-added (Ok _) new old more e h = e
-added (Err _) new old more e h = absurd (false≢true (sym h))
-
-pub pushed : {T E : Type 0} (r : Result T E) (s : Subscription) (new old : List Subscription)
-    → new ≡ cond (is_ok r) (old ++ s ∷ []) old
-    → is_err r ≡ false
+pub appended : (s : Subscription) (new old : List Subscription)
+    → new ≡ old ++ s ∷ []
     → AreTopics old
     → is_subscribed s old ≡ false
     → length old < most_pending
     → IsLightSubscription s
     → AreTopics new
-pushed r s new old is ok topics absent room light =
-    let e = added r new old (old ++ s ∷ []) is ok in
+appended s new old e topics absent room light =
     record {
       differ = rw e (SubscriptionsDiffer-appended s old absent topics.differ);
       light = rw e (light_push s old topics.light light);

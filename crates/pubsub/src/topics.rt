@@ -1,20 +1,27 @@
 //! The topics of a world.
-ghost use Rattle.std.specs.Prelude.{◌≡◌, ◌↔◌, ◌+◌, [], length, IfOk, IsTrue};
+ghost use Rattle.std.specs.Prelude.{◌≡◌, ◌↔◌, ◌+◌, ◌++◌, ◌<◌, ◌∷◌, [], length, IfOk, OnOk, OnErr, IsTrue, false};
 ghost use Rattle.world_plain.specs.World.{subscription_weight, total_weight};
+ghost use Rattle.world_plain.specs.Valid.{most_pending};
 ghost use Rattle.pubsub.specs.Topics.{AreTopics, IsLightSubscription, Subscribes, handlers_of, is_subscribed as holds, without_subscription, without_subscriber};
 
-use crate::handler::Handlers;
-use crate::subscription::{handlers, is_held, remove, remove_object, weight_of};
+use crate::handler::{Handlers, copy_handlers};
+use crate::index::TopicIndex;
+use crate::subscription::{subscription_weight, weight_of};
+use indexmap::IndexSet;
 use std::alloc::Global;
 use std::marker::Model;
 use tea_base::{Text, WantOfMemory};
 use world_plain::{MOST_SUBSCRIPTIONS, StoreRefusal, Subscription};
 
-/// The subscriptions of a world. Contracts see them as a list in the order in which they were made.
+/// The subscriptions of a world. Contracts see them as a list in the order in which they were made. Who handles an event
+/// is found by an index, and whether a subscription is held by its hash.
 #[derive(Drop)]
 pub struct Topics {
     alloc: Global,
-    held: Vec<Subscription>,
+    held: IndexSet<Subscription>,
+    index: TopicIndex,
+    /// How much the subscriptions weigh together.
+    weight: u64,
 }
 
 impl Model for Topics {
@@ -22,15 +29,15 @@ impl Model for Topics {
     ghost use Rattle.std.specs.Coded.{coded_list};
     ghost use Rattle.world_plain.specs.WorldCode.{coded_subscription};
     ghost use Rattle.world_plain.specs.declared.message.Subscription.{Subscription};
-    ghost use Rattle.pubsub.specs.Topics.{AreTopics};
+    ghost use Rattle.pubsub.specs.Held.{HoldsTopics};
 
     ghost Value = { List Subscription };
 
     ghost coded = { coded_list coded_subscription };
 
-    ghost view = { λ t. t.held.items };
+    ghost view = { λ t. t.held.keys };
 
-    ghost invariant = { λ t. AreTopics t.held.items };
+    ghost invariant = { λ t. HoldsTopics t.held.keys t.index t.weight };
 }
 
 impl Topics {
@@ -40,7 +47,9 @@ impl Topics {
     {
         Topics {
             alloc,
-            held: Vec::new(alloc),
+            held: IndexSet::new(alloc),
+            index: TopicIndex::new(alloc),
+            weight: 0,
         }
     }
 
@@ -53,7 +62,7 @@ impl Topics {
         requires { IsLightSubscription s }
         ensures { Subscribes result s self.old self.new }
     {
-        if is_held(&self.held, &s) {
+        if self.holds(&s) {
             return Ok(false);
         }
         if self.held.len() == MOST_SUBSCRIPTIONS {
@@ -61,10 +70,25 @@ impl Topics {
                 count: MOST_SUBSCRIPTIONS as u32,
             });
         }
-        if self.held.push(s).is_err() {
+        if self.hold(s).is_err() {
             return Err(StoreRefusal::WantOfMemory);
         }
         Ok(true)
+    }
+
+    /// Holds a new subscription behind all others. Without memory it is dropped, and nothing changes.
+    fn hold(&mut self, s: Subscription) -> Result<(), WantOfMemory>
+        requires light { IsLightSubscription s }
+        requires new { holds s self.old ≡ false }
+        requires few { length self.old < most_pending }
+        ensures ok { OnOk result (self.new ≡ self.old ++ s ∷ []) }
+        ensures err { OnErr result (self.new ≡ self.old) }
+    {
+        self.held.reserve(1)?;
+        self.index.add(&s)?;
+        self.weight += subscription_weight(&s);
+        self.held.insert(s).unwrap();
+        Ok(())
     }
 
     /// How many subscriptions are held. Takes no memory.
@@ -85,14 +109,14 @@ impl Topics {
     pub fn subscriptions(&self) -> &[Subscription]
         ensures { result.now ≡ self.now }
     {
-        &self.held
+        self.held.as_slice()
     }
 
     /// Whether an equal subscription is held. Takes no memory.
     pub fn holds(&self, s: &Subscription) -> bool
         ensures { result ≡ holds s.now self.now }
     {
-        is_held(&self.held, s)
+        self.held.contains(s)
     }
 
     /// Takes away the subscription equal to this one, and tells whether it was held. Takes no memory.
@@ -100,9 +124,12 @@ impl Topics {
         ensures held { result ≡ holds s.now self.old }
         ensures topics { self.new ≡ without_subscription s.now self.old }
     {
-        let held = self.holds(s);
-        remove(&mut self.held, s);
-        held
+        if !self.held.shift_remove(s) {
+            return false;
+        }
+        self.index.remove(s);
+        self.weight -= subscription_weight(s);
+        true
     }
 
     /// Takes away the subscriptions of an object, and gives their number. Takes no memory.
@@ -111,7 +138,9 @@ impl Topics {
         ensures topics { self.new ≡ without_subscriber object self.old }
     {
         let before = self.held.len();
-        remove_object(&mut self.held, object);
+        self.held.retain(|s| s.object != object);
+        self.index.remove_object(object);
+        self.weight = weight_of(self.held.as_slice());
         (before - self.held.len()) as u32
     }
 
@@ -119,7 +148,7 @@ impl Topics {
     pub fn handlers(&self, scope: &Text, event: &Text) -> Result<Handlers, WantOfMemory>
         ensures { IfOk result (λ found. found ≡ handlers_of scope.now event.now self.now) }
     {
-        handlers(self.alloc, &self.held, scope, event)
+        copy_handlers(self.alloc, self.index.find(scope, event))
     }
 
     /// How much the subscriptions weigh together: each 2 and its three texts. Takes no memory.
@@ -129,6 +158,6 @@ impl Topics {
         ensures weight { result ≡ total_weight subscription_weight self.now }
         ensures topics { AreTopics self.now }
     {
-        weight_of(&self.held)
+        self.weight
     }
 }

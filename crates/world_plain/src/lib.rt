@@ -7,6 +7,7 @@
 #![tactic(auto)]
 
 mod copies;
+mod equality;
 mod limits;
 mod message;
 mod messages;

@@ -1,19 +1,30 @@
-use Rattle.std.proofs.Common.{length, ap, arith}
+use Rattle.std.proofs.Common.{◌≡◌, List, rules, ap, subst, sym, ◌∙◌}
 use Rattle.std.specs.Prelude.{nat_eq, not}
+use Rattle.std.proofs.lemmas.Fn.{filter_same}
+use Rattle.world_plain.specs.World.{subscription_weight, total_weight}
 use Rattle.world_plain.specs.declared.message.Subscription.{Subscription}
-use Rattle.pubsub.proofs.Subscriptions.{filtered, length-filtered}
+use Rattle.pubsub.specs.Topics.{AreLightSubscriptions, without_subscriber}
+use Rattle.pubsub.proofs.Subscriptions.{filtered}
+use Rattle.pubsub.proofs.Indexed.{without_one}
 use Rattle.pubsub.proofs.topics.Topics.drop_object.Goals as goal
 
-pub overflow_sub-result : goal.overflow_sub-result
-overflow_sub-result c =
-    let fewer = length-filtered (λ (s : Subscription). not (nat_eq s.object c.args.object)) c.self.inside.held.items in
-    omega (arith, fewer, ap length c.remove_object.ensures, c.len.ensures, c.len-before.ensures)
+pub weight_of-self-inside-requires-clause-light : goal.weight_of-self-inside-requires-clause-light
+weight_of-self-inside-requires-clause-light c =
+    let left : c.retain.new.self.keys ≡ without_subscriber c.args.object c.self.inside.held.keys =
+    filter_same _ (λ (s : Subscription). not (nat_eq s.object c.args.object)) _ (λ x b f' k. search rules) _ _ c.retain.ensures.filtered in
+    let topics = filtered (λ (s : Subscription). not (nat_eq s.object c.args.object)) c.retain.new.self.keys c.self.inside.held.keys left c.self.invariant.topics in
+    subst AreLightSubscriptions (sym c.as_slice.ensures.keys) topics.light
 
 pub invariant_of-self : goal.invariant_of-self
 invariant_of-self c =
-    filtered (λ (s : Subscription). not (nat_eq s.object c.args.object)) c.remove_object.new.subscriptions.items c.self.inside.held.items c.remove_object.ensures c.self.invariant
+    let was = c.self.inside in
+    let new = c.retain.new.self.keys in
+    let left : new ≡ without_subscriber c.args.object was.held.keys =
+    filter_same _ (λ (s : Subscription). not (nat_eq s.object c.args.object)) _ (λ x b f' k. search rules) _ _ c.retain.ensures.filtered in
+    without_one c.args.object was.held.keys new was.index c.remove_object.new.self was.weight c.weight_of-self-inside.result c.self.invariant left c.remove_object.ensures
+    (c.weight_of-self-inside.ensures ∙ ap (total_weight subscription_weight) c.as_slice.ensures.keys)
 
-pub returns-clause-count : goal.returns-clause-count
-returns-clause-count c =
-    let fewer = length-filtered (λ (s : Subscription). not (nat_eq s.object c.args.object)) c.self.inside.held.items in
-    omega (arith, fewer, ap length c.remove_object.ensures, c.len.ensures, c.len-before.ensures, ap length c.self.view_is)
+pub returns-clause-topics : goal.returns-clause-topics
+returns-clause-topics c =
+    filter_same _ (λ (s : Subscription). not (nat_eq s.object c.args.object)) _ (λ x b f' k. search rules) _ _ c.retain.ensures.filtered
+    ∙ ap (without_subscriber c.args.object) c.self.view_is

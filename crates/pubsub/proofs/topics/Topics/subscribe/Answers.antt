@@ -1,13 +1,28 @@
-use Rattle.std.proofs.Common.{◌≡◌, ◌<◌, List, false, length, ap, sym, ◌∙◌, arith}
+use Rattle.std.proofs.Common.{◌≡◌, ◌<◌, true, false, length, sym, ap, ◌∙◌, arith}
+use Rattle.std.specs.Prelude.{Result, Ok, Err, OnOk, OnErr}
+use Rattle.std.specs.Result.{is_err}
+use Rattle.std.proofs.lemmas.Bool.{false≢true}
 use Rattle.world_plain.specs.Valid.{most_pending}
-use Rattle.world_plain.specs.declared.message.Subscription.{Subscription}
 use Rattle.pubsub.specs.Topics.{is_subscribed}
-use Rattle.pubsub.proofs.Subscriptions.{pushed}
 use Rattle.pubsub.proofs.topics.Topics.subscribe.Goals as goal
 
-pub invariant_of-self-2 : goal.invariant_of-self-2
-invariant_of-self-2 c =
-    let ss = c.self.inside.held.items in
-    let absent : is_subscribed c.args.s ss ≡ false = ap (λ (xs : List Subscription). is_subscribed c.args.s xs) (sym c.deref.ensures.value) ∙ sym c.is_held.ensures ∙ c.if-is_held.false in
-    let few : length ss < most_pending = omega (arith, c.if-len-eq-MOST_SUBSCRIPTIONS.false, c.len.ensures, c.self.invariant.few) in
-    pushed c.push.result c.args.s c.push.new.self.items ss c.push.ensures.items (sym c.is_err.ensures.value ∙ c.if-is_err.false) c.self.invariant absent few c.requires
+at_err : {T E : Type 0} (r : Result T E) (P : Type 0) → OnErr r P → is_err r ≡ true → P
+at_err (Ok _) P p e = absurd (false≢true e)
+at_err (Err _) P p e = p
+
+at_ok : {T E : Type 0} (r : Result T E) (P : Type 0) → OnOk r P → is_err r ≡ false → P
+at_ok (Ok _) P p e = p
+at_ok (Err _) P p e = absurd (false≢true (sym e))
+
+pub hold-requires-clause-few : goal.hold-requires-clause-few
+hold-requires-clause-few c = omega (arith, c.if-len-eq-MOST_SUBSCRIPTIONS.false, c.len.ensures.len, c.self.invariant.topics.few, ap length c.self.view_is)
+
+pub returns-then-is_err : goal.returns-then-is_err
+returns-then-is_err c =
+    let few : length c.args.self.now < most_pending = omega (arith, c.if-len-eq-MOST_SUBSCRIPTIONS.false, c.len.ensures.len, c.self.invariant.topics.few, ap length c.self.view_is) in
+    (sym c.holds.ensures ∙ c.if-holds.false, few, at_err c.hold.result _ c.hold.ensures.err (sym c.is_err.ensures.value ∙ c.if-is_err.true))
+
+pub returns : goal.returns
+returns c =
+    let few : length c.args.self.now < most_pending = omega (arith, c.if-len-eq-MOST_SUBSCRIPTIONS.false, c.len.ensures.len, c.self.invariant.topics.few, ap length c.self.view_is) in
+    (sym c.holds.ensures ∙ c.if-holds.false, few, at_ok c.hold.result _ c.hold.ensures.ok (sym c.is_err.ensures.value ∙ c.if-is_err.false))
