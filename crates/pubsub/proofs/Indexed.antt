@@ -1,7 +1,7 @@
 -- What is true of the parts of topics, with one subscription more and with fewer.
-use Rattle.std.proofs.Common.{◌≡◌, ℕ, ◌+◌, ◌-◌, ◌*◌, ◌<◌, ◌≤◌, Bool, true, false, cond, List, [], ◌∷◌, ◌++◌, length, refl, sym, ap, subst, ◌∙◌, arith}
+use Rattle.std.proofs.Common.{◌≡◌, ℕ, ◌+◌, ◌-◌, ◌<◌, ◌≤◌, Bool, true, false, cond, List, [], ◌∷◌, ◌++◌, length, refl, sym, ap, subst, ◌∙◌, arith}
 use Rattle.std.specs.Prelude.{◌&&◌, ◌||◌, not, nat_eq, bytes_eq, encode_utf8_all}
-use Rattle.std.specs.List.{filter, list_any}
+use Rattle.std.specs.List.{list_any}
 use Rattle.std.specs.Set.{remove_key}
 use Rattle.std.proofs.lemmas.Bool.{false≢true}
 use Rattle.std.proofs.lemmas.Slice.Eq.{bytes_eq-Decides}
@@ -12,10 +12,10 @@ use Rattle.world_plain.specs.Equality.{same_equiv}
 use Rattle.world_plain.specs.declared.message.Subscription.{Subscription}
 use Rattle.pubsub.specs.declared.handler.Handler.{Handler}
 use Rattle.pubsub.specs.declared.index.TopicIndex.{TopicIndex}
-use Rattle.pubsub.specs.Topics.{AreTopics, AreLightSubscriptions, IsLightSubscription, is_to, is_subscribed, without_subscription, without_subscriber, handlers_of}
+use Rattle.pubsub.specs.Topics.{AreLightSubscriptions, IsLightSubscription, is_to, is_subscribed, without_subscription, without_subscriber, handlers_of}
 use Rattle.pubsub.specs.Index.{handler_of, is_by, without_handler, without_object, handlers_at, FindsMore, FindsLess}
 use Rattle.pubsub.specs.Held.{HoldsTopics}
-use Rattle.pubsub.proofs.Subscriptions.{both, neither, same-true, appended, filtered, total_bound}
+use Rattle.pubsub.proofs.Subscriptions.{both, neither, same-true, appended, filtered}
 
 -- ---- who handles an event
 

@@ -1,6 +1,6 @@
 -- The names of a topic: by their UTF-8, as the index compares them, and by their characters.
 use Rattle.std.proofs.Common.{◌≡◌, ℕ, Bool, true, false, cond, List, refl, sym, ap, ◌∙◌}
-use Rattle.std.specs.Prelude.{◌&&◌, bytes_eq, encode_utf8_all, chars}
+use Rattle.std.specs.Prelude.{bytes_eq, encode_utf8_all, chars}
 use Rattle.std.specs.Str.{all_scalars}
 use Rattle.std.proofs.lemmas.Bool.{false≢true}
 use Rattle.std.proofs.lemmas.Slice.Eq.{bytes_eq-Decides}

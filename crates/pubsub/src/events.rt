@@ -53,10 +53,10 @@ impl Events {
             handlers.push(handler)?;
             return Ok(());
         }
-        let mut handlers = Vec::new(self.alloc);
-        handlers.push(handler)?;
+        let mut first = Vec::new(self.alloc);
+        first.push(handler)?;
         let name = String::from_str(self.alloc, event)?;
-        self.by_event.insert(name, handlers)?;
+        self.by_event.insert(name, first)?;
         Ok(())
     }
 

@@ -3,7 +3,6 @@ use Rattle.std.specs.Prelude.{not}
 use Rattle.std.proofs.lemmas.Fn.{filter_same}
 use Rattle.pubsub.specs.declared.handler.Handler.{Handler}
 use Rattle.pubsub.specs.Index.{is_by}
-use Rattle.pubsub.proofs.Lookups.{nested}
 use Rattle.pubsub.proofs.handler.remove_handler.Goals as goal
 
 pub returns : goal.returns

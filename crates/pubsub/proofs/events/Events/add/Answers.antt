@@ -23,4 +23,4 @@ pub returns-clause-ok : goal.returns-clause-ok
 returns-clause-ok c =
     inserted vec_items c.args.event.now c.args.self.now.by_event c.insert.new.self (λ (l : List Handler). l ++ c.args.handler ∷ []) c.in_ok-name.name c.push-2.new.self c.get_mut.follows.lender-at-none
     c.in_ok-name.ensures.ok c.in_default.ensures.value c.get_mut.follows.holds-at-none c.in_ok-insert.ensures.updates
-    (c.in_ok-push-2.ensures.items ∙ ap (λ (l : List Handler). l ++ c.args.handler ∷ []) c.new-handlers.ensures.items)
+    (c.in_ok-push-2.ensures.items ∙ ap (λ (l : List Handler). l ++ c.args.handler ∷ []) c.new-first.ensures.items)

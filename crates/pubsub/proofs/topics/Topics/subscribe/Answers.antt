@@ -3,7 +3,6 @@ use Rattle.std.specs.Prelude.{Result, Ok, Err, OnOk, OnErr}
 use Rattle.std.specs.Result.{is_err}
 use Rattle.std.proofs.lemmas.Bool.{false≢true}
 use Rattle.world_plain.specs.Valid.{most_pending}
-use Rattle.pubsub.specs.Topics.{is_subscribed}
 use Rattle.pubsub.proofs.topics.Topics.subscribe.Goals as goal
 
 at_err : {T E : Type 0} (r : Result T E) (P : Type 0) → OnErr r P → is_err r ≡ true → P

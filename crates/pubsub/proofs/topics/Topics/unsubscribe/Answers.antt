@@ -1,5 +1,4 @@
 use Rattle.std.proofs.Common.{◌≡◌, ◌≤◌, ℕ, ◌-◌, true, sym, ap, subst, ◌∙◌}
-use Rattle.world_plain.specs.World.{subscription_weight}
 use Rattle.pubsub.specs.Topics.{is_subscribed, without_subscription}
 use Rattle.pubsub.specs.Held.{HoldsTopics}
 use Rattle.pubsub.proofs.Indexed.{is_subscribed-list_any, light_held, weight_fits, left_by_key, one_fewer}
