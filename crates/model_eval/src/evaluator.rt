@@ -41,9 +41,17 @@ pub enum Flow {
     Return(Value),
 }
 
+// The sides of an operator.
+#[derive(Clone, Copy)]
+struct Sides<'a> {
+    left: &'a SolvedExpr,
+    right: &'a SolvedExpr,
+}
+
 impl Here<'_> {
-    // What an expression gives.
+    // What an expression gives. The forms that programs have most come first, and take no call where they have no parts.
     #[cycle(evaluate)]
+    #[inline(always)]
     #[tactic(auto, using(crate::proofs::Steps::by_room))]
     fn evaluate(
         &self,
@@ -56,11 +64,44 @@ impl Here<'_> {
             Answers result state.new budget.new (evaluates_by here.starter here.object (solved_expression expr.now) (plain_values locals.now) (running state.old budget.old)) }
     {
         let room = enter(self.starter.room, budget)?;
-        self.with_room(room)
-            .expression_row(expr, locals, state, budget)
+        match expr {
+            SolvedExpr::Int(number) => Ok(Value::Int(*number)),
+            SolvedExpr::Local { slot } => get_local(self.starter.alloc, locals, *slot),
+            SolvedExpr::Field { slot } => get_slot(self.starter.alloc, state, self.object, *slot),
+            _ => self.evaluate_inside(room, expr, locals, state, budget),
+        }
+    }
+
+    // What an expression gives inside another, where so many more may be open.
+    #[cycle(evaluate)]
+    #[inline(always)]
+    fn evaluate_inside(
+        &self,
+        room: u32,
+        expr: &SolvedExpr,
+        locals: &[Value],
+        state: &mut State,
+        budget: &mut Budget,
+    ) -> Result<Value, EvalStop>
+        ensures { let inside = record (self.now.starter) { room = room } in
+            Answers result state.new budget.new (row_of_expression (program_tree inside.program.now) (evaluates_by inside) (starts_by inside) self.now.object (solved_expression expr.now) (plain_values locals.now) (running state.old budget.old)) }
+    {
+        let here = self.with_room(room);
+        let value = match expr {
+            SolvedExpr::Binary { op, left, right } => here.evaluate_binary(
+                *op,
+                Sides { left, right },
+                locals,
+                state,
+                budget,
+            )?,
+            _ => here.expression_row(expr, locals, state, budget)?,
+        };
+        Ok(value)
     }
 
     #[cycle(evaluate)]
+    #[inline(never)]
     fn expression_row(
         &self,
         expr: &SolvedExpr,
@@ -87,15 +128,13 @@ impl Here<'_> {
                 let value = self.evaluate(of, locals, state, budget)?;
                 operate_on_one(*op, &value)
             }
-            SolvedExpr::Binary { op, left, right } => match op {
-                BinaryOp::Or => self.evaluate_or(left, right, locals, state, budget),
-                BinaryOp::And => self.evaluate_and(left, right, locals, state, budget),
-                _ => {
-                    let left = self.evaluate(left, locals, state, budget)?;
-                    let right = self.evaluate(right, locals, state, budget)?;
-                    operate(*op, &left, &right)
-                }
-            },
+            SolvedExpr::Binary { op, left, right } => self.evaluate_binary(
+                *op,
+                Sides { left, right },
+                locals,
+                state,
+                budget,
+            ),
             SolvedExpr::Builtin { name, args } => {
                 let values = self.evaluate_all(args, locals, state, budget)?;
                 self.answer_builtin(*name, &values, state, budget)
@@ -123,24 +162,47 @@ impl Here<'_> {
         }
     }
 
-    // What `||` gives. The right side is evaluated only where the left is false.
+    // What an operator gives of two sides.
     #[cycle(evaluate)]
-    fn evaluate_or(
+    #[inline(never)]
+    fn evaluate_binary(
         &self,
-        left: &SolvedExpr,
-        right: &SolvedExpr,
+        op: BinaryOp,
+        sides: Sides<'_>,
         locals: &[Value],
         state: &mut State,
         budget: &mut Budget,
     ) -> Result<Value, EvalStop>
         ensures { let here = self.now in let ev = evaluates_by here.starter here.object in
-            Answers result state.new budget.new (and_then (ev (solved_expression left.now) (plain_values locals.now) (running state.old budget.old)) (λ v. binary_outcome BinaryOp.Or v (ev (solved_expression right.now) (plain_values locals.now)))) }
+            Answers result state.new budget.new (and_then (ev (solved_expression sides.entry.left.now) (plain_values locals.now) (running state.old budget.old)) (λ v. binary_outcome op v (ev (solved_expression sides.entry.right.now) (plain_values locals.now)))) }
     {
-        let value = self.evaluate(left, locals, state, budget)?;
+        match op {
+            BinaryOp::Or => return self.evaluate_or(sides, locals, state, budget),
+            BinaryOp::And => return self.evaluate_and(sides, locals, state, budget),
+            _ => {}
+        }
+        let left = self.evaluate(sides.left, locals, state, budget)?;
+        let right = self.evaluate(sides.right, locals, state, budget)?;
+        operate(op, left, right)
+    }
+
+    // What `||` gives. The right side is evaluated only where the left is false.
+    #[cycle(evaluate)]
+    fn evaluate_or(
+        &self,
+        sides: Sides<'_>,
+        locals: &[Value],
+        state: &mut State,
+        budget: &mut Budget,
+    ) -> Result<Value, EvalStop>
+        ensures { let here = self.now in let ev = evaluates_by here.starter here.object in
+            Answers result state.new budget.new (and_then (ev (solved_expression sides.entry.left.now) (plain_values locals.now) (running state.old budget.old)) (λ v. binary_outcome BinaryOp.Or v (ev (solved_expression sides.entry.right.now) (plain_values locals.now)))) }
+    {
+        let value = self.evaluate(sides.left, locals, state, budget)?;
         if truth(&value)? {
             Ok(Value::Bool(true))
         } else {
-            self.truly(right, locals, state, budget)
+            self.truly(sides.right, locals, state, budget)
         }
     }
 
@@ -148,18 +210,17 @@ impl Here<'_> {
     #[cycle(evaluate)]
     fn evaluate_and(
         &self,
-        left: &SolvedExpr,
-        right: &SolvedExpr,
+        sides: Sides<'_>,
         locals: &[Value],
         state: &mut State,
         budget: &mut Budget,
     ) -> Result<Value, EvalStop>
         ensures { let here = self.now in let ev = evaluates_by here.starter here.object in
-            Answers result state.new budget.new (and_then (ev (solved_expression left.now) (plain_values locals.now) (running state.old budget.old)) (λ v. binary_outcome BinaryOp.And v (ev (solved_expression right.now) (plain_values locals.now)))) }
+            Answers result state.new budget.new (and_then (ev (solved_expression sides.entry.left.now) (plain_values locals.now) (running state.old budget.old)) (λ v. binary_outcome BinaryOp.And v (ev (solved_expression sides.entry.right.now) (plain_values locals.now)))) }
     {
-        let value = self.evaluate(left, locals, state, budget)?;
+        let value = self.evaluate(sides.left, locals, state, budget)?;
         if truth(&value)? {
-            self.truly(right, locals, state, budget)
+            self.truly(sides.right, locals, state, budget)
         } else {
             Ok(Value::Bool(false))
         }

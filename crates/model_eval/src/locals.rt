@@ -6,16 +6,18 @@ ghost use Rattle.model_eval.specs.Running.{value as reply_value};
 ghost use Rattle.model_eval.specs.Answer.{Replies};
 
 use crate::fault::EvalStop;
-use model_value::{Value, copy};
+use crate::values::copied;
+use model_value::Value;
 use std::alloc::Global;
 use tea_base::WantOfMemory;
 
 /// A copy of what a local holds.
+#[inline(always)]
 pub fn get_local(alloc: Global, locals: &[Value], slot: u32) -> Result<Value, EvalStop>
     ensures { Replies result (reply_value (slice_index_or (plain_values locals.now) slot nil)) }
 {
     match locals.get(slot as usize) {
-        Some(value) => Ok(copy(alloc, value)?),
+        Some(value) => copied(alloc, value),
         None => Ok(Value::Nil),
     }
 }

@@ -14,18 +14,20 @@ ghost use Rattle.model_eval.specs.Answer.{Answers, Did, IsAbsent, Numbers, Repli
 
 use crate::fault::{EvalStop, Fault};
 use crate::state::State;
-use model_value::{Value, Values, copy, weight};
+use crate::values::copied;
+use model_value::{Value, Values, weight};
 use std::alloc::Global;
 use std::mem;
 use tea_base::{List, WantOfMemory};
 use world_plain::{KnownNames, MOST_WORLD_WEIGHT, object_fits, value_fits};
 
 /// A copy of what an object's field holds. Gives the fault NoObject where the object is gone.
+#[inline(always)]
 pub fn get_slot(alloc: Global, state: &State, object: u32, slot: u32) -> Result<Value, EvalStop>
     ensures { Replies result (slot_value (object_at state.now.objects.objects object) slot) }
 {
     match state.objects.field(object, slot) {
-        Some(value) => Ok(copy(alloc, value)?),
+        Some(value) => copied(alloc, value),
         None => absent(state, object),
     }
 }

@@ -22,7 +22,25 @@ pub fn operate_on_one(op: UnaryOp, value: &Value) -> Result<Value, EvalStop>
 }
 
 /// What an operator gives of two values; `||` and `&&`, which may leave their right side alone, stand apart.
-pub fn operate(op: BinaryOp, left: &Value, right: &Value) -> Result<Value, EvalStop>
+#[inline(always)]
+pub fn operate(op: BinaryOp, left: Value, right: Value) -> Result<Value, EvalStop>
+    ensures { Replies result (apply_binary op (plain left) (plain right)) }
+{
+    match (left, right) {
+        (Value::Int(left), Value::Int(right)) => operate_on_ints(op, left, right),
+        (left, right) => operate_on_any(op, left, right),
+    }
+}
+
+#[inline(always)]
+fn operate_on_any(op: BinaryOp, left: Value, right: Value) -> Result<Value, EvalStop>
+    ensures { Replies result (apply_binary op (plain left) (plain right)) }
+{
+    operate_on_kinds(op, &left, &right)
+}
+
+#[inline(never)]
+fn operate_on_kinds(op: BinaryOp, left: &Value, right: &Value) -> Result<Value, EvalStop>
     ensures { Replies result (apply_binary op (plain left.now) (plain right.now)) }
 {
     match op {
@@ -50,6 +68,7 @@ fn ints(left: &Value, right: &Value) -> Result<(i64, i64), EvalStop>
     }
 }
 
+#[inline(always)]
 fn operate_on_ints(op: BinaryOp, left: i64, right: i64) -> Result<Value, EvalStop>
     ensures { Replies result (apply_binary op (int left) (int right)) }
 {

@@ -2,16 +2,34 @@
 ghost use Rattle.std.specs.Prelude.{◌≡◌, ◌∷◌, [], IfOk, ◌<◌, ◌^◌};
 ghost use Rattle.model_value.specs.Plain.{text as text_value, list, weight as weight_of};
 ghost use Rattle.model_value.specs.View.{plain, plain_values, plains_of};
-ghost use Rattle.model_eval.specs.Running.{give_in_bounds, give_by_weight, spend, Gives};
-ghost use Rattle.model_eval.specs.Answer.{Answers, Spends, running};
+ghost use Rattle.model_eval.specs.Running.{give_in_bounds, give_by_weight, spend, value as value_reply, Gives};
+ghost use Rattle.model_eval.specs.Answer.{Answers, Replies, Spends, running};
 ghost use Rattle.model_eval.specs.declared.state.State.{State};
 ghost use Rattle.model_eval.specs.declared.state.Budget.{Budget};
 
 use crate::fault::{EvalStop, Fault};
 use crate::state::Budget;
-use model_value::{Value, Values, in_bounds, weight};
+use model_value::{Value, Values, copy, in_bounds, weight};
 use std::alloc::Global;
 use tea_base::{List, Text, WantOfMemory};
+
+/// A copy of a value. That of a number takes no call.
+#[inline(always)]
+pub fn copied(alloc: Global, value: &Value) -> Result<Value, EvalStop>
+    ensures { Replies result (value_reply (plain value.now)) }
+{
+    match value {
+        Value::Int(number) => Ok(Value::Int(*number)),
+        _ => copied_whole(alloc, value),
+    }
+}
+
+#[inline(always)]
+fn copied_whole(alloc: Global, value: &Value) -> Result<Value, EvalStop>
+    ensures { Replies result (value_reply (plain value.now)) }
+{
+    Ok(copy(alloc, value)?)
+}
 
 /// The value of a text literal. Gives the fault Size where it is not in bounds.
 pub fn literal(text: &Text) -> Result<Value, EvalStop>

@@ -28,6 +28,9 @@ decreases-Here::evaluate_or l = 16 * l.self.now.starter.room + 2
 abbrev pub decreases-Here::evaluate_and : goal.decreases-Here::evaluate_and
 decreases-Here::evaluate_and l = 16 * l.self.now.starter.room + 2
 
+abbrev pub decreases-Here::evaluate_binary : goal.decreases-Here::evaluate_binary
+decreases-Here::evaluate_binary l = 16 * l.self.now.starter.room + 3
+
 abbrev pub decreases-Starter::perform : goal.decreases-Starter::perform
 decreases-Starter::perform l = 16 * l.self.now.room + 2
 
@@ -75,6 +78,9 @@ decreases-Here::answer_builtin l = 16 * l.self.now.starter.room + 10
 
 abbrev pub decreases-Here::expression_row : goal.decreases-Here::expression_row
 decreases-Here::expression_row l = 16 * l.self.now.starter.room + 11
+
+abbrev pub decreases-Here::evaluate_inside : goal.decreases-Here::evaluate_inside
+decreases-Here::evaluate_inside l = 16 * l.room + 12
 
 abbrev pub decreases-Here::statement_row : goal.decreases-Here::statement_row
 decreases-Here::statement_row l = 16 * l.self.now.starter.room + 11
