@@ -1,5 +1,5 @@
 //! The topics of a world.
-ghost use Rattle.std.specs.Prelude.{◌≡◌, ◌↔◌, ◌+◌, ◌++◌, ◌<◌, ◌∷◌, [], length, IfOk, OnOk, OnErr, IsTrue, false};
+ghost use Rattle.std.specs.Prelude.{◌≡◌, ◌↔◌, ◌+◌, ◌++◌, ◌<◌, ◌∷◌, [], length, IfOk, OnOk, OnErr, IsTrue, MatchBool, false};
 ghost use Rattle.world_plain.specs.World.{subscription_weight, total_weight};
 ghost use Rattle.world_plain.specs.Valid.{most_pending};
 ghost use Rattle.pubsub.specs.Topics.{AreTopics, IsLightSubscription, Subscribes, handlers_of, is_subscribed as holds, without_subscription, without_subscriber};
@@ -65,7 +65,7 @@ impl Topics {
         if self.holds(&s) {
             return Ok(false);
         }
-        if self.held.len() == MOST_SUBSCRIPTIONS {
+        if self.is_full() {
             return Err(StoreRefusal::Full {
                 count: MOST_SUBSCRIPTIONS as u32,
             });
@@ -89,6 +89,13 @@ impl Topics {
         self.weight += subscription_weight(&s);
         self.held.insert(s).unwrap();
         Ok(())
+    }
+
+    /// Whether no more can be held.
+    fn is_full(&self) -> bool
+        ensures { MatchBool result (length self.now ≡ most_pending) (length self.now < most_pending) }
+    {
+        self.held.len() == MOST_SUBSCRIPTIONS
     }
 
     /// How many subscriptions are held. Takes no memory.
