@@ -46,6 +46,15 @@ with_fields-absent [] id k v e = refl
 with_fields-absent (o ∷ os) id k v e =
     absent_if (nat_eq o.id id) k v o os (with_fields id (λ fields. set fields k v) os) (object_at os id) e (with_fields-absent os id k v)
 
+kept_if : (same : Bool) (o : ObjectRecord) (os changed : List ObjectRecord) → changed ≡ os → (if same then o ∷ os else o ∷ changed) ≡ o ∷ os
+kept_if true o os changed e = refl
+kept_if false o os changed e = ap (λ (rest : List ObjectRecord). o ∷ rest) e
+
+-- fields that stay
+pub with_fields-kept : (os : List ObjectRecord) (id : ℕ) → with_fields id (λ fields. fields) os ≡ os
+with_fields-kept [] id = refl
+with_fields-kept (o ∷ os) id = kept_if (nat_eq o.id id) o os (with_fields id (λ fields. fields) os) (with_fields-kept os id)
+
 -- one that is set
 pub with_field-is : (os : List ObjectRecord) (id k : ℕ) (v : PlainValue) → with_field id k v os ≡ with_fields id (λ fields. set fields k v) os
 with_field-is [] id k v = refl
@@ -110,6 +119,10 @@ pub has_field : (found : Option ObjectRecord) (k : ℕ) (v : PlainValue) → fie
 has_field None k v e = none-some v e
 has_field (Some o) k v e = slice_get_within o.fields k v e
 
+pub is_there : (found : Option ObjectRecord) (k : ℕ) (v : PlainValue) → field_of found k ≡ Some v → is_some found ≡ true
+is_there None k v e = absurd (none-some v e)
+is_there (Some o) k v e = refl
+
 -- the class of an object that is there
 pub class_of-is : (found : Option ObjectRecord) (class : ℕ) → class_of found ≡ Some class → (o : ObjectRecord) × (found ≡ Some o) × (o.class ≡ class)
 class_of-is None class e = absurd (none-some class e)
@@ -142,6 +155,11 @@ pub put-light : (found : Option ObjectRecord) (id : ℕ) (change : List PlainVal
 put-light None id change r there light = absurd (false≢true there)
 put-light (Some o) id change r there light = rw light refl
 
+-- changes that come to the same objects are put alike
+pub put-as : (found : Option ObjectRecord) (id : ℕ) (f g : List PlainValue → List PlainValue) (r : Running) → with_fields id f r.world.objects ≡ with_fields id g r.world.objects → put_fields found id f r ≡ put_fields found id g r
+put-as None id f g r e = refl
+put-as (Some o) id f g r e = ap (λ (os : List ObjectRecord). if_light tt r (with_objects r os)) e
+
 pub room-tells : (left : Option ℕ) (most weight : ℕ) → IsRoomBehind left most weight → is_some left ≡ nat_le weight most
 room-tells None most weight h = sym (lt-leb weight most h)
 room-tells (Some x) most weight h = sym (le-leb weight most (omega (arith, h)))
@@ -151,3 +169,8 @@ pub told-le : (told : Bool) (m n p q : ℕ) → (IsTrue told ↔ (m ≤ n)) → 
 told-le true m n p q h e = let fits : m ≤ n = h.0 refl in sym (le-leb p q (omega (arith, e)))
 told-le false m n p q h e =
     ⊎_elim (λ over. sym (lt-leb p q (omega (arith, over, e)))) (λ fits. absurd (false≢true (h.1 fits))) (cases_lt n m)
+
+-- a test of a sum, as one with a further weight on each side
+pub le-beside : (p q m n : ℕ) → p + n ≡ m → nat_le p q ≡ nat_le m (q + n)
+le-beside p q m n e =
+    ⊎_elim (λ over. lt-leb p q over ∙ sym (lt-leb m (q + n) (omega (arith, over, e)))) (λ fits. le-leb p q fits ∙ sym (le-leb m (q + n) (omega (arith, fits, e)))) (cases_lt q p)

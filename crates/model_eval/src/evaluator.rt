@@ -87,17 +87,13 @@ impl Here<'_> {
             Answers result state.new budget.new (row_of_expression (program_tree inside.program.now) (evaluates_by inside) (starts_by inside) self.now.object (solved_expression expr.now) (plain_values locals.now) (running state.old budget.old)) }
     {
         let here = self.with_room(room);
-        let value = match expr {
-            SolvedExpr::Binary { op, left, right } => here.evaluate_binary(
-                *op,
-                Sides { left, right },
-                locals,
-                state,
-                budget,
-            )?,
-            _ => here.expression_row(expr, locals, state, budget)?,
+        let outcome = match expr {
+            SolvedExpr::Binary { op, left, right } => {
+                here.evaluate_binary(*op, Sides { left, right }, locals, state, budget)
+            }
+            _ => here.expression_row(expr, locals, state, budget),
         };
-        Ok(value)
+        Ok(outcome?)
     }
 
     #[cycle(evaluate)]

@@ -1,13 +1,13 @@
 //! The objects of a world: their fields, how one is made and taken away.
-ghost use Rattle.std.specs.Prelude.{◌≡◌, ◌+◌, ◌≤◌, IfOk, nat_le, replicate, not, nat_eq, slice_set};
+ghost use Rattle.std.specs.Prelude.{◌≡◌, ◌+◌, ◌≤◌, IfOk, nat_le, replicate, not, nat_eq};
 ghost use Rattle.std.specs.List.{filter};
 ghost use Rattle.model_value.specs.Plain.{nil};
 ghost use Rattle.model_value.specs.View.{plain, plain_values};
 ghost use Rattle.world_plain.specs.Valid.{object_at};
-ghost use Rattle.model_value.specs.Plain.{values_weight};
+ghost use Rattle.model_value.specs.Plain.{weight as weight_of, values_weight};
 ghost use Rattle.world_plain.specs.World.{world_weight, most_world_weight};
 ghost use Rattle.model_eval.specs.declared.state.Budget.{Budget};
-ghost use Rattle.model_eval.specs.Objects.{destroy, is_held as held, make_object, with_fields, without_object};
+ghost use Rattle.model_eval.specs.Objects.{destroy, is_held as held, make_object, put_fields, without_object};
 ghost use Rattle.model_eval.specs.Slots.{slot_value, set_slot as slot_set};
 ghost use Rattle.model_eval.specs.Running.{with_world};
 ghost use Rattle.model_eval.specs.Answer.{Answers, Did, IsAbsent, Numbers, Replies, running, world_of};
@@ -48,30 +48,51 @@ fn absent(state: &State, object: u32) -> Result<Value, EvalStop>
 pub fn set_slot(state: &mut State, object: u32, slot: u32, value: Value) -> Result<(), EvalStop>
     ensures { (budget : Budget) → Did result state.new budget (slot_set object slot (plain value) (running state.old budget)) }
 {
+    match state.objects.field(object, slot) {
+        None => keep_fields(state, object),
+        Some(held) => {
+            if !has_room_in_place(state, held, &value) {
+                return Err(EvalStop::Fault(Fault::Full));
+            }
+            state.objects.set(object, slot, value);
+            Ok(())
+        }
+    }
+}
+
+// An object keeps the fields that it has: a field that is not there holds nothing.
+fn keep_fields(state: &State, object: u32) -> Result<(), EvalStop>
+    ensures { (budget : Budget) → let r = running state.now budget in
+        Did result state.now budget (put_fields (object_at r.world.objects object) object (λ fields. fields) r) }
+{
     if !state.objects.holds(object) {
         return Err(EvalStop::Fault(Fault::NoObject));
     }
-    if !has_room_for_value(state, object, slot, &value) {
+    if state.room().is_none() {
         return Err(EvalStop::Fault(Fault::Full));
     }
-    if state.objects.field(object, slot).is_none() {
-        return Ok(());
-    }
-    state.objects.set(object, slot, value);
     Ok(())
 }
 
-// Whether the world is light enough with a value in a field of an object, where it has that field.
-fn has_room_for_value(state: &State, object: u32, slot: u32, value: &Value) -> bool
-    ensures { let w = world_of state.now in
-        result ≡ nat_le (world_weight (record w { objects = with_fields object (λ fields. slice_set fields slot (plain value.now)) w.objects })) most_world_weight }
+// Whether the world is light enough with a value in the place of another.
+fn has_room_in_place(state: &State, held: &Value, value: &Value) -> bool
+    requires light { weight_of (plain held.now) ≤ most_world_weight }
+    ensures { result ≡ nat_le (world_weight (world_of state.now) + weight_of (plain value.now)) (most_world_weight + weight_of (plain held.now)) }
 {
-    match state.objects.field(object, slot) {
-        None => state.room().is_some(),
-        Some(held) => match state.room_behind(MOST_WORLD_WEIGHT + weight(held)) {
-            None => false,
-            Some(left) => value_fits(left, value),
-        },
+    match (held, value) {
+        // They weigh the same.
+        (Value::Int(_), Value::Int(_)) => state.room().is_some(),
+        _ => fits_in_place(state, held, value),
+    }
+}
+
+fn fits_in_place(state: &State, held: &Value, value: &Value) -> bool
+    requires light { weight_of (plain held.now) ≤ most_world_weight }
+    ensures { result ≡ nat_le (world_weight (world_of state.now) + weight_of (plain value.now)) (most_world_weight + weight_of (plain held.now)) }
+{
+    match state.room_behind(MOST_WORLD_WEIGHT + weight(held)) {
+        None => false,
+        Some(left) => value_fits(left, value),
     }
 }
 
