@@ -1,0 +1,148 @@
+#!/usr/bin/env bash
+# Counts the instructions of making, taking up and running worlds with many messages, subscriptions and objects, and of a turn of a loop:
+# examples/measure.sh [PROGRAM], which is the built program. It needs valgrind, and takes some minutes. docs/PERFORMANCE.md has what it printed.
+set -euo pipefail
+top=$(cd "$(dirname "$(readlink -f "${BASH_SOURCE[0]}")")/.." && pwd)
+croquet=$(readlink -f "${1:-$top/crates/croquet_main/out/croquet}")
+work=$(mktemp -d)
+trap 'rm -rf "$work"' EXIT
+cd "$work"
+
+# A program whose Root does a thing N times, 500 times a message and a millisecond, and then another thing once: N, both, methods, classes.
+program() {
+    cat <<END
+class Root {
+  field next;
+  init(o) {
+    this.next = 0;
+    this.future(1).make();
+  }
+  make() {
+    let end = this.next + 500;
+    if (end > $1) {
+      end = $1;
+    }
+    while (this.next < end) {
+      $2
+      this.next = this.next + 1;
+    }
+    if (end < $1) {
+      this.future(1).make();
+    } else {
+      $3
+    }
+  }
+  m() {
+  }
+  h(v) {
+  }
+$4
+}
+$5
+END
+}
+
+# So many messages to come, due in another order than they were sent.
+messages() {
+    program "$1" 'this.future(1000000 + this.next * 7919 % 1000).m();' '' '' ''
+}
+
+# So many subscriptions of one object to as many events, of which a thousand are published.
+topics() {
+    program "$1" 'subscribe("s", text(this.next), "h");' 'this.future(1000000).tell();' '
+  tell() {
+    let next = 0;
+    while (next < 1000) {
+      publish("s", text(next), nil);
+      next = next + 1;
+    }
+  }' ''
+}
+
+# So many subscriptions to one event, four of each object. It is published once.
+handlers() {
+    program $(($1 / 4)) 'create(One, nil);' 'this.future(1000000).tell();' '
+  tell() {
+    publish("s", "e", nil);
+  }' 'class One {
+  init(o) {
+    subscribe("s", "e", "a");
+    subscribe("s", "e", "b");
+    subscribe("s", "e", "c");
+    subscribe("s", "e", "d");
+  }
+  a(v) {
+  }
+  b(v) {
+  }
+  c(v) {
+  }
+  d(v) {
+  }
+}'
+}
+
+# So many objects, of which each sends itself one message.
+objects() {
+    program "$1" 'create(One, nil);' '' '' 'class One {
+  field n;
+  init(o) {
+    this.n = 0;
+    this.future(1000000 + random(1000)).step();
+  }
+  step() {
+    this.n = this.n + 1;
+  }
+}'
+}
+
+# So many messages of a thousand turns each, with 18 steps a turn.
+turns() {
+    cat <<END
+class Root {
+  field n;
+  init(o) {
+    this.n = 0;
+    this.future(1).run();
+  }
+  run() {
+    let i = 0;
+    while (i < 1000) {
+      this.n = this.n + i % 7;
+      i = i + 1;
+    }
+    this.future(1).run();
+  }
+}
+END
+}
+
+count() {
+    valgrind --tool=callgrind --callgrind-out-file=/dev/null "$croquet" replay "$@" 2>&1 >/dev/null | sed -n 's/.*Collected : //p'
+}
+
+# Making to just before a thousand seconds, taking up from a snapshot of then, and running to the end.
+measure() {
+    local made taken ran
+    "$1" "$2" >program
+    "$croquet" replay program n log 999000 --snapshot snapshot >/dev/null
+    made=$(count program n log 999000)
+    taken=$(count program n log 999000 --from snapshot)
+    ran=$(count program n log 2999000000 --from snapshot)
+    echo "$1 $2: making $made, taking up $taken, running $((ran - taken))"
+}
+
+printf 'join 7 1\n' >script
+"$croquet" stamp script --log log >/dev/null
+for kind in messages topics handlers objects; do
+    case $kind in
+    messages | topics) sizes='1000 2000 4000 8000 16000' ;;
+    handlers) sizes='1000 2000 4000 7500 15000' ;;
+    objects) sizes='500 1000 2000 4000' ;;
+    esac
+    for size in $sizes; do measure "$kind" "$size"; done
+done
+turns >program
+short=$(count program n log 1000)
+long=$(count program n log 51000)
+echo "a turn of a loop: $(((long - short) / 50000))"
