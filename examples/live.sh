@@ -1,45 +1,95 @@
 #!/usr/bin/env bash
-# A whiteboard live: a reflector, and Alice and Bob, who draw at once. Then Carol and Dave join, who stop at one entry. Each of them is
-# compared with the replay of the log that the reflector wrote. It ends with 1 where something differs. Its one word, if it has
-# one, is a free port.
+# An example live: examples/live.sh whiteboard|pong|epidemic [PORT]. It starts a reflector and views, waits for them, prints what the views saw,
+# and compares the digest of each with that of the replay of the log that the reflector wrote. It ends with 1 where one differs.
 set -euo pipefail
 top=$(cd "$(dirname "$(readlink -f "${BASH_SOURCE[0]}")")/.." && pwd)
-address=localhost:${1:-8080}
-program=$top/examples/whiteboard.program
+example=${1:-}
+address=localhost:${2:-8080}
+program=$top/examples/$example.program
 work=$(mktemp -d)
 trap 'rm -rf "$work"' EXIT
 
-# The program is built before anything waits for it.
-"$top/croquet" check "$program" >/dev/null
-"$top/croquet" reflect "$program" board "$address" --connections 4 --log "$work/log" >"$work/reflect" &
-reflector=$!
-sleep 1
-
-# Two views at once: a view number, a name and a script for each.
-join_both() {
-    "$top/croquet" join "$program" board "$address" "$1" "$top/examples/$3" >"$work/$2" &
-    local first=$!
-    "$top/croquet" join "$program" board "$address" "$4" "$top/examples/$6" >"$work/$5" &
-    wait "$!"
-    wait "$first"
+# Starts the reflector of so many connections. The program is built before anything waits for it.
+reflect() {
+    "$top/croquet" check "$program" >/dev/null
+    "$top/croquet" reflect "$program" "$example" "$address" --connections "$1" --log "$work/log" >"$work/reflect" &
+    reflector=$!
+    sleep 1
 }
-join_both 7 alice alice.view 8 bob bob.view
-join_both 9 carol late.view 10 dave late.view
-wait "$reflector"
 
-# The last line of a view is `view V time N seq SEQ digest HEX`.
-last_of() {
+# Starts a view: its number and its name, by which its script and what it prints are named.
+join() {
+    "$top/croquet" join "$program" "$example" "$address" "$1" "$top/examples/${3:-$2}.view" >"$work/$2" &
+    views+=($!)
+}
+
+# Waits for the views, or for all that runs.
+finish() {
+    local process
+    for process in "${views[@]}"; do wait "$process"; done
+    views=()
+}
+
+# Compares the last line of a view, `view V time N seq SEQ digest HEX`, with the replay to its time.
+compare() {
     read -r _ _ _ time _ _ _ digest < <(tail -n 1 "$work/$1")
-    "$top/croquet" replay "$program" board "$work/log" "$time" >"$work/replay"
+    "$top/croquet" replay "$program" "$example" "$work/log" "$time" >"$work/replay"
     grep -q " digest $digest\$" "$work/replay" || { echo "live: the replay differs from what $1 has" >&2; exit 1; }
 }
-for name in alice bob; do
-    strokes=$(grep -o '"changed" [0-9]*' "$work/$name" | cut -d ' ' -f 2 | tr '\n' ' ')
-    last_of "$name"
-    echo "$name sees ${strokes}strokes, and has the digest of the replay"
-done
-last_of carol
-carol=$digest
-last_of dave
-[ "$carol" = "$digest" ] || { echo "live: carol and dave have two digests" >&2; exit 1; }
-echo "carol and dave have one digest, which is that of the replay"
+
+# Prints the values of the events of a name that a view saw, and compares it with the replay.
+tell() {
+    local seen
+    seen=$(grep -o "\"$2\" .*" "$work/$1" | cut -d ' ' -f 2 | head -n "${4:-100}" | tr '\n' ' ')
+    compare "$1"
+    echo "$1 sees $seen$3, and has the digest of the replay"
+}
+
+whiteboard() {
+    reflect 4
+    join 7 alice
+    join 8 bob
+    finish
+    join 9 carol late
+    join 10 dave late
+    finish
+    wait "$reflector"
+    tell alice changed strokes
+    tell bob changed strokes
+    compare carol
+    local carol=$digest
+    compare dave
+    [ "$carol" = "$digest" ] || { echo "live: carol and dave have two digests" >&2; exit 1; }
+    echo "carol and dave have one digest, which is that of the replay"
+}
+
+pong() {
+    reflect 2
+    join 1 left
+    sleep 0.5
+    join 2 right
+    finish
+    wait "$reflector"
+    tell left score points
+    tell right score points
+}
+
+epidemic() {
+    reflect 2
+    join 1 mayor
+    join 2 citizen
+    finish
+    wait "$reflector"
+    # What comes behind the second count hangs on the moment at which the town was closed.
+    tell mayor count "in two seconds" 2
+    tell citizen count "in two seconds" 2
+}
+
+views=()
+case $example in
+whiteboard | pong | epidemic) "$example" ;;
+*)
+    echo "usage: examples/live.sh whiteboard|pong|epidemic [PORT]" >&2
+    exit 1
+    ;;
+esac

@@ -1,5 +1,5 @@
 #!/usr/bin/env bash
-# Runs the commands that README.md and examples/README.md show, and compares what is printed. A ```sh block that calls
+# Runs the commands that README.md, docs/TUTORIAL.md and examples/README.md show, and compares what is printed. A ```sh block that calls
 # ./croquet, or a script of examples/, is run; the ```text block behind it is what its commands print, and they print nothing where there is none.
 # Run it by hand, in any folder. It ends with 1 at the first block that prints something else, or in which a command fails.
 set -euo pipefail
@@ -32,7 +32,7 @@ walk() {
     mkdir -p "$room"
     ln -s "$top/croquet" "$top/examples" "$room"
     for block in "$parts"/*.sh; do
-        grep -q '\./croquet\|^examples/' "$block" || continue
+        grep -q '\./croquet\|^examples/\|^bash ' "$block" || continue
         wanted=${block%.sh}.text
         [ -e "$wanted" ] || : >"$wanted"
         if ! (cd "$room" && bash -e "$block") >"$work/printed"; then
@@ -52,4 +52,5 @@ walk() {
 }
 
 walk README.md
+walk docs/TUTORIAL.md
 walk examples/README.md
