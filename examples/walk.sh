@@ -1,13 +1,16 @@
 #!/usr/bin/env bash
-# Runs the commands that README.md, docs/TUTORIAL.md and examples/README.md show, and compares what is printed. A ```sh block that calls
-# ./croquet, or a script of examples/, is run; the ```text block behind it is what its commands print, and they print nothing where there is none.
-# Run it by hand, in any folder. It ends with 1 at the first block that prints something else, or in which a command fails.
+# Runs the commands that README.md, docs/TUTORIAL.md and examples/README.md show, and compares what is printed. Run it by hand, in any folder, while
+# nothing else listens on the ports 8080 and 8090. It ends with 1 at the first block that prints something else, or in which a command fails.
+#
+# A ```sh block that calls ./croquet, or a script, is run. The ```text block behind it is what its commands print, and they print nothing where there is
+# none. A ```console block has commands for terminals of their own, which run side by side. The ```console block behind it is what the second of them
+# prints, but for times, digests and how many entries it has seen.
 set -euo pipefail
 top=$(cd "$(dirname "${BASH_SOURCE[0]}")/.." && pwd)
 work=$(mktemp -d)
 trap 'rm -rf "$work"' EXIT
 
-# Writes the blocks of a page: N.sh, and N.text where a text block is the next block.
+# Writes the blocks of a page: N.sh and N.text, N.terminals and N.seen.
 blocks() {
     mkdir -p "$2"
     awk -v folder="$2" '
@@ -17,6 +20,8 @@ blocks() {
             file = ""
             if ($0 == "```sh") file = sprintf("%s/%03d.sh", folder, ++count)
             if ($0 == "```text" && last == "```sh") file = sprintf("%s/%03d.text", folder, count)
+            if ($0 == "```console" && last != "```console") file = sprintf("%s/%03d.terminals", folder, ++count)
+            if ($0 == "```console" && last == "```console") file = sprintf("%s/%03d.seen", folder, count)
             if (file != "") printf "" > file
             last = $0
             next
@@ -25,26 +30,66 @@ blocks() {
     ' "$1"
 }
 
+# Runs the lines of a block side by side, half a second apart, and prints what the second one prints, without what differs from run to run.
+run_terminals() {
+    local line number=0 processes=() process
+    while IFS= read -r line; do
+        number=$((number + 1))
+        bash -c "$line" >"$work/terminal.$number" &
+        processes+=($!)
+        sleep 0.5
+    done <"$1"
+    for process in "${processes[@]}"; do wait "$process"; done
+    without_differences <"$work/terminal.2"
+}
+
+without_differences() {
+    sed -E 's/[0-9a-f]{64}/DIGEST/g; s/[0-9]{6,}/TIME/g; s/ seq [0-9]+ / seq SEQ /'
+}
+
+# Compares what a block of a page has printed with what the page shows.
+compare() {
+    diff "$3" "$work/printed" >"$work/differences" && return
+    echo "walk: $1: something else is printed (< the page, > the program) at:" >&2
+    cat "$2" "$work/differences" >&2
+    exit 1
+}
+
+fail() {
+    echo "walk: $1: a command fails at:" >&2
+    cat "$2" "$work/printed" >&2
+    exit 1
+}
+
+run_block() {
+    local page=$1 block=$2 wanted=${2%.sh}.text
+    [ -e "$wanted" ] || : >"$wanted"
+    (cd "$room" && bash -e "$block") >"$work/printed" || fail "$page" "$block"
+    compare "$page" "$block" "$wanted"
+}
+
+run_terminal_block() {
+    local page=$1 block=$2
+    (cd "$room" && run_terminals "$block") >"$work/printed" || fail "$page" "$block"
+    without_differences <"${block%.terminals}.seen" >"$work/wanted"
+    compare "$page" "$block" "$work/wanted"
+}
+
 # The commands of a page share a folder, so that one may read what another has written.
 walk() {
-    local page=$1 parts=$work/parts/$1 room=$work/rooms/$1 block wanted ran=0
+    local page=$1 parts=$work/parts/$1 room=$work/rooms/$1 block ran=0
     blocks "$top/$page" "$parts"
     mkdir -p "$room"
     ln -s "$top/croquet" "$top/examples" "$room"
-    for block in "$parts"/*.sh; do
-        grep -q '\./croquet\|^examples/\|^bash ' "$block" || continue
-        wanted=${block%.sh}.text
-        [ -e "$wanted" ] || : >"$wanted"
-        if ! (cd "$room" && bash -e "$block") >"$work/printed"; then
-            echo "walk: $page: a command fails at:" >&2
-            cat "$block" "$work/printed" >&2
-            exit 1
-        fi
-        if ! diff "$wanted" "$work/printed" >"$work/differences"; then
-            echo "walk: $page: something else is printed (< the page, > the program) at:" >&2
-            cat "$block" "$work/differences" >&2
-            exit 1
-        fi
+    for block in "$parts"/*.sh "$parts"/*.terminals; do
+        case $block in
+        *'*'*) continue ;;
+        *.terminals) run_terminal_block "$page" "$block" ;;
+        *)
+            grep -q '\./croquet\|^examples/\|^bash ' "$block" || continue
+            run_block "$page" "$block"
+            ;;
+        esac
         ran=$((ran + 1))
     done
     [ "$ran" -gt 0 ] || { echo "walk: $page shows no command" >&2; exit 1; }
