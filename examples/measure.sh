@@ -1,5 +1,5 @@
 #!/usr/bin/env bash
-# Counts the instructions of making, taking up and running worlds with many messages, subscriptions and objects, and of a turn of a loop:
+# Counts the instructions of making, taking up and running worlds with many messages, subscriptions and objects, of events, and of a turn of a loop:
 # examples/measure.sh [PROGRAM], which is the built program. It needs valgrind, and takes some minutes. docs/PERFORMANCE.md has what it printed.
 set -euo pipefail
 top=$(cd "$(dirname "$(readlink -f "${BASH_SOURCE[0]}")")/.." && pwd)
@@ -117,6 +117,14 @@ class Root {
 END
 }
 
+# A script of 10,000 events that set the counter back.
+events() {
+    echo 'join 7 1'
+    for number in $(seq 10000); do
+        echo "send 7 1 $number $((number * 1000)) 00000007636f756e74657200000005726573657400"
+    done
+}
+
 count() {
     valgrind --tool=callgrind --callgrind-out-file=/dev/null "$croquet" replay "$@" 2>&1 >/dev/null | sed -n 's/.*Collected : //p'
 }
@@ -142,6 +150,11 @@ for kind in messages topics handlers objects; do
     esac
     for size in $sizes; do measure "$kind" "$size"; done
 done
+events >script
+"$croquet" stamp script --log log >/dev/null
+echo "the counter over 10000 events: $(count "$top/examples/counter.program" n log 10001000)"
+printf 'join 7 1\n' >script
+"$croquet" stamp script --log log >/dev/null
 turns >program
 short=$(count program n log 1000)
 long=$(count program n log 51000)

@@ -1,5 +1,10 @@
-use Rattle.std.proofs.Common.{◌≡◌, subst, IfOk, Option}
+use Rattle.std.proofs.Common.{◌≡◌, ℕ, List, subst, IfOk, Option}
+use Rattle.std.proofs.lemmas.Result.{IfOk-weaker}
 use Rattle.std.specs.Option.{option_map}
+use Rattle.model_check.specs.Methods.{field_counts}
+use Rattle.model_lang.specs.TreeView.{program_tree}
+use Rattle.snapshot_codec.specs.Conditions.{IsValid}
+use Rattle.world_plain.specs.Valid.{Valid}
 use Rattle.world_plain.specs.World.{WorldRecord, world_record}
 use Rattle.commands.proofs.WorldLaws.{gone_on}
 use Rattle.commands.proofs.world_run.arrive.Goals as goal
@@ -10,3 +15,8 @@ returns-clause-world c =
     subst (λ w. IfOk c.plain_of.result (λ plain. world_record plain ≡ w))
     (gone_on c.in_ok-world.world c.go_on.new.world c.args.recording start c.args.time c.in_ok-world.ensures c.in_ok-go_on.ensures.legal c.in_ok-go_on.ensures.goes)
     c.plain_of.ensures.copy
+
+pub returns-clause-valid : goal.returns-clause-valid
+returns-clause-valid c =
+    let counts : List ℕ = field_counts (program_tree c.go_on.new.world.program) in
+    IfOk-weaker c.plain_of.result (λ plain. Valid counts (world_record plain)) (λ plain. IsValid (world_record plain)) (λ plain valid. (counts, valid)) c.plain_of.ensures.valid
