@@ -129,7 +129,7 @@ count() {
     valgrind --tool=callgrind --callgrind-out-file=/dev/null "$croquet" replay "$@" 2>&1 >/dev/null | sed -n 's/.*Collected : //p'
 }
 
-# Making to just before a thousand seconds, taking up from a snapshot of then, and running to the end.
+# Making to just before a second, taking up from a snapshot of then, and taking up and running to the end.
 measure() {
     local made taken ran
     "$1" "$2" >program
@@ -137,7 +137,7 @@ measure() {
     made=$(count program n log 999000)
     taken=$(count program n log 999000 --from snapshot)
     ran=$(count program n log 2999000000 --from snapshot)
-    echo "$1 $2: making $made, taking up $taken, running $((ran - taken))"
+    echo "$1 $2: making $made, taking up $taken, taking up and running $ran"
 }
 
 printf 'join 7 1\n' >script
