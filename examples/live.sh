@@ -15,6 +15,7 @@ reflect() {
     "$top/croquet" reflect "$program" "$example" "$address" --connections "$1" --log "$work/log" >"$work/reflect" &
     reflector=$!
     sleep 1
+    kill -0 "$reflector" 2>/dev/null || { echo "live: $address: $(cat "$work/reflect")" >&2; exit 6; }
 }
 
 # Starts a view: its number and its name, by which its script and what it prints are named.
