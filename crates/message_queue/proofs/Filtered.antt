@@ -1,5 +1,5 @@
 -- Messages fewer: the order, the numbers, counts and weights.
-use Rattle.std.proofs.Common.{ℕ, ◌+◌, ◌≤◌, Bool, true, false, cond, List, [], ◌∷◌, length, arith}
+use Rattle.std.proofs.Common.{◌≡◌, ℕ, ◌+◌, ◌≤◌, Bool, true, false, cond, List, [], ◌∷◌, length, refl, ap, arith}
 use Rattle.std.specs.List.{filter}
 use Rattle.world_plain.specs.World.{total_weight}
 use Rattle.world_plain.specs.Messages.{PlainMessage}
@@ -64,6 +64,13 @@ length-filtered keeps [] = omega arith
 length-filtered keeps (x ∷ xs) =
     let fewer : length (filter keeps xs) ≤ length xs = length-filtered keeps xs in
     either (λ l. length l ≤ length (x ∷ xs)) (keeps x) (x ∷ filter keeps xs) (filter keeps xs) (omega arith) (omega arith)
+
+-- where as many are left, none is gone
+pub none_gone : {A : Type 0} (keeps : A → Bool) (xs : List A) → length (filter keeps xs) ≡ length xs → filter keeps xs ≡ xs
+none_gone keeps [] long = refl
+none_gone keeps (x ∷ xs) long =
+    either (λ l. length l ≡ length (x ∷ xs) → l ≡ x ∷ xs) (keeps x) (x ∷ filter keeps xs) (filter keeps xs) (λ e. ap (λ l. x ∷ l) (none_gone keeps xs (omega (arith, e))))
+    (λ e. absurd (omega (arith, e, length-filtered keeps xs))) long
 
 -- ---- queues
 

@@ -4,9 +4,10 @@ use Rattle.std.specs.List.{All, AllByRecursion, filter}
 use Rattle.std.specs.List.Sorted.{IsPermutation, IsSortedBy}
 use Rattle.std.specs.Option.{option_map}
 use Rattle.std.proofs.lemmas.Bool.{eqb-true, eq-eqb}
+use Rattle.std.proofs.Math.ListN.{get_or-map}
 use Rattle.std.proofs.lemmas.List.{length-map}
 use Rattle.std.proofs.lemmas.List.Elements.{All-from_get_or, All-tail, recursion_from_All}
-use Rattle.std.proofs.lemmas.List.Sorted.{IsPermutation-refl, IsPermutation-map, All-permutation, sorted_far}
+use Rattle.std.proofs.lemmas.List.Sorted.{IsPermutation-refl, IsPermutation-map, All-permutation}
 use Rattle.world_plain.specs.Messages.{PlainMessage, plain_message}
 use Rattle.world_plain.specs.World.{message_weight, total_weight}
 use Rattle.world_plain.specs.Valid.{PrecedesAll, IsUnused, NumbersDiffer, most_pending}
@@ -14,9 +15,9 @@ use Rattle.world_plain.specs.ValidTest.{is_due_before}
 use Rattle.world_plain.specs.declared.message.Message.{Message}
 use Rattle.message_queue.specs.Heap.{IsHeap, is_sooner, is_later}
 use Rattle.message_queue.specs.Queue.{IsQueue, IsLightMessage, AreLightMessages, insert_in_order, least_of}
-use Rattle.message_queue.specs.View.{messages_seen, in_order, queue_seen, IsHeld}
-use Rattle.message_queue.proofs.Before.{precedes-false, sooner_order, later_order}
-use Rattle.message_queue.proofs.Filtered.{NumbersDiffer-filtered, IsQueue-filtered}
+use Rattle.message_queue.specs.View.{messages_seen, in_order, queue_seen, HoldsQueue}
+use Rattle.message_queue.proofs.Before.{precedes-false, later_order}
+use Rattle.message_queue.proofs.Filtered.{NumbersDiffer-filtered, IsQueue-filtered, none_gone}
 use Rattle.message_queue.proofs.InOrder.{NumbersDiffer-permuted, inserted_first, PrecedesAll-in_order, length-in_order, total-in_order, in_order_already, in_order_permuted, differ_before, unused_before, kept_in_order, AreInOrder-sorted}
 use Rattle.message_queue.proofs.Messages.{total_bound}
 use Rattle.message_queue.proofs.Order.{if_either, total-inserted, IsQueue-inserted}
@@ -48,11 +49,11 @@ light_before : (ms : List PlainMessage) → AreLightMessages (in_order ms) → A
 light_before [] h = tt
 light_before (m ∷ ms) h = let parts : IsLightMessage m × AreLightMessages (in_order ms) = light_parts m (in_order ms) h in (parts.0, light_before ms parts.1)
 
-pub few_held : (ms : List Message) (next weighs : ℕ) → IsHeld ms next weighs → length ms ≤ most_pending
-few_held ms next weighs h = omega (arith, h.queue.few, length-seen ms)
+pub few_held : (ms : List Message) (next weight : ℕ) → HoldsQueue ms next weight → length ms ≤ most_pending
+few_held ms next weight h = omega (arith, h.queue.few, length-seen ms)
 
-pub weight_bound : (ms : List Message) (next weighs : ℕ) → IsHeld ms next weighs → weighs ≤ 2147483648
-weight_bound ms next weighs h = omega (arith, h.weight, h.queue.few, total_bound (in_order (messages_seen ms)) h.queue.light)
+pub weight_bound : (ms : List Message) (next weight : ℕ) → HoldsQueue ms next weight → weight ≤ 2147483648
+weight_bound ms next weight h = omega (arith, h.total, h.queue.few, total_bound (in_order (messages_seen ms)) h.queue.light)
 
 -- ---- a message more
 
@@ -61,8 +62,8 @@ seen_with_one ms new m p unused differ =
     in_order_permuted (messages_seen (m ∷ ms)) (messages_seen new) (seen_permuted (m ∷ ms) new p)
     (unused_before (plain_message m).number (messages_seen ms) unused, differ_before (messages_seen ms) differ)
 
-pub held_with_one : (ms new : List Message) (m : Message) (next more weighs w : ℕ)
-    → IsHeld ms next weighs
+pub held_with_one : (ms new : List Message) (m : Message) (next more weight w : ℕ)
+    → HoldsQueue ms next weight
     → IsPermutation (m ∷ ms) new
     → IsHeap new
     → IsUnused (plain_message m).number (in_order (messages_seen ms))
@@ -71,12 +72,12 @@ pub held_with_one : (ms new : List Message) (m : Message) (next more weighs w : 
     → length ms < most_pending
     → IsLightMessage (plain_message m)
     → w ≡ message_weight (plain_message m)
-    → IsHeld new more (weighs + w)
-held_with_one ms new m next more weighs w h p heap unused below later few light is =
+    → HoldsQueue new more (weight + w)
+held_with_one ms new m next more weight w h p heap unused below later few light is =
     let seen = seen_with_one ms new m p unused h.queue.differ in record {
       queue = subst (λ (l : List PlainMessage). IsQueue (record { messages = l; next = more })) (sym seen) (IsQueue-inserted (plain_message m) (queue_seen ms next) more h.queue unused below later (omega (arith, few, length-seen ms)) light);
       heap = heap;
-      weight = omega (arith, h.weight, is, ap (total_weight message_weight) seen, total-inserted message_weight (plain_message m) (in_order (messages_seen ms)));
+      total = omega (arith, h.total, is, ap (total_weight message_weight) seen, total-inserted message_weight (plain_message m) (in_order (messages_seen ms)));
     }
 
 -- ---- the first message taken
@@ -91,8 +92,8 @@ none_sooner ms new m heap p first =
     let all : All P ms = All-from_get_or P ms m (λ i inside. ap (λ n. is_later n (get_or ms i m)) first ∙ first_of_heap is_later later_order ms (length ms) m heap i i (omega arith) inside) in
     recursion_from_All P new (All-tail P m new (All-permutation P ms (m ∷ new) p all))
 
-pub seen_first : (ms new : List Message) (m : Message) (next weighs : ℕ) → IsHeld ms next weighs → IsPermutation ms (m ∷ new) → m ≡ get_or ms 0 m → in_order (messages_seen ms) ≡ plain_message m ∷ in_order (messages_seen new)
-seen_first ms new m next weighs h p first =
+pub seen_first : (ms new : List Message) (m : Message) (next weight : ℕ) → HoldsQueue ms next weight → IsPermutation ms (m ∷ new) → m ≡ get_or ms 0 m → in_order (messages_seen ms) ≡ plain_message m ∷ in_order (messages_seen new)
+seen_first ms new m next weight h p first =
     let before : NumbersDiffer (messages_seen ms) = differ_before (messages_seen ms) h.queue.differ in
     let differ : NumbersDiffer (messages_seen (m ∷ new)) = NumbersDiffer-permuted (messages_seen ms) (messages_seen (m ∷ new)) (seen_permuted ms (m ∷ new) p) before in
     let precedes : PrecedesAll (plain_message m) (messages_seen new) = first_precedes m new (none_sooner ms new m h.heap p first) differ.0 in
@@ -100,39 +101,36 @@ seen_first ms new m next weighs h p first =
     ∙ inserted_first (plain_message m) (in_order (messages_seen new)) (PrecedesAll-in_order (plain_message m) (messages_seen new) precedes)
 
 -- the time and the number of the first are the least
-pub least_held : (ms : List Message) (m : Message) (next weighs : ℕ) → IsHeld ms next weighs → Some m ≡ slice_get ms 0 → Some (m.time, m.number) ≡ least_of (in_order (messages_seen ms))
-least_held [] m next weighs h e = absurd cc
-least_held (n ∷ ms) m next weighs h e =
-    ap (option_map (λ (k : Message). (k.time, k.number))) e ∙ sym (ap least_of (seen_first (n ∷ ms) ms n next weighs h (IsPermutation-refl (n ∷ ms)) refl))
+pub least_held : (ms : List Message) (m : Message) (next weight : ℕ) → HoldsQueue ms next weight → Some m ≡ slice_get ms 0 → Some (m.time, m.number) ≡ least_of (in_order (messages_seen ms))
+least_held [] m next weight h e = absurd cc
+least_held (n ∷ ms) m next weight h e =
+    ap (option_map (λ (k : Message). (k.time, k.number))) e ∙ sym (ap least_of (seen_first (n ∷ ms) ms n next weight h (IsPermutation-refl (n ∷ ms)) refl))
 
 rest_is_queue : (m : PlainMessage) (all ms : List PlainMessage) (next : ℕ) → all ≡ m ∷ ms → IsQueue (record { messages = all; next = next }) → IsQueue (record { messages = ms; next = next })
 rest_is_queue m all ms next e h =
     let q : IsQueue (record { messages = m ∷ ms; next = next }) = subst (λ (l : List PlainMessage). IsQueue (record { messages = l; next = next })) e h in
     record { order = q.order.1; differ = q.differ.1; next = q.next.1; light = q.light.1; few = omega (arith, q.few) }
 
-pub first_light : (ms new : List Message) (m : Message) (next weighs : ℕ) → IsHeld ms next weighs → IsPermutation ms (m ∷ new) → m ≡ get_or ms 0 m → IsLightMessage (plain_message m)
-first_light ms new m next weighs h p first = (subst AreLightMessages (seen_first ms new m next weighs h p first) h.queue.light).0
+pub first_light : (ms new : List Message) (m : Message) (next weight : ℕ) → HoldsQueue ms next weight → IsPermutation ms (m ∷ new) → m ≡ get_or ms 0 m → IsLightMessage (plain_message m)
+first_light ms new m next weight h p first = (subst AreLightMessages (seen_first ms new m next weight h p first) h.queue.light).0
 
-pub first_weighs : (ms new : List Message) (m : Message) (next weighs : ℕ) → IsHeld ms next weighs → IsPermutation ms (m ∷ new) → m ≡ get_or ms 0 m → weighs ≡ message_weight (plain_message m) + total_weight message_weight (in_order (messages_seen new))
-first_weighs ms new m next weighs h p first = h.weight ∙ ap (total_weight message_weight) (seen_first ms new m next weighs h p first)
+pub first_weighs : (ms new : List Message) (m : Message) (next weight : ℕ) → HoldsQueue ms next weight → IsPermutation ms (m ∷ new) → m ≡ get_or ms 0 m → weight ≡ message_weight (plain_message m) + total_weight message_weight (in_order (messages_seen new))
+first_weighs ms new m next weight h p first = h.total ∙ ap (total_weight message_weight) (seen_first ms new m next weight h p first)
 
-pub held_without_first : (ms new : List Message) (m : Message) (next weighs w : ℕ)
-    → IsHeld ms next weighs
+pub held_without_first : (ms new : List Message) (m : Message) (next weight w : ℕ)
+    → HoldsQueue ms next weight
     → IsPermutation ms (m ∷ new)
     → m ≡ get_or ms 0 m
     → IsHeap new
     → w ≡ message_weight (plain_message m)
-    → IsHeld new next (weighs - w)
-held_without_first ms new m next weighs w h p first heap is = record {
-  queue = rest_is_queue (plain_message m) (in_order (messages_seen ms)) (in_order (messages_seen new)) next (seen_first ms new m next weighs h p first) h.queue;
+    → HoldsQueue new next (weight - w)
+held_without_first ms new m next weight w h p first heap is = record {
+  queue = rest_is_queue (plain_message m) (in_order (messages_seen ms)) (in_order (messages_seen new)) next (seen_first ms new m next weight h p first) h.queue;
   heap = heap;
-  weight = omega (arith, is, first_weighs ms new m next weighs h p first);
+  total = omega (arith, is, first_weighs ms new m next weight h p first);
 }
 
 -- ---- messages fewer
-
-pub sorted_heap : (ms : List Message) → IsSortedBy is_sooner ms → IsHeap ms
-sorted_heap ms up = λ p k d lo a b inside. sorted_far is_sooner sooner_order ms up p k d (omega arith) inside
 
 -- messages that were sorted are seen as they stand
 pub seen_sorted : (ms new : List Message) → IsPermutation ms new → IsSortedBy is_sooner new → NumbersDiffer (messages_seen ms) → messages_seen new ≡ in_order (messages_seen ms)
@@ -144,48 +142,72 @@ seen_sorted ms new p up differ =
 differ_kept : (keeps : PlainMessage → Bool) (ms : List PlainMessage) (next : ℕ) → IsQueue (record { messages = in_order ms; next = next }) → NumbersDiffer (filter keeps ms)
 differ_kept keeps ms next q = NumbersDiffer-filtered keeps ms (differ_before ms q.differ)
 
-pub seen_kept : (keeps : PlainMessage → Bool) (ms kept new : List Message) (next weighs : ℕ)
-    → IsHeld ms next weighs
+pub seen_kept : (keeps : PlainMessage → Bool) (ms kept new : List Message) (next weight : ℕ)
+    → HoldsQueue ms next weight
     → messages_seen kept ≡ filter keeps (messages_seen ms)
     → IsPermutation kept new
     → in_order (messages_seen new) ≡ filter keeps (in_order (messages_seen ms))
-seen_kept keeps ms kept new next weighs h is p =
+seen_kept keeps ms kept new next weight h is p =
     let differ : NumbersDiffer (messages_seen kept) = subst NumbersDiffer (sym is) (differ_kept keeps (messages_seen ms) next h.queue) in
     in_order_permuted (messages_seen kept) (messages_seen new) (seen_permuted kept new p) differ
     ∙ ap in_order is
     ∙ sym (kept_in_order keeps (messages_seen ms) (differ_before (messages_seen ms) h.queue.differ))
 
-kept_is_queue : (keeps : PlainMessage → Bool) (ms kept new : List Message) (next weighs : ℕ)
-    → IsHeld ms next weighs
+kept_is_queue : (keeps : PlainMessage → Bool) (ms kept new : List Message) (next weight : ℕ)
+    → HoldsQueue ms next weight
     → messages_seen kept ≡ filter keeps (messages_seen ms)
     → IsPermutation kept new
     → IsQueue (queue_seen new next)
-kept_is_queue keeps ms kept new next weighs h is p =
-    subst (λ (l : List PlainMessage). IsQueue (record { messages = l; next = next })) (sym (seen_kept keeps ms kept new next weighs h is p)) (IsQueue-filtered keeps (queue_seen ms next) h.queue)
+kept_is_queue keeps ms kept new next weight h is p =
+    subst (λ (l : List PlainMessage). IsQueue (record { messages = l; next = next })) (sym (seen_kept keeps ms kept new next weight h is p)) (IsQueue-filtered keeps (queue_seen ms next) h.queue)
 
-pub kept_light : (keeps : PlainMessage → Bool) (ms kept new : List Message) (next weighs : ℕ)
-    → IsHeld ms next weighs
+pub kept_light : (keeps : PlainMessage → Bool) (ms kept new : List Message) (next weight : ℕ)
+    → HoldsQueue ms next weight
     → messages_seen kept ≡ filter keeps (messages_seen ms)
     → IsPermutation kept new
     → AreLightMessages (messages_seen new)
-kept_light keeps ms kept new next weighs h is p = light_before (messages_seen new) (kept_is_queue keeps ms kept new next weighs h is p).light
+kept_light keeps ms kept new next weight h is p = light_before (messages_seen new) (kept_is_queue keeps ms kept new next weight h is p).light
 
-pub kept_few : (keeps : PlainMessage → Bool) (ms kept new : List Message) (next weighs : ℕ)
-    → IsHeld ms next weighs
+pub kept_few : (keeps : PlainMessage → Bool) (ms kept new : List Message) (next weight : ℕ)
+    → HoldsQueue ms next weight
     → messages_seen kept ≡ filter keeps (messages_seen ms)
     → IsPermutation kept new
     → length new ≤ most_pending
-kept_few keeps ms kept new next weighs h is p = omega (arith, length-seen new, (kept_is_queue keeps ms kept new next weighs h is p).few)
+kept_few keeps ms kept new next weight h is p = omega (arith, length-seen new, (kept_is_queue keeps ms kept new next weight h is p).few)
 
-pub held_kept : (keeps : PlainMessage → Bool) (ms kept new : List Message) (next weighs w : ℕ)
-    → IsHeld ms next weighs
+pub held_kept : (keeps : PlainMessage → Bool) (ms kept new : List Message) (next weight w : ℕ)
+    → HoldsQueue ms next weight
     → messages_seen kept ≡ filter keeps (messages_seen ms)
     → IsPermutation kept new
-    → IsSortedBy is_sooner new
+    → IsHeap new
     → w ≡ total_weight message_weight (messages_seen new)
-    → IsHeld new next w
-held_kept keeps ms kept new next weighs w h is p up weighed = record {
-  queue = kept_is_queue keeps ms kept new next weighs h is p;
-  heap = sorted_heap new up;
-  weight = weighed ∙ sym (total-in_order message_weight (messages_seen new));
+    → HoldsQueue new next w
+held_kept keeps ms kept new next weight w h is p heap weighed = record {
+  queue = kept_is_queue keeps ms kept new next weight h is p;
+  heap = heap;
+  total = weighed ∙ sym (total-in_order message_weight (messages_seen new));
 }
+
+-- ---- none gone
+
+heap_seen : (ms ns : List Message) → messages_seen ns ≡ messages_seen ms → IsHeap ms → IsHeap ns
+heap_seen ms ns e heap =
+    let long : length ns ≡ length ms = sym (length-map ns plain_message) ∙ ap length e ∙ length-map ms plain_message in
+    λ p k d lo a b inside. (λ i. is_due_before (same k d i) (same p d i)) ∙ heap p k d lo a b (omega (arith, inside, long))
+  where
+    same : (i : ℕ) (d : Message) → plain_message (get_or ns i d) ≡ plain_message (get_or ms i d)
+    same i d = sym (get_or-map plain_message ns i d) ∙ ap (λ (l : List PlainMessage). get_or l i (plain_message d)) e ∙ get_or-map plain_message ms i d
+
+-- where as many messages are left, they are seen as they were
+pub held_all : (keeps : PlainMessage → Bool) (ms kept : List Message) (next weight : ℕ)
+    → HoldsQueue ms next weight
+    → messages_seen kept ≡ filter keeps (messages_seen ms)
+    → length kept ≡ length ms
+    → HoldsQueue kept next weight
+held_all keeps ms kept next weight h is long =
+    let left : length (filter keeps (messages_seen ms)) ≡ length (messages_seen ms) = sym (ap length is) ∙ length-map kept plain_message ∙ long ∙ sym (length-map ms plain_message) in
+    let same : messages_seen kept ≡ messages_seen ms = is ∙ none_gone keeps (messages_seen ms) left in record {
+      queue = kept_is_queue keeps ms kept kept next weight h is (IsPermutation-refl kept);
+      heap = heap_seen ms kept same h.heap;
+      total = h.total ∙ ap (λ l. total_weight message_weight (in_order l)) (sym same);
+    }

@@ -80,15 +80,15 @@ written_back xs ys n e = let le : n ≤ length xs = omega arith in rw take-appen
 
 -- ---- how many comparisons are few
 
--- at a place in a heap that is so many levels down, two comparisons a level were counted
+-- at a place in a heap that is at least so many levels down, two comparisons a level were counted
 pub record Counted (place old new : ℕ) : Type 0 where
   pub levels : ℕ
   pub deep : 2 ^ levels ≤ place + 1
   pub more : old ≤ new
   pub few : new ≤ old + 2 * levels
 
-pub none_counted : (old : ℕ) → Counted 0 old old
-none_counted old = record { levels = 0; deep = omega arith; more = omega arith; few = omega arith }
+pub none_counted : (place old : ℕ) → Counted place old old
+none_counted place old = record { levels = 0; deep = omega arith; more = omega arith; few = omega arith }
 
 pub two_counted : (place child old new more : ℕ) → place * 2 + 1 ≤ child → new ≤ more → more ≤ new + 2 → Counted place old new → Counted child old more
 two_counted place child old new more below up few c = record {

@@ -15,7 +15,6 @@ is_later m n = is_sooner n m
 abbrev pub IsHeap : List Message → Type 0
 IsHeap ms = IsHeapWithin is_later ms 0 (length ms)
 
--- over n messages at most two comparisons are counted for each binary digit of n, and two more: for each number of digits
--- that n fits in, and so for the least
+-- where n has d binary digits, at most 2d + 2 comparisons are counted; said of each d with n < 2 ^ d
 abbrev pub CountsFew : ℕ → ℕ → ℕ → Type 0
 CountsFew n old new = (old ≤ new) × ((digits : ℕ) → n < 2 ^ digits → new ≤ old + (2 * digits + 2))

@@ -19,7 +19,7 @@ abbrev pub queue_seen : List Message → ℕ → QueueRecord
 queue_seen ms next = record { messages = in_order (messages_seen ms); next = next }
 
 -- what is true of the messages in memory
-pub record IsHeld (ms : List Message) (next weighs : ℕ) : Type 0 where
+pub record HoldsQueue (ms : List Message) (next weight : ℕ) : Type 0 where
   pub queue : IsQueue (queue_seen ms next)
   pub heap : IsHeap ms
-  pub weight : weighs ≡ total_weight message_weight (in_order (messages_seen ms))
+  pub total : weight ≡ total_weight message_weight (in_order (messages_seen ms))

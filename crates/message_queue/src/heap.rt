@@ -9,7 +9,8 @@ ghost use Rattle.message_queue.specs.Heap.{IsHeap, CountsFew, is_sooner, is_late
 
 use crate::steps::Steps;
 use std::cmp::Ordering;
-use std::sync::ledger::Ledger;
+use std::marker::Brand;
+use std::sync::ledger::{Blank, Ledger};
 use tea_base::WantOfMemory;
 use world_plain::Message;
 
@@ -46,6 +47,14 @@ pub fn put_in_order(messages: &mut Vec<Message>)
     messages.sort_unstable_by(due_order);
 }
 
+/// Makes a heap of messages, in time linear in their number. Takes no memory.
+pub fn make_heap(messages: &mut Vec<Message>)
+    ensures held { IsPermutation messages.old.items messages.new.items }
+    ensures heap { IsHeap messages.new.items }
+{
+    sink_all::<Brand>(messages.as_mut_slice(), Blank::new(1));
+}
+
 /// Adds a message to a heap. Without memory the messages stay as they were.
 pub fn insert(messages: &mut Vec<Message>, message: Message) -> Result<(), WantOfMemory>
     requires { IsHeap messages.old.items }
@@ -71,7 +80,7 @@ pub fn take_first<L: Ledger>(messages: &mut Vec<Message>, steps: &mut Steps<L>) 
         return None;
     }
     let first = messages.swap_remove(0);
-    sink(messages.as_mut_slice(), steps);
+    sink(messages.as_mut_slice(), 0, steps);
     Some(first)
 }
 
@@ -92,14 +101,31 @@ fn rise(messages: &mut [Message])
     }
 }
 
-/// Moves the first message down, where those behind it are in heap order, until no child is due before it.
-fn sink<L: Ledger>(messages: &mut [Message], steps: &mut Steps<L>)
-    requires { IsHeapWithin is_later messages.old 1 (length messages.old) }
+/// Moves each message down that has a child, the last one first. Comparisons are counted by a counter of its own.
+fn sink_all<L: Ledger>(messages: &mut [Message], blank: Blank)
+    requires name { blank.name ≡ L.name }
+    requires parts { blank.parts ≡ L.parts }
+    requires some { 0 < blank.parts }
     ensures held { IsPermutation messages.old messages.new }
     ensures heap { IsHeap messages.new }
+{
+    let mut steps = Steps::<L>::new(blank);
+    let mut at = messages.len() / 2;
+    while at > 0 {
+        at -= 1;
+        sink(messages, at, &mut steps);
+    }
+}
+
+/// Moves the message at a place down, where those behind it are in heap order, until no child is due before it.
+fn sink<L: Ledger>(messages: &mut [Message], place: usize, steps: &mut Steps<L>)
+    requires within { place ≤ length messages.old }
+    requires behind { IsHeapWithin is_later messages.old (place + 1) (length messages.old) }
+    ensures held { IsPermutation messages.old messages.new }
+    ensures heap { IsHeapWithin is_later messages.new place (length messages.new) }
     ensures count { CountsFew (length messages.old) steps.old steps.new }
 {
-    let mut at = 0;
+    let mut at = place;
     while at < messages.len() / 2 {
         let child = sooner_child(messages, at, steps);
         if !precedes_counted(&messages[child], &messages[at], steps) {

@@ -8,7 +8,7 @@ ghost use Rattle.world_plain.specs.World.{message_weight, total_weight};
 ghost use Rattle.message_queue.specs.Queue.{IsLightMessage, IsQueue, TakesLeast, Pushes, empty_queue, least_of, new_message, queue_with, without_calls, without_messages_to};
 ghost use Rattle.message_queue.specs.Heap.{CountsFew};
 
-use crate::heap::{insert, put_in_order, take_first};
+use crate::heap::{insert, make_heap, put_in_order, take_first};
 use crate::pending::{message_weight_of, remove_calls, remove_object, weight_of};
 use crate::steps::Steps;
 use model_value::Values;
@@ -27,12 +27,13 @@ use world_plain::{MOST_MESSAGES, Message, Messages, StoreRefusal, copy_messages}
 pub struct Queue {
     messages: Vec<Message>,
     next: u64,
+    // What the messages weigh together, so that it need not be summed anew.
     weight: u64,
 }
 
 impl Model for Queue {
     ghost use Rattle.message_queue.specs.Queue.{QueueRecord, coded_queue};
-    ghost use Rattle.message_queue.specs.View.{queue_seen, IsHeld};
+    ghost use Rattle.message_queue.specs.View.{queue_seen, HoldsQueue};
 
     ghost Value = { QueueRecord };
 
@@ -40,7 +41,7 @@ impl Model for Queue {
 
     ghost view = { λ q. queue_seen q.messages.items q.next };
 
-    ghost invariant = { λ q. IsHeld q.messages.items q.next q.weight };
+    ghost invariant = { λ q. HoldsQueue q.messages.items q.next q.weight };
 }
 
 impl Queue {
@@ -186,9 +187,13 @@ impl Queue {
     {
         let before = self.messages.len();
         remove_calls(&mut self.messages, object, method);
-        put_in_order(&mut self.messages);
+        let gone = before - self.messages.len();
+        if gone == 0 {
+            return 0;
+        }
+        make_heap(&mut self.messages);
         self.weight = weight_of(&self.messages);
-        (before - self.messages.len()) as u32
+        gone as u32
     }
 
     /// Takes away all messages to an object, and gives their number. Takes no memory.
@@ -198,9 +203,13 @@ impl Queue {
     {
         let before = self.messages.len();
         remove_object(&mut self.messages, object);
-        put_in_order(&mut self.messages);
+        let gone = before - self.messages.len();
+        if gone == 0 {
+            return 0;
+        }
+        make_heap(&mut self.messages);
         self.weight = weight_of(&self.messages);
-        (before - self.messages.len()) as u32
+        gone as u32
     }
 
     /// How much the messages weigh together: each 3, its method's name and its arguments. Takes no memory.

@@ -13,9 +13,9 @@ use Rattle.world_plain.specs.declared.message.Subscription.{Subscription}
 use Rattle.pubsub.specs.declared.handler.Handler.{Handler}
 use Rattle.pubsub.specs.declared.index.TopicIndex.{TopicIndex}
 use Rattle.pubsub.specs.Topics.{AreLightSubscriptions, IsLightSubscription, is_to, is_subscribed, without_subscription, without_subscriber, handlers_of}
-use Rattle.pubsub.specs.Index.{handler_of, is_by, without_handler, without_object, handlers_at, FindsMore, FindsLess}
+use Rattle.pubsub.specs.Index.{handler_of, is_by, without_handler, without_object, handlers_at, FindsMore, FindsLess, IsTight}
 use Rattle.pubsub.specs.Held.{HoldsTopics}
-use Rattle.pubsub.proofs.Subscriptions.{both, neither, same-true, appended, filtered}
+use Rattle.pubsub.proofs.Subscriptions.{both, neither, same-true, appended, filtered, filter_all}
 
 -- ---- who handles an event
 
@@ -155,15 +155,16 @@ light_held s (t ∷ ts) e light = step (same_subscription t s) refl e (λ there.
 -- ---- the parts of topics
 
 module _ (s : Subscription) (old new : List Subscription) (was index : TopicIndex) (weight : ℕ) (held : HoldsTopics old was weight) where
-  pub one_more : is_subscribed s old ≡ false → length old < most_pending → IsLightSubscription s → new ≡ old ++ s ∷ [] → FindsMore s was index
+  pub one_more : is_subscribed s old ≡ false → length old < most_pending → IsLightSubscription s → new ≡ old ++ s ∷ [] → FindsMore s was index → IsTight index
       → HoldsTopics new index (weight + subscription_weight s)
-  one_more is_new room light is finds = record {
+  one_more is_new room light is finds tight = record {
     topics = appended s new old is held.topics is_new room light;
     indexed = λ scope event of_scope of_event.
         finds scope event of_scope of_event
         ∙ ap (λ (l : List Handler). cond (is_to scope event s) (l ++ handler_of s ∷ []) l) (held.indexed scope event of_scope of_event)
         ∙ sym (handlers-appended scope event s old)
         ∙ ap (handlers_of scope event) (sym is);
+    tight = tight;
     weighed = omega (arith, held.weighed, total-appended s old, ap (total_weight subscription_weight) is);
   }
 
@@ -173,29 +174,36 @@ module _ (s : Subscription) (old new : List Subscription) (was index : TopicInde
   pub left_by_key : new ≡ remove_key (same_subscription s) old → new ≡ without_subscription s old
   left_by_key is = is ∙ removed s old held.topics.differ
 
-  pub one_fewer : is_subscribed s old ≡ true → new ≡ without_subscription s old → FindsLess s was index
+  pub one_fewer : is_subscribed s old ≡ true → new ≡ without_subscription s old → FindsLess s was index → IsTight index
       → HoldsTopics new index (weight - subscription_weight s)
-  one_fewer there is finds = record {
+  one_fewer there is finds tight = record {
     topics = filtered (λ (t : Subscription). not (same_subscription t s)) new old is held.topics;
     indexed = λ scope event of_scope of_event.
         finds scope event of_scope of_event
         ∙ ap (λ (l : List Handler). cond (is_to scope event s) (without_handler s l) l) (held.indexed scope event of_scope of_event)
         ∙ sym (handlers-without scope event s old)
         ∙ ap (handlers_of scope event) (sym is);
+    tight = tight;
     weighed = omega (arith, held.weighed, total-without s old there held.topics.differ, ap (total_weight subscription_weight) is);
   }
+
+-- where as many are left as were held, each is
+pub none_gone : (object : ℕ) (old new : List Subscription) → new ≡ without_subscriber object old → length new ≡ length old → new ≡ old
+none_gone object old new is as_many = is ∙ filter_all (λ (s : Subscription). not (nat_eq s.object object)) old (ap length (sym is) ∙ as_many)
 
 pub without_one : (object : ℕ) (old new : List Subscription) (was index : TopicIndex) (weight after : ℕ) → HoldsTopics old was weight
     → new ≡ without_subscriber object old
     → ((scope event : List ℕ) → handlers_at index scope event ≡ without_object object (handlers_at was scope event))
+    → IsTight index
     → after ≡ total_weight subscription_weight new
     → HoldsTopics new index after
-without_one object old new was index weight after held is finds weighed = record {
+without_one object old new was index weight after held is finds tight weighed = record {
   topics = filtered (λ (s : Subscription). not (nat_eq s.object object)) new old is held.topics;
   indexed = λ scope event of_scope of_event.
       finds (encode_utf8_all scope) (encode_utf8_all event)
       ∙ ap (without_object object) (held.indexed scope event of_scope of_event)
       ∙ sym (handlers-left scope event object old)
       ∙ ap (handlers_of scope event) (sym is);
+  tight = tight;
   weighed = weighed;
 }

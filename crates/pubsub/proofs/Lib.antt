@@ -2,3 +2,4 @@ pub mod Indexed
 pub mod Lookups
 pub mod Names
 pub mod Subscriptions
+pub mod Tight

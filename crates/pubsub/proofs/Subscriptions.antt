@@ -107,6 +107,16 @@ length-filtered test (t ∷ ts) =
     let rest = length-filtered test ts in
     either (λ xs. length xs ≤ length (t ∷ ts)) (test t) (t ∷ filter test ts) (filter test ts) (omega (arith, rest)) (omega (arith, rest))
 
+-- a filter that leaves as many as there were leaves each
+pub filter_all : (test : Subscription → Bool) (ts : List Subscription) → length (filter test ts) ≡ length ts → filter test ts ≡ ts
+filter_all test [] e = refl
+filter_all test (t ∷ ts) e = step (test t) e (filter_all test ts)
+  where
+    step : (b : Bool) → length (cond b (t ∷ filter test ts) (filter test ts)) ≡ length (t ∷ ts) → (length (filter test ts) ≡ length ts → filter test ts ≡ ts)
+        → cond b (t ∷ filter test ts) (filter test ts) ≡ t ∷ ts
+    step true as_many rest = ap (λ (l : List Subscription). t ∷ l) (rest (omega (arith, as_many)))
+    step false as_many rest = absurd (omega (arith, as_many, length-filtered test ts))
+
 pub filtered : (test : Subscription → Bool) (new old : List Subscription) → new ≡ filter test old → AreTopics old → AreTopics new
 filtered test new old e topics =
     record {

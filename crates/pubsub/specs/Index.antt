@@ -1,9 +1,9 @@
 -- What the index of subscriptions finds, and what each call makes of it.
-use Rattle.std.specs.Prelude.{◌≡◌, ◌++◌, ℕ, Bool, true, ◌&&◌, List, [], ◌∷◌, nat_eq, bytes_eq, not, if◌then◌else◌, encode_utf8_all}
+use Rattle.std.specs.Prelude.{◌≡◌, ◌<◌, ◌++◌, ℕ, Bool, true, false, ◌&&◌, List, [], ◌∷◌, length, nat_eq, bytes_eq, not, if◌then◌else◌, encode_utf8_all, IfSome}
 use Rattle.std.specs.Option.{option_map_or}
 use Rattle.std.specs.List.{filter}
 use Rattle.std.specs.Str.{all_scalars}
-use Rattle.std.specs.HashMap.{get_by_text}
+use Rattle.std.specs.HashMap.{get_by_text, hash_map_len}
 use Rattle.world_plain.specs.declared.message.Subscription.{Subscription}
 use Rattle.pubsub.specs.declared.handler.Handler.{Handler}
 use Rattle.pubsub.specs.declared.events.Events.{Events}
@@ -60,3 +60,29 @@ FindsLess s old new = AtEachTopic (λ scope event. found new scope event ≡ (if
 -- an index finds in each topic those who handle it
 abbrev pub IsIndexOf : TopicIndex → List Subscription → Type 0
 IsIndexOf index ss = AtEachTopic (λ scope event. found index scope event ≡ handlers_of scope event ss)
+
+-- ---- nothing is left behind
+
+-- each event that has an entry has a handler
+abbrev pub AreHandled : Events → Type 0
+AreHandled events = (event : List ℕ) → IfSome (get_by_text events.by_event event) (λ handlers. 0 < length handlers.items)
+
+-- the same, but maybe of one event
+abbrev pub AreHandledBut : List ℕ → Events → Type 0
+AreHandledBut but events = (event : List ℕ) → IfSome (get_by_text events.by_event event) (λ handlers. bytes_eq but event ≡ false → 0 < length handlers.items)
+
+-- some event has an entry
+abbrev pub HasEvents : Events → Type 0
+HasEvents events = 0 < hash_map_len events.by_event
+
+-- some event has an entry, and each that has one has a handler
+abbrev pub AreTight : Events → Type 0
+AreTight events = AreHandled events × HasEvents events
+
+-- each scope that has an entry has events, and each of these a handler
+abbrev pub IsTight : TopicIndex → Type 0
+IsTight index = (scope : List ℕ) → IfSome (get_by_text index.by_scope scope) AreTight
+
+-- the same, but maybe one scope has an entry without events
+abbrev pub IsTightBut : List ℕ → TopicIndex → Type 0
+IsTightBut but index = (scope : List ℕ) → IfSome (get_by_text index.by_scope scope) (λ events. AreHandled events × (bytes_eq but scope ≡ false → HasEvents events))

@@ -1,6 +1,6 @@
 //! The events of one scope.
-ghost use Rattle.std.specs.Prelude.{◌≡◌, ◌++◌, ◌∷◌, ℕ, [], List, IsTrue, OnOk, OnErr, false, bytes_eq, if◌then◌else◌};
-ghost use Rattle.pubsub.specs.Index.{handlers_in, without_handler, without_object};
+ghost use Rattle.std.specs.Prelude.{◌≡◌, ◌<◌, ◌++◌, ◌∷◌, ℕ, [], List, length, IsTrue, OnOk, OnErr, true, false, bytes_eq, if◌then◌else◌};
+ghost use Rattle.pubsub.specs.Index.{handlers_in, without_handler, without_object, AreHandled, AreHandledBut, AreTight, HasEvents};
 
 use crate::handler::{Handler, remove_handler, remove_object};
 use indexmap::IndexMap;
@@ -19,7 +19,8 @@ pub struct Events {
 impl Events {
     /// No handlers. Takes no memory.
     pub fn new(alloc: Global) -> Events
-        ensures { (event : List ℕ) → handlers_in result event ≡ [] }
+        ensures found { (event : List ℕ) → handlers_in result event ≡ [] }
+        ensures handled { AreHandled result }
     {
         Events {
             alloc,
@@ -29,7 +30,8 @@ impl Events {
 
     /// Whether no event has a handler. Takes no memory.
     pub fn is_empty(&self) -> bool
-        ensures { IsTrue result → (event : List ℕ) → handlers_in self.now event ≡ [] }
+        ensures found { IsTrue result → (event : List ℕ) → handlers_in self.now event ≡ [] }
+        ensures some { result ≡ false → HasEvents self.now }
     {
         self.by_event.is_empty()
     }
@@ -48,6 +50,8 @@ impl Events {
     pub fn add(&mut self, event: &str, handler: Handler) -> Result<(), WantOfMemory>
         ensures ok { OnOk result ((e : List ℕ) → handlers_in self.new e ≡ (if bytes_eq event.now e then handlers_in self.old e ++ handler ∷ [] else handlers_in self.old e)) }
         ensures err { OnErr result ((e : List ℕ) → handlers_in self.new e ≡ handlers_in self.old e) }
+        ensures tight { OnOk result (AreHandled self.old → AreTight self.new) }
+        ensures still { OnErr result (AreTight self.old → AreTight self.new) }
     {
         if let Some(handlers) = self.by_event.get_mut(event) {
             handlers.push(handler)?;
@@ -62,7 +66,8 @@ impl Events {
 
     /// Takes the handler of a subscription away from those of an event. Takes no memory.
     pub fn remove(&mut self, event: &str, subscription: &Subscription)
-        ensures { (e : List ℕ) → handlers_in self.new e ≡ (if bytes_eq event.now e then without_handler subscription.now (handlers_in self.old e) else handlers_in self.old e) }
+        ensures found { (e : List ℕ) → handlers_in self.new e ≡ (if bytes_eq event.now e then without_handler subscription.now (handlers_in self.old e) else handlers_in self.old e) }
+        ensures handled { AreHandled self.old → AreHandled self.new }
     {
         if let Some(handlers) = self.by_event.get_mut(event) {
             remove_handler(handlers, subscription);
@@ -72,7 +77,8 @@ impl Events {
 
     /// Takes the entry of an event away that has no handler left.
     fn forget_empty(&mut self, event: &str)
-        ensures { (e : List ℕ) → handlers_in self.new e ≡ handlers_in self.old e }
+        ensures found { (e : List ℕ) → handlers_in self.new e ≡ handlers_in self.old e }
+        ensures handled { AreHandledBut event.now self.old → AreHandled self.new }
     {
         if self.find(event).is_empty() {
             self.by_event.swap_remove(event);
@@ -81,14 +87,16 @@ impl Events {
 
     /// Takes the handlers of an object away from each event. Takes no memory.
     pub fn remove_object(&mut self, object: u32)
-        ensures { (e : List ℕ) → handlers_in self.new e ≡ without_object object (handlers_in self.old e) }
+        ensures found { (e : List ℕ) → handlers_in self.new e ≡ without_object object (handlers_in self.old e) }
+        ensures handled { AreHandled self.new }
     {
         // `len` is called for its clause that no two entries have one name.
         let _len = self.by_event.len();
         self.by_event.retain(
             |_event: &String, handlers: &mut Vec<Handler>| -> bool
                 ensures left { handlers.new.items ≡ without_object object handlers.old.items }
-                ensures kept { result ≡ false → handlers.new.items ≡ [] }
+                ensures gone { result ≡ false → handlers.new.items ≡ [] }
+                ensures kept { result ≡ true → 0 < length handlers.new.items }
             {
                 remove_object(handlers, object);
                 !handlers.is_empty()

@@ -1,7 +1,8 @@
 //! The index of subscriptions: by scope, and within it by event.
-ghost use Rattle.std.specs.Prelude.{◌≡◌, ℕ, [], List, IsTrue, OnOk, OnErr, true, false, encode_utf8_all};
+ghost use Rattle.std.specs.Prelude.{◌≡◌, ℕ, [], List, IsTrue, IfSome, OnOk, OnErr, true, false, encode_utf8_all};
 ghost use Rattle.std.specs.Str.{all_scalars};
-ghost use Rattle.pubsub.specs.Index.{handlers_in, handlers_at, found, without_object, FindsSame, FindsMore, FindsLess};
+ghost use Rattle.std.specs.HashMap.{get_by_text};
+ghost use Rattle.pubsub.specs.Index.{handlers_in, handlers_at, found, without_object, FindsSame, FindsMore, FindsLess, AreTight, HasEvents, IsTight, IsTightBut};
 
 use crate::events::Events;
 use crate::handler::{Handler, handler_of};
@@ -21,7 +22,8 @@ pub struct TopicIndex {
 impl TopicIndex {
     /// No handlers. Takes no memory.
     pub fn new(alloc: Global) -> TopicIndex
-        ensures { (scope : List ℕ) → (event : List ℕ) → handlers_at result scope event ≡ [] }
+        ensures found { (scope : List ℕ) → (event : List ℕ) → handlers_at result scope event ≡ [] }
+        ensures tight { IsTight result }
     {
         TopicIndex {
             alloc,
@@ -47,6 +49,7 @@ impl TopicIndex {
     pub fn add(&mut self, s: &Subscription) -> Result<(), WantOfMemory>
         ensures ok { OnOk result (FindsMore s.now self.old self.new) }
         ensures err { OnErr result (FindsSame self.old self.new) }
+        ensures tight { IsTight self.old → IsTight self.new }
     {
         let scope = name(&s.scope);
         let event = name(&s.event);
@@ -64,7 +67,8 @@ impl TopicIndex {
 
     /// Takes the handler of a subscription away from its topic. Takes no memory.
     pub fn remove(&mut self, s: &Subscription)
-        ensures { FindsLess s.now self.old self.new }
+        ensures found { FindsLess s.now self.old self.new }
+        ensures tight { IsTight self.old → IsTight self.new }
     {
         let scope = name(&s.scope);
         let event = name(&s.event);
@@ -76,7 +80,8 @@ impl TopicIndex {
 
     /// Takes the entry of a scope away in which no event has a handler left.
     fn forget_empty(&mut self, scope: &str)
-        ensures { FindsSame self.old self.new }
+        ensures found { FindsSame self.old self.new }
+        ensures tight { IsTightBut scope.now self.old → IsTight self.new }
     {
         if self.is_emptied(scope) {
             self.by_scope.swap_remove(scope);
@@ -85,7 +90,8 @@ impl TopicIndex {
 
     /// Whether a scope has an entry in which no event has a handler.
     fn is_emptied(&self, scope: &str) -> bool
-        ensures { IsTrue result → (event : List ℕ) → handlers_at self.now scope.now event ≡ [] }
+        ensures found { IsTrue result → (event : List ℕ) → handlers_at self.now scope.now event ≡ [] }
+        ensures some { result ≡ false → IfSome (get_by_text self.now.by_scope scope.now) HasEvents }
     {
         match self.by_scope.get(scope) {
             Some(events) => events.is_empty(),
@@ -95,14 +101,16 @@ impl TopicIndex {
 
     /// Takes the handlers of an object away from each topic. Takes no memory.
     pub fn remove_object(&mut self, object: u32)
-        ensures { (scope : List ℕ) → (event : List ℕ) → handlers_at self.new scope event ≡ without_object object (handlers_at self.old scope event) }
+        ensures found { (scope : List ℕ) → (event : List ℕ) → handlers_at self.new scope event ≡ without_object object (handlers_at self.old scope event) }
+        ensures tight { IsTight self.new }
     {
         // `len` is called for its clause that no two entries have one name.
         let _len = self.by_scope.len();
         self.by_scope.retain(
             |_scope: &String, events: &mut Events| -> bool
                 ensures left { (e : List ℕ) → handlers_in events.new e ≡ without_object object (handlers_in events.old e) }
-                ensures kept { result ≡ false → (e : List ℕ) → handlers_in events.new e ≡ [] }
+                ensures gone { result ≡ false → (e : List ℕ) → handlers_in events.new e ≡ [] }
+                ensures kept { result ≡ true → AreTight events.new }
             {
                 events.remove_object(object);
                 !events.is_empty()

@@ -146,9 +146,13 @@ impl Topics {
     {
         let before = self.held.len();
         self.held.retain(|s| s.object != object);
+        let left = self.held.len();
+        if left == before {
+            return 0;
+        }
         self.index.remove_object(object);
         self.weight = weight_of(self.held.as_slice());
-        (before - self.held.len()) as u32
+        (before - left) as u32
     }
 
     /// The methods that handle an event in a scope, in the order of subscription.

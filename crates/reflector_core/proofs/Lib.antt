@@ -3,3 +3,5 @@ pub mod RepeatLaws
 pub mod PlayLaws
 pub mod SoundLaws
 pub mod GrowthLaws
+pub mod PreparedLaws
+pub mod NotedLaws

@@ -4,3 +4,4 @@ pub mod Play
 pub mod Growth
 pub mod SessionState
 pub mod Kept
+pub mod Prepared

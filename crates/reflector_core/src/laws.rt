@@ -1,10 +1,12 @@
 //! The laws of how a session goes on. They hold of each session, sound or not.
-ghost use Rattle.std.specs.Prelude.{◌≡◌, ◌⊎◌, ℕ, false, List, Some};
+ghost use Rattle.std.specs.Prelude.{◌≡◌, ◌≤◌, ◌⊎◌, ℕ, false, List, Some};
 ghost use Rattle.reflector_core.specs.PlainSession.{PlainSession};
 ghost use Rattle.reflector_core.specs.Answer.{answer, offer};
 ghost use Rattle.reflector_core.specs.Play.{after_all};
 ghost use Rattle.reflector_core.specs.Growth.{GrowsTo, is_offer};
 ghost use Rattle.reflector_core.specs.declared.request.Request.{Request};
+ghost use Rattle.reflector_core.specs.SessionState.{SessionState};
+ghost use Rattle.reflector_core.specs.Prepared.{Call, WereMade, entries_asked, bytes_asked, AreAnswered};
 
 /// Whatever is asked, the log that a session had stays, and goes on with entries above its horizon. So it is after
 /// many requests.
@@ -20,4 +22,13 @@ pub fn offers_change_what_is_kept()
     ensures offers { (s : PlainSession) (view joined time : ℕ) (bytes : List ℕ) →
         ((offer s view joined time bytes).session.kept ≡ s.kept) ⊎
         ((offer s view joined time bytes).session.kept ≡ Some (record { time = time; bytes = bytes })) }
+{}
+
+/// A session that was prepared for so many calls and payload bytes has no want of memory in them. Of the Sends and
+/// Leaves, and of the Joins between, there are at most so many, and their payloads have at most so many bytes. Ticks,
+/// Offers and Pulls may stand between in any number. Each call is as `Session::call` says by `prepared` and `used`.
+pub fn prepared_calls_are_answered()
+    ensures { (prepared : SessionState) (calls bytes : ℕ) (made : List Call) → calls ≤ prepared.ready_entries →
+        bytes ≤ prepared.ready_bytes → entries_asked made ≤ calls → bytes_asked made ≤ bytes →
+        WereMade prepared made → AreAnswered made }
 {}

@@ -6,7 +6,7 @@ mod request;
 mod run;
 mod session;
 
-pub use laws::{log_grows, offers_change_what_is_kept};
+pub use laws::{log_grows, offers_change_what_is_kept, prepared_calls_are_answered};
 pub use request::{Refusal, Replies, Reply, Request, Requests};
 pub use run::play;
 pub use session::Session;

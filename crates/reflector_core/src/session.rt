@@ -10,10 +10,14 @@ ghost use Rattle.reflector_core.specs.Play.{first_session};
 mod entries;
 mod events;
 mod presence;
+mod readings;
+mod room;
 mod snapshots;
 mod times;
 
 use crate::request::{Reply, Request};
+use crate::session::room::make_room;
+use resend_table::Resend;
 use session_log::Log;
 use std::alloc::Global;
 use std::marker::Model;
@@ -27,6 +31,8 @@ use wire_frames::Base;
 pub struct Session {
     alloc: Global,
     log: Log,
+    // of the log, for look-ups in it
+    resend: Resend,
     horizon: u64,
     kept: Option<Base>,
 }
@@ -51,6 +57,7 @@ impl Session {
         Session {
             alloc,
             log: Log::new(alloc),
+            resend: Resend::new(alloc),
             horizon: 0,
             kept: None,
         }
@@ -91,7 +98,7 @@ impl Session {
         ensures entries_kept { self.old.ready_entries ≤ self.new.ready_entries }
         ensures bytes_kept { self.old.ready_bytes ≤ self.new.ready_bytes }
     {
-        self.log.reserve(calls, bytes)
+        make_room(&mut self.log, &mut self.resend, calls, bytes)
     }
 
     /// Answers a request. After a refusal, and without memory, the session is as it was. Memory may

@@ -10,11 +10,11 @@ use Rattle.session_log.specs.declared.heads.Head.{Head}
 use Rattle.session_log.specs.declared.log.Log.TheInside.{Inside}
 
 abbrev pub entries_of : Inside → List Entry
-entries_of log = map (entry_of log.payloads.items) log.heads.items
+entries_of log = map (entry_of log.payloads.bytes) log.heads.items
 
 abbrev pub log_state : Inside → LogState
 log_state log =
-    record { entries = entries_of log; spare_entries = log.spare_entries; spare_bytes = log.spare_bytes }
+    record { entries = entries_of log; spare_entries = log.spare_entries; spare_bytes = log.payloads.spare }
 
 -- the bytes of all payloads and the heads are those of a legal log
 pub record AreSound (payloads : List ℕ) (heads : List Head) : Type 0 where
@@ -22,9 +22,8 @@ pub record AreSound (payloads : List ℕ) (heads : List Head) : Type 0 where
   pub counted : payload_bytes (map (entry_of payloads) heads) ≡ length payloads
   pub within : AreWithin (length payloads) heads
 
--- the vectors have memory for the room that is told
+-- the heads have memory for the room that is told
 pub record IsSoundLog (log : Inside) : Type 0 where
-  pub kept : AreSound log.payloads.items log.heads.items
+  pub kept : AreSound log.payloads.bytes log.heads.items
   pub short : vec_len log.heads ≤ most_entries
   pub room_for_entries : vec_len log.heads + log.spare_entries ≤ vec_capacity log.heads
-  pub room_for_bytes : vec_len log.payloads + log.spare_bytes ≤ vec_capacity log.payloads

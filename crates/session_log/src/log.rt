@@ -1,19 +1,17 @@
-//! A log, kept as two vectors: the heads of its entries, and all payload bytes.
+//! A log: the heads of its entries in a vector, and all payload bytes in a region.
 ghost use Rattle.std.specs.Prelude.{◌≡◌, ◌↔◌, ◌+◌, ◌-◌, ◌^◌, ◌<◌, ◌≤◌, ◌⊎◌, [], length, option_map, slice_get, IsTrue, IfOk, IsOk, OnOk, OnErr, Some, Err};
-ghost use Rattle.tea_base.specs.Readings.{payload_bytes, count_until, current, here_count, is_here, last_number, view_event, payload_len};
+ghost use Rattle.tea_base.specs.Readings.{payload_bytes, count_until, last_number, payload_len};
 ghost use Rattle.tea_base.specs.Legal.{IsLegal, MayFollow};
 ghost use Rattle.tea_base.specs.Limits.{most_entries, most_bytes};
 ghost use Rattle.session_log.specs.LogState.{next_entry, with_next, HasPayloadAt};
 ghost use Rattle.session_log.specs.Heads.{what_of, IsPresence};
 ghost use Rattle.session_log.specs.Spelling.{log_spelling};
 
-use crate::heads::{
-    Head, HeadKind, count_until, current_of, here_count_in, is_here_in, last_number_in, push_head,
-    seq_of_event,
-};
-use crate::payloads::{is_stored, lent, store_event};
+use crate::heads::{Head, HeadKind, count_until, last_number_in, push_head};
+use crate::payloads::{is_stored, store_event, stored};
 use crate::spelling::write_entries;
 use byte_fields::Writer;
+use event_region::Region;
 use std::alloc::Global;
 use std::marker::Model;
 use tea_base::{Blob, Entry, WantOfMemory, What};
@@ -31,10 +29,9 @@ pub enum GetRefusal {
 #[derive(Drop)]
 pub struct Log {
     heads: Vec<Head>,
-    payloads: Vec<u8>,
-    // the vectors' capacities tell no exact room, so it is counted here
+    payloads: Region,
+    // the vector's capacity tells no exact room, so it is counted here
     spare_entries: u32,
-    spare_bytes: u64,
 }
 
 impl Model for Log {
@@ -58,9 +55,8 @@ impl Log {
     {
         Log {
             heads: Vec::new(alloc),
-            payloads: Vec::new(alloc),
+            payloads: Region::new(alloc),
             spare_entries: 0,
-            spare_bytes: 0,
         }
     }
 
@@ -78,7 +74,7 @@ impl Log {
         ensures bytes { result ≡ payload_bytes self.now.entries }
         ensures bound { result ≤ most_bytes }
     {
-        self.payloads.len() as u64
+        self.payloads.len()
     }
 
     /// For how many entries and payload bytes there is room.
@@ -86,7 +82,7 @@ impl Log {
         ensures entries { result.0 ≡ self.now.spare_entries }
         ensures bytes { result.1 ≡ self.now.spare_bytes }
     {
-        (self.spare_entries, self.spare_bytes)
+        (self.spare_entries, self.payloads.spare())
     }
 
     /// Makes room for at least so many entries and payload bytes. Room that is there already is
@@ -104,9 +100,8 @@ impl Log {
         ensures err { OnErr result (self.new ≡ self.old) }
     {
         self.heads.reserve(entries as usize)?;
-        self.payloads.reserve(bytes as usize)?;
+        self.payloads.reserve(bytes)?;
         self.spare_entries = self.spare_entries.max(entries);
-        self.spare_bytes = self.spare_bytes.max(bytes);
         Ok(())
     }
 
@@ -154,7 +149,6 @@ impl Log {
             },
         );
         self.spare_entries -= 1;
-        self.spare_bytes -= payload.len() as u64;
         seq
     }
 
@@ -200,7 +194,7 @@ impl Log {
             return Err(GetRefusal::NoSuchSeq);
         }
         let head = self.heads[seq as usize - 1];
-        match lent(&self.payloads, head.kind).own(*self.payloads.allocator()) {
+        match stored(*self.heads.allocator(), &self.payloads, head.kind) {
             Ok(what) => Ok(Entry {
                 seq: head.seq,
                 time: head.time,
@@ -230,37 +224,6 @@ impl Log {
             return false;
         }
         is_stored(&self.payloads, self.heads[seq as usize - 1].kind, bytes)
-    }
-
-    /// The seq of the Event of a view with a number, counted from 1, if there is one.
-    pub fn seq_of(&self, view: u32, number: u32) -> Option<u32>
-        ensures { result ≡ option_map (λ entry. entry.seq) (view_event self.now.entries view number) }
-    {
-        if number == 0 {
-            return None;
-        }
-        seq_of_event(&self.heads, view, number)
-    }
-
-    /// The seq of the last Join or Exit of a view, 0 if there is none.
-    pub fn current(&self, view: u32) -> u32
-        ensures { result ≡ current self.now.entries view }
-    {
-        current_of(&self.heads, view)
-    }
-
-    /// Whether a view is here: its last Join or Exit is a Join.
-    pub fn is_here(&self, view: u32) -> bool
-        ensures { result ≡ is_here self.now.entries view }
-    {
-        is_here_in(&self.heads, view)
-    }
-
-    /// How many views are here.
-    pub fn here_count(&self) -> u32
-        ensures { result ≡ here_count self.now.entries }
-    {
-        here_count_in(&self.heads)
     }
 
     /// How many Events a view sent, which is the number of the last one.

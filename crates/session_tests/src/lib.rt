@@ -19,6 +19,8 @@ mod logs;
 #[cfg(test)]
 mod nets;
 #[cfg(test)]
+mod payloads;
+#[cfg(test)]
 mod shared_sessions;
 #[cfg(test)]
 mod stamping;

@@ -8,7 +8,9 @@ ghost use Rattle.reflector_core.specs.Answer.{with_reply, MayWantMemory, reply_l
 
 use crate::request::{Refusal, Reply};
 use crate::session::Session;
+use crate::session::room::make_room;
 use crate::session::times::stamp;
+use resend_table::Kind;
 use tea_base::{END_OF_TIME, MOST_BYTES, MOST_PAYLOAD, WantOfMemory};
 
 /// A length as a reply gives it.
@@ -45,7 +47,7 @@ impl Session {
                 len: capped(payload.len()),
             }));
         }
-        let next = self.log.last_number(view) + 1;
+        let next = self.last_number(view) + 1;
         if number == 0 {
             return Ok(Reply::Refused(Refusal::Gap { expected: next }));
         }
@@ -82,7 +84,7 @@ impl Session {
         ensures { (otherwise : Reply) → result ≡
             repeats self.now.plain payload.now (view_event self.now.plain.log view number) otherwise }
     {
-        match self.log.seq_of(view, number) {
+        match self.seq_of(view, number) {
             None => unreachable!(),
             Some(seq) => {
                 if self.log.payload_is(seq, payload) {
@@ -118,9 +120,10 @@ impl Session {
         ensures used { UsesAtMost self.old self.new 1 (length payload.now) }
         ensures err { OnErr result (self.new.plain ≡ self.old.plain) }
     {
-        self.log.reserve(1, payload.len() as u64)?;
+        make_room(&mut self.log, &mut self.resend, 1, payload.len() as u64)?;
         let time = stamp(self.horizon, now);
         let seq = self.log.push_event(time, view, number, payload);
+        self.resend.note(seq, view, Kind::Event);
         self.horizon = time;
         Ok(Reply::Stamped { seq, time })
     }

@@ -7,7 +7,9 @@ ghost use Rattle.reflector_core.specs.Answer.{with_reply, MayWantMemory, is_stal
 
 use crate::request::{Refusal, Reply};
 use crate::session::Session;
+use crate::session::room::make_room;
 use crate::session::times::stamp;
+use resend_table::Kind;
 use tea_base::{END_OF_TIME, MOST_HERE, MOST_OPEN_ENTRIES, WantOfMemory, What};
 use wire_frames::Want;
 
@@ -16,7 +18,7 @@ impl Session {
     pub(super) fn is_stale(&self, view: u32, joined: u32) -> bool
         ensures { result ≡ is_stale self.now.plain.log view joined }
     {
-        self.log.current(view) != joined || !self.log.is_here(view)
+        self.current(view) != joined || !self.is_here(view)
     }
 
     /// The refusal of a caller that is stale.
@@ -24,7 +26,7 @@ impl Session {
         ensures { result ≡ Refusal.Stale (current self.now.plain.log view) }
     {
         Refusal::Stale {
-            current: self.log.current(view),
+            current: self.current(view),
         }
     }
 
@@ -61,9 +63,9 @@ impl Session {
                 horizon: self.horizon,
             }));
         }
-        if !self.log.is_here(view) && self.log.here_count() >= MOST_HERE {
+        if !self.is_here(view) && self.here_count() >= MOST_HERE {
             return Ok(Reply::Refused(Refusal::ViewsFull {
-                here: self.log.here_count(),
+                here: self.here_count(),
             }));
         }
         if self.is_closed() {
@@ -90,11 +92,12 @@ impl Session {
         ensures err { OnErr result (self.new.plain ≡ self.old.plain) }
     {
         let base = self.base_for(want)?;
-        self.log.reserve(1, 0)?;
         let from = self.from_for(want);
-        let last = self.log.last_number(view);
+        let last = self.last_number(view);
+        make_room(&mut self.log, &mut self.resend, 1, 0)?;
         let time = stamp(self.horizon, now);
         let seq = self.log.push(time, view, &What::Join);
+        self.resend.note(seq, view, Kind::Join);
         self.horizon = time;
         Ok(Reply::Joined {
             seq,
@@ -118,9 +121,10 @@ impl Session {
         if self.is_stale(view, joined) {
             return Ok(Reply::Refused(self.stale(view)));
         }
-        self.log.reserve(1, 0)?;
+        make_room(&mut self.log, &mut self.resend, 1, 0)?;
         let time = stamp(self.horizon, now);
         let seq = self.log.push(time, view, &What::Exit);
+        self.resend.note(seq, view, Kind::Exit);
         self.horizon = time;
         Ok(Reply::Left { seq, time })
     }

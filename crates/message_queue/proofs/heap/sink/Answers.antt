@@ -9,7 +9,15 @@ use Rattle.message_queue.proofs.heap.sink.Goals as goal
 pub loop-at-init : goal.loop-at-init
 loop-at-init g c =
     let ms = c.args.messages.now in
-    record { within = omega arith; long = omega arith; held = IsPermutation-refl ms; sinks = begins is_later ms 0 (length ms) c.requires; counted = none_counted c.args.steps.now }
+    let place = c.args.place in
+    record {
+      behind = omega arith;
+      within = omega (arith, c.requires.within);
+      long = omega arith;
+      held = IsPermutation-refl ms;
+      sinks = begins is_later ms place (length ms) c.requires.behind;
+      counted = none_counted place c.args.steps.now;
+    }
 
 pub loop-at-preserved : goal.loop-at-preserved
 loop-at-preserved g c =
@@ -19,16 +27,18 @@ loop-at-preserved g c =
     let bound = c.sooner_child-child.ensures.child in
     let once = c.sooner_child-child.ensures.count in
     let twice = c.precedes_counted.ensures.count in
+    let behind = l.invariant.behind in
     let long = l.invariant.long in
     let len = c.swap.ensures.len in
     let later = sym c.precedes_counted.ensures.answer ∙ c.if-not-precedes_counted.false in
     let told = read_both is_later l.messages l.at child _ _ true (omega arith) (omega arith) c.index-messages-at.is c.index-messages-child.is later in
     record {
+      behind = omega arith;
       within = omega arith;
       long = omega arith;
       held = IsPermutation-trans c.args.messages.now l.messages c.swap.new.self l.invariant.held c.swap.ensures.permutation;
-      sinks = subst (λ m. Hole is_later c.swap.new.self 0 child m) (sym len)
-          (sinks is_later later_order l.messages c.swap.new.self 0 l.at child n (omega arith) (omega arith) (omega arith) (omega arith) (omega arith) c.swap.ensures.after told c.sooner_child-child.ensures.sooner l.invariant.sinks);
+      sinks = subst (λ m. Hole is_later c.swap.new.self c.args.place child m) (sym len)
+          (sinks is_later later_order l.messages c.swap.new.self c.args.place l.at child n (omega arith) (omega arith) (omega arith) (omega arith) (omega arith) c.swap.ensures.after told c.sooner_child-child.ensures.sooner l.invariant.sinks);
       counted = two_counted l.at child c.args.steps.now l.steps c.precedes_counted.new.steps (omega arith) (omega arith) (omega arith) l.invariant.counted;
     }
 
@@ -44,7 +54,7 @@ returns-then-not-precedes_counted g c =
     let told = read_both is_later l.messages l.at child _ _ false (omega arith) (omega arith) c.index-messages-at.is c.index-messages-child.is later in
     record {
       held = l.invariant.held;
-      heap = rests is_later later_order l.messages 0 l.at child n told c.sooner_child-child.ensures.sooner l.invariant.sinks;
+      heap = rests is_later later_order l.messages c.args.place l.at child n told c.sooner_child-child.ensures.sooner l.invariant.sinks;
       count = few_counted l.at (length c.args.messages.now) c.args.steps.now l.steps c.precedes_counted.new.steps (omega (arith, l.invariant.within, l.invariant.long)) (omega arith) (omega arith) l.invariant.counted;
     }
 
@@ -54,6 +64,6 @@ returns g c =
     let leaf = c.loop-at-test.false in
     record {
       held = l.invariant.held;
-      heap = at_leaf is_later l.messages 0 l.at (length l.messages) (omega arith) l.invariant.sinks;
+      heap = at_leaf is_later l.messages c.args.place l.at (length l.messages) (omega arith) l.invariant.sinks;
       count = few_counted l.at (length c.args.messages.now) c.args.steps.now l.steps l.steps (omega (arith, l.invariant.within, l.invariant.long)) (omega arith) (omega arith) l.invariant.counted;
     }

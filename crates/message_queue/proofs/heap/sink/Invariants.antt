@@ -7,10 +7,11 @@ use Rattle.message_queue.proofs.heap.sink.Given as goal
 
 abbrev pub invariant-loop-at : goal.invariant-loop-at
 invariant-loop-at g l = record {
+  behind : l.place ≤ l.at;
   within : l.at ≤ length l.messages;
   long : length l.messages ≡ length l.initial.messages;
   held : IsPermutation l.initial.messages l.messages;
-  sinks : Hole is_later l.messages 0 l.at (length l.messages);
+  sinks : Hole is_later l.messages l.place l.at (length l.messages);
   counted : Counted l.at l.initial.steps l.steps;
 }
 

@@ -33,4 +33,4 @@ invariant_of-self-2 c =
     let keys : c.insert.new.self.keys ≡ was.held.keys ++ c.args.s ∷ [] =
     (rw c.unwrap.ensures at c.insert.ensures.keys) ∙ pushed c.args.s c.reserve.new.self.keys was.held.keys c.in_ok-reserve.ensures.keys new in
     subst (λ (n : ℕ). HoldsTopics c.insert.new.self.keys c.add.new.self (was.weight + n)) (sym c.subscription_weight.ensures)
-    (one_more c.args.s was.held.keys c.insert.new.self.keys was.index c.add.new.self was.weight c.self.invariant new room c.requires.light keys c.in_ok-add.ensures.ok)
+    (one_more c.args.s was.held.keys c.insert.new.self.keys was.index c.add.new.self was.weight c.self.invariant new room c.requires.light keys c.in_ok-add.ensures.ok (c.in_ok-add.ensures.tight c.self.invariant.tight))

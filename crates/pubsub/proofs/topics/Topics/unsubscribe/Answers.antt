@@ -33,7 +33,7 @@ invariant_of-self-2 c =
     let there : is_subscribed s was.held.keys ≡ true = is_subscribed-list_any s was.held.keys ∙ sym c.if-not-shift_remove.ensures.found in
     let left : new ≡ without_subscription s was.held.keys = left_by_key s was.held.keys new was.index c.remove.new.self was.weight c.self.invariant c.shift_remove.ensures.keys in
     subst (λ (n : ℕ). HoldsTopics new c.remove.new.self (was.weight - n)) (sym c.subscription_weight.ensures)
-    (one_fewer s was.held.keys new was.index c.remove.new.self was.weight c.self.invariant there left c.remove.ensures)
+    (one_fewer s was.held.keys new was.index c.remove.new.self was.weight c.self.invariant there left c.remove.ensures.found (c.remove.ensures.tight c.self.invariant.tight))
 
 pub returns-clause-held : goal.returns-clause-held
 returns-clause-held c =

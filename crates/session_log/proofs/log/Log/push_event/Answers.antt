@@ -1,4 +1,4 @@
-use Rattle.std.proofs.Common.{arith, ◌≡◌, ◌≤◌, length}
+use Rattle.std.proofs.Common.{arith, ◌≡◌, length}
 use Rattle.std.proofs.lemmas.List.{length-map}
 use Rattle.tea_base.specs.declared.entry.What.TheVariants as what
 use Rattle.tea_base.specs.Legal.{MayFollow}
@@ -8,24 +8,28 @@ use Rattle.session_log.specs.LogState.{next_entry}
 use Rattle.session_log.proofs.HeadLaws.{AreSound-push, entries-push, short-push}
 use Rattle.session_log.proofs.log.Log.push_event.Goals as goal
 
+pub store_event-kind-requires-clause-room : goal.store_event-kind-requires-clause-room
+store_event-kind-requires-clause-room c = rw (← c.self.view_is) at c.requires.room_for_bytes
+
+pub store_event-kind-requires-clause-short : goal.store_event-kind-requires-clause-short
+store_event-kind-requires-clause-short c = c.requires.legal.allowed.2
+
 pub invariant_of-self : goal.invariant_of-self
 invariant_of-self c =
     let fields = c.self.inside in
     let stored = c.store_event-kind.ensures in
     let event = what.Event c.args.number c.args.payload.now in
     let may : MayFollow (entries_of fields) (next_entry (entries_of fields) c.args.time c.args.view event) = rw (← c.self.view_is) at c.requires.legal in
-    let room : length c.args.payload.now ≤ fields.spare_bytes = rw (← c.self.view_is) at c.requires.room_for_bytes in
     record {
       kept = AreSound-push _ _ fields.heads.items _ _ event c.self.invariant.kept stored.appended c.push_head.ensures.items stored.kept stored.within (omega (arith, c.len.ensures)) may;
-      short = omega (arith, short-push fields.payloads.items fields.heads.items c.args.time c.args.view event may, c.push_head.ensures.len, c.len.ensures);
+      short = omega (arith, short-push fields.payloads.bytes fields.heads.items c.args.time c.args.view event may, c.push_head.ensures.len, c.len.ensures);
       room_for_entries = omega (arith, c.push_head.ensures.len, c.push_head.ensures.room);
-      room_for_bytes = omega (arith, stored.len, stored.room);
     }
 
 pub returns-clause-entries : goal.returns-clause-entries
 returns-clause-entries c =
     let fields = c.self.inside in
     let stored = c.store_event-kind.ensures in
-    let seq_is : length (entries_of fields) ≡ c.len.result = omega (arith, length-map fields.heads.items (entry_of fields.payloads.items), c.len.ensures) in
+    let seq_is : length (entries_of fields) ≡ c.len.result = omega (arith, length-map fields.heads.items (entry_of fields.payloads.bytes), c.len.ensures) in
     let pushed = entries-push _ _ _ fields.heads.items _ _ (what.Event c.args.number c.args.payload.now) c.self.invariant.kept.within stored.appended c.push_head.ensures.items stored.kept in
     rw (← c.self.view_is, seq_is) pushed

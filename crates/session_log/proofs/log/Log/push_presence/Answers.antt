@@ -14,10 +14,9 @@ invariant_of-self c =
     let is = c.requires.presence in
     let recorded = what_of [] c.args.kind in
     let may : MayFollow (entries_of fields) (next_entry (entries_of fields) c.args.time c.args.view recorded) = rw (← c.self.view_is) at c.requires.legal in
-    let same : fields.payloads.items ≡ fields.payloads.items ++ event_payload recorded = rw (payload_of-presence c.args.kind is) (sym (append-nil fields.payloads.items)) in
+    let same : fields.payloads.bytes ≡ fields.payloads.bytes ++ event_payload recorded = rw (payload_of-presence c.args.kind is) (sym (append-nil fields.payloads.bytes)) in
     record {
       kept = AreSound-push _ _ fields.heads.items _ _ recorded c.self.invariant.kept same c.push_head.ensures.items (what_of-presence _ _ is) (IsKindWithin-presence _ _ is) (omega (arith, c.len.ensures)) may;
-      short = omega (arith, short-push fields.payloads.items fields.heads.items c.args.time c.args.view recorded may, c.push_head.ensures.len, c.len.ensures);
+      short = omega (arith, short-push fields.payloads.bytes fields.heads.items c.args.time c.args.view recorded may, c.push_head.ensures.len, c.len.ensures);
       room_for_entries = omega (arith, c.push_head.ensures.len, c.push_head.ensures.room);
-      room_for_bytes = omega arith;
     }

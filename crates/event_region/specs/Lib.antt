@@ -1,0 +1,3 @@
+pub mod RegionState
+pub mod Chunks
+pub mod Kept

@@ -1,0 +1,9 @@
+//! Bytes that are appended, and then stay where they are in memory.
+#![tactic(auto)]
+
+mod chunks;
+mod laws;
+mod region;
+
+pub use laws::a_place_keeps_its_bytes;
+pub use region::{MOST_APPENDED, Place, Region};
