@@ -1,22 +1,17 @@
 -- The table of a log that goes on.
-use Rattle.std.proofs.Common.{ℕ, ◌+◌, ◌≡◌, List, [], ◌∷◌, ◌++◌, length, refl, sym}
+use Rattle.std.proofs.Common.{ℕ, ◌+◌, ◌<◌, ◌≡◌, List, [], ◌∷◌, ◌++◌, length, refl, sym}
 use Rattle.tea_base.specs.declared.entry.Entry.{Entry}
 use Rattle.tea_base.specs.declared.entry.What.{What}
-use Rattle.tea_base.specs.Legal.{MayFollow}
-use Rattle.tea_base.proofs.LogLaws.{MayFollow-short}
+use Rattle.tea_base.specs.Limits.{most_entries}
 use Rattle.session_log.specs.LogState.{next_entry, with_next}
 use Rattle.resend_table.specs.declared.stand.Kind.{Kind}
 use Rattle.resend_table.specs.declared.table.Resend.{Resend}
 use Rattle.resend_table.specs.Stands.{kind_of, IsNotedAs}
-use Rattle.resend_table.specs.Noted.{HasNoted, HasNotedFew}
+use Rattle.resend_table.specs.Noted.{HasNoted}
 
 -- where the entry that was appended is noted, by the seq that the log gave it
-pub noted_append : (before after : Resend) (log old new : List Entry) (seq time view : ℕ) (what : What) (kind : Kind) → HasNoted before log → old ≡ log → seq ≡ length old + 1 → new ≡ with_next old time view what → kind_of what ≡ kind
-    → ((l : List Entry) → (entry : Entry) → HasNoted before l → IsNotedAs seq view kind entry → HasNoted after (l ++ entry ∷ []))
+pub noted_append : (before after : Resend) (log old new : List Entry) (seq time view : ℕ) (what : What) (kind : Kind) → HasNoted before log → old ≡ log → length log < most_entries → seq ≡ length old + 1 → new ≡ with_next old time view what → kind_of what ≡ kind
+    → ((l : List Entry) → (entry : Entry) → HasNoted before l → length l < most_entries → IsNotedAs seq view kind entry → HasNoted after (l ++ entry ∷ []))
     → HasNoted after new
-noted_append before after log old new seq time view what kind told same numbered pushed is notes =
-    rw (pushed, same) (notes log (next_entry log time view what) told (sym (rw same at numbered), refl, is))
-
--- before an entry that may follow there is room for it
-pub few_noted : (table : Resend) (log : List Entry) (entry : Entry) → HasNoted table log → MayFollow log entry → HasNotedFew table
-few_noted table log entry told may = (log, told, MayFollow-short log entry may)
+noted_append before after log old new seq time view what kind told same short numbered pushed is notes =
+    rw (pushed, same) (notes log (next_entry log time view what) told short (sym (rw same at numbered), refl, is))

@@ -1,5 +1,5 @@
 -- Calls of a session that has room for them.
-use Rattle.std.specs.Prelude.{ℕ, ◌≡◌, Bool, true, false, List, [], ◌∷◌, sum_by, Result, IsOk}
+use Rattle.std.specs.Prelude.{ℕ, ◌≡◌, ◌≤◌, Bool, true, false, List, [], ◌∷◌, sum_by, Result, IsOk}
 use Rattle.tea_base.specs.declared.want.WantOfMemory.{WantOfMemory}
 use Rattle.reflector_core.specs.declared.request.Request.{Request}
 use Rattle.reflector_core.specs.declared.request.Request.TheVariants.{Join, Send, Tick, Leave, Offer, Pull}
@@ -12,7 +12,7 @@ pub record Call : Type 0 where
   pub result : Result Reply WantOfMemory
   pub after : SessionState
 
--- what the clauses `prepared` and `used` of `Session::call` say of a call
+-- what `Session::call` says of a call by its clause `room`: it is answered where there is room for it, and uses up no more than its own
 pub record MeetsItsClauses (before : SessionState) (call : Call) : Type 0 where
   pub prepared : IsPreparedFor before call.request → IsOk call.result
   pub used : UsesAtMost before call.after (entries_used call.request) (bytes_used call.request)
@@ -42,3 +42,9 @@ is_send_or_leave (Pull after limit) = false
 abbrev pub AreAnswered : List Call → Type 0
 AreAnswered [] = Unit {0}
 AreAnswered (call ∷ rest) = (is_send_or_leave call.request ≡ true → IsOk call.result) × AreAnswered rest
+
+-- Whatever is asked of it from now on, as long as so many calls may add an entry, and the Sends have so many payload
+-- bytes together: each Send and each Leave is answered.
+abbrev pub AnswersPrepared : SessionState → ℕ → ℕ → Type 0
+AnswersPrepared s calls bytes =
+    (made : List Call) → WereMade s made → entries_asked made ≤ calls → bytes_asked made ≤ bytes → AreAnswered made

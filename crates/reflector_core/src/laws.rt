@@ -6,7 +6,7 @@ ghost use Rattle.reflector_core.specs.Play.{after_all};
 ghost use Rattle.reflector_core.specs.Growth.{GrowsTo, is_offer};
 ghost use Rattle.reflector_core.specs.declared.request.Request.{Request};
 ghost use Rattle.reflector_core.specs.SessionState.{SessionState};
-ghost use Rattle.reflector_core.specs.Prepared.{Call, WereMade, entries_asked, bytes_asked, AreAnswered};
+ghost use Rattle.reflector_core.specs.Prepared.{AnswersPrepared};
 
 /// Whatever is asked, the log that a session had stays, and goes on with entries above its horizon. So it is after
 /// many requests.
@@ -24,11 +24,10 @@ pub fn offers_change_what_is_kept()
         ((offer s view joined time bytes).session.kept ≡ Some (record { time = time; bytes = bytes })) }
 {}
 
-/// A session that was prepared for so many calls and payload bytes has no want of memory in them. Of the Sends and
-/// Leaves, and of the Joins between, there are at most so many, and their payloads have at most so many bytes. Ticks,
-/// Offers and Pulls may stand between in any number. Each call is as `Session::call` says by `prepared` and `used`.
+/// A session that has room for so many calls and payload bytes has no want of memory in them. Of the Sends and Leaves,
+/// and of the Joins between, there are at most so many, and their payloads have at most so many bytes. Ticks, Offers and
+/// Pulls may stand between in any number. Each call is as the clause `room` of `Session::call` says.
 pub fn prepared_calls_are_answered()
-    ensures { (prepared : SessionState) (calls bytes : ℕ) (made : List Call) → calls ≤ prepared.ready_entries →
-        bytes ≤ prepared.ready_bytes → entries_asked made ≤ calls → bytes_asked made ≤ bytes →
-        WereMade prepared made → AreAnswered made }
+    ensures { (s : SessionState) (calls bytes : ℕ) → calls ≤ s.ready_entries → bytes ≤ s.ready_bytes →
+        AnswersPrepared s calls bytes }
 {}

@@ -4,6 +4,7 @@ ghost use Rattle.tea_base.specs.Legal.{IsLegal};
 ghost use Rattle.tea_base.specs.Limits.{most_open_entries, most_bytes};
 ghost use Rattle.reflector_core.specs.PlainSession.{IsSoundSession};
 ghost use Rattle.reflector_core.specs.SessionState.{IsPreparedFor, UsesAtMost, entries_used, bytes_used};
+ghost use Rattle.reflector_core.specs.Prepared.{MeetsItsClauses, AnswersPrepared};
 ghost use Rattle.reflector_core.specs.Answer.{with_reply, MayWantMemory, answer};
 ghost use Rattle.reflector_core.specs.Play.{first_session};
 
@@ -95,6 +96,7 @@ impl Session {
         ensures same { self.new.plain ≡ self.old.plain }
         ensures entries { OnOk result (calls ≤ self.new.ready_entries) }
         ensures bytes { OnOk result (bytes ≤ self.new.ready_bytes) }
+        ensures answered { OnOk result (AnswersPrepared self.new calls bytes) }
         ensures entries_kept { self.old.ready_entries ≤ self.new.ready_entries }
         ensures bytes_kept { self.old.ready_bytes ≤ self.new.ready_bytes }
     {
@@ -112,6 +114,8 @@ impl Session {
         ensures prepared { IsPreparedFor self.old request.now → IsOk result }
         ensures used { UsesAtMost self.old self.new
             (entries_used request.now) (bytes_used request.now) }
+        ensures room { MeetsItsClauses self.old
+            (record { request = request.now; result = result; after = self.new }) }
         ensures memory { OnErr result (MayWantMemory (answer self.old.plain request.now).reply) }
     {
         let reply = match request {

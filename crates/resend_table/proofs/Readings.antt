@@ -9,12 +9,12 @@ use Rattle.tea_base.specs.declared.entry.What.{What}
 use Rattle.tea_base.specs.declared.entry.What.TheVariants as what
 use Rattle.tea_base.specs.Readings.{current, is_here, last_number, here_count, view_event, view_events, is_presence_of, is_event_of, is_join, is_exit, is_event, is_some_join, seq_or_zero, last_entry, presence}
 use Rattle.tea_base.specs.Limits.{most_entries}
-use Rattle.tea_base.proofs.LogLaws.{last_presence-push, sent-push, here_count-push, here_count-positive, here_count-le-length}
+use Rattle.tea_base.proofs.LogLaws.{last_presence-push, sent-push, here_count-push, here_count-le-length}
 use Rattle.resend_table.specs.declared.stand.Kind.{Kind}
 use Rattle.resend_table.specs.declared.stand.Stand.{Stand}
 use Rattle.resend_table.specs.declared.table.Resend.{Resend}
 use Rattle.resend_table.specs.Stands.{kind_of, is_event_kind, absent, stand_of, stand_after, here_after, seq_in, IsNotedAs}
-use Rattle.resend_table.specs.Noted.{HasNoted, HasNotedFew, stand_at}
+use Rattle.resend_table.specs.Noted.{HasNoted, stand_at}
 
 -- ---- how a view stands
 
@@ -200,13 +200,8 @@ last_told table view stand is log told =
     let e : stand.last ≡ last_number log view = ap (λ (s : Stand). s.last) (is ∙ told.stands view) in
     omega (arith, last_number-le log view)
 
-pub few_here : (table : Resend) → HasNotedFew table → table.here_count < most_entries
-few_here table few = omega (arith, few.1.here, here_count-le-length few.0, few.2)
+pub few_here : (table : Resend) (log : List Entry) → HasNoted table log → length log < most_entries → table.here_count < most_entries
+few_here table log told short = omega (arith, told.here, here_count-le-length log, short)
 
-pub few_sent : (table : Resend) (view : ℕ) (stand : Stand) → stand ≡ stand_at table view → HasNotedFew table → stand.last < most_entries
-few_sent table view stand is few = omega (arith, last_told table view stand is few.0 few.1, few.2)
-
-pub some_here : (table : Resend) (view : ℕ) (stand : Stand) → stand ≡ stand_at table view → HasNotedFew table → stand.here ≡ true → 0 < table.here_count
-some_here table view stand is few here =
-    let there : is_here few.0 view ≡ true = sym (ap (λ (s : Stand). s.here) (is ∙ few.1.stands view)) ∙ here in
-    omega (arith, here_count-positive few.0 view there, few.1.here)
+pub few_sent : (table : Resend) (view : ℕ) (stand : Stand) → stand ≡ stand_at table view → (log : List Entry) → HasNoted table log → length log < most_entries → stand.last < most_entries
+few_sent table view stand is log told short = omega (arith, last_told table view stand is log told, short)

@@ -1,8 +1,7 @@
 -- What a table of resends tells of the entries that it noted.
-use Rattle.std.specs.Prelude.{ℕ, ◌≡◌, ◌<◌, List, length, option_map}
+use Rattle.std.specs.Prelude.{ℕ, ◌≡◌, List, option_map}
 use Rattle.tea_base.specs.declared.entry.Entry.{Entry}
 use Rattle.tea_base.specs.Readings.{here_count, view_event}
-use Rattle.tea_base.specs.Limits.{most_entries}
 use Rattle.resend_table.specs.declared.stand.Stand.{Stand}
 use Rattle.resend_table.specs.declared.table.Resend.{Resend}
 use Rattle.resend_table.specs.Stands.{stand_of, stand_in, seq_in}
@@ -19,10 +18,6 @@ pub record HasNoted (table : Resend) (log : List Entry) : Type 0 where
   pub stands : (view : ℕ) → stand_at table view ≡ stand_of log view
   pub seqs : (view number : ℕ) → seq_in table.seqs view number ≡ option_map (λ entry. entry.seq) (view_event log view number)
   pub here : table.here_count ≡ here_count log
-
--- it noted fewer entries than a log may have
-abbrev pub HasNotedFew : Resend → Type 0
-HasNotedFew table = (log : List Entry) × HasNoted table log × (length log < most_entries)
 
 -- what one noted, the other did
 abbrev pub KeepsNoted : Resend → Resend → Type 0

@@ -1,5 +1,5 @@
 //! How a view stands.
-ghost use Rattle.std.specs.Prelude.{◌≡◌, ◌<◌, true};
+ghost use Rattle.std.specs.Prelude.{◌≡◌, ◌<◌};
 ghost use Rattle.tea_base.specs.Limits.{most_entries};
 ghost use Rattle.resend_table.specs.Stands.{absent, stand_after, with_presence, here_after};
 
@@ -39,14 +39,13 @@ impl Stand {
 
     /// That after one more entry of the view.
     pub fn after(self, seq: u32, kind: Kind) -> Stand
-        requires { self.last < most_entries }
-        ensures { result ≡ stand_after self seq kind }
+        ensures { self.last < most_entries → result ≡ stand_after self seq kind }
     {
         match kind {
             Kind::Join => self.with_presence(seq, true),
             Kind::Exit => self.with_presence(seq, false),
             Kind::Event => Stand {
-                last: self.last + 1,
+                last: self.last.saturating_add(1),
                 ..self
             },
         }
@@ -66,14 +65,12 @@ impl Stand {
 
 /// How many views are here after one more entry of a view.
 pub fn here_after(count: u32, here: bool, kind: Kind) -> u32
-    requires few { count < most_entries }
-    requires some { here ≡ true → 0 < count }
-    ensures { result ≡ here_after count here kind }
+    ensures { count < most_entries → result ≡ here_after count here kind }
 {
     match kind {
         Kind::Join if here => count,
-        Kind::Join => count + 1,
-        Kind::Exit if here => count - 1,
+        Kind::Join => count.saturating_add(1),
+        Kind::Exit if here => count.saturating_sub(1),
         Kind::Exit | Kind::Event => count,
     }
 }

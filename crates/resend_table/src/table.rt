@@ -12,7 +12,7 @@ use tea_base::WantOfMemory;
 
 /// What is known of the entries that were noted, in the order in which they were: how each view stands, how many are
 /// here, and the seq of each Event by its view and number. Contracts say it by `HasNoted`, over the list of them. Each
-/// call but `reserve` takes no memory, and a time that does not grow with the list.
+/// call but `reserve` takes no memory, and goes through no list: it looks up a key by its hash.
 #[derive(Drop)]
 pub struct Resend {
     stands: IndexMap<u32, Stand>,
@@ -39,16 +39,15 @@ fn put<K: Eq + Hash + Drop, V: Drop>(map: &mut IndexMap<K, V>, key: K, value: V)
 
 /// Puts the seq of an entry at its view and the number of its Event, if it is one.
 fn put_seq(seqs: &mut IndexMap<(u32, u32), u32>, view: u32, last: u32, seq: u32, kind: Kind)
-    requires room { 0 < room_of seqs.old }
-    requires few { last < most_entries }
-    ensures seqs { (v number : ℕ) → seq_in seqs.new v number ≡
+    requires { 0 < room_of seqs.old }
+    ensures seqs { last < most_entries → (v number : ℕ) → seq_in seqs.new v number ≡
         (if is_event_kind kind && (view == v && last + 1 == number) then Some seq
         else seq_in seqs.old v number) }
     ensures room { room_of seqs.old ≤ room_of seqs.new + 1 }
 {
     match kind {
         Kind::Join | Kind::Exit => {}
-        Kind::Event => put(seqs, (view, last + 1), seq),
+        Kind::Event => put(seqs, (view, last.saturating_add(1)), seq),
     }
 }
 
@@ -57,7 +56,7 @@ impl Resend {
     ghost use Rattle.tea_base.specs.declared.entry.Entry.{Entry};
     ghost use Rattle.tea_base.specs.Readings.{current, is_here, last_number, here_count, view_event};
     ghost use Rattle.resend_table.specs.Stands.{IsNotedAs};
-    ghost use Rattle.resend_table.specs.Noted.{HasNoted, HasNotedFew, KeepsNoted, stand_at, spare_of};
+    ghost use Rattle.resend_table.specs.Noted.{HasNoted, KeepsNoted, stand_at, spare_of};
 
     /// The table that noted nothing, without room. Takes no memory.
     pub fn new(alloc: Global) -> Resend
@@ -96,12 +95,13 @@ impl Resend {
         self.spare
     }
 
-    /// Notes one more entry, of which it takes the seq, the view and what kind it is of. Uses up the room of one.
+    /// Notes one more entry, of which it takes the seq, the view and what kind it is of. Uses up the room of one. More
+    /// entries than a log may have are not told of.
     pub fn note(&mut self, seq: u32, view: u32, kind: Kind)
-        requires room { 0 < spare_of self.old }
-        requires few { HasNotedFew self.old }
+        requires { 0 < spare_of self.old }
         ensures noted { (log : List Entry) → (entry : Entry) → HasNoted self.old log →
-            IsNotedAs seq view kind entry → HasNoted self.new (log ++ entry ∷ []) }
+            length log < most_entries → IsNotedAs seq view kind entry →
+            HasNoted self.new (log ++ entry ∷ []) }
         ensures spare { spare_of self.new + 1 ≡ spare_of self.old }
     {
         let stand = self.stand(view);

@@ -1,8 +1,9 @@
 use Rattle.std.proofs.Common.{refl}
 use Rattle.tea_base.specs.declared.entry.What.TheVariants as what
 use Rattle.resend_table.specs.declared.stand.Kind.TheVariants as kind
+use Rattle.tea_base.proofs.LogLaws.{MayFollow-short}
 use Rattle.reflector_core.specs.Kept.{plain_session}
-use Rattle.reflector_core.proofs.NotedLaws.{noted_append, few_noted}
+use Rattle.reflector_core.proofs.NotedLaws.{noted_append}
 use Rattle.reflector_core.proofs.SessionLaws.{event_may_follow, event_is_sound}
 use Rattle.reflector_core.proofs.session.Session.append_event.Goals as goal
 
@@ -12,12 +13,6 @@ push_event-seq-requires-clause-legal c =
     let may = event_may_follow (plain_session c.self.inside) c.args.now c.args.view c.args.number c.args.payload.now c.self.invariant.sound c.ranges.view.fits asked.here asked.next asked.short asked.fits asked.unfilled asked.before_end in
     rw (c.make_room.ensures.same, c.stamp-time.ensures) may
 
-pub note-requires-clause-few : goal.note-requires-clause-few
-note-requires-clause-few c =
-    let asked = rw (← c.self.view_is) at c.requires in
-    let may = event_may_follow (plain_session c.self.inside) c.args.now c.args.view c.args.number c.args.payload.now c.self.invariant.sound c.ranges.view.fits asked.here asked.next asked.short asked.fits asked.unfilled asked.before_end in
-    few_noted c.make_room.new.resend c.self.inside.log.entries _ (c.make_room.ensures.noted c.self.inside.log.entries c.self.invariant.noted) may
-
 pub invariant_of-self-2 : goal.invariant_of-self-2
 invariant_of-self-2 c =
     let asked = rw (← c.self.view_is) at c.requires in
@@ -26,5 +21,5 @@ invariant_of-self-2 c =
     record {
       sound = rw (c.push_event-seq.ensures.entries, c.make_room.ensures.same, c.stamp-time.ensures) after;
       noted = noted_append c.make_room.new.resend _ c.self.inside.log.entries c.make_room.new.log.entries _ _ c.stamp-time.result c.args.view (what.Event c.args.number c.args.payload.now) kind.Event
-          (c.make_room.ensures.noted c.self.inside.log.entries c.self.invariant.noted) c.make_room.ensures.same c.push_event-seq.ensures.seq c.push_event-seq.ensures.entries refl c.note.ensures.noted;
+          (c.make_room.ensures.noted c.self.inside.log.entries c.self.invariant.noted) c.make_room.ensures.same (MayFollow-short _ _ may) c.push_event-seq.ensures.seq c.push_event-seq.ensures.entries refl c.note.ensures.noted;
     }
