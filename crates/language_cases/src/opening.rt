@@ -1,5 +1,6 @@
 //! The world in which programs run.
 use crate::stopped::Stopped;
+use known_names::Names;
 use message_queue::Queue;
 use model_check::Checked;
 use model_eval::State;
@@ -46,7 +47,7 @@ fn world(alloc: Global, objects: Store) -> State {
         faults: [0; 14],
         views: List::new(alloc),
         objects,
-        known: List::new(alloc),
+        known: Names::new(alloc),
         topics: Topics::new(alloc),
         pending: Queue::resume(alloc, 7),
         published: List::new(alloc),

@@ -22,7 +22,7 @@ pub(crate) fn write_world(
         state.pending.next()
     )?;
     write_objects(out, program, state.objects.objects())?;
-    write_known_names(out, state.known.as_slice())?;
+    write_known_names(out, state.known.names())?;
     write_subscriptions(out, state.topics.subscriptions())?;
     write_messages(out, state.pending.ordered(alloc)?.as_slice())?;
     write_published(out, state.published.as_slice())

@@ -8,6 +8,7 @@ use Rattle.world_plain.specs.Valid.{RiseFrom, object_at, if_same, IsHeld, Object
 use Rattle.world_plain.specs.declared.message.Subscription.{Subscription}
 use Rattle.world_plain.specs.declared.world.Known.{Known}
 pub use Rattle.message_queue.proofs.Filtered.{filter-all, filter-each, AreInOrder-filtered, NumbersDiffer-filtered, total-filtered, length-filtered}
+pub use Rattle.known_names.proofs.KnownOrder.{KnownRise-filtered}
 pub use Rattle.pubsub.proofs.Subscriptions.{SubscriptionsDiffer-filtered}
 use Rattle.model_eval.specs.Kept.{count_due}
 use Rattle.model_eval.proofs.FieldBounds.{if_both}
@@ -26,11 +27,6 @@ ids-filtered keeps low (o ∷ os) h =
 
 pub ObjectsFit-filtered : (counts : List ℕ) (next : ℕ) (keeps : ObjectRecord → Bool) (os : List ObjectRecord) → ObjectsFit counts next os → ObjectsFit counts next (filter keeps os)
 ObjectsFit-filtered counts next keeps = filter-all (ObjectsFit counts next) keeps tt (λ o os h. h.1) (λ o os ps h g. (h.0, g))
-
-pub KnownRise-filtered : (keeps : Known → Bool) (ks : List Known) → KnownRise ks → KnownRise (filter keeps ks)
-KnownRise-filtered keeps =
-    filter-each (λ k ks. IsBeforeAll k.name ks) KnownRise keeps tt (λ k ks h. (h.0, h.1)) (λ k ks h g. (h, g))
-    (λ k. filter-all (IsBeforeAll k.name) keeps tt (λ l ls h. h.1) (λ l ls ms h g. (h.0, g)))
 
 pub SubscriptionsFit-filtered : (os : List ObjectRecord) (keeps : Subscription → Bool) (ss : List Subscription) → SubscriptionsFit os ss → SubscriptionsFit os (filter keeps ss)
 SubscriptionsFit-filtered os keeps = filter-all (SubscriptionsFit os) keeps tt (λ s ss h. h.1) (λ s ss ts h g. (h.0, g))

@@ -22,7 +22,7 @@ has-method (Some s) tree n x c h e = ap (λ (o : Option MethodTree). is_some o) 
 pub init-known : (found : Option (Bor Solved)) (tree : ProgramTree) (n : ℕ) (x : Name) (c : ClassTree) → x ≡ init → FindsMethod found tree n x → slice_get tree n ≡ Some c → is_some (method_named init c.methods) ≡ is_some found
 init-known found tree n x c is h e = ap (λ (y : Name). is_some (method_named y c.methods)) (sym is) ∙ has-method found tree n x c h e
 
-plain-Ref : (id : ℕ) → plain (Ref id) ≡ ref id
+pub plain-Ref : (id : ℕ) → plain (Ref id) ≡ ref id
 plain-Ref id = search (rules, the_lemmas)
 
 pub plain-Nil : plain Nil ≡ nil

@@ -2,7 +2,7 @@ pub mod FieldBounds
 pub mod Pending
 pub mod Created
 pub mod Destroyed
-pub mod KnownOrder
+pub mod KnownFits
 pub mod ValidLaws
 pub mod ValueBounds
 pub mod Carrying
@@ -11,9 +11,7 @@ pub mod KeptLaws
 pub mod Loops
 pub mod Fields
 pub mod Filters
-pub mod Rooms
 pub mod Same
-pub mod KnownPlaces
 pub mod Texts
 pub mod InitLaws
 pub mod Steps

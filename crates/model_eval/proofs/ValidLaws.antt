@@ -12,7 +12,7 @@ use Rattle.world_plain.specs.declared.message.Subscription.{Subscription}
 use Rattle.world_plain.specs.declared.world.Known.{Known}
 use Rattle.model_lang.specs.Tree.{Name}
 use Rattle.model_eval.specs.Running.{Running}
-use Rattle.model_eval.specs.Objects.{with_fields, with_objects, new_object, has_room_for, with_object, without_object, with_known}
+use Rattle.model_eval.specs.Objects.{with_fields, with_objects, new_object, has_room_for, with_object, without_object}
 use Rattle.object_store.specs.Store.{last_object_id}
 use Rattle.model_eval.specs.Futures.{with_message, has_room}
 use Rattle.model_eval.specs.Publishing.{has_room_to, with_subscription}
@@ -23,7 +23,9 @@ use Rattle.model_eval.proofs.FieldBounds.{StillHeld, Alike, with_fields-alike, A
 use Rattle.model_eval.proofs.Pending.{AreInOrder-inserted, NumbersDiffer-inserted, next_number-unused, MessagesFit-inserted, MessagesFit-later, length-inserted, total-inserted}
 use Rattle.model_eval.proofs.Created.{ids-appended, ObjectsFit-appended, appended-held, replicate-in_bounds, total-appended, SubscriptionsFit-appended}
 use Rattle.model_eval.proofs.Destroyed.{ids-filtered, ObjectsFit-filtered, KnownRise-filtered, SubscriptionsDiffer-filtered, SubscriptionsFit-filtered, MessagesFit-filtered, AreInOrder-filtered, NumbersDiffer-filtered, total-filtered, length-filtered, KnownFit-others, SubscriptionsFit-others, MessagesFit-others}
-use Rattle.model_eval.proofs.KnownOrder.{KnownRise-with_known, KnownFit-with_known}
+use Rattle.known_names.specs.Names.{with_known}
+use Rattle.known_names.proofs.KnownOrder.{KnownRise-with_known}
+use Rattle.model_eval.proofs.KnownFits.{KnownFit-with_known}
 
 -- with other fields in one object, if it is light
 pub valid-fields : (counts : List ℕ) (id : ℕ) (change : List PlainValue → List PlainValue) (r : Running)

@@ -1,12 +1,12 @@
 -- Objects: their fields, how one is made and taken away, and the names by which they are known.
 use Rattle.std.specs.Prelude.{ℕ, ◌+◌, ◌-◌, ◌^◌, Bool, not, nat_eq, nat_lt, nat_le, if◌then◌else◌, ◌&&◌, List, [], ◌∷◌, ◌++◌, length, replicate, bytes_eq, Option, Some, None, is_some, ⊤}
 use Rattle.std.specs.List.{filter}
-use Rattle.tea_base.specs.Order.{comes_before}
 use Rattle.model_value.specs.Plain.{PlainValue, nil, ref}
 use Rattle.world_plain.specs.World.{ObjectRecord, WorldRecord, object_weight, world_weight, most_world_weight}
 use Rattle.world_plain.specs.Valid.{object_at, most_objects}
 use Rattle.world_plain.specs.declared.world.Known.{Known}
 use Rattle.object_store.specs.Store.{last_object_id}
+use Rattle.known_names.specs.Names.{with_known}
 use Rattle.model_lang.specs.Tree.{Name}
 use Rattle.model_eval.specs.declared.fault.Fault.TheVariants.{NoObject, Full}
 use Rattle.model_eval.specs.Running.{Running, with_world, Outcome, Gives, Faults}
@@ -84,13 +84,6 @@ destroy id r = if is_held id r.world then Gives nil (with_world r (without_objec
 abbrev pub known_by : Name → List Known → PlainValue
 known_by x [] = nil
 known_by x (k ∷ ks) = if bytes_eq x k.name then ref k.object else known_by x ks
-
--- an object in place of any other that is known by that name
-abbrev pub with_known : Name → ℕ → List Known → List Known
-with_known x object [] = record { name = x; object = object } ∷ []
-with_known x object (k ∷ ks) =
-    if bytes_eq x k.name then record { name = x; object = object } ∷ ks
-    else (if comes_before x k.name then record { name = x; object = object } ∷ k ∷ ks else k ∷ with_known x object ks)
 
 abbrev pub make_known : ℕ → Name → Running → Outcome PlainValue
 make_known object x r =

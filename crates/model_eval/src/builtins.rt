@@ -43,9 +43,9 @@ pub fn answer(
         Builtin::Views => tell_views(alloc, args.as_slice(), state, budget),
         Builtin::SessionId => session_id(alloc, args.as_slice(), state),
         Builtin::Known => known(args.as_slice(), state),
-        Builtin::BeKnown => make_known(alloc, args.as_slice(), object, state),
+        Builtin::BeKnown => make_known(args.as_slice(), object, state),
         Builtin::Exists => exists(args.as_slice(), state),
-        Builtin::Destroy => take_away(alloc, args.as_slice(), state),
+        Builtin::Destroy => take_away(args.as_slice(), state),
         Builtin::Subscribe => make_handler(args.as_slice(), object, state),
         Builtin::Unsubscribe => drop_handler(args.as_slice(), object, state),
         Builtin::Cancel => cancel_calls(args.as_slice(), object, state),
@@ -173,35 +173,25 @@ fn find_known(name: &Value, state: &State) -> Result<Value, EvalStop>
     ensures { (budget : Budget) → Answers result state.now budget (on_text tell_known (plain name.now ∷ []) (running state.now budget)) }
 {
     match name {
-        Value::Text(name) => Ok(known_object(state.known.as_slice(), name)),
+        Value::Text(name) => Ok(known_object(&state.known, name)),
         _ => Err(EvalStop::Fault(Fault::BadKind)),
     }
 }
 
-fn make_known(
-    alloc: Global,
-    args: &[Value],
-    object: u32,
-    state: &mut State,
-) -> Result<Value, EvalStop>
+fn make_known(args: &[Value], object: u32, state: &mut State) -> Result<Value, EvalStop>
     ensures { (budget : Budget) → Answers result state.new budget (on_text (make_known object) (plain_values args.now) (running state.old budget)) }
 {
     match args {
-        [name] => make_known_by(alloc, name, object, state),
+        [name] => make_known_by(name, object, state),
         _ => Err(EvalStop::Fault(Fault::BadKind)),
     }
 }
 
-fn make_known_by(
-    alloc: Global,
-    name: &Value,
-    object: u32,
-    state: &mut State,
-) -> Result<Value, EvalStop>
+fn make_known_by(name: &Value, object: u32, state: &mut State) -> Result<Value, EvalStop>
     ensures { (budget : Budget) → Answers result state.new budget (on_text (make_known object) (plain name.now ∷ []) (running state.old budget)) }
 {
     match name {
-        Value::Text(name) => be_known(alloc, name, object, state),
+        Value::Text(name) => be_known(name, object, state),
         _ => Err(EvalStop::Fault(Fault::BadKind)),
     }
 }
@@ -224,20 +214,20 @@ fn is_there(object: &Value, state: &State) -> Result<Value, EvalStop>
     }
 }
 
-fn take_away(alloc: Global, args: &[Value], state: &mut State) -> Result<Value, EvalStop>
+fn take_away(args: &[Value], state: &mut State) -> Result<Value, EvalStop>
     ensures { (budget : Budget) → Answers result state.new budget (on_ref destroy (plain_values args.now) (running state.old budget)) }
 {
     match args {
-        [object] => take_away_one(alloc, object, state),
+        [object] => take_away_one(object, state),
         _ => Err(EvalStop::Fault(Fault::BadKind)),
     }
 }
 
-fn take_away_one(alloc: Global, object: &Value, state: &mut State) -> Result<Value, EvalStop>
+fn take_away_one(object: &Value, state: &mut State) -> Result<Value, EvalStop>
     ensures { (budget : Budget) → Answers result state.new budget (on_ref destroy (plain object.now ∷ []) (running state.old budget)) }
 {
     match object {
-        Value::Ref(id) => destroy(alloc, state, *id),
+        Value::Ref(id) => destroy(state, *id),
         _ => Err(EvalStop::Fault(Fault::BadKind)),
     }
 }

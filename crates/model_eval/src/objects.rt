@@ -1,6 +1,5 @@
 //! The objects of a world: their fields, how one is made and taken away.
-ghost use Rattle.std.specs.Prelude.{◌≡◌, ◌+◌, ◌≤◌, IfOk, nat_le, replicate, not, nat_eq};
-ghost use Rattle.std.specs.List.{filter};
+ghost use Rattle.std.specs.Prelude.{◌≡◌, ◌+◌, ◌≤◌, IfOk, nat_le, replicate};
 ghost use Rattle.model_value.specs.Plain.{nil};
 ghost use Rattle.model_value.specs.View.{plain, plain_values};
 ghost use Rattle.world_plain.specs.Valid.{object_at};
@@ -17,9 +16,8 @@ use crate::state::State;
 use crate::values::copied;
 use model_value::{Value, Values, weight};
 use std::alloc::Global;
-use std::mem;
 use tea_base::{List, WantOfMemory};
-use world_plain::{KnownNames, MOST_WORLD_WEIGHT, object_fits, value_fits};
+use world_plain::{MOST_WORLD_WEIGHT, object_fits, value_fits};
 
 /// A copy of what an object's field holds. Gives the fault NoObject where the object is gone.
 #[inline(always)]
@@ -137,36 +135,21 @@ fn nils(alloc: Global, count: u32) -> Result<Values, WantOfMemory>
 
 /// Takes away an object, its subscriptions, its pending messages and the names by which it is known. Gives the fault NoObject
 /// where it is gone. Takes no memory.
-pub fn destroy(alloc: Global, state: &mut State, id: u32) -> Result<Value, EvalStop>
+pub fn destroy(state: &mut State, id: u32) -> Result<Value, EvalStop>
     ensures { (budget : Budget) → Answers result state.new budget (destroy id (running state.old budget)) }
 {
     if !is_held(state, id) {
         return Err(EvalStop::Fault(Fault::NoObject));
     }
-    take_away(alloc, state, id);
+    take_away(state, id);
     Ok(Value::Nil)
 }
 
-fn take_away(alloc: Global, state: &mut State, id: u32)
+fn take_away(state: &mut State, id: u32)
     ensures { (budget : Budget) → running state.new budget ≡ with_world (running state.old budget) (without_object id (world_of state.old)) }
 {
     state.objects.destroy(id);
     state.topics.drop_object(id);
     state.pending.drop_object(id);
-    remove_known(alloc, &mut state.known, id);
-}
-
-fn remove_known(alloc: Global, known: &mut KnownNames, id: u32)
-    ensures { known.new ≡ filter (λ k. not (nat_eq k.object id)) known.old }
-{
-    let mut all = take_items(alloc, known);
-    all.retain(|one| one.object != id);
-    *known = List::from_vec(all);
-}
-
-/// The items of a list, which is left empty. Takes no memory.
-pub fn take_items<T>(alloc: Global, list: &mut List<T>) -> Vec<T>
-    ensures { result.items ≡ list.old }
-{
-    mem::replace(list, List::new(alloc)).into_vec()
+    state.known.drop_object(id);
 }

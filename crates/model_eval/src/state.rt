@@ -6,6 +6,7 @@ ghost use Rattle.object_store.specs.View.{objects_seen};
 ghost use Rattle.model_eval.specs.Meaning.{most_fuel, most_open};
 ghost use Rattle.model_eval.specs.Answer.{world_of};
 
+use known_names::Names;
 use message_queue::Queue;
 use model_value::copy_all;
 use object_store::{Object, Store};
@@ -13,8 +14,8 @@ use pubsub::Topics;
 use std::alloc::Global;
 use tea_base::{List, Numbers, SessionId, WantOfMemory};
 use world_plain::{
-    KnownNames, MOST_WORLD_WEIGHT, PlainObject, PlainObjects, PlainWorld, Published,
-    copy_known_names, copy_numbers, copy_subscriptions, room_behind_known,
+    MOST_WORLD_WEIGHT, PlainObject, PlainObjects, PlainWorld, Published, copy_known_names,
+    copy_numbers, copy_subscriptions,
 };
 
 /// A world, and what its models published since the list was last taken.
@@ -35,7 +36,7 @@ pub struct State {
     /// The objects, and the number that the next one gets.
     pub objects: Store,
     /// The names by which objects are known, rising by their characters.
-    pub known: KnownNames,
+    pub known: Names,
     /// Who handles which events, in the order of subscription.
     pub topics: Topics,
     /// The messages to come, and the number that the next one gets.
@@ -51,7 +52,7 @@ impl State {
     {
         let views = copy_numbers(alloc, self.views.as_slice())?;
         let objects = copy_objects(alloc, self.objects.objects())?;
-        let known = copy_known_names(alloc, self.known.as_slice())?;
+        let known = copy_known_names(alloc, self.known.names())?;
         let subscriptions = copy_subscriptions(alloc, self.topics.subscriptions())?;
         let pending = self.pending.ordered(alloc)?;
         Ok(PlainWorld {
@@ -77,7 +78,8 @@ impl State {
         let left = u64::from(room).checked_sub(self.objects.weight())?;
         let left = left.checked_sub(self.pending.weight())?;
         let left = left.checked_sub(self.topics.weight())?;
-        room_behind_known(self.known.as_slice(), left as u32)
+        let left = left.checked_sub(self.known.weight())?;
+        Some(left as u32)
     }
 
     /// How much more weight the world may hold, or None where it is heavier than a world may be. Takes no memory.

@@ -25,7 +25,8 @@ use Rattle.model_eval.specs.declared.fault.Fault.{Fault}
 use Rattle.model_eval.specs.declared.fault.Fault.TheVariants.{BadIndex, NoObject, Arity, Fuel, Depth, Size, Instant, Full}
 use Rattle.model_eval.specs.Running.{Running, with_world, Outcome, Gives, Faults, and_then, enter, spend, give_in_bounds, give_by_weight, PureOutcome, value, fails, give_pure, truth, decide}
 use Rattle.model_eval.specs.Operators.{apply_binary, truly, binary_outcome, apply_unary}
-use Rattle.model_eval.specs.Objects.{get_named, with_fields, if_light, put_fields, new_object, has_room_for, with_object, make_object, without_object, is_held, destroy, with_named, with_known, make_known}
+use Rattle.model_eval.specs.Objects.{get_named, with_fields, if_light, put_fields, new_object, has_room_for, with_object, make_object, without_object, is_held, destroy, with_named, make_known}
+use Rattle.known_names.specs.Names.{with_known}
 use Rattle.model_eval.specs.Futures.{ahead, has_room, with_message, send_at, send_to, send}
 use Rattle.model_eval.specs.Builtins.{draw, pure_of, takes_steps, builtin_outcome, pure_outcome, on_none, on_int, on_text, on_texts, on_event, on_ref, tell_time, tell_id, tell_known, tell_held, run_builtin_alone, run_builtin, run_if_builtin}
 use Rattle.model_eval.specs.Publishing.{handle, run_handlers, tell_handlers, with_outgoing, publish, has_room_to, with_subscription, add_subscription, subscription, subscribe, unsubscribe, messages_without_calls, cancel, count_views, tell_views}

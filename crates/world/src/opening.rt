@@ -11,6 +11,7 @@ ghost use Rattle.world.specs.Worlds.{empty_world, with_root, scene_with_world, f
 ghost use Rattle.world.specs.View.{scene};
 
 use crate::messages::{begin, run};
+use known_names::Names;
 use message_queue::Queue;
 use model_check::Checked;
 use model_eval::{Call, State};
@@ -49,7 +50,7 @@ fn empty(alloc: Global, id: SessionId) -> State
         faults: [0; 14],
         views: List::new(alloc),
         objects: Store::new(alloc),
-        known: List::new(alloc),
+        known: Names::new(alloc),
         topics: Topics::new(alloc),
         pending: Queue::new(alloc),
         published: List::new(alloc),
@@ -82,8 +83,10 @@ fn make_root(
     };
     let mut objects = Store::resume(alloc, 2);
     objects.put_back(1, class, fields)?;
+    let mut names = Names::new(alloc);
+    names.set(known)?;
     state.objects = objects;
-    state.known = only(alloc, known)?;
+    state.known = names;
     Ok(())
 }
 

@@ -6,6 +6,7 @@ ghost use Rattle.pubsub.specs.Topics.{IsLightSubscription, is_subscribed};
 ghost use Rattle.world.specs.Worlds.{take_up};
 ghost use Rattle.world.specs.View.{scene};
 
+use known_names::Names;
 use message_queue::Queue;
 use model_eval::State;
 use model_value::copy_values;
@@ -25,7 +26,7 @@ pub fn from_plain(alloc: Global, plain: &PlainWorld) -> Result<State, WantOfMemo
 {
     let views = copy_numbers(alloc, plain.views.as_slice())?;
     let objects = put_objects(alloc, plain)?;
-    let known = copy_known_names(alloc, plain.known.as_slice())?;
+    let known = Names::take_up(copy_known_names(alloc, plain.known.as_slice())?);
     let topics = put_subscriptions(alloc, plain)?;
     let pending = put_messages(alloc, plain)?;
     Ok(State {

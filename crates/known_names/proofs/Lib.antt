@@ -1,0 +1,4 @@
+pub mod Held
+pub mod KnownOrder
+pub mod KnownPlaces
+pub mod KnownWeights
