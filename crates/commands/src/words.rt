@@ -2,8 +2,8 @@
 ghost use Rattle.std.specs.Prelude.{◌≡◌, ◌<◌, ◌≤◌, ℕ, [], ◌∷◌, true, None, IfOk, IfSome, IfNone, MatchBool, IsTrue, ◌↔◌, encode_utf8_all, nat_lt};
 ghost use Rattle.std.specs.List.{list_all};
 ghost use Rattle.std.specs.Str.{bytes_eq};
-ghost use Rattle.text_lines.specs.Lines.{is_empty};
-ghost use Rattle.commands.specs.CommandWords.{command_of, command_named, stamp_of, check_of, replay_of, replay_words, join_command, join_named, join_words, view_of, reflect_of, reflect_options, reflect_words, reflect_named, connections_of, AreConnections, drill_of, drill_options, drill_words, drill_numbered, seed_of, views_of, events_of, AreViews, all_parts, is_option, setting_value, without, IsFirstOf, IsWithinBounds, HasNone};
+ghost use Rattle.text_lines.specs.Lines.{is_empty, number_of_word};
+ghost use Rattle.commands.specs.CommandWords.{command_of, command_named, stamp_of, check_of, replay_of, replay_words, join_command, join_named, join_words, view_of, reflect_of, reflect_options, reflect_words, reflect_named, connections_of, drill_of, drill_options, drill_words, drill_numbered, seed_of, views_of, events_of, all_parts, is_option, setting_value, without, IsFirstOf, IsWithinBounds, HasNone};
 
 use crate::script::time_in;
 use std::alloc::Global;
@@ -12,6 +12,15 @@ use text_lines::number;
 
 /// The most bytes of UTF-8 that the name of a session has.
 const MOST_NAME: usize = 255;
+
+/// The most links that a reflector accepts.
+const MOST_CONNECTIONS: u32 = 64;
+
+/// The most views of a drill.
+const MOST_VIEWS: u32 = 8;
+
+/// The most events that each view of a drill publishes.
+const MOST_EVENTS: u32 = 10000;
 
 /// A command with its words.
 #[derive(Drop)]
@@ -297,13 +306,13 @@ fn replay_words(positionals: Words, from: Option<Text>, snapshot: Option<Text>) 
     }))
 }
 
-/// The number of a view.
-fn view_of(word: &str) -> Option<u32>
-    ensures read { result ≡ view_of word.now }
-    ensures bound { IfSome result (λ view. 1 ≤ view) }
+/// The number from `low` to `high` that a word spells.
+fn small_number(word: &str, low: u32, high: u32) -> Option<u32>
+    ensures read { result ≡ number_of_word low high word.now }
+    ensures bounds { IfSome result (λ number. (low ≤ number) × (number ≤ high)) }
 {
-    match number(word, 1, 4294967295) {
-        Some(view) => Some(view as u32),
+    match number(word, u64::from(low), u64::from(high)) {
+        Some(number) => Some(number as u32),
         None => None,
     }
 }
@@ -354,7 +363,7 @@ fn join_named(
     if name.bytes().len() > MOST_NAME {
         return None;
     }
-    let view = view_of(view.as_str())?;
+    let view = small_number(view.as_str(), 1, u32::MAX)?;
     Some(Command::Join(JoinRequest {
         program,
         name,
@@ -362,17 +371,6 @@ fn join_named(
         view,
         script,
     }))
-}
-
-/// How many links a reflector accepts.
-fn connections_of(word: &str) -> Option<u32>
-    ensures read { result ≡ connections_of word.now }
-    ensures bound { IfSome result AreConnections }
-{
-    match number(word, 1, 64) {
-        Some(connections) => Some(connections as u32),
-        None => None,
-    }
 }
 
 /// `reflect PROGRAM NAME ADDRESS --connections N --log FILE`
@@ -436,7 +434,7 @@ fn reflect_named(
     if name.bytes().len() > MOST_NAME {
         return None;
     }
-    let connections = connections_of(connections.as_str())?;
+    let connections = small_number(connections.as_str(), 1, MOST_CONNECTIONS)?;
     Some(Command::Reflect(ReflectRequest {
         program,
         name,
@@ -444,38 +442,6 @@ fn reflect_named(
         connections,
         log,
     }))
-}
-
-/// The seed of a drill.
-fn seed_of(word: &str) -> Option<u32>
-    ensures { result ≡ seed_of word.now }
-{
-    match number(word, 0, 4294967295) {
-        Some(seed) => Some(seed as u32),
-        None => None,
-    }
-}
-
-/// How many views a drill has.
-fn views_of(word: &str) -> Option<u32>
-    ensures read { result ≡ views_of word.now }
-    ensures bound { IfSome result AreViews }
-{
-    match number(word, 1, 8) {
-        Some(views) => Some(views as u32),
-        None => None,
-    }
-}
-
-/// How many events each view of a drill publishes.
-fn events_of(word: &str) -> Option<u32>
-    ensures read { result ≡ events_of word.now }
-    ensures bound { IfSome result (λ events. events ≤ 10000) }
-{
-    match number(word, 0, 10000) {
-        Some(events) => Some(events as u32),
-        None => None,
-    }
 }
 
 /// `drill SEED VIEWS EVENTS --log FILE --snapshots PREFIX`
@@ -532,9 +498,9 @@ fn drill_numbered(
     ensures read { result ≡ drill_numbered log snapshots (seed_of (encode_utf8_all seed.now)) (views_of (encode_utf8_all views.now)) (events_of (encode_utf8_all events.now)) }
     ensures bounds { IfSome result IsWithinBounds }
 {
-    let seed = seed_of(seed.as_str())?;
-    let views = views_of(views.as_str())?;
-    let events = events_of(events.as_str())?;
+    let seed = small_number(seed.as_str(), 0, u32::MAX)?;
+    let views = small_number(views.as_str(), 1, MOST_VIEWS)?;
+    let events = small_number(events.as_str(), 0, MOST_EVENTS)?;
     Some(Command::Drill(DrillRequest {
         seed,
         views,

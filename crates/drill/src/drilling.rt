@@ -39,18 +39,22 @@ fn with_last(
     Ok(ended)
 }
 
-/// Has all workers work, each in a thread beside those before it.
-fn work_all<C: Clock + Sync, G: Gate + Sync, R: Threads + Wait + Sync>(
+/// Has a worker work in a thread beside all others.
+#[cycle(work_all)]
+fn work_beside<C: Clock + Sync, G: Gate + Sync, R: Threads + Wait + Sync>(
     hall: &Hall<'_, C, G, R>,
-    mut workers: Vec<Worker>,
-) -> Result<Vec<Finished>, WantOfMemory>
+    worker: Worker,
+    others: Vec<Worker>,
+) -> (
+    Result<Finished, WantOfMemory>,
+    Result<Vec<Finished>, WantOfMemory>,
+)
     requires size { IsOfSize hall.now.size }
-    requires first { All (IsFirst (C.gives hall.now.clock.now) hall.now.size hall.now.shared.now) workers.items }
-    ensures { IfOk result (λ ended. HaveEnded (C.gives hall.now.clock.now) hall.now.size hall.now.shared.now workers.items ended.items) }
+    requires worker { IsFirst (C.gives hall.now.clock.now) hall.now.size hall.now.shared.now worker }
+    requires others { All (IsFirst (C.gives hall.now.clock.now) hall.now.size hall.now.shared.now) others.items }
+    ensures worker { Answers (C.gives hall.now.clock.now) hall.now.size hall.now.shared.now worker result.0 }
+    ensures others { AllAnswer (C.gives hall.now.clock.now) hall.now.size hall.now.shared.now others.items result.1 }
 {
-    let Some(worker) = workers.pop() else {
-        return Ok(Vec::new(hall.alloc));
-    };
     checked_crosses_threads();
     replica_crosses_threads();
     // Each thread makes a hall of its own: of a closure that captures one whole, what it ensures is not known here.
@@ -62,7 +66,7 @@ fn work_all<C: Clock + Sync, G: Gate + Sync, R: Threads + Wait + Sync>(
         clock,
         gate,
     } = *hall;
-    let (last, ended) = join(
+    join(
         rt,
         || -> Result<Finished, WantOfMemory>
             requires { IsSync R.row × IsOfSize size × IsFirst (C.gives clock.now) size shared.now worker }
@@ -78,8 +82,8 @@ fn work_all<C: Clock + Sync, G: Gate + Sync, R: Threads + Wait + Sync>(
             })
         },
         || -> Result<Vec<Finished>, WantOfMemory>
-            requires { IsSync R.row × IsOfSize size × All (IsFirst (C.gives clock.now) size shared.now) workers.items }
-            ensures { AllAnswer (C.gives clock.entry.now) size shared.entry.now workers.items result }
+            requires { IsSync R.row × IsOfSize size × All (IsFirst (C.gives clock.now) size shared.now) others.items }
+            ensures { AllAnswer (C.gives clock.entry.now) size shared.entry.now others.items result }
         {
             let hall = Hall {
                 rt,
@@ -89,9 +93,25 @@ fn work_all<C: Clock + Sync, G: Gate + Sync, R: Threads + Wait + Sync>(
                 clock,
                 gate,
             };
-            work_all(&hall, workers)
+            work_all(&hall, others)
         },
-    );
+    )
+}
+
+/// Has all workers work, each in a thread beside those before it.
+#[cycle(work_all)]
+fn work_all<C: Clock + Sync, G: Gate + Sync, R: Threads + Wait + Sync>(
+    hall: &Hall<'_, C, G, R>,
+    mut workers: Vec<Worker>,
+) -> Result<Vec<Finished>, WantOfMemory>
+    requires size { IsOfSize hall.now.size }
+    requires first { All (IsFirst (C.gives hall.now.clock.now) hall.now.size hall.now.shared.now) workers.items }
+    ensures { IfOk result (λ ended. HaveEnded (C.gives hall.now.clock.now) hall.now.size hall.now.shared.now workers.items ended.items) }
+{
+    let Some(worker) = workers.pop() else {
+        return Ok(Vec::new(hall.alloc));
+    };
+    let (last, ended) = work_beside(hall, worker, workers);
     with_last(ended, last)
 }
 

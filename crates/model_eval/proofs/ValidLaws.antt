@@ -6,7 +6,7 @@ use Rattle.std.proofs.lemmas.List.{length_push, length-replicate}
 use Rattle.model_value.specs.Plain.{PlainValue, nil}
 use Rattle.world_plain.specs.Messages.{PlainMessage}
 use Rattle.world_plain.specs.World.{ObjectRecord, WorldRecord, object_weight, message_weight, subscription_weight, known_weight, world_weight, most_world_weight}
-use Rattle.world_plain.specs.Valid.{Valid, RiseFrom, IsHeld, ObjectFits, SubscriptionFits, MessageFits, IsUnused, most_objects, most_pending}
+use Rattle.world_plain.specs.Valid.{Valid, ValidClock, ValidViews, ValidObjects, ValidNames, ValidSubscriptions, ValidMessages, RiseFrom, IsHeld, ObjectFits, SubscriptionFits, SubscriptionsFit, MessageFits, MessagesFit, IsUnused, most_objects, most_pending}
 use Rattle.model_value.specs.Plain.{AllInBounds, TextFits}
 use Rattle.world_plain.specs.declared.message.Subscription.{Subscription}
 use Rattle.world_plain.specs.declared.world.Known.{Known}
@@ -16,16 +16,99 @@ use Rattle.model_eval.specs.Objects.{with_fields, with_objects, new_object, has_
 use Rattle.object_store.specs.Store.{last_object_id}
 use Rattle.model_eval.specs.Futures.{with_message, has_room}
 use Rattle.model_eval.specs.Publishing.{has_room_to, with_subscription}
-use Rattle.message_queue.specs.Queue.{last_message_number}
+use Rattle.message_queue.specs.Queue.{insert_in_order, last_message_number}
 use Rattle.pubsub.specs.Topics.{is_subscribed}
 use Rattle.pubsub.proofs.Subscriptions.{SubscriptionsDiffer-appended}
 use Rattle.model_eval.proofs.FieldBounds.{StillHeld, Alike, with_fields-alike, Alike-ids, Alike-length, Alike-held, with_fields-fit, KnownFit-held, SubscriptionsFit-held, nil-in_bounds}
 use Rattle.model_eval.proofs.Pending.{AreInOrder-inserted, NumbersDiffer-inserted, next_number-unused, MessagesFit-inserted, MessagesFit-later, length-inserted, total-inserted}
 use Rattle.model_eval.proofs.Created.{ids-appended, ObjectsFit-appended, appended-held, replicate-in_bounds, total-appended, SubscriptionsFit-appended}
-use Rattle.model_eval.proofs.Destroyed.{ids-filtered, ObjectsFit-filtered, KnownRise-filtered, SubscriptionsDiffer-filtered, SubscriptionsFit-filtered, MessagesFit-filtered, AreInOrder-filtered, NumbersDiffer-filtered, total-filtered, length-filtered, KnownFit-others, SubscriptionsFit-others, MessagesFit-others}
+use Rattle.model_eval.proofs.Destroyed.{others, ids-filtered, ObjectsFit-filtered, KnownRise-filtered, SubscriptionsDiffer-filtered, SubscriptionsFit-filtered, MessagesFit-filtered, AreInOrder-filtered, NumbersDiffer-filtered, total-filtered, length-filtered, KnownFit-others, SubscriptionsFit-others, MessagesFit-others}
 use Rattle.known_names.specs.Names.{with_known}
 use Rattle.known_names.proofs.KnownOrder.{KnownRise-with_known}
 use Rattle.model_eval.proofs.KnownFits.{KnownFit-with_known}
+
+-- ---- worlds that keep parts of a valid one
+
+-- the stores of a valid world, beside another clock, other views and all else, if no message comes too late
+pub valid-beside : (counts : List ℕ) (u w : WorldRecord) → ValidClock u.time u.turns → ValidViews u.views → MessagesFit u.time w.next_number w.objects w.pending
+    → Valid counts w → Valid counts (record u { next_object = w.next_object; next_number = w.next_number; objects = w.objects; known = w.known; subscriptions = w.subscriptions; pending = w.pending })
+valid-beside counts u w clock views fit v =
+    record {
+      clock = clock;
+      views = views;
+      objects = v.objects;
+      names = v.names;
+      subscriptions = v.subscriptions;
+      messages = record {
+        order = v.messages.order;
+        differ = v.messages.differ;
+        fit = fit;
+        few = v.messages.few;
+      };
+      weight = v.weight;
+    }
+
+-- the clock, the views and the objects of a valid world, with what else speaks of those objects
+pub valid-around : (counts : List ℕ) (u w : WorldRecord) → ValidNames w.objects u.known → ValidSubscriptions w.objects u.subscriptions → ValidMessages w.time u.next_number w.objects u.pending
+    → world_weight (record u { objects = w.objects }) ≤ most_world_weight
+    → Valid counts w → Valid counts (record u { time = w.time; turns = w.turns; views = w.views; next_object = w.next_object; objects = w.objects })
+valid-around counts u w names subscriptions messages light v =
+    record {
+      clock = v.clock;
+      views = v.views;
+      objects = v.objects;
+      names = names;
+      subscriptions = subscriptions;
+      messages = messages;
+      weight = light;
+    }
+
+-- other objects, where each that was held is held still
+pub valid-still : (counts : List ℕ) (next : ℕ) (os : List ObjectRecord) (w : WorldRecord) → ValidObjects counts next os → StillHeld w.objects os → world_weight (record w { objects = os }) ≤ most_world_weight
+    → Valid counts w → Valid counts (record w { objects = os; next_object = next })
+valid-still counts next os w objects held light v =
+    record {
+      clock = v.clock;
+      views = v.views;
+      objects = objects;
+      names = record {
+        rise = v.names.rise;
+        fit = KnownFit-held w.objects os w.known held v.names.fit;
+      };
+      subscriptions = record {
+        differ = v.subscriptions.differ;
+        fit = SubscriptionsFit-held w.objects os w.subscriptions held v.subscriptions.fit;
+        few = v.subscriptions.few;
+      };
+      messages = record {
+        order = v.messages.order;
+        differ = v.messages.differ;
+        fit = MessagesFit-later w.time w.next_number w.next_number w.objects os w.pending (omega arith) held v.messages.fit;
+        few = v.messages.few;
+      };
+      weight = light;
+    }
+
+-- fewer subscriptions, among these objects
+fewer-subscriptions : (os ps : List ObjectRecord) (keeps : Subscription → Bool) (ss : List Subscription) → SubscriptionsFit ps (filter keeps ss) → ValidSubscriptions os ss → ValidSubscriptions ps (filter keeps ss)
+fewer-subscriptions os ps keeps ss fit v =
+    record {
+      differ = SubscriptionsDiffer-filtered keeps ss v.differ;
+      fit = fit;
+      few = omega (arith, length-filtered keeps ss, v.few);
+    }
+
+-- fewer messages to come, for these objects
+fewer-messages : (time next : ℕ) (os ps : List ObjectRecord) (keeps : PlainMessage → Bool) (ms : List PlainMessage) → MessagesFit time next ps (filter keeps ms) → ValidMessages time next os ms → ValidMessages time next ps (filter keeps ms)
+fewer-messages time next os ps keeps ms fit v =
+    record {
+      order = AreInOrder-filtered keeps ms v.order;
+      differ = NumbersDiffer-filtered keeps ms v.differ;
+      fit = fit;
+      few = omega (arith, length-filtered keeps ms, v.few);
+    }
+
+-- ---- what programs do
 
 -- with other fields in one object, if it is light
 pub valid-fields : (counts : List ℕ) (id : ℕ) (change : List PlainValue → List PlainValue) (r : Running)
@@ -36,33 +119,13 @@ valid-fields counts id change r long bound light v =
     let os = r.world.objects in
     let ps = with_fields id change os in
     let alike : Alike os ps = with_fields-alike id change os long in
-    let held : StillHeld os ps = Alike-held os ps alike in
-    record {
-      clock = v.clock;
-      views = v.views;
-      objects = record {
-        positive = v.objects.positive;
-        rise = subst (RiseFrom 0) (sym (Alike-ids os ps alike)) v.objects.rise;
-        fit = with_fields-fit counts r.world.next_object id change os long bound v.objects.fit;
-        few = omega (arith, Alike-length os ps alike, v.objects.few);
-      };
-      names = record {
-        rise = v.names.rise;
-        fit = KnownFit-held os ps r.world.known held v.names.fit;
-      };
-      subscriptions = record {
-        differ = v.subscriptions.differ;
-        fit = SubscriptionsFit-held os ps r.world.subscriptions held v.subscriptions.fit;
-        few = v.subscriptions.few;
-      };
-      messages = record {
-        order = v.messages.order;
-        differ = v.messages.differ;
-        fit = MessagesFit-later r.world.time r.world.next_number r.world.next_number os ps r.world.pending (omega arith) held v.messages.fit;
-        few = v.messages.few;
-      };
-      weight = light;
-    }
+    let objects : ValidObjects counts r.world.next_object ps = record {
+      positive = v.objects.positive;
+      rise = subst (RiseFrom 0) (sym (Alike-ids os ps alike)) v.objects.rise;
+      fit = with_fields-fit counts r.world.next_object id change os long bound v.objects.fit;
+      few = omega (arith, Alike-length os ps alike, v.objects.few);
+    } in
+    valid-still counts r.world.next_object ps r.world objects (Alike-held os ps alike) light v
 
 -- a message adds its own weight
 pub weight-message : (m : PlainMessage) (r : Running) → world_weight ((with_message r m).world) ≡ world_weight r.world + message_weight m
@@ -77,22 +140,15 @@ valid-message counts m r new fits room v =
     let few : length ms < most_pending = ltb-true (length ms) most_pending (and_parts (nat_lt (length ms) most_pending) (nat_lt r.world.next_number last_message_number) parts.0).0 in
     let light : world_weight r.world + message_weight m ≤ most_world_weight = leb-true (world_weight r.world + message_weight m) most_world_weight parts.1 in
     let unused : IsUnused m.number ms = subst (λ k. IsUnused k ms) (sym new) (next_number-unused r.world.time r.world.next_number r.world.objects ms v.messages.fit) in
-    record {
-      clock = v.clock;
-      views = v.views;
-      objects = v.objects;
-      names = v.names;
-      subscriptions = v.subscriptions;
-      messages = record {
-        order = AreInOrder-inserted m ms unused v.messages.order;
-        differ = NumbersDiffer-inserted m ms unused v.messages.differ;
-        fit =
-            MessagesFit-inserted r.world.time (r.world.next_number + 1) r.world.objects m ms fits
-            (MessagesFit-later r.world.time r.world.next_number (r.world.next_number + 1) r.world.objects r.world.objects ms (omega arith) (λ id held. held) v.messages.fit);
-        few = omega (arith, length-inserted m ms);
-      };
-      weight = omega (arith, weight-message m r, light);
-    }
+    let messages : ValidMessages r.world.time (r.world.next_number + 1) r.world.objects (insert_in_order m ms) = record {
+      order = AreInOrder-inserted m ms unused v.messages.order;
+      differ = NumbersDiffer-inserted m ms unused v.messages.differ;
+      fit =
+          MessagesFit-inserted r.world.time (r.world.next_number + 1) r.world.objects m ms fits
+          (MessagesFit-later r.world.time r.world.next_number (r.world.next_number + 1) r.world.objects r.world.objects ms (omega arith) (λ id held. held) v.messages.fit);
+      few = omega (arith, length-inserted m ms);
+    } in
+    valid-around counts (with_message r m).world r.world v.names v.subscriptions messages (omega (arith, weight-message m r, light)) v
 
 -- with a new object of a class that has so many fields, if there is room for it
 pub valid-object : (counts : List ℕ) (class fields : ℕ) (w : WorldRecord) → slice_get counts class ≡ Some fields → has_room_for w (new_object class fields w) ≡ true
@@ -103,35 +159,14 @@ valid-object counts class fields w known room v =
     let parts = and_parts (nat_lt (length os) most_objects && nat_lt w.next_object last_object_id) (nat_le (world_weight w + object_weight o) most_world_weight) room in
     let few : length os < most_objects = ltb-true (length os) most_objects (and_parts (nat_lt (length os) most_objects) (nat_lt w.next_object last_object_id) parts.0).0 in
     let light : world_weight w + object_weight o ≤ most_world_weight = leb-true (world_weight w + object_weight o) most_world_weight parts.1 in
-    let held : StillHeld os (os ++ o ∷ []) = appended-held os (o ∷ []) in
-    let fits : ObjectFits counts (w.next_object + 1) o =
-    (omega arith, known ∙ ap Some (sym (length-replicate fields nil)), replicate-in_bounds fields nil nil-in_bounds) in
-    record {
-      clock = v.clock;
-      views = v.views;
-      objects = record {
-        positive = omega arith;
-        rise = ids-appended counts 0 os o v.objects.fit v.objects.positive v.objects.rise;
-        fit = ObjectsFit-appended counts w.next_object os o v.objects.fit fits;
-        few = omega (arith, length_push os o, few);
-      };
-      names = record {
-        rise = v.names.rise;
-        fit = KnownFit-held os (os ++ o ∷ []) w.known held v.names.fit;
-      };
-      subscriptions = record {
-        differ = v.subscriptions.differ;
-        fit = SubscriptionsFit-held os (os ++ o ∷ []) w.subscriptions held v.subscriptions.fit;
-        few = v.subscriptions.few;
-      };
-      messages = record {
-        order = v.messages.order;
-        differ = v.messages.differ;
-        fit = MessagesFit-later w.time w.next_number w.next_number os (os ++ o ∷ []) w.pending (omega arith) held v.messages.fit;
-        few = v.messages.few;
-      };
-      weight = omega (arith, total-appended object_weight os o, light);
-    }
+    let fits : ObjectFits counts (w.next_object + 1) o = (omega arith, known ∙ ap Some (sym (length-replicate fields nil)), replicate-in_bounds fields nil nil-in_bounds) in
+    let objects : ValidObjects counts (w.next_object + 1) (os ++ o ∷ []) = record {
+      positive = omega arith;
+      rise = ids-appended counts 0 os o v.objects.fit v.objects.positive v.objects.rise;
+      fit = ObjectsFit-appended counts w.next_object os o v.objects.fit fits;
+      few = omega (arith, length_push os o, few);
+    } in
+    valid-still counts (w.next_object + 1) (os ++ o ∷ []) w objects (appended-held os (o ∷ [])) (omega (arith, total-appended object_weight os o, light)) v
 
 -- without an object, and all that speaks of it
 pub valid-others : (counts : List ℕ) (id : ℕ) (w : WorldRecord) → Valid counts w → Valid counts (without_object id w)
@@ -153,17 +188,8 @@ valid-others counts id w v =
         rise = KnownRise-filtered k w.known v.names.rise;
         fit = KnownFit-others id w.objects w.known v.names.fit;
       };
-      subscriptions = record {
-        differ = SubscriptionsDiffer-filtered s w.subscriptions v.subscriptions.differ;
-        fit = SubscriptionsFit-others id w.objects w.subscriptions v.subscriptions.fit;
-        few = omega (arith, length-filtered s w.subscriptions, v.subscriptions.few);
-      };
-      messages = record {
-        order = AreInOrder-filtered m w.pending v.messages.order;
-        differ = NumbersDiffer-filtered m w.pending v.messages.differ;
-        fit = MessagesFit-others w.time w.next_number id w.objects w.pending v.messages.fit;
-        few = omega (arith, length-filtered m w.pending, v.messages.few);
-      };
+      subscriptions = fewer-subscriptions w.objects (others id w.objects) s w.subscriptions (SubscriptionsFit-others id w.objects w.subscriptions v.subscriptions.fit) v.subscriptions;
+      messages = fewer-messages w.time w.next_number w.objects (others id w.objects) m w.pending (MessagesFit-others w.time w.next_number id w.objects w.pending v.messages.fit) v.messages;
       weight = omega (arith, v.weight, total-filtered object_weight o w.objects, total-filtered message_weight m w.pending, total-filtered subscription_weight s w.subscriptions, total-filtered known_weight k w.known);
     }
 
@@ -172,31 +198,15 @@ pub valid-known : (counts : List ℕ) (x : Name) (object : ℕ) (w : WorldRecord
     → world_weight (record w { known = with_known x object w.known }) ≤ most_world_weight
     → Valid counts w → Valid counts (record w { known = with_known x object w.known })
 valid-known counts x object w fits held light v =
-    record {
-      clock = v.clock;
-      views = v.views;
-      objects = v.objects;
-      names = record {
-        rise = KnownRise-with_known x object w.known v.names.rise;
-        fit = KnownFit-with_known w.objects x object w.known fits held v.names.fit;
-      };
-      subscriptions = v.subscriptions;
-      messages = v.messages;
-      weight = light;
-    }
+    let names : ValidNames w.objects (with_known x object w.known) = record {
+      rise = KnownRise-with_known x object w.known v.names.rise;
+      fit = KnownFit-with_known w.objects x object w.known fits held v.names.fit;
+    } in
+    valid-around counts (record w { known = with_known x object w.known }) w names v.subscriptions v.messages light v
 
 -- with another state of its random numbers
 pub valid-random : (counts : List ℕ) (random : ℕ) (w : WorldRecord) → Valid counts w → Valid counts (record w { random = random })
-valid-random counts random w v =
-    record {
-      clock = v.clock;
-      views = v.views;
-      objects = v.objects;
-      names = v.names;
-      subscriptions = v.subscriptions;
-      messages = v.messages;
-      weight = v.weight;
-    }
+valid-random counts random w v = valid-beside counts (record w { random = random }) w v.clock v.views v.messages.fit v
 
 filter-true : {A : Type 0} (xs : List A) → filter (λ (x : A). true) xs ≡ xs
 filter-true [] = refl
@@ -210,42 +220,21 @@ valid-subscription counts s w new fits room v =
     let parts = and_parts (nat_lt (length ss) most_pending) (nat_le (world_weight w + subscription_weight s) most_world_weight) room in
     let few : length ss < most_pending = ltb-true (length ss) most_pending parts.0 in
     let light : world_weight w + subscription_weight s ≤ most_world_weight = leb-true (world_weight w + subscription_weight s) most_world_weight parts.1 in
-    record {
-      clock = v.clock;
-      views = v.views;
-      objects = v.objects;
-      names = v.names;
-      subscriptions = record {
-        differ = SubscriptionsDiffer-appended s ss new v.subscriptions.differ;
-        fit = SubscriptionsFit-appended w.objects ss s v.subscriptions.fit fits;
-        few = omega (arith, length_push ss s, few);
-      };
-      messages = v.messages;
-      weight = omega (arith, total-appended subscription_weight ss s, light);
-    }
+    let subscriptions : ValidSubscriptions w.objects (ss ++ s ∷ []) = record {
+      differ = SubscriptionsDiffer-appended s ss new v.subscriptions.differ;
+      fit = SubscriptionsFit-appended w.objects ss s v.subscriptions.fit fits;
+      few = omega (arith, length_push ss s, few);
+    } in
+    valid-around counts (with_subscription s w) w v.names subscriptions v.messages (omega (arith, total-appended subscription_weight ss s, light)) v
 
 -- with fewer subscriptions and fewer messages to come
 pub valid-fewer : (counts : List ℕ) (keeps : Subscription → Bool) (keeps_too : PlainMessage → Bool) (w : WorldRecord)
     → Valid counts w → Valid counts (record w { subscriptions = filter keeps w.subscriptions; pending = filter keeps_too w.pending })
 valid-fewer counts keeps keeps_too w v =
-    record {
-      clock = v.clock;
-      views = v.views;
-      objects = v.objects;
-      names = v.names;
-      subscriptions = record {
-        differ = SubscriptionsDiffer-filtered keeps w.subscriptions v.subscriptions.differ;
-        fit = SubscriptionsFit-filtered w.objects keeps w.subscriptions v.subscriptions.fit;
-        few = omega (arith, length-filtered keeps w.subscriptions, v.subscriptions.few);
-      };
-      messages = record {
-        order = AreInOrder-filtered keeps_too w.pending v.messages.order;
-        differ = NumbersDiffer-filtered keeps_too w.pending v.messages.differ;
-        fit = MessagesFit-filtered w.time w.next_number w.objects keeps_too w.pending v.messages.fit;
-        few = omega (arith, length-filtered keeps_too w.pending, v.messages.few);
-      };
-      weight = omega (arith, v.weight, total-filtered message_weight keeps_too w.pending, total-filtered subscription_weight keeps w.subscriptions);
-    }
+    let subscriptions = fewer-subscriptions w.objects w.objects keeps w.subscriptions (SubscriptionsFit-filtered w.objects keeps w.subscriptions v.subscriptions.fit) v.subscriptions in
+    let messages = fewer-messages w.time w.next_number w.objects w.objects keeps_too w.pending (MessagesFit-filtered w.time w.next_number w.objects keeps_too w.pending v.messages.fit) v.messages in
+    valid-around counts (record w { subscriptions = filter keeps w.subscriptions; pending = filter keeps_too w.pending }) w v.names subscriptions messages
+    (omega (arith, v.weight, total-filtered message_weight keeps_too w.pending, total-filtered subscription_weight keeps w.subscriptions)) v
 
 -- without some subscriptions
 pub valid-unsubscribed : (counts : List ℕ) (keeps : Subscription → Bool) (w : WorldRecord) → Valid counts w → Valid counts (record w { subscriptions = filter keeps w.subscriptions })

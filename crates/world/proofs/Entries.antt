@@ -11,6 +11,7 @@ use Rattle.model_value.specs.Plain.{int}
 use Rattle.model_value.specs.Payload.{PlainPayload, whole_payload}
 use Rattle.model_value.proofs.PayloadCodec.{payload_of-in_bounds}
 use Rattle.model_lang.specs.Tree.{Name, ProgramTree}
+use Rattle.model_eval.proofs.ValidLaws.{valid-beside}
 use Rattle.model_eval.proofs.ValueBounds.{int-in_bounds}
 use Rattle.model_eval.specs.declared.fault.Fault.TheVariants.{Full}
 use Rattle.world.specs.Worlds.{Scene, scene_with_world, with_next_turn, with_fault, bad_event, advance, session_scope, view_join, view_exit, after_telling_of, is_view_here, with_view, without_view, after_join, after_exit, after_event, after_entry, external}
@@ -18,18 +19,7 @@ use Rattle.world.proofs.Running.{Fits, with_count-valid, counted-valid, begun-va
 use Rattle.world.proofs.Advancing.{advance-valid}
 
 views-valid : (counts : List ℕ) (views : List ℕ) (w : WorldRecord) → RiseFrom 0 views → length views ≤ most_here → Valid counts w → Valid counts (record w { views = views })
-views-valid counts views w rise few v = record {
-  clock = v.clock;
-  views = record {
-    rise = rise;
-    few = few;
-  };
-  objects = v.objects;
-  names = v.names;
-  subscriptions = v.subscriptions;
-  messages = v.messages;
-  weight = v.weight;
-}
+views-valid counts views w rise few v = valid-beside counts (record w { views = views }) w v.clock (record { rise = rise; few = few }) v.messages.fit v
 
 -- ---- a view that comes
 

@@ -4,8 +4,9 @@ use Rattle.std.proofs.lemmas.Bool.{leb-true, leb-false, lt-leb}
 use Rattle.std.proofs.lemmas.Option.{none-some, same_Some}
 use Rattle.world_plain.specs.Messages.{PlainMessage}
 use Rattle.world_plain.specs.World.{ObjectRecord, WorldRecord, total_weight, object_weight, message_weight, subscription_weight, known_weight, most_world_weight}
-use Rattle.world_plain.specs.Valid.{Valid, most_turns, most_pending, PrecedesAll, AreInOrder, MessageFits, MessagesFit, NumbersDiffer}
+use Rattle.world_plain.specs.Valid.{Valid, ValidMessages, most_turns, most_pending, PrecedesAll, AreInOrder, MessageFits, MessagesFit, NumbersDiffer}
 use Rattle.tea_base.specs.Limits.{time_limit}
+use Rattle.model_eval.proofs.ValidLaws.{valid-beside, valid-around}
 use Rattle.world.specs.View.{AreBehind}
 use Rattle.world.specs.Worlds.{at_later_time, first_where, due}
 
@@ -70,23 +71,8 @@ fit-at t time next os (m ∷ ms) from h = ((from.0, h.0.1, h.0.2, h.0.3, h.0.4, 
 
 -- the world as it is at another time
 at-valid : (counts : List ℕ) (t turns : ℕ) (w : WorldRecord) → t < time_limit → turns ≤ most_turns → AllFrom t w.pending → Valid counts w → Valid counts (record w { time = t; turns = turns })
-at-valid counts t turns w below few from v = record {
-  clock = record {
-    time_fits = below;
-    turns_fit = few;
-  };
-  views = v.views;
-  objects = v.objects;
-  names = v.names;
-  subscriptions = v.subscriptions;
-  messages = record {
-    order = v.messages.order;
-    differ = v.messages.differ;
-    fit = fit-at t w.time w.next_number w.objects w.pending from v.messages.fit;
-    few = v.messages.few;
-  };
-  weight = v.weight;
-}
+at-valid counts t turns w below few from v =
+    valid-beside counts (record w { time = t; turns = turns }) w (record { time_fits = below; turns_fit = few }) v.views (fit-at t w.time w.next_number w.objects w.pending from v.messages.fit) v
 
 pub moved-if : (counts : List ℕ) (t : ℕ) (later : Bool) (w : WorldRecord) → t < time_limit → AllFrom t w.pending → Valid counts w → Valid counts (if later then record w { time = t; turns = 0 } else w)
 moved-if counts t true w below from v = at-valid counts t 0 w below (omega arith) from v
@@ -103,20 +89,8 @@ taken-valid counts w m rest e v =
     let few : length (m ∷ rest) ≤ most_pending = subst (λ ms. length ms ≤ most_pending) e v.messages.few in
     let light : total_weight object_weight w.objects + total_weight message_weight (m ∷ rest) + total_weight subscription_weight w.subscriptions + total_weight known_weight w.known ≤ most_world_weight =
     subst (λ ms. total_weight object_weight w.objects + total_weight message_weight ms + total_weight subscription_weight w.subscriptions + total_weight known_weight w.known ≤ most_world_weight) e v.weight in
-    record {
-      clock = v.clock;
-      views = v.views;
-      objects = v.objects;
-      names = v.names;
-      subscriptions = v.subscriptions;
-      messages = record {
-        order = order.1;
-        differ = differ.1;
-        fit = fit.1;
-        few = omega (arith, few);
-      };
-      weight = omega (arith, light);
-    }
+    let messages : ValidMessages w.time w.next_number w.objects rest = record { order = order.1; differ = differ.1; fit = fit.1; few = omega (arith, few) } in
+    valid-around counts (record w { pending = rest }) w v.names v.subscriptions messages (omega (arith, light)) v
 
 pub first-fits : (counts : List ℕ) (w : WorldRecord) (m : PlainMessage) (rest : List PlainMessage) → w.pending ≡ m ∷ rest → Valid counts w → MessageFits w.time w.next_number w.objects m
 first-fits counts w m rest e v =

@@ -13,36 +13,18 @@ use Rattle.model_eval.specs.Meaning.{starts, most_open}
 use Rattle.model_eval.specs.Publishing.{tell_handlers}
 use Rattle.model_check.specs.Methods.{field_counts}
 use Rattle.model_eval.specs.Kept.{now_due, Anything, CarriesIf}
+use Rattle.model_eval.proofs.ValidLaws.{valid-beside}
 use Rattle.model_eval.proofs.KeptLaws.{starts-carries, told-kept}
 use Rattle.world.specs.Worlds.{Scene, fault_number, with_count, with_fault, with_next_turn, with_full_budget, scene_of_outcome, after_method, after_telling}
 
 pub with_count-valid : (counts : List ℕ) (k : ℕ) (w : WorldRecord) → Valid counts w → Valid counts (with_count k w)
-with_count-valid counts k w v = record {
-  clock = v.clock;
-  views = v.views;
-  objects = v.objects;
-  names = v.names;
-  subscriptions = v.subscriptions;
-  messages = v.messages;
-  weight = v.weight;
-}
+with_count-valid counts k w v = valid-beside counts (with_count k w) w v.clock v.views v.messages.fit v
 
 pub counted-valid : (counts : List ℕ) (f : Fault) (w : WorldRecord) → Valid counts w → Valid counts (with_fault f w)
 counted-valid counts f w v = with_count-valid counts (fault_number f) w v
 
 pub begun-valid : (counts : List ℕ) (w : WorldRecord) → Valid counts w → Valid counts (with_next_turn w)
-begun-valid counts w v = record {
-  clock = record {
-    time_fits = v.clock.time_fits;
-    turns_fit = omega arith;
-  };
-  views = v.views;
-  objects = v.objects;
-  names = v.names;
-  subscriptions = v.subscriptions;
-  messages = v.messages;
-  weight = v.weight;
-}
+begun-valid counts w v = valid-beside counts (with_next_turn w) w (record { time_fits = v.clock.time_fits; turns_fit = omega arith }) v.views v.messages.fit v
 
 -- what a message keeps, from one scene to the next; and if H, then the world is valid behind it
 pub record Keeps (H : Type 0) (counts : List ℕ) (s t : Scene) : Type 0 where

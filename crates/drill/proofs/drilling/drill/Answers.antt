@@ -1,13 +1,21 @@
-use Rattle.std.proofs.Common.{◌≡◌, ◌+◌, All, List, ℕ, length, vec_len, map, rules, refl, sym, ap, ◌∙◌, subst}
+use Rattle.std.proofs.Common.{◌≡◌, ◌+◌, ◌≤◌, All, List, ℕ, length, vec_len, map, rules, refl, sym, ap, ◌∙◌, subst}
 use Rattle.std.specs.Arc.{arc_value}
 use Rattle.std.specs.List.{AllZip}
 use Rattle.tea_base.specs.declared.entry.SessionId.{SessionId}
 use Rattle.model_lang.specs.declared.tree.Class.{Class}
 use Rattle.model_lang.specs.TreeView.{program_tree}
-use Rattle.session_lock.specs.Passes.{numbers_held}
+use Rattle.reflector_core.specs.PlainSession.{PlainSession}
+use Rattle.reflector_core.specs.Play.{first_session}
+use Rattle.session_lock.specs.History.{IsSoundThrough, play}
+use Rattle.session_lock.specs.Passes.{PassState, SharedState, numbers_held, own_calls}
+use Rattle.replica.specs.View.{ReplicaView}
 use Rattle.drill.specs.declared.drilling.Rested.{Rested}
+use Rattle.drill.specs.declared.finished.Finished.{Finished}
+use Rattle.drill.specs.declared.size.Size.{Size}
+use Rattle.drill.specs.declared.trust.TrustReplay.{TrustReplay}
+use Rattle.drill.specs.declared.worker.Worker.{Worker}
 use Rattle.drill.specs.Drill.{HasDrilled}
-use Rattle.drill.specs.Drilling.{ComesToEnd, MayRest, rested_of}
+use Rattle.drill.specs.Drilling.{ComesToEnd, Gathers, HaveEnded, MayRest, numbers_from, rested_of, views_of_workers}
 use Rattle.drill.specs.Program.{IsDrillProgram}
 use Rattle.drill.specs.Reports.{IsAtEnd, Reports}
 use Rattle.drill.proofs.Drillings.{IsClosed}
@@ -15,6 +23,24 @@ use Rattle.drill.proofs.Making.{all_held}
 use Rattle.drill.proofs.Orders.{if_ok_weaker}
 use Rattle.drill.proofs.Replicas.{all_reported, few_replicas, has_drilled, may_rest, some_replica}
 use Rattle.drill.proofs.drilling.drill.Goals as goal
+
+-- the workers have ended, and their session is closed
+closed_by : (gives : ℕ → Type 0) (size : Size) (shared : SharedState TrustReplay) (workers : List Worker) (ended : List Finished) (keeper : PassState) (s : PlainSession)
+    → (1 ≤ size.views) × (size.views ≤ 8) × (size.events ≤ 10000) → HaveEnded gives size shared workers ended → views_of_workers workers ≡ numbers_from 1 size.views → Gathers shared ended keeper
+    → s ≡ play keeper.seen → own_calls keeper ≡ keeper.seen → IsSoundThrough first_session keeper.seen → IsClosed gives size shared ended keeper s
+closed_by gives size shared workers ended keeper s fits told views gathers plays calls sound = record {
+  fits = record { some = fits.0; views = fits.1; events = fits.2 };
+  each = told.each;
+  views = told.views ∙ views;
+  gathers = gathers;
+  plays = plays;
+  calls = calls;
+  sound = sound;
+}
+
+-- the replicas that rest have come to its end
+come_by : (s : PlainSession) (ended : List Finished) (rested : List Rested) (replicas : List ReplicaView) → rested ≡ map rested_of ended → AllZip (ComesToEnd s) rested replicas → AllZip (ComesToEnd s) (map rested_of ended) replicas
+come_by s ended rested replicas is come = subst (λ (rs : List Rested). AllZip (ComesToEnd s) rs replicas) is come
 
 pub close-session-requires-clause-whole : goal.close-session-requires-clause-whole
 close-session-requires-clause-whole g c =
@@ -24,106 +50,40 @@ close-session-requires-clause-whole g c =
 
 pub catch_up_all-requires : goal.catch_up_all-requires
 catch_up_all-requires g c =
-    let hall_gives = g.C.Clock.gives c.args.clock.now in
-    let prepared = c.in_ok-prepared.prepared in
-    let ended = c.in_ok-ended.ended.items in
-    let s = c.close-session.result.plain in
-    let keeper = c.merge_all.new.keeper in
-    let closed : IsClosed hall_gives c.args.size prepared.shared ended keeper s = record {
-      fits = record { some = c.requires.0; views = c.requires.1; events = c.requires.2 };
-      each = c.in_ok-ended.ensures.each;
-      views = c.in_ok-ended.ensures.views ∙ c.in_ok-workers.ensures.views;
-      gathers = c.in_ok-rested.ensures.gathered;
-      plays = c.close-session.ensures.play;
-      calls = c.close-session.ensures.calls;
-      sound = c.close-session.ensures.sound;
-    } in
-    subst (All (MayRest s)) (sym c.in_ok-rested.ensures.rested) (may_rest hall_gives c.args.size prepared.shared ended keeper s closed)
+    let closed = (closed_by _ _ _ _ _ _ _ c.requires c.in_ok-ended.ensures c.in_ok-workers.ensures.views c.in_ok-rested.ensures.gathered c.close-session.ensures.play c.close-session.ensures.calls c.close-session.ensures.sound) in
+    subst (All (MayRest c.close-session.result.plain)) (sym c.in_ok-rested.ensures.rested) (may_rest _ _ _ _ _ _ closed)
 
 pub report-requires-clause-some : goal.report-requires-clause-some
 report-requires-clause-some g c =
-    let hall_gives = g.C.Clock.gives c.args.clock.now in
-    let prepared = c.in_ok-prepared.prepared in
-    let ended = c.in_ok-ended.ended.items in
-    let s = c.close-session.result.plain in
-    let keeper = c.merge_all.new.keeper in
-    let closed : IsClosed hall_gives c.args.size prepared.shared ended keeper s = record {
-      fits = record { some = c.requires.0; views = c.requires.1; events = c.requires.2 };
-      each = c.in_ok-ended.ensures.each;
-      views = c.in_ok-ended.ensures.views ∙ c.in_ok-workers.ensures.views;
-      gathers = c.in_ok-rested.ensures.gathered;
-      plays = c.close-session.ensures.play;
-      calls = c.close-session.ensures.calls;
-      sound = c.close-session.ensures.sound;
-    } in
-    let come : AllZip (ComesToEnd s) (map rested_of ended) c.in_ok-replicas.replicas = subst (λ (rs : List Rested). AllZip (ComesToEnd s) rs c.in_ok-replicas.replicas) c.in_ok-rested.ensures.rested c.in_ok-replicas.ensures in
-    some_replica hall_gives c.args.size prepared.shared ended keeper s closed c.in_ok-replicas.replicas come
+    let closed = (closed_by _ _ _ _ _ _ _ c.requires c.in_ok-ended.ensures c.in_ok-workers.ensures.views c.in_ok-rested.ensures.gathered c.close-session.ensures.play c.close-session.ensures.calls c.close-session.ensures.sound) in
+    some_replica _ _ _ _ _ _ closed c.in_ok-replicas.replicas (come_by _ _ _ _ c.in_ok-rested.ensures.rested c.in_ok-replicas.ensures)
 
 pub report-requires-clause-few : goal.report-requires-clause-few
 report-requires-clause-few g c =
-    let hall_gives = g.C.Clock.gives c.args.clock.now in
-    let prepared = c.in_ok-prepared.prepared in
-    let ended = c.in_ok-ended.ended.items in
-    let s = c.close-session.result.plain in
-    let keeper = c.merge_all.new.keeper in
-    let closed : IsClosed hall_gives c.args.size prepared.shared ended keeper s = record {
-      fits = record { some = c.requires.0; views = c.requires.1; events = c.requires.2 };
-      each = c.in_ok-ended.ensures.each;
-      views = c.in_ok-ended.ensures.views ∙ c.in_ok-workers.ensures.views;
-      gathers = c.in_ok-rested.ensures.gathered;
-      plays = c.close-session.ensures.play;
-      calls = c.close-session.ensures.calls;
-      sound = c.close-session.ensures.sound;
-    } in
-    let come : AllZip (ComesToEnd s) (map rested_of ended) c.in_ok-replicas.replicas = subst (λ (rs : List Rested). AllZip (ComesToEnd s) rs c.in_ok-replicas.replicas) c.in_ok-rested.ensures.rested c.in_ok-replicas.ensures in
-    few_replicas hall_gives c.args.size prepared.shared ended keeper s closed c.in_ok-replicas.replicas come
+    let closed = (closed_by _ _ _ _ _ _ _ c.requires c.in_ok-ended.ensures c.in_ok-workers.ensures.views c.in_ok-rested.ensures.gathered c.close-session.ensures.play c.close-session.ensures.calls c.close-session.ensures.sound) in
+    few_replicas _ _ _ _ _ _ closed c.in_ok-replicas.replicas (come_by _ _ _ _ c.in_ok-rested.ensures.rested c.in_ok-replicas.ensures)
 
 pub report-requires-clause-ended : goal.report-requires-clause-ended
 report-requires-clause-ended g c =
-    let hall_gives = g.C.Clock.gives c.args.clock.now in
+    let closed = (closed_by _ _ _ _ _ _ _ c.requires c.in_ok-ended.ensures c.in_ok-workers.ensures.views c.in_ok-rested.ensures.gathered c.close-session.ensures.play c.close-session.ensures.calls c.close-session.ensures.sound) in
     let prepared = c.in_ok-prepared.prepared in
-    let ended = c.in_ok-ended.ended.items in
     let s = c.close-session.result.plain in
-    let keeper = c.merge_all.new.keeper in
-    let closed : IsClosed hall_gives c.args.size prepared.shared ended keeper s = record {
-      fits = record { some = c.requires.0; views = c.requires.1; events = c.requires.2 };
-      each = c.in_ok-ended.ensures.each;
-      views = c.in_ok-ended.ensures.views ∙ c.in_ok-workers.ensures.views;
-      gathers = c.in_ok-rested.ensures.gathered;
-      plays = c.close-session.ensures.play;
-      calls = c.close-session.ensures.calls;
-      sound = c.close-session.ensures.sound;
-    } in
-    let come : AllZip (ComesToEnd s) (map rested_of ended) c.in_ok-replicas.replicas = subst (λ (rs : List Rested). AllZip (ComesToEnd s) rs c.in_ok-replicas.replicas) c.in_ok-rested.ensures.rested c.in_ok-replicas.ensures in
     let told = c.in_ok-prepared.ensures.prepared in
     let program_is : arc_value prepared.shared.trust.program ≡ c.deref.result.now = told.trusts ∙ sym c.deref.ensures in
     let id_is : prepared.shared.id.0 ≡ prepared.id.0 = ap (λ (i : SessionId). i.0) told.same_id in
     subst (λ (i : List ℕ). All (IsAtEnd s c.deref.result.now i) c.in_ok-replicas.replicas) id_is
     (subst (λ (p : List Class). All (IsAtEnd s p prepared.shared.id.0) c.in_ok-replicas.replicas) program_is
-    (all_reported hall_gives c.args.size prepared.shared ended keeper s closed c.in_ok-replicas.replicas come))
+    (all_reported _ _ _ _ _ _ closed c.in_ok-replicas.replicas (come_by _ _ _ _ c.in_ok-rested.ensures.rested c.in_ok-replicas.ensures)))
 
 pub returns : goal.returns
 returns g c =
-    let hall_gives = g.C.Clock.gives c.args.clock.now in
+    let closed = (closed_by _ _ _ _ _ _ _ c.requires c.in_ok-ended.ensures c.in_ok-workers.ensures.views c.in_ok-rested.ensures.gathered c.close-session.ensures.play c.close-session.ensures.calls c.close-session.ensures.sound) in
     let prepared = c.in_ok-prepared.prepared in
-    let ended = c.in_ok-ended.ended.items in
-    let s = c.close-session.result.plain in
-    let keeper = c.merge_all.new.keeper in
-    let closed : IsClosed hall_gives c.args.size prepared.shared ended keeper s = record {
-      fits = record { some = c.requires.0; views = c.requires.1; events = c.requires.2 };
-      each = c.in_ok-ended.ensures.each;
-      views = c.in_ok-ended.ensures.views ∙ c.in_ok-workers.ensures.views;
-      gathers = c.in_ok-rested.ensures.gathered;
-      plays = c.close-session.ensures.play;
-      calls = c.close-session.ensures.calls;
-      sound = c.close-session.ensures.sound;
-    } in
-    let come : AllZip (ComesToEnd s) (map rested_of ended) c.in_ok-replicas.replicas = subst (λ (rs : List Rested). AllZip (ComesToEnd s) rs c.in_ok-replicas.replicas) c.in_ok-rested.ensures.rested c.in_ok-replicas.ensures in
     let told = c.in_ok-prepared.ensures.prepared in
     let program_is : arc_value prepared.shared.trust.program ≡ c.deref.result.now = told.trusts ∙ sym c.deref.ensures in
     let id_is : prepared.shared.id.0 ≡ prepared.id.0 = ap (λ (i : SessionId). i.0) told.same_id in
     let is_program : IsDrillProgram (program_tree c.deref.result.now) = subst (λ (p : List Class). IsDrillProgram (program_tree p)) (sym c.deref.ensures) told.tree in
-    if_ok_weaker (Reports c.close-session.result c.deref.result.now prepared.id.0 c.in_ok-replicas.replicas) (HasDrilled hall_gives c.args.size) c.report.result
+    if_ok_weaker (Reports c.close-session.result c.deref.result.now prepared.id.0 c.in_ok-replicas.replicas) (HasDrilled (g.C.Clock.gives c.args.clock.now) c.args.size) c.report.result
     (λ report reports.
-    has_drilled hall_gives c.args.size prepared.shared ended keeper s closed c.in_ok-replicas.replicas come c.deref.result.now prepared.id.0 c.close-session.result report refl program_is id_is is_program told.spelled reports)
+    has_drilled _ _ _ _ _ _ closed c.in_ok-replicas.replicas (come_by _ _ _ _ c.in_ok-rested.ensures.rested c.in_ok-replicas.ensures) c.deref.result.now prepared.id.0 c.close-session.result report refl program_is id_is is_program told.spelled reports)
     c.report.ensures
