@@ -62,6 +62,18 @@ fn two_views_with_three_hundred_events(rt: HostRuntime) -> Result<(), Fail> {
     Ok(())
 }
 
+/// Eight views at once, and a log of forty thousand entries.
+#[test]
+fn eight_views_with_five_thousand_events(rt: HostRuntime) -> Result<(), Fail> {
+    let report = drilled(&rt, rt.alloc(), &OpenGate, size(1, 8, 5000))?;
+    assert_eq!(rt; report.session.log().len(), 40640);
+    assert_eq!(rt; report.agree, 8);
+    let again = drilled(&rt, rt.alloc(), &OpenGate, size(1, 8, 5000))?;
+    assert_eq!(rt; again.session.log().len(), 40640);
+    assert_eq!(rt; again.total, report.total);
+    Ok(())
+}
+
 /// Each view has a base, which is that of its 256th event or a later one.
 #[test]
 fn views_that_lost_their_worlds_have_bases(rt: HostRuntime) -> Result<(), Fail> {
