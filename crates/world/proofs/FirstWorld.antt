@@ -25,7 +25,7 @@ nils-weight : (n : ℕ) → values_weight (replicate n nil) ≡ n
 nils-weight zero = refl
 nils-weight (suc n) = omega (arith, nils-weight n)
 
-name-bytes : length (encode_utf8_all model_root) ≡ 9
+pub name-bytes : length (encode_utf8_all model_root) ≡ 9
 unfolding lib.Utf8.encode
 name-bytes = refl
 

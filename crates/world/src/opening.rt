@@ -7,7 +7,7 @@ ghost use Rattle.model_lang.specs.Program.{IsProgram};
 ghost use Rattle.model_lang.specs.Tree.{ClassTree};
 ghost use Rattle.model_lang.specs.TreeView.{program_tree};
 ghost use Rattle.model_lang.specs.Bounds.{most_members};
-ghost use Rattle.world.specs.Worlds.{empty_world, with_root, scene_with_world, first_scene as first_of, with_root_init};
+ghost use Rattle.world.specs.Worlds.{empty_world, model_root, with_root, scene_with_world, first_scene as first_of, with_root_init};
 ghost use Rattle.world.specs.View.{scene};
 
 use crate::messages::{begin, run};
@@ -77,25 +77,24 @@ fn make_root(
     ensures { (root : ClassTree) → length root.fields ≡ fields → OnOk result (scene state.new ≡ scene_with_world (scene state.old) (with_root class root (scene state.old).world)) }
 {
     let fields = nils(alloc, fields)?;
-    let known = Known {
-        name: Text::copy(alloc, "modelRoot")?,
-        object: 1,
-    };
+    let known = root_name(alloc)?;
     let mut objects = Store::resume(alloc, 2);
     objects.put_back(1, class, fields)?;
-    let mut names = Names::new(alloc);
-    names.set(known)?;
     state.objects = objects;
-    state.known = names;
+    state.known = known;
     Ok(())
 }
 
-fn only<T: Drop>(alloc: Global, item: T) -> Result<List<T>, WantOfMemory>
-    ensures { IfOk result (λ list. list ≡ item ∷ []) }
+/// The one name of a first world, by which its object is known.
+fn root_name(alloc: Global) -> Result<Names, WantOfMemory>
+    ensures { IfOk result (λ names. names ≡ record { name = model_root; object = 1 } ∷ []) }
 {
-    let mut list = List::new(alloc);
-    list.push(item)?;
-    Ok(list)
+    let mut names = Names::new(alloc);
+    names.set(Known {
+        name: Text::copy(alloc, "modelRoot")?,
+        object: 1,
+    })?;
+    Ok(names)
 }
 
 fn nils(alloc: Global, count: usize) -> Result<Values, WantOfMemory>
@@ -121,7 +120,7 @@ fn initialise(
     if program.method(class, &init).is_none() {
         return Ok(());
     }
-    let args = only(alloc, Value::Nil)?;
+    let args = nils(alloc, 1)?;
     let call = Call {
         object: 1,
         method: &init,

@@ -26,7 +26,7 @@ pub fn from_plain(alloc: Global, plain: &PlainWorld) -> Result<State, WantOfMemo
 {
     let views = copy_numbers(alloc, plain.views.as_slice())?;
     let objects = put_objects(alloc, plain)?;
-    let known = Names::take_up(copy_known_names(alloc, plain.known.as_slice())?);
+    let known = put_names(alloc, plain)?;
     let topics = put_subscriptions(alloc, plain)?;
     let pending = put_messages(alloc, plain)?;
     Ok(State {
@@ -56,6 +56,15 @@ fn put_objects(alloc: Global, plain: &PlainWorld) -> Result<Store, WantOfMemory>
         store.put_back(object.id, object.class, fields)?;
     }
     Ok(store)
+}
+
+/// The names by which objects are known.
+fn put_names(alloc: Global, plain: &PlainWorld) -> Result<Names, WantOfMemory>
+    requires { (counts : List ℕ) × Valid counts (world_record plain.now) }
+    ensures { IfOk result (λ names. names ≡ (world_record plain.now).known) }
+{
+    let names = copy_known_names(alloc, plain.known.as_slice())?;
+    Ok(Names::take_up(names))
 }
 
 /// The subscriptions in their order.

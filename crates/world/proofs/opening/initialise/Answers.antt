@@ -1,16 +1,10 @@
-use Rattle.std.proofs.Common.{◌≡◌, ◌∙◌, [], ◌∷◌, ap, rules}
-use Rattle.model_value.specs.Plain.{nil}
-use Rattle.model_value.specs.View.{plain, plain_values}
-use Rattle.model_value.specs.declared.value.Value.{the_lemmas}
-use Rattle.model_value.specs.declared.value.Value.TheVariants.{Nil}
+use Rattle.std.proofs.Common.{◌∙◌}
+use Rattle.model_value.specs.View.{plain_values}
 use Rattle.model_lang.specs.TreeView.{program_tree}
 use Rattle.world.specs.View.{scene}
 use Rattle.world.proofs.Initial.{without-init, with-init}
 use Rattle.world.proofs.Texts.{init-chars}
 use Rattle.world.proofs.opening.initialise.Goals as goal
-
-plain-Nil : plain Nil ≡ nil
-plain-Nil = search (rules, the_lemmas)
 
 pub returns-then-is_none : goal.returns-then-is_none
 returns-then-is_none c = λ root e.
@@ -18,4 +12,4 @@ returns-then-is_none c = λ root e.
 
 pub returns : goal.returns
 returns c = λ root e.
-    with-init c.run.result c.method.result (program_tree c.args.program.now) c.args.class c.in_ok-init.init root (plain_values c.in_ok-args.args) (scene c.args.state.now) (scene c.run.new.state) c.method.ensures e c.if-is_none.ensures (c.in_ok-init.ensures.characters ∙ init-chars) (ap plain_values c.in_ok-args.ensures ∙ ap (λ v. v ∷ []) plain-Nil) c.run.ensures
+    with-init c.run.result c.method.result (program_tree c.args.program.now) c.args.class c.in_ok-init.init root (plain_values c.in_ok-args.args) (scene c.args.state.now) (scene c.run.new.state) c.method.ensures e c.if-is_none.ensures (c.in_ok-init.ensures.characters ∙ init-chars) c.in_ok-args.ensures c.run.ensures

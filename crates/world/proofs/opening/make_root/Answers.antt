@@ -9,7 +9,6 @@ use Rattle.model_eval.specs.Answer.{world_of}
 use Rattle.world.specs.Worlds.{Scene, scene_with_world}
 use Rattle.world.specs.View.{scene}
 use Rattle.world.proofs.Rooted.{made}
-use Rattle.world.proofs.Texts.{root-chars}
 use Rattle.object_store.proofs.Objects.{AreFields-in_bounds}
 use Rattle.world.proofs.FirstWorld.{nils-fit}
 use Rattle.world.proofs.opening.make_root.Goals as goal
@@ -26,5 +25,5 @@ returns c = λ root e.
     let o : ObjectRecord = record { id = 1; class = c.args.class; fields = plain_values c.in_ok-fields.fields } in
     let objects : c.put_back.new.self ≡ record { objects = o ∷ []; next = 2 } = c.in_ok-put_back.ensures.ok ∙ ap (store_with o) c.resume-objects.ensures in
     let after : StoreRecord → List Known → Scene = λ s ks. scene_with_world (scene st) (record (world_of st) { next_object = s.next; objects = s.objects; known = ks }) in
-    ap₂ after objects c.in_ok-state.ensures
-    ∙ ap (scene_with_world (scene st)) (made (world_of st) c.args.class c.args.fields root (plain_values c.in_ok-fields.fields) c.in_ok-copy.field-0 e c.in_ok-fields.ensures (c.in_ok-copy.ensures.characters ∙ root-chars))
+    ap₂ after objects c.in_ok-known.ensures
+    ∙ ap (scene_with_world (scene st)) (made (world_of st) c.args.class c.args.fields root (plain_values c.in_ok-fields.fields) e c.in_ok-fields.ensures)
