@@ -23,7 +23,6 @@ mod texts;
 mod world_text;
 
 use case_lines::{CaseFault, CaseKind, print_files};
-use std::alloc::Global;
 use std::io;
 
 /// What cases are of.
@@ -37,7 +36,7 @@ enum LanguageCases {
     Text,
 }
 
-impl CaseKind for LanguageCases {
+impl<R: AllocGlobal> CaseKind<R> for LanguageCases {
     fn of_word(word: &str) -> Option<Self> {
         match word {
             "evaluate" => Some(LanguageCases::Evaluate),
@@ -50,7 +49,8 @@ impl CaseKind for LanguageCases {
         }
     }
 
-    fn outcome(&self, alloc: Global, case: &[u8]) -> Result<String, CaseFault> {
+    fn outcome(&self, rt: &R, case: &[u8]) -> Result<String, CaseFault> {
+        let alloc = rt.alloc();
         let outcome = match self {
             LanguageCases::Evaluate => evaluation::evaluated(alloc, case),
             LanguageCases::Run => evaluation::played(alloc, case),
