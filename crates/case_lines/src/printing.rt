@@ -58,9 +58,7 @@ fn print_outcome<R: Print + AllocGlobal>(
 }
 
 /// Prints the cases of the files that the command line names, each behind its kind. What is no case is printed as it is.
-pub fn print_files<K: CaseKind<R>, R: Env + Files + Print + AllocGlobal>(
-    rt: &R,
-) -> io::Result<()> {
+pub fn print_files<K: CaseKind<R>, R: Env + Files + Print + AllocGlobal>(rt: &R) -> io::Result<()> {
     for file in &case_files(rt)? {
         let Some(kind) = K::of_word(file.word.as_str()) else {
             return Err(ErrorKind::InvalidInput.into());
