@@ -1,8 +1,8 @@
 //! Session scripts: a request a line.
-ghost use Rattle.std.specs.Prelude.{◌≡◌, ℕ, ◌<◌, List, ◌∷◌, None, map, IfOk, IfSome, MatchBool};
+ghost use Rattle.std.specs.Prelude.{◌≡◌, ℕ, ◌<◌, ◌≤◌, List, ◌∷◌, None, map, IfOk, IfSome, MatchBool};
 ghost use Rattle.std.specs.Str.Lines.{lines};
 ghost use Rattle.tea_base.specs.Limits.{time_limit};
-ghost use Rattle.text_lines.specs.Lines.{words_of};
+ghost use Rattle.text_lines.specs.Lines.{number_of_word, words_of};
 ghost use Rattle.commands.specs.Script.{small_of, large_of, time_of, plain_want_of, want_after_of, want_of, join_of, send_of, tick_of, leave_of, offer_of, pull_of, hex_of, request_of, requests_of, then_requests, script_of, is_skipped};
 
 use hex::FromHexError;
@@ -14,14 +14,22 @@ use text_lines::{number, split_lines, split_words};
 /// The latest TeaTime that is named, in microseconds.
 const LAST_TIME: u64 = TIME_LIMIT - 1;
 
+/// The number from `low` to `high` that a word spells.
+pub(crate) fn small_number(word: &str, low: u32, high: u32) -> Option<u32>
+    ensures read { result ≡ number_of_word low high word.now }
+    ensures bounds { IfSome result (λ number. (low ≤ number) × (number ≤ high)) }
+{
+    match number(word, u64::from(low), u64::from(high)) {
+        Some(number) => Some(number as u32),
+        None => None,
+    }
+}
+
 /// A number of 32 bits.
 fn small(word: &str) -> Option<u32>
     ensures { result ≡ small_of word.now }
 {
-    match number(word, 0, 4294967295) {
-        Some(number) => Some(number as u32),
-        None => None,
-    }
+    small_number(word, 0, u32::MAX)
 }
 
 /// A number of 64 bits.

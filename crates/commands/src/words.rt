@@ -1,14 +1,13 @@
 //! The words of the command line, read by their rules.
-ghost use Rattle.std.specs.Prelude.{◌≡◌, ◌<◌, ◌≤◌, ℕ, [], ◌∷◌, true, None, IfOk, IfSome, IfNone, MatchBool, IsTrue, ◌↔◌, encode_utf8_all, nat_lt};
+ghost use Rattle.std.specs.Prelude.{◌≡◌, [], ◌∷◌, true, None, IfOk, IfSome, IfNone, MatchBool, encode_utf8_all, nat_lt};
 ghost use Rattle.std.specs.List.{list_all};
 ghost use Rattle.std.specs.Str.{bytes_eq};
-ghost use Rattle.text_lines.specs.Lines.{is_empty, number_of_word};
+ghost use Rattle.text_lines.specs.Lines.{is_empty};
 ghost use Rattle.commands.specs.CommandWords.{command_of, command_named, stamp_of, check_of, replay_of, replay_words, join_command, join_named, join_words, view_of, reflect_of, reflect_options, reflect_words, reflect_named, connections_of, drill_of, drill_options, drill_words, drill_numbered, seed_of, views_of, events_of, all_parts, is_option, setting_value, without, IsFirstOf, IsWithinBounds, HasNone};
 
-use crate::script::time_in;
+use crate::script::{small_number, time_in};
 use std::alloc::Global;
 use tea_base::{List, Text, WantOfMemory, Words};
-use text_lines::number;
 
 /// The most bytes of UTF-8 that the name of a session has.
 const MOST_NAME: usize = 255;
@@ -17,10 +16,10 @@ const MOST_NAME: usize = 255;
 const MOST_CONNECTIONS: u32 = 64;
 
 /// The most views of a drill.
-const MOST_VIEWS: u32 = 8;
+const MOST_DRILL_VIEWS: u32 = 8;
 
 /// The most events that each view of a drill publishes.
-const MOST_EVENTS: u32 = 10000;
+const MOST_DRILL_EVENTS: u32 = 10000;
 
 /// A command with its words.
 #[derive(Drop)]
@@ -306,17 +305,6 @@ fn replay_words(positionals: Words, from: Option<Text>, snapshot: Option<Text>) 
     }))
 }
 
-/// The number from `low` to `high` that a word spells.
-fn small_number(word: &str, low: u32, high: u32) -> Option<u32>
-    ensures read { result ≡ number_of_word low high word.now }
-    ensures bounds { IfSome result (λ number. (low ≤ number) × (number ≤ high)) }
-{
-    match number(word, u64::from(low), u64::from(high)) {
-        Some(number) => Some(number as u32),
-        None => None,
-    }
-}
-
 /// `join PROGRAM NAME ADDRESS VIEW SCRIPT`
 fn join(parts: Parts) -> Option<Command>
     ensures read { result ≡ join_command parts }
@@ -499,8 +487,8 @@ fn drill_numbered(
     ensures bounds { IfSome result IsWithinBounds }
 {
     let seed = small_number(seed.as_str(), 0, u32::MAX)?;
-    let views = small_number(views.as_str(), 1, MOST_VIEWS)?;
-    let events = small_number(events.as_str(), 0, MOST_EVENTS)?;
+    let views = small_number(views.as_str(), 1, MOST_DRILL_VIEWS)?;
+    let events = small_number(events.as_str(), 0, MOST_DRILL_EVENTS)?;
     Some(Command::Drill(DrillRequest {
         seed,
         views,
