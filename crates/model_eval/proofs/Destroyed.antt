@@ -4,10 +4,10 @@ use Rattle.std.specs.List.{filter}
 use Rattle.std.proofs.lemmas.Bool.{eqb-true, not-true, not-false, eqb-false}
 use Rattle.world_plain.specs.World.{ObjectRecord}
 use Rattle.world_plain.specs.Messages.{PlainMessage}
-use Rattle.world_plain.specs.Valid.{RiseFrom, object_at, if_same, IsHeld, ObjectsFit, IsBeforeAll, KnownRise, KnownFit, SubscriptionsFit, MessagesFit}
+use Rattle.world_plain.specs.Valid.{RiseFrom, object_at, if_same, IsHeld, ObjectsFit, KnownFit, SubscriptionsFit, MessagesFit}
 use Rattle.world_plain.specs.declared.message.Subscription.{Subscription}
 use Rattle.world_plain.specs.declared.world.Known.{Known}
-pub use Rattle.message_queue.proofs.Filtered.{filter-all, filter-each, AreInOrder-filtered, NumbersDiffer-filtered, total-filtered, length-filtered}
+pub use Rattle.message_queue.proofs.Filtered.{filter-all, AreInOrder-filtered, NumbersDiffer-filtered, total-filtered, length-filtered}
 pub use Rattle.known_names.proofs.KnownOrder.{KnownRise-filtered}
 pub use Rattle.pubsub.proofs.Subscriptions.{SubscriptionsDiffer-filtered}
 use Rattle.model_eval.specs.Kept.{count_due}
