@@ -96,7 +96,7 @@ objects() {
 }'
 }
 
-# So many messages of a thousand turns each, with 18 steps a turn.
+# So many messages of a thousand turns each, with 13 steps a turn.
 turns() {
     cat <<END
 class Root {

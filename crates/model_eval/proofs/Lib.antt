@@ -10,6 +10,7 @@ pub mod Doing
 pub mod KeptLaws
 pub mod Loops
 pub mod Fields
+pub mod Leaves
 pub mod Filters
 pub mod Same
 pub mod Texts

@@ -1,6 +1,5 @@
 -- What the evaluator answers, beside what a program means.
-use Rattle.std.specs.Prelude.{◌≡◌, ◌-◌, ℕ, nat_eq, ℤ, List, Vec, map, Bool, Option, Some, None, is_some, true, false, Result, Ok, Err, ⊤}
-use Rattle.std.specs.declared.alloc.Global.{Global}
+use Rattle.std.specs.Prelude.{◌≡◌, ◌-◌, ℕ, nat_eq, ℤ, List, map, Bool, Option, Some, None, is_some, true, false, Result, Ok, Err, ⊤}
 use Rattle.model_value.specs.Plain.{PlainValue, nil, int}
 use Rattle.model_value.specs.View.{plain, plain_values}
 use Rattle.world_plain.specs.Messages.{plain_outgoing}
@@ -15,15 +14,18 @@ use Rattle.model_eval.specs.declared.fault.EvalStop.{EvalStop}
 use Rattle.model_eval.specs.declared.fault.EvalStop.TheVariants as stop
 use Rattle.model_eval.specs.declared.evaluator.Flow.{Flow as Held}
 use Rattle.model_eval.specs.declared.evaluator.Flow.TheVariants as held
+use Rattle.model_eval.specs.declared.locals.Frame.{Frame}
 use Rattle.model_eval.specs.declared.state.State.{State}
 use Rattle.model_eval.specs.declared.state.Budget.{Budget}
-use Rattle.model_eval.specs.Running.{Running, Outcome, Gives, Faults, PureOutcome, value, fails}
-use Rattle.model_eval.specs.Operators.{on_ints}
-use Rattle.model_lang.specs.Tree.{Name, ClassTree}
+use Rattle.model_eval.specs.Running.{Running, Outcome, Gives, Faults, and_then, PureOutcome, value, fails, give_pure}
+use Rattle.model_eval.specs.Operators.{on_ints, apply_binary, binary_outcome}
+use Rattle.model_lang.specs.declared.tree.BinaryOp.{BinaryOp}
+use Rattle.model_lang.specs.Tree.{Name, ClassTree, ProgramTree}
 use Rattle.model_check.specs.Methods.{method_named}
 use Rattle.model_lang.specs.TreeView.{program_tree}
 use Rattle.model_eval.specs.Meaning.{Start, Flow, next, return_with, init, starts}
-use Rattle.model_eval.specs.Slots.{Evaluate, Execute, evaluate, execute}
+use Rattle.model_check.specs.SolvedTree.{SolvedExpression}
+use Rattle.model_eval.specs.Slots.{Evaluate, Execute, evaluate, execute, expression_row}
 use Rattle.model_eval.specs.declared.here.Starter.{Starter}
 
 -- the world that a state holds
@@ -94,12 +96,21 @@ Numbers (Ok n) state budget meant = meant ≡ Gives n (running state budget)
 Numbers (Err (stop.Fault f)) state budget meant = meant ≡ Faults f (running state budget)
 Numbers (Err stop.WantOfMemory) state budget meant = Unit {0}
 
--- the same of statements: the next one follows, with these locals, or the method ends
-abbrev pub Flows : Result Held EvalStop → Vec Value Global → State → Budget → Outcome (Flow (List PlainValue)) → Type 0
-Flows (Ok held.Next) locals state budget meant = meant ≡ Gives (next (plain_values locals.items)) (running state budget)
-Flows (Ok (held.Return v)) locals state budget meant = meant ≡ Gives (return_with (plain v)) (running state budget)
-Flows (Err (stop.Fault f)) locals state budget meant = meant ≡ Faults f (running state budget)
-Flows (Err stop.WantOfMemory) locals state budget meant = Unit {0}
+-- the same of statements: the next one follows, with the locals of the frame, or the method ends with the value that it holds
+abbrev pub Proceeds : Result Held EvalStop → Frame → State → Budget → Outcome (Flow (List PlainValue)) → Type 0
+Proceeds (Ok held.Next) frame state budget meant = meant ≡ Gives (next (plain_values frame.locals.items)) (running state budget)
+Proceeds (Ok held.Return) frame state budget meant = meant ≡ Gives (return_with (plain frame.returned)) (running state budget)
+Proceeds (Err (stop.Fault f)) frame state budget meant = meant ≡ Faults f (running state budget)
+Proceeds (Err stop.WantOfMemory) frame state budget meant = Unit {0}
+
+-- a leaf that gives this Int in a state, whatever program runs and may still be open
+abbrev pub GivesInt : State → ℕ → SolvedExpression → List PlainValue → ℤ → Type 0
+GivesInt state object e locals n =
+    (program : ProgramTree) (ev : Evaluate) (start : Start) (budget : Budget) → expression_row program ev start object e locals (running state budget) ≡ Gives (int n) (running state budget)
+
+-- an operator that evaluates both its sides, whatever the left one gives
+abbrev pub EvaluatesBoth : BinaryOp → Type 0
+EvaluatesBoth op = (v : PlainValue) (right : Running → Outcome PlainValue) (r : Running) → binary_outcome op v right r ≡ and_then (right r) (λ w. give_pure (apply_binary op v w))
 
 -- the same of what leaves the state alone, whichever that is
 abbrev pub Enters : Result ℕ EvalStop → Budget → (State → Outcome ℕ) → Type 0

@@ -1,9 +1,10 @@
 //! Expressions and statements, form by form.
-ghost use Rattle.std.specs.Prelude.{[], ◌∷◌, ◌<◌, ◌≡◌, IfOk, Some, slice_get};
+ghost use Rattle.std.specs.Prelude.{[], ◌∷◌, ◌<◌, ◌≡◌, IfOk, IfSome, Some, slice_get};
 ghost use Rattle.model_lang.specs.Tree.{ClassTree};
 ghost use Rattle.model_lang.specs.TreeView.{program_tree};
 ghost use Rattle.model_check.specs.SolvedView.{solved_expression, solved_expressions, solved_statement, solved_statements, solved_method};
-ghost use Rattle.model_value.specs.Plain.{ref};
+ghost use Rattle.std.specs.Option.{option_copied, option_map};
+ghost use Rattle.model_value.specs.Plain.{int, ref};
 ghost use Rattle.model_value.specs.View.{plain, plain_values};
 ghost use Rattle.model_eval.specs.Running.{and_then, Gives};
 ghost use Rattle.model_eval.specs.Operators.{binary_outcome, truly as truth_of_right};
@@ -11,7 +12,7 @@ ghost use Rattle.model_eval.specs.Builtins.{run_builtin, on_event};
 ghost use Rattle.model_eval.specs.Publishing.{run_handlers, handle, publish, tell_handlers};
 ghost use Rattle.model_eval.specs.Meaning.{call_on, create_object, run_init};
 ghost use Rattle.model_eval.specs.Slots.{block as block_of, room_inside, evaluate_all, expression_row as row_of_expression, in_turn, loop_turns, perform, statement_row as row_of_statement};
-ghost use Rattle.model_eval.specs.Answer.{Answers, AnswersAll, Did, Enters, Flows, Steps, evaluates_by, executes_by, running, starts_by};
+ghost use Rattle.model_eval.specs.Answer.{Answers, AnswersAll, Did, Enters, EvaluatesBoth, GivesInt, Proceeds, Steps, evaluates_by, executes_by, running, starts_by};
 ghost use Rattle.model_eval.specs.declared.state.State.{State};
 
 use crate::builtins::answer;
@@ -19,11 +20,11 @@ use crate::calls::Event;
 use crate::events::announce;
 use crate::fault::{EvalStop, Fault};
 use crate::here::{Here, Starter};
-use crate::locals::{assign, declare, get_local};
+use crate::locals::{Frame, assign, declare, get_local, leave};
 use crate::messages::send;
 use crate::methods::init_of;
 use crate::objects::{get_slot, is_held, make, set_slot};
-use crate::operator::{operate, operate_on_one, truth};
+use crate::operator::{operate, operate_on_ints, operate_on_one, truth};
 use crate::state::{Budget, State};
 use crate::values::{list_of, literal, only};
 use model_check::{Builtin, Solved, SolvedExpr, SolvedStmt};
@@ -37,15 +38,22 @@ use tea_base::{List, Text};
 pub enum Flow {
     /// The next one.
     Next,
-    /// The method ends with this value.
-    Return(Value),
+    /// The method ends with the value that its frame holds.
+    Return,
 }
 
-// The sides of an operator.
+// The two sides of an operator.
 #[derive(Clone, Copy)]
 struct Sides<'a> {
     left: &'a SolvedExpr,
     right: &'a SolvedExpr,
+}
+
+// An operator with its sides.
+#[derive(Clone, Copy)]
+struct Operation<'a> {
+    op: BinaryOp,
+    sides: Sides<'a>,
 }
 
 impl Here<'_> {
@@ -68,7 +76,90 @@ impl Here<'_> {
             SolvedExpr::Int(number) => Ok(Value::Int(*number)),
             SolvedExpr::Local { slot } => get_local(self.starter.alloc, locals, *slot),
             SolvedExpr::Field { slot } => get_slot(self.starter.alloc, state, self.object, *slot),
+            SolvedExpr::Binary { op, left, right } => {
+                let operation = Operation {
+                    op: *op,
+                    sides: Sides { left, right },
+                };
+                self.evaluate_operation(room, operation, locals, state, budget)
+            }
             _ => self.evaluate_inside(room, expr, locals, state, budget),
+        }
+    }
+
+    // What an operator gives of its sides, where so many more may be open. No value is made of sides that are Ints already.
+    #[cycle(evaluate)]
+    #[inline(always)]
+    #[tactic(auto, using(crate::proofs::Steps::by_room))]
+    fn evaluate_operation(
+        &self,
+        room: u32,
+        operation: Operation<'_>,
+        locals: &[Value],
+        state: &mut State,
+        budget: &mut Budget,
+    ) -> Result<Value, EvalStop>
+        ensures { let inside = record (self.now.starter) { room = room } in let ev = evaluates_by inside self.now.object in
+            Answers result state.new budget.new (and_then (ev (solved_expression operation.entry.sides.left.now) (plain_values locals.now) (running state.old budget.old)) (λ v. binary_outcome operation.entry.op v (ev (solved_expression operation.entry.sides.right.now) (plain_values locals.now)))) }
+    {
+        match self.int_sides(operation, locals, state) {
+            Some((left, right)) => {
+                enter(room, budget)?;
+                enter(room, budget)?;
+                operate_on_ints(operation.op, left, right)
+            }
+            None => self.evaluate_sides(room, operation, locals, state, budget),
+        }
+    }
+
+    // The same, whatever the sides are.
+    #[cycle(evaluate)]
+    #[inline(always)]
+    fn evaluate_sides(
+        &self,
+        room: u32,
+        operation: Operation<'_>,
+        locals: &[Value],
+        state: &mut State,
+        budget: &mut Budget,
+    ) -> Result<Value, EvalStop>
+        ensures { let inside = record (self.now.starter) { room = room } in let ev = evaluates_by inside self.now.object in
+            Answers result state.new budget.new (and_then (ev (solved_expression operation.entry.sides.left.now) (plain_values locals.now) (running state.old budget.old)) (λ v. binary_outcome operation.entry.op v (ev (solved_expression operation.entry.sides.right.now) (plain_values locals.now)))) }
+    {
+        let here = self.with_room(room);
+        Ok(here.evaluate_binary(operation.op, operation.sides, locals, state, budget)?)
+    }
+
+    // The Ints of both sides, where these are leaves and the operator evaluates both. The right one is asked first: where it
+    // has parts of its own, nothing is read in vain.
+    #[inline(always)]
+    fn int_sides(
+        &self,
+        operation: Operation<'_>,
+        locals: &[Value],
+        state: &State,
+    ) -> Option<(i64, i64)>
+        ensures { let object = self.now.object in
+            IfSome result (λ ints. EvaluatesBoth operation.entry.op × GivesInt state.now object (solved_expression operation.entry.sides.left.now) (plain_values locals.now) ints.0 × GivesInt state.now object (solved_expression operation.entry.sides.right.now) (plain_values locals.now) ints.1) }
+    {
+        if matches!(operation.op, BinaryOp::Or | BinaryOp::And) {
+            return None;
+        }
+        let right = self.int_of_leaf(operation.sides.right, locals, state)?;
+        let left = self.int_of_leaf(operation.sides.left, locals, state)?;
+        Some((left, right))
+    }
+
+    // The Int that a leaf gives, where it gives one.
+    #[inline(always)]
+    fn int_of_leaf(&self, leaf: &SolvedExpr, locals: &[Value], state: &State) -> Option<i64>
+        ensures { IfSome result (λ number. GivesInt state.now self.now.object (solved_expression leaf.now) (plain_values locals.now) number) }
+    {
+        match leaf {
+            SolvedExpr::Int(number) => Some(*number),
+            SolvedExpr::Local { slot } => int_in(locals.get(*slot as usize)),
+            SolvedExpr::Field { slot } => int_in(state.objects.field(self.object, *slot)),
+            _ => None,
         }
     }
 
@@ -87,13 +178,7 @@ impl Here<'_> {
             Answers result state.new budget.new (row_of_expression (program_tree inside.program.now) (evaluates_by inside) (starts_by inside) self.now.object (solved_expression expr.now) (plain_values locals.now) (running state.old budget.old)) }
     {
         let here = self.with_room(room);
-        let outcome = match expr {
-            SolvedExpr::Binary { op, left, right } => {
-                here.evaluate_binary(*op, Sides { left, right }, locals, state, budget)
-            }
-            _ => here.expression_row(expr, locals, state, budget),
-        };
-        Ok(outcome?)
+        Ok(here.expression_row(expr, locals, state, budget)?)
     }
 
     #[cycle(evaluate)]
@@ -124,16 +209,13 @@ impl Here<'_> {
                 let value = self.evaluate(of, locals, state, budget)?;
                 operate_on_one(*op, &value)
             }
-            SolvedExpr::Binary { op, left, right } => self.evaluate_binary(
-                *op,
-                Sides { left, right },
-                locals,
-                state,
-                budget,
-            ),
+            SolvedExpr::Binary { op, left, right } => {
+                let sides = Sides { left, right };
+                self.evaluate_binary(*op, sides, locals, state, budget)
+            }
             SolvedExpr::Builtin { name, args } => {
                 let values = self.evaluate_all(args, locals, state, budget)?;
-                self.answer_builtin(*name, &values, state, budget)
+                self.call_builtin(*name, &values, state, budget)
             }
             SolvedExpr::Call { object, name, args } => {
                 let object = self.evaluate(object, locals, state, budget)?;
@@ -259,7 +341,7 @@ impl Here<'_> {
 
     // What a builtin answers. Publishing alone starts methods.
     #[cycle(evaluate)]
-    fn answer_builtin(
+    fn call_builtin(
         &self,
         builtin: Builtin,
         args: &Values,
@@ -281,62 +363,63 @@ impl Here<'_> {
     fn execute(
         &self,
         stmt: &SolvedStmt,
-        locals: &mut Vec<Value>,
+        frame: &mut Frame,
         state: &mut State,
         budget: &mut Budget,
     ) -> Result<Flow, EvalStop>
         ensures { let here = self.now in
-            Flows result locals.new state.new budget.new (executes_by here.starter here.object (solved_statement stmt.now) (plain_values locals.old.items) (running state.old budget.old)) }
+            Proceeds result frame.new state.new budget.new (executes_by here.starter here.object (solved_statement stmt.now) (plain_values frame.old.locals.items) (running state.old budget.old)) }
     {
         let room = enter(self.starter.room, budget)?;
         self.with_room(room)
-            .statement_row(stmt, locals, state, budget)
+            .statement_row(stmt, frame, state, budget)
     }
 
     #[cycle(evaluate)]
     fn statement_row(
         &self,
         stmt: &SolvedStmt,
-        locals: &mut Vec<Value>,
+        frame: &mut Frame,
         state: &mut State,
         budget: &mut Budget,
     ) -> Result<Flow, EvalStop>
         ensures { let here = self.now in
-            Flows result locals.new state.new budget.new (row_of_statement (evaluates_by here.starter) (executes_by here.starter) here.object (solved_statement stmt.now) (plain_values locals.old.items) (running state.old budget.old)) }
+            Proceeds result frame.new state.new budget.new (row_of_statement (evaluates_by here.starter) (executes_by here.starter) here.object (solved_statement stmt.now) (plain_values frame.old.locals.items) (running state.old budget.old)) }
     {
         match stmt {
             SolvedStmt::Let { slot, value } => {
-                let value = self.evaluate(value, locals, state, budget)?;
-                declare(locals, *slot, value)?;
+                let value = self.evaluate(value, &frame.locals, state, budget)?;
+                declare(&mut frame.locals, *slot, value)?;
                 Ok(Flow::Next)
             }
             SolvedStmt::Assign { slot, value } => {
-                let value = self.evaluate(value, locals, state, budget)?;
-                assign(locals, *slot, value);
+                let value = self.evaluate(value, &frame.locals, state, budget)?;
+                assign(&mut frame.locals, *slot, value);
                 Ok(Flow::Next)
             }
             SolvedStmt::SetField { slot, value } => {
-                let value = self.evaluate(value, locals, state, budget)?;
+                let value = self.evaluate(value, &frame.locals, state, budget)?;
                 set_slot(state, self.object, *slot, value)?;
                 Ok(Flow::Next)
             }
             SolvedStmt::If { test, yes, no } => {
-                let value = self.evaluate(test, locals, state, budget)?;
+                let value = self.evaluate(test, &frame.locals, state, budget)?;
                 if truth(&value)? {
-                    self.run_block(yes, locals, state, budget)
+                    self.run_block(yes, frame, state, budget)
                 } else if let Some(block) = no {
-                    self.run_block(block, locals, state, budget)
+                    self.run_block(block, frame, state, budget)
                 } else {
                     Ok(Flow::Next)
                 }
             }
-            SolvedStmt::While { test, body } => self.run_loop(test, body, locals, state, budget),
+            SolvedStmt::While { test, body } => self.run_loop(test, body, frame, state, budget),
             SolvedStmt::Return { value } => {
-                let value = self.evaluate(value, locals, state, budget)?;
-                Ok(Flow::Return(value))
+                let value = self.evaluate(value, &frame.locals, state, budget)?;
+                frame.returned = value;
+                Ok(Flow::Return)
             }
             SolvedStmt::Do { value } => {
-                self.evaluate(value, locals, state, budget)?;
+                self.evaluate(value, &frame.locals, state, budget)?;
                 Ok(Flow::Next)
             }
         }
@@ -345,26 +428,27 @@ impl Here<'_> {
     // Each test takes a step of fuel, so there are at most so many turns as there are steps left.
     #[cycle(evaluate)]
     #[tactic(auto, using(crate::proofs::Steps::by_turn))]
+    #[inline(never)]
     fn run_loop(
         &self,
         test: &SolvedExpr,
         body: &[SolvedStmt],
-        locals: &mut Vec<Value>,
+        frame: &mut Frame,
         state: &mut State,
         budget: &mut Budget,
     ) -> Result<Flow, EvalStop>
         ensures { let here = self.now in
-            Flows result locals.new state.new budget.new (loop_turns budget.old.fuel (evaluates_by here.starter) (executes_by here.starter) here.object (solved_expression test.now) (solved_statements body.now) (plain_values locals.old.items) (running state.old budget.old)) }
+            Proceeds result frame.new state.new budget.new (loop_turns budget.old.fuel (evaluates_by here.starter) (executes_by here.starter) here.object (solved_expression test.now) (solved_statements body.now) (plain_values frame.old.locals.items) (running state.old budget.old)) }
     {
         let turns = budget.fuel;
         for _turn in 0..turns {
-            let value = self.evaluate(test, locals, state, budget)?;
+            let value = self.evaluate(test, &frame.locals, state, budget)?;
             if !truth(&value)? {
                 return Ok(Flow::Next);
             }
-            let flow = self.run_block(body, locals, state, budget)?;
-            if let Flow::Return(value) = flow {
-                return Ok(Flow::Return(value));
+            let flow = self.run_block(body, frame, state, budget)?;
+            if matches!(flow, Flow::Return) {
+                return Ok(flow);
             }
         }
         Err(EvalStop::Fault(Fault::Fuel))
@@ -376,38 +460,36 @@ impl Here<'_> {
     fn run_block(
         &self,
         stmts: &[SolvedStmt],
-        locals: &mut Vec<Value>,
+        frame: &mut Frame,
         state: &mut State,
         budget: &mut Budget,
     ) -> Result<Flow, EvalStop>
         ensures { let here = self.now in
-            Flows result locals.new state.new budget.new (block_of (executes_by here.starter) here.object (solved_statements stmts.now) (plain_values locals.old.items) (running state.old budget.old)) }
+            Proceeds result frame.new state.new budget.new (block_of (executes_by here.starter) here.object (solved_statements stmts.now) (plain_values frame.old.locals.items) (running state.old budget.old)) }
     {
-        let before = locals.len();
-        match self.run_in_turn(stmts, locals, state, budget)? {
-            Flow::Next => {
-                locals.truncate(before);
-                Ok(Flow::Next)
-            }
-            Flow::Return(value) => Ok(Flow::Return(value)),
+        let before = frame.locals.len();
+        let flow = self.run_in_turn(stmts, frame, state, budget)?;
+        if matches!(flow, Flow::Next) {
+            leave(&mut frame.locals, before);
         }
+        Ok(flow)
     }
 
     #[cycle(evaluate)]
     fn run_in_turn(
         &self,
         stmts: &[SolvedStmt],
-        locals: &mut Vec<Value>,
+        frame: &mut Frame,
         state: &mut State,
         budget: &mut Budget,
     ) -> Result<Flow, EvalStop>
         ensures { let here = self.now in
-            Flows result locals.new state.new budget.new (in_turn (executes_by here.starter) here.object (solved_statements stmts.now) (plain_values locals.old.items) (running state.old budget.old)) }
+            Proceeds result frame.new state.new budget.new (in_turn (executes_by here.starter) here.object (solved_statements stmts.now) (plain_values frame.old.locals.items) (running state.old budget.old)) }
     {
         for stmt in stmts {
-            let flow = self.execute(stmt, locals, state, budget)?;
-            if let Flow::Return(value) = flow {
-                return Ok(Flow::Return(value));
+            let flow = self.execute(stmt, frame, state, budget)?;
+            if matches!(flow, Flow::Return) {
+                return Ok(flow);
             }
         }
         Ok(Flow::Next)
@@ -456,10 +538,10 @@ impl Starter<'_> {
             starter: *self,
             object,
         };
-        let mut locals = args.into_vec();
-        match here.run_in_turn(&method.body, &mut locals, state, budget)? {
+        let mut frame = Frame::new(args.into_vec());
+        match here.run_in_turn(&method.body, &mut frame, state, budget)? {
             Flow::Next => Ok(Value::Nil),
-            Flow::Return(value) => Ok(value),
+            Flow::Return => Ok(frame.returned),
         }
     }
 
@@ -657,4 +739,15 @@ fn take_step(budget: &mut Budget) -> Result<(), EvalStop>
     }
     budget.fuel -= 1;
     Ok(())
+}
+
+// The Int that a place holds, where it is one.
+#[inline(always)]
+fn int_in(place: Option<&Value>) -> Option<i64>
+    ensures { IfSome result (λ number. option_map plain (option_copied place.entry) ≡ Some (int number)) }
+{
+    match place {
+        Some(Value::Int(number)) => Some(*number),
+        _ => None,
+    }
 }

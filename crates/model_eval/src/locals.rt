@@ -11,6 +11,25 @@ use model_value::Value;
 use std::alloc::Global;
 use tea_base::WantOfMemory;
 
+/// What a method runs on: its locals, and the value with which it ends, once it returns.
+#[derive(Drop)]
+pub struct Frame {
+    pub locals: Vec<Value>,
+    pub returned: Value,
+}
+
+impl Frame {
+    /// That of a method that begins with these locals.
+    pub fn new(locals: Vec<Value>) -> Frame
+        ensures { result.locals ≡ locals }
+    {
+        Frame {
+            locals,
+            returned: Value::Nil,
+        }
+    }
+}
+
 /// A copy of what a local holds.
 #[inline(always)]
 pub fn get_local(alloc: Global, locals: &[Value], slot: u32) -> Result<Value, EvalStop>
@@ -40,5 +59,16 @@ pub fn assign(locals: &mut Vec<Value>, slot: u32, value: Value)
     let slot = slot as usize;
     if slot < locals.len() {
         locals[slot] = value;
+    }
+}
+
+/// Behind a block the locals are those that were there before it.
+#[inline(always)]
+#[tactic(auto, using(crate::proofs::Steps::by_local))]
+pub fn leave(locals: &mut Vec<Value>, before: usize)
+    ensures { plain_values locals.new.items ≡ take before (plain_values locals.old.items) }
+{
+    if locals.len() > before {
+        locals.truncate(before);
     }
 }

@@ -68,8 +68,9 @@ fn ints(left: &Value, right: &Value) -> Result<(i64, i64), EvalStop>
     }
 }
 
+/// What an operator gives of two Ints.
 #[inline(always)]
-fn operate_on_ints(op: BinaryOp, left: i64, right: i64) -> Result<Value, EvalStop>
+pub fn operate_on_ints(op: BinaryOp, left: i64, right: i64) -> Result<Value, EvalStop>
     ensures { Replies result (apply_binary op (int left) (int right)) }
 {
     match op {

@@ -22,8 +22,8 @@ Starter::start-returns-in-Some-method t c =
     let same = started tree c.args.self.now.room c.args.object c.args.method.now (plain_values c.args.args) r found.0 c.in-Some-method.solved found.1 finds in
     rw same at c.perform.ensures
 
-pub Here::answer_builtin-returns-in_default : goal.Here::answer_builtin-returns-in_default
-Here::answer_builtin-returns-in_default t c =
+pub Here::call_builtin-returns-in_default : goal.Here::call_builtin-returns-in_default
+Here::call_builtin-returns-in_default t c =
     let here = c.args.self.now in
     let same = answered-alone (starts_by here.starter) c.args.builtin here.object (plain_values c.args.args.now) (running c.args.state.now c.args.budget.now) c.in_default.not-Publish in
     subst (λ (meant : Outcome PlainValue). Answers c.answer.result c.answer.new.state c.answer.new.budget meant) (sym same) c.answer.ensures

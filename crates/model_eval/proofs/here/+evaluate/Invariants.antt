@@ -73,14 +73,20 @@ decreases-Starter::publish_to l = 16 * l.self.now.room + 8
 abbrev pub decreases-Starter::publish : goal.decreases-Starter::publish
 decreases-Starter::publish l = 16 * l.self.now.room + 9
 
-abbrev pub decreases-Here::answer_builtin : goal.decreases-Here::answer_builtin
-decreases-Here::answer_builtin l = 16 * l.self.now.starter.room + 10
+abbrev pub decreases-Here::call_builtin : goal.decreases-Here::call_builtin
+decreases-Here::call_builtin l = 16 * l.self.now.starter.room + 10
 
 abbrev pub decreases-Here::expression_row : goal.decreases-Here::expression_row
 decreases-Here::expression_row l = 16 * l.self.now.starter.room + 11
 
 abbrev pub decreases-Here::evaluate_inside : goal.decreases-Here::evaluate_inside
 decreases-Here::evaluate_inside l = 16 * l.room + 12
+
+abbrev pub decreases-Here::evaluate_sides : goal.decreases-Here::evaluate_sides
+decreases-Here::evaluate_sides l = 16 * l.room + 4
+
+abbrev pub decreases-Here::evaluate_operation : goal.decreases-Here::evaluate_operation
+decreases-Here::evaluate_operation l = 16 * l.room + 5
 
 abbrev pub decreases-Here::statement_row : goal.decreases-Here::statement_row
 decreases-Here::statement_row l = 16 * l.self.now.starter.room + 11
@@ -93,13 +99,13 @@ invariant-Here::evaluate_all-loop-expr l =
 abbrev pub invariant-Here::run_in_turn-loop-stmt : goal.invariant-Here::run_in_turn-loop-stmt
 invariant-Here::run_in_turn-loop-stmt l =
     let ex = executes_by l.self.starter in
-    in_turn ex l.self.object (solved_statements (drop l.stmt-index l.stmts)) (plain_values l.locals.items) (running l.state l.budget) ≡ in_turn ex l.self.object (solved_statements l.stmts) (plain_values l.fn.locals.items) (running l.fn.state l.fn.budget)
+    in_turn ex l.self.object (solved_statements (drop l.stmt-index l.stmts)) (plain_values l.frame.locals.items) (running l.state l.budget) ≡ in_turn ex l.self.object (solved_statements l.stmts) (plain_values l.fn.frame.locals.items) (running l.fn.state l.fn.budget)
 
 abbrev pub invariant-Here::run_loop-loop-turn : goal.invariant-Here::run_loop-loop-turn
 invariant-Here::run_loop-loop-turn l =
     let ev = evaluates_by l.self.starter in
     let ex = executes_by l.self.starter in
-    loop_turns (l.turns - l._turn) ev ex l.self.object (solved_expression l.test) (solved_statements l.body) (plain_values l.locals.items) (running l.state l.budget) ≡ loop_turns l.turns ev ex l.self.object (solved_expression l.test) (solved_statements l.body) (plain_values l.fn.locals.items) (running l.fn.state l.fn.budget)
+    loop_turns (l.turns - l._turn) ev ex l.self.object (solved_expression l.test) (solved_statements l.body) (plain_values l.frame.locals.items) (running l.state l.budget) ≡ loop_turns l.turns ev ex l.self.object (solved_expression l.test) (solved_statements l.body) (plain_values l.fn.frame.locals.items) (running l.fn.state l.fn.budget)
 
 abbrev pub invariant-Starter::tell_all-loop-handler : goal.invariant-Starter::tell_all-loop-handler
 invariant-Starter::tell_all-loop-handler l =
