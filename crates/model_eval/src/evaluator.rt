@@ -427,8 +427,8 @@ impl Here<'_> {
 
     // Each test takes a step of fuel, so there are at most so many turns as there are steps left.
     #[cycle(evaluate)]
-    #[tactic(auto, using(crate::proofs::Steps::by_turn))]
     #[inline(never)]
+    #[tactic(auto, using(crate::proofs::Steps::by_turn))]
     fn run_loop(
         &self,
         test: &SolvedExpr,
