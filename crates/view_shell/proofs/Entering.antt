@@ -1,21 +1,26 @@
 -- A view that joined, or whose base was none.
-use Rattle.std.proofs.Common.{◌≡◌, inl, inr, List, [], Some, refl, sym, ap, subst}
-use Rattle.std.specs.Prelude.{◌⊎◌, Result, MatchResult}
-use Rattle.replica_plain.specs.Calls.{unsent}
+use Rattle.std.proofs.Common.{◌≡◌, inl, inr, ℕ, List, [], Some, refl, sym, ap, subst}
+use Rattle.std.specs.Prelude.{◌⊎◌, ⊤, Result, MatchResult}
+use Rattle.wire_frames.specs.declared.frame.ClientFrame.{ClientFrame}
+use Rattle.replica.specs.View.{ReplicaView, with_plain, worlds_of}
+use Rattle.replica_plain.specs.Calls.{join_frame, joining, unsent}
 use Rattle.replica_plain.specs.declared.how.How.{How}
 use Rattle.replica_plain.specs.declared.how.How.TheVariants.{Fresh, Whole, Resume}
-use Rattle.run_steps.specs.Outside.{OutputTells, LinksTell, Acts, window, window_tells}
+use Rattle.run_steps.specs.Outside.{Outside, OutputTells, LinksTell, Acts, window, window_tells}
 use Rattle.view_script.specs.PlainLine.{PlainLine}
 use Rattle.view_shell.specs.declared.ending.ViewEnd.{ViewEnd}
 use Rattle.view_shell.specs.declared.ending.ViewEnd.TheVariants as ending
 use Rattle.view_shell.specs.declared.lines.Departure.{Departure}
 use Rattle.view_shell.specs.declared.hearing.Synced.{Synced}
-use Rattle.view_shell.specs.Phases.{Viewer, Phase, Tells, ToJoin, Over, bad_base, given, run, send_all}
+use Rattle.view_shell.specs.declared.watcher.Watcher.{Watcher}
+use Rattle.view_shell.specs.Phases.{Viewer, Phase, Receives, Receiving, Sending, Tells, ToJoin, Over, bad_base, enter, given, joined, run, send_all}
+use Rattle.view_shell.specs.Viewers.{viewer}
 use Rattle.view_shell.specs.Flows.{bad_base_answer, departure_phase}
 use Rattle.view_shell.specs.Hearing.{rejoined_text, synced_phase}
-use Rattle.view_shell.specs.ViewRun.{Doing, Goes, Stops}
-use Rattle.view_shell.proofs.Going.{reaches_end}
+use Rattle.view_shell.specs.ViewRun.{Doing, Goes, LinkActs, Stops}
+use Rattle.view_shell.proofs.Going.{all_acts_behind, goes_and_stops, goes_from, goes_in_window, goes_on, goes_to, reaches_end}
 use Rattle.view_shell.proofs.Printings.{prints_nothing, printed_goes}
+use Rattle.view_shell.proofs.Readiness.{viewer_joined}
 
 -- the script of a view that joined begins; nothing is printed before
 pub begins : {W L : Type 0} (out : OutputTells W) (links : LinksTell L) (w : W) (l : L) (v : Viewer) (how : How) (found : Synced) → (how ≡ Fresh) ⊎ (how ≡ Whole) → Goes (Acts (window_tells out links)) (synced_phase v how found) (run v v.lines) (window w l) (window w l)
@@ -39,3 +44,29 @@ base_flows does from v lines how old new answer is goes =
 -- a view that joined again behind a cut
 pub rejoins : (v : Viewer) (how : How) (found : Synced) → how ≡ Resume → synced_phase v how found ≡ send_all (given v) (unsent v.replica) (Tells (rejoined_text (Some found)))
 rejoins v how found is = ap (λ (h : How). synced_phase v h found) is
+
+-- a view that sent the frame by which it joins
+pub sent_to_join : {L : Type 0} (links : LinksTell L) (address : List ℕ) (lines : List PlainLine) (w w' : Watcher) (replica : ReplicaView) (how : How) (frame : ClientFrame) (old new : L)
+    → w' ≡ record w { replica = replica; receives = w'.receives; quiets = 0 } → w'.receives ≡ 0 → replica ≡ with_plain w.replica (joining w.replica.plain how) → frame ≡ join_frame (worlds_of w.replica) w.replica.plain how
+    → Goes (LinkActs links) (Sending (joined (viewer address w lines) how) frame [] (Receives (ToJoin how))) (Receiving (joined (viewer address w lines) how) (ToJoin how)) old new
+    → Goes (LinkActs links) (enter (viewer address w lines) how) (Receiving (viewer address w' lines) (ToJoin how)) old new
+sent_to_join links address lines w w' replica how frame old new kept zero joins is goes =
+    let v = joined (viewer address w lines) how in
+    let u = viewer address w' lines in
+    goes_from (LinkActs links) (enter (viewer address w lines) how) (Sending v frame [] (Receives (ToJoin how))) (Receiving u (ToJoin how)) old new (ap (λ (f : ClientFrame). Sending v f [] (Receives (ToJoin how))) (sym is))
+    (goes_to (LinkActs links) (Sending v frame [] (Receives (ToJoin how))) (Receiving v (ToJoin how)) (Receiving u (ToJoin how)) old new
+    (ap (λ (one : Viewer). Receiving one (ToJoin how)) (viewer_joined address lines w w' replica how kept zero joins)) goes)
+
+-- a view that joined, and whose script has begun
+module _ {W L : Type 0} (out : OutputTells W) (links : LinksTell L) (start met script : Phase) (o : W) (l l' : L) (begun new : Outside ⊤ W ⊤ L)
+    (joins : Goes (LinkActs links) start met l l') (begins_there : Goes (Acts (window_tells out links)) met script (window o l') begun) where
+  joined_and_begun : Goes (Acts (window_tells out links)) start script (window o l) begun
+  joined_and_begun =
+      goes_on (Acts (window_tells out links)) (all_acts_behind (window_tells out links)) start met script (window o l) (window o l') begun
+      (goes_in_window out links o start met l l' joins) begins_there
+
+  pub begun_goes : (to : Phase) → Goes (Acts (window_tells out links)) script to begun new → Goes (Acts (window_tells out links)) start to (window o l) new
+  begun_goes to goes = goes_on (Acts (window_tells out links)) (all_acts_behind (window_tells out links)) start script to (window o l) begun new joined_and_begun goes
+
+  pub begun_stops : (end : ViewEnd) → Stops (Acts (window_tells out links)) script end begun new → Stops (Acts (window_tells out links)) start end (window o l) new
+  begun_stops end stops = goes_and_stops (Acts (window_tells out links)) (all_acts_behind (window_tells out links)) start script end (window o l) begun new joined_and_begun stops

@@ -9,4 +9,6 @@ pub mod Flowing
 pub mod Visits
 pub mod OneRun
 pub mod Scripts
+pub mod LineTurns
+pub mod LinkTurns
 pub mod Entering

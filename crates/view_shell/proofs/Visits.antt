@@ -17,11 +17,17 @@ use Rattle.std.specs.List.{AllByRecursion}
 use Rattle.std.proofs.lemmas.List.{drop-drop, drop-map, length-drop, length-map, take_all}
 use Rattle.run_steps.specs.Calls.{came_of, made_of}
 use Rattle.run_steps.specs.declared.calls.CallFault.{CallFault}
+use Rattle.run_steps.specs.declared.calls.CallFault.TheVariants as fault
 use Rattle.view_script.specs.PlainLine.{LineFits, PlainLine, most_publishes, plain_line, plain_lines, publish_count}
 use Rattle.view_script.specs.declared.line.ViewLine.{ViewLine}
 use Rattle.view_shell.specs.declared.lines.Departure.{Departure}
 use Rattle.view_shell.specs.Flows.{departure_phase}
 use Rattle.view_shell.proofs.Going.{all_acts_behind, goes_and_stops, goes_on, reaches_end}
+
+-- how a run ends where no link was made
+abbrev pub unmade : CallFault → ViewEnd
+unmade fault.Failed = ending.NetFault
+unmade fault.WantOfMemory = ending.WantOfMemory
 
 module _ {W N L : Type 0} (out : OutputTells W) (net : NetTells N L) (links : LinksTell L) where
   abbrev pub In : OutsideTells ⊤ W N L
@@ -53,8 +59,9 @@ module _ {W N L : Type 0} (out : OutputTells W) (net : NetTells N L) (links : Li
     acts = inl (booth w n' (Some l), (refl, makes, refl), refl);
   }
 
-  pub connect_stops : (v : Viewer) (how : How) (address : List ℕ) (w : W) (n n' : N) → address ≡ v.address → MakesLink net links Failed address n n' None → Stops (Acts In) (Connecting v how) ending.NetFault (booth w n None) (booth w n' None)
-  connect_stops v how address w n n' is makes = record {
+  pub connect_stops : (v : Viewer) (how : How) (address : List ℕ) (w : W) (n n' : N) (why : CallFault) → address ≡ v.address → MakesLink net links (came_of {T = L} (Err why)) address n n' None
+      → Stops (Acts In) (Connecting v how) (unmade why) (booth w n None) (booth w n' None)
+  connect_stops v how address w n n' fault.Failed is makes = record {
     steps = Connects address ∷ [];
     last = enter v how;
     cut = Some (record { step = Connects address; came = Failed });
@@ -62,9 +69,7 @@ module _ {W N L : Type 0} (out : OutputTells W) (net : NetTells N L) (links : Li
     acts = inr (inl ((refl, makes, refl), refl));
     ends = refl;
   }
-
-  pub connect_wants : (v : Viewer) (how : How) (address : List ℕ) (w : W) (n n' : N) → address ≡ v.address → MakesLink net links WantedMemory address n n' None → Stops (Acts In) (Connecting v how) ending.WantOfMemory (booth w n None) (booth w n' None)
-  connect_wants v how address w n n' is makes = record {
+  connect_stops v how address w n n' fault.WantOfMemory is makes = record {
     steps = Connects address ∷ [];
     last = enter v how;
     cut = Some (record { step = Connects address; came = WantedMemory });
@@ -146,16 +151,17 @@ room_at_first w ls is few = omega (arith, is, few)
 
 -- ---- what came of a link
 
+-- the view attends a link with these lines
+abbrev pub Attends : {S : Type 0} → Doing S → (List PlainLine → Phase) → (List PlainLine → Viewer) → S → S → Result Departure ViewEnd → List PlainLine → Type 0
+Attends does from u old new result lines = MatchResult result (λ departure. Goes does (from lines) (departure_phase u lines departure) old new) (λ end. Stops does (from lines) end old new)
+
 module _ {S : Type 0} (does : Doing S) (from : List PlainLine → Phase) (u : List PlainLine → Viewer) (old new : S) (ls ls' : List PlainLine) (same : ls ≡ ls') (result : Result Departure ViewEnd) where
-  abbrev pub Attends : Result Departure ViewEnd → List PlainLine → Type 0
-  Attends r lines = MatchResult r (λ departure. Goes does (from lines) (departure_phase u lines departure) old new) (λ end. Stops does (from lines) end old new)
-
   -- the view leaves it so
-  pub departs : (one which : Departure) → result ≡ Ok one → one ≡ which → Attends result ls → Goes does (from ls') (departure_phase u ls' which) old new
-  departs one which is whose talk = subst (λ (r : Result Departure ViewEnd). Attends r ls') (is ∙ ap (λ (d : Departure). Ok d) whose) (subst (Attends result) same talk)
+  pub departs : (one which : Departure) → result ≡ Ok one → one ≡ which → Attends does from u old new result ls → Goes does (from ls') (departure_phase u ls' which) old new
+  departs one which is whose talk = subst (λ (r : Result Departure ViewEnd). Attends does from u old new r ls') (is ∙ ap (λ (d : Departure). Ok d) whose) (subst (Attends does from u old new result) same talk)
 
-  pub stops_there : (end : ViewEnd) → result ≡ Err end → Attends result ls → Stops does (from ls') end old new
-  stops_there end is talk = subst (λ (r : Result Departure ViewEnd). Attends r ls') is (subst (Attends result) same talk)
+  pub stops_there : (end : ViewEnd) → result ≡ Err end → Attends does from u old new result ls → Stops does (from ls') end old new
+  stops_there end is talk = subst (λ (r : Result Departure ViewEnd). Attends does from u old new r ls') is (subst (Attends does from u old new result) same talk)
 
 -- what holds of a view that leaves a link so
 pub leaves_room : (w : Watcher) (ls ls' : List PlainLine) → ls ≡ ls' → (result : Result Departure ViewEnd) (one which : Departure) → result ≡ Ok one → one ≡ which

@@ -4,9 +4,9 @@ use Rattle.view_shell.specs.Phases.{ToJoin, bad_base, enter, run}
 use Rattle.view_shell.specs.Flows.{departure_phase}
 use Rattle.view_shell.specs.Viewers.{viewer}
 use Rattle.view_shell.specs.Hearing.{synced_phase}
-use Rattle.view_shell.proofs.Going.{all_acts_behind, goes_and_stops, goes_in_window, goes_on, stops_in_window}
+use Rattle.view_shell.proofs.Going.{all_acts_behind, goes_and_stops, goes_in_window, stops_in_window}
 use Rattle.view_shell.proofs.Hearings.{stopped_base, stopped_end}
-use Rattle.view_shell.proofs.Entering.{base_flows}
+use Rattle.view_shell.proofs.Entering.{base_flows, begun_goes, begun_stops}
 use Rattle.view_shell.proofs.view.attend.Goals as goal
 
 pub returns-in-Err-End-clause-talk : goal.returns-in-Err-End-clause-talk
@@ -48,36 +48,20 @@ pub returns-in-Ok-run_lines-clause-talk : goal.returns-in-Ok-run_lines-clause-ta
 returns-in-Ok-run_lines-clause-talk g c address =
     let out = output_tells g.W.Sink.written g.W.Sink.faults g.W.Sink.wants in
     let links = links_tell g.L.Link.coming g.L.Link.heard g.L.Link.sent g.L.Link.counts in
-    let how = c.args.entry.now.how in
     let lines = plain_lines c.args.entry.now.lines.now in
-    let start = enter (viewer address c.args.watcher.now lines) how in
-    let met = synced_phase (viewer address c.join.new.watcher lines) how c.in-Ok.found in
+    let start = enter (viewer address c.args.watcher.now lines) c.args.entry.now.how in
+    let met = synced_phase (viewer address c.join.new.watcher lines) c.args.entry.now.how c.in-Ok.found in
     let script = run (viewer address c.begin.new.watcher lines) lines in
-    let old = window c.args.out.now c.args.link.now in
-    let joined = window c.args.out.now c.join.new.link in
-    let begun = window c.begin.new.out c.begin.new.link in
-    goes_on (Acts (window_tells out links)) (all_acts_behind (window_tells out links)) start script (departure_phase (viewer address c.run_lines.new.watcher) lines c.in-Ok-run_lines.departure)
-    old begun (window c.run_lines.new.out c.run_lines.new.link)
-    (goes_on (Acts (window_tells out links)) (all_acts_behind (window_tells out links)) start met script old joined begun
-    (goes_in_window out links c.args.out.now start met c.args.link.now c.join.new.link (c.in-Ok.ensures.talk address lines))
-    (c.in-Ok-begin.ensures.talk address lines))
-    (c.in-Ok-run_lines.ensures.talk address)
+    begun_goes out links start met script c.args.out.now c.args.link.now c.join.new.link (window c.begin.new.out c.begin.new.link) (window c.run_lines.new.out c.run_lines.new.link)
+    (c.in-Ok.ensures.talk address lines) (c.in-Ok-begin.ensures.talk address lines) (departure_phase (viewer address c.run_lines.new.watcher) lines c.in-Ok-run_lines.departure) (c.in-Ok-run_lines.ensures.talk address)
 
 pub returns-in-Err-run_lines-clause-talk : goal.returns-in-Err-run_lines-clause-talk
 returns-in-Err-run_lines-clause-talk g c address =
     let out = output_tells g.W.Sink.written g.W.Sink.faults g.W.Sink.wants in
     let links = links_tell g.L.Link.coming g.L.Link.heard g.L.Link.sent g.L.Link.counts in
-    let how = c.args.entry.now.how in
     let lines = plain_lines c.args.entry.now.lines.now in
-    let start = enter (viewer address c.args.watcher.now lines) how in
-    let met = synced_phase (viewer address c.join.new.watcher lines) how c.in-Ok.found in
+    let start = enter (viewer address c.args.watcher.now lines) c.args.entry.now.how in
+    let met = synced_phase (viewer address c.join.new.watcher lines) c.args.entry.now.how c.in-Ok.found in
     let script = run (viewer address c.begin.new.watcher lines) lines in
-    let old = window c.args.out.now c.args.link.now in
-    let joined = window c.args.out.now c.join.new.link in
-    let begun = window c.begin.new.out c.begin.new.link in
-    goes_and_stops (Acts (window_tells out links)) (all_acts_behind (window_tells out links)) start script c.in-Err-run_lines.end
-    old begun (window c.run_lines.new.out c.run_lines.new.link)
-    (goes_on (Acts (window_tells out links)) (all_acts_behind (window_tells out links)) start met script old joined begun
-    (goes_in_window out links c.args.out.now start met c.args.link.now c.join.new.link (c.in-Ok.ensures.talk address lines))
-    (c.in-Ok-begin.ensures.talk address lines))
-    (c.in-Err-run_lines.ensures.talk address)
+    begun_stops out links start met script c.args.out.now c.args.link.now c.join.new.link (window c.begin.new.out c.begin.new.link) (window c.run_lines.new.out c.run_lines.new.link)
+    (c.in-Ok.ensures.talk address lines) (c.in-Ok-begin.ensures.talk address lines) c.in-Err-run_lines.end (c.in-Err-run_lines.ensures.talk address)
