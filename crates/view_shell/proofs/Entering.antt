@@ -58,15 +58,24 @@ sent_to_join links address lines w w' replica how frame old new kept zero joins 
     (ap (λ (one : Viewer). Receiving one (ToJoin how)) (viewer_joined address lines w w' replica how kept zero joins)) goes)
 
 -- a view that joined, and whose script has begun
-module _ {W L : Type 0} (out : OutputTells W) (links : LinksTell L) (start met script : Phase) (o : W) (l l' : L) (begun new : Outside ⊤ W ⊤ L)
-    (joins : Goes (LinkActs links) start met l l') (begins_there : Goes (Acts (window_tells out links)) met script (window o l') begun) where
-  joined_and_begun : Goes (Acts (window_tells out links)) start script (window o l) begun
-  joined_and_begun =
-      goes_on (Acts (window_tells out links)) (all_acts_behind (window_tells out links)) start met script (window o l) (window o l') begun
-      (goes_in_window out links o start met l l' joins) begins_there
+module _ {W L : Type 0} (out : OutputTells W) (links : LinksTell L) (address : List ℕ) (lines : List PlainLine) (how : How) (found : Synced) (w0 w1 w2 : Watcher) where
+  abbrev pub start : Phase
+  start = enter (viewer address w0 lines) how
 
-  pub begun_goes : (to : Phase) → Goes (Acts (window_tells out links)) script to begun new → Goes (Acts (window_tells out links)) start to (window o l) new
-  begun_goes to goes = goes_on (Acts (window_tells out links)) (all_acts_behind (window_tells out links)) start script to (window o l) begun new joined_and_begun goes
+  abbrev pub met : Phase
+  met = synced_phase (viewer address w1 lines) how found
 
-  pub begun_stops : (end : ViewEnd) → Stops (Acts (window_tells out links)) script end begun new → Stops (Acts (window_tells out links)) start end (window o l) new
-  begun_stops end stops = goes_and_stops (Acts (window_tells out links)) (all_acts_behind (window_tells out links)) start script end (window o l) begun new joined_and_begun stops
+  abbrev pub script : Phase
+  script = run (viewer address w2 lines) lines
+
+  module _ (o : W) (l l' : L) (begun new : Outside ⊤ W ⊤ L) (joins : Goes (LinkActs links) start met l l') (begins_there : Goes (Acts (window_tells out links)) met script (window o l') begun) where
+    joined_and_begun : Goes (Acts (window_tells out links)) start script (window o l) begun
+    joined_and_begun =
+        goes_on (Acts (window_tells out links)) (all_acts_behind (window_tells out links)) start met script (window o l) (window o l') begun
+        (goes_in_window out links o start met l l' joins) begins_there
+
+    pub begun_goes : (to : Phase) → Goes (Acts (window_tells out links)) script to begun new → Goes (Acts (window_tells out links)) start to (window o l) new
+    begun_goes to goes = goes_on (Acts (window_tells out links)) (all_acts_behind (window_tells out links)) start script to (window o l) begun new joined_and_begun goes
+
+    pub begun_stops : (end : ViewEnd) → Stops (Acts (window_tells out links)) script end begun new → Stops (Acts (window_tells out links)) start end (window o l) new
+    begun_stops end stops = goes_and_stops (Acts (window_tells out links)) (all_acts_behind (window_tells out links)) start script end (window o l) begun new joined_and_begun stops

@@ -1,10 +1,10 @@
 use Rattle.std.proofs.Common.{◌≡◌, ◌+◌, ◌≤◌, List, [], length, refl, sym, subst, arith}
+use Rattle.run_steps.specs.Outside.{links_tell, output_tells}
 use Rattle.view_script.specs.PlainLine.{PlainLine, plain_lines}
 use Rattle.view_shell.specs.declared.ending.ViewEnd.TheVariants as ending
 use Rattle.view_shell.specs.declared.lines.Flow.TheVariants as flow
 use Rattle.view_shell.specs.Phases.{Over}
 use Rattle.view_shell.specs.Viewers.{HasRoomFor}
-use Rattle.view_shell.proofs.Going.{all_acts_behind}
 use Rattle.view_shell.proofs.LineTurns.{leave_goes, leave_stops, line_cuts, line_flows, line_stops}
 use Rattle.view_shell.proofs.Scripts.{drop_plain, few_plain, fits_here, room_now, room_on}
 use Rattle.view_shell.proofs.lines.run_lines.Goals as goal
@@ -24,23 +24,31 @@ loop-place-preserved g c = record {
   fit = (fits_here c.args.lines.now c.loop-place.place c.index-lines-place.result c.loop-place-test.true c.index-lines-place.is c.loop-place.invariant.fit).1;
   room = room_on c.args.lines.now c.loop-place.place c.index-lines-place.result c.loop-place-test.true c.index-lines-place.is c.loop-place.watcher c.run_line.new.watcher c.in-Ok-GoesOn.ensures.count c.loop-place.invariant.room;
   talk = λ address.
-      line_flows _ (all_acts_behind _) address c.loop-place.watcher c.args.lines.now c.loop-place.place _ _ _ _ (c.loop-place.invariant.talk address)
+      let out = output_tells g.W.Sink.written g.W.Sink.faults g.W.Sink.wants in
+      let links = links_tell g.L.Link.coming g.L.Link.heard g.L.Link.sent g.L.Link.counts in
+      line_flows out links address c.loop-place.watcher c.args.lines.now c.loop-place.place _ _ _ _ (c.loop-place.invariant.talk address)
       c.index-lines-place.result c.loop-place-test.true c.index-lines-place.is c.run_line.new.watcher c.in-Ok-GoesOn.field-0 (c.in-Ok-GoesOn.ensures.talk address _) flow.GoesOn c.in-Ok-GoesOn.field-0-is;
 }
 
 pub returns-in-Err-clause-talk : goal.returns-in-Err-clause-talk
 returns-in-Err-clause-talk g c address =
-    line_stops _ (all_acts_behind _) address c.loop-place.watcher c.args.lines.now c.loop-place.place _ _ _ _ (c.loop-place.invariant.talk address)
+    let out = output_tells g.W.Sink.written g.W.Sink.faults g.W.Sink.wants in
+    let links = links_tell g.L.Link.coming g.L.Link.heard g.L.Link.sent g.L.Link.counts in
+    line_stops out links address c.loop-place.watcher c.args.lines.now c.loop-place.place _ _ _ _ (c.loop-place.invariant.talk address)
     c.index-lines-place.result c.loop-place-test.true c.index-lines-place.is c.in-Err.end (c.in-Err.ensures.talk address _)
 
 pub returns-in-Ok-Leaves-clause-talk : goal.returns-in-Ok-Leaves-clause-talk
 returns-in-Ok-Leaves-clause-talk g c address =
-    line_flows _ (all_acts_behind _) address c.loop-place.watcher c.args.lines.now c.loop-place.place _ _ _ _ (c.loop-place.invariant.talk address)
+    let out = output_tells g.W.Sink.written g.W.Sink.faults g.W.Sink.wants in
+    let links = links_tell g.L.Link.coming g.L.Link.heard g.L.Link.sent g.L.Link.counts in
+    line_flows out links address c.loop-place.watcher c.args.lines.now c.loop-place.place _ _ _ _ (c.loop-place.invariant.talk address)
     c.index-lines-place.result c.loop-place-test.true c.index-lines-place.is c.run_line.new.watcher c.in-Ok-Leaves.field-0 (c.in-Ok-Leaves.ensures.talk address _) flow.Leaves c.in-Ok-Leaves.field-0-is
 
 pub returns-in-Ok-Cuts-clause-talk : goal.returns-in-Ok-Cuts-clause-talk
 returns-in-Ok-Cuts-clause-talk g c address =
-    line_cuts _ (all_acts_behind _) address c.loop-place.watcher c.args.lines.now c.loop-place.place _ _ _ _ (c.loop-place.invariant.talk address)
+    let out = output_tells g.W.Sink.written g.W.Sink.faults g.W.Sink.wants in
+    let links = links_tell g.L.Link.coming g.L.Link.heard g.L.Link.sent g.L.Link.counts in
+    line_cuts out links address c.loop-place.watcher c.args.lines.now c.loop-place.place _ _ _ _ (c.loop-place.invariant.talk address)
     c.index-lines-place.result c.loop-place-test.true c.index-lines-place.is c.run_line.new.watcher c.in-Ok-Cuts.field-0 (c.in-Ok-Cuts.ensures.talk address _) c.in-Ok-Cuts.field-0-is
 
 pub returns-in-Ok-Cuts-clause-room : goal.returns-in-Ok-Cuts-clause-room
@@ -55,10 +63,14 @@ returns-in-Ok-Cuts-clause-room g c =
 
 pub returns-in-Ok-clause-talk : goal.returns-in-Ok-clause-talk
 returns-in-Ok-clause-talk g c address =
-    leave_goes _ (all_acts_behind _) address c.loop-place.watcher c.args.lines.now c.loop-place.place _ _ _ _ (c.loop-place.invariant.talk address)
+    let out = output_tells g.W.Sink.written g.W.Sink.faults g.W.Sink.wants in
+    let links = links_tell g.L.Link.coming g.L.Link.heard g.L.Link.sent g.L.Link.counts in
+    leave_goes out links address c.loop-place.watcher c.args.lines.now c.loop-place.place _ _ _ _ (c.loop-place.invariant.talk address)
     c.loop-place-test.false (Over ending.Done) (c.in-Ok.ensures.talk address [])
 
 pub returns-in-Err-leave-clause-talk : goal.returns-in-Err-leave-clause-talk
 returns-in-Err-leave-clause-talk g c address =
-    leave_stops _ (all_acts_behind _) address c.loop-place.watcher c.args.lines.now c.loop-place.place _ _ _ _ (c.loop-place.invariant.talk address)
+    let out = output_tells g.W.Sink.written g.W.Sink.faults g.W.Sink.wants in
+    let links = links_tell g.L.Link.coming g.L.Link.heard g.L.Link.sent g.L.Link.counts in
+    leave_stops out links address c.loop-place.watcher c.args.lines.now c.loop-place.place _ _ _ _ (c.loop-place.invariant.talk address)
     c.loop-place-test.false c.in-Err-leave.end (c.in-Err-leave.ensures.talk address [])

@@ -1,6 +1,6 @@
 use Rattle.run_steps.specs.Outside.{Acts, links_tell, output_tells, window, window_tells}
 use Rattle.view_script.specs.PlainLine.{plain_lines}
-use Rattle.view_shell.specs.Phases.{ToJoin, bad_base, enter, run}
+use Rattle.view_shell.specs.Phases.{ToJoin, bad_base, enter}
 use Rattle.view_shell.specs.Flows.{departure_phase}
 use Rattle.view_shell.specs.Viewers.{viewer}
 use Rattle.view_shell.specs.Hearing.{synced_phase}
@@ -49,19 +49,13 @@ returns-in-Ok-run_lines-clause-talk g c address =
     let out = output_tells g.W.Sink.written g.W.Sink.faults g.W.Sink.wants in
     let links = links_tell g.L.Link.coming g.L.Link.heard g.L.Link.sent g.L.Link.counts in
     let lines = plain_lines c.args.entry.now.lines.now in
-    let start = enter (viewer address c.args.watcher.now lines) c.args.entry.now.how in
-    let met = synced_phase (viewer address c.join.new.watcher lines) c.args.entry.now.how c.in-Ok.found in
-    let script = run (viewer address c.begin.new.watcher lines) lines in
-    begun_goes out links start met script c.args.out.now c.args.link.now c.join.new.link (window c.begin.new.out c.begin.new.link) (window c.run_lines.new.out c.run_lines.new.link)
-    (c.in-Ok.ensures.talk address lines) (c.in-Ok-begin.ensures.talk address lines) (departure_phase (viewer address c.run_lines.new.watcher) lines c.in-Ok-run_lines.departure) (c.in-Ok-run_lines.ensures.talk address)
+    begun_goes out links address lines c.args.entry.now.how c.in-Ok.found c.args.watcher.now c.join.new.watcher c.begin.new.watcher c.args.out.now c.args.link.now c.join.new.link
+    (window c.begin.new.out c.begin.new.link) (window c.run_lines.new.out c.run_lines.new.link) (c.in-Ok.ensures.talk address lines) (c.in-Ok-begin.ensures.talk address lines) (departure_phase (viewer address c.run_lines.new.watcher) lines c.in-Ok-run_lines.departure) (c.in-Ok-run_lines.ensures.talk address)
 
 pub returns-in-Err-run_lines-clause-talk : goal.returns-in-Err-run_lines-clause-talk
 returns-in-Err-run_lines-clause-talk g c address =
     let out = output_tells g.W.Sink.written g.W.Sink.faults g.W.Sink.wants in
     let links = links_tell g.L.Link.coming g.L.Link.heard g.L.Link.sent g.L.Link.counts in
     let lines = plain_lines c.args.entry.now.lines.now in
-    let start = enter (viewer address c.args.watcher.now lines) c.args.entry.now.how in
-    let met = synced_phase (viewer address c.join.new.watcher lines) c.args.entry.now.how c.in-Ok.found in
-    let script = run (viewer address c.begin.new.watcher lines) lines in
-    begun_stops out links start met script c.args.out.now c.args.link.now c.join.new.link (window c.begin.new.out c.begin.new.link) (window c.run_lines.new.out c.run_lines.new.link)
-    (c.in-Ok.ensures.talk address lines) (c.in-Ok-begin.ensures.talk address lines) c.in-Err-run_lines.end (c.in-Err-run_lines.ensures.talk address)
+    begun_stops out links address lines c.args.entry.now.how c.in-Ok.found c.args.watcher.now c.join.new.watcher c.begin.new.watcher c.args.out.now c.args.link.now c.join.new.link
+    (window c.begin.new.out c.begin.new.link) (window c.run_lines.new.out c.run_lines.new.link) (c.in-Ok.ensures.talk address lines) (c.in-Ok-begin.ensures.talk address lines) c.in-Err-run_lines.end (c.in-Err-run_lines.ensures.talk address)

@@ -1,7 +1,7 @@
-use Rattle.std.proofs.Common.{◌≡◌, ◌-◌, List, [], None, drop, length, take, refl, sym, ap, subst, arith}
+use Rattle.std.proofs.Common.{◌≡◌, ◌-◌, List, [], drop, length, take, refl, sym, ap, subst, arith}
 use Rattle.std.specs.List.{AllByRecursion}
 use Rattle.replica_plain.specs.declared.how.How.TheVariants.{Fresh}
-use Rattle.run_steps.specs.Outside.{booth, links_tell, net_tells, output_tells}
+use Rattle.run_steps.specs.Outside.{links_tell, net_tells, output_tells}
 use Rattle.run_steps.specs.declared.calls.CallFault.TheVariants as fault
 use Rattle.view_script.specs.PlainLine.{LineFits, PlainLine, plain_lines}
 use Rattle.view_script.specs.declared.line.ViewLine.{ViewLine}
@@ -28,24 +28,14 @@ returns-in-Err-Failed g c =
     let out = output_tells g.W.Sink.written g.W.Sink.faults g.W.Sink.wants in
     let net = net_tells g.N.Net.coming g.N.Net.over g.N.Net.asked g.N.Net.faults g.N.Net.lent g.N.Net.link_counts in
     let links = links_tell g.N.Conn.Link.coming g.N.Conn.Link.heard g.N.Conn.Link.sent g.N.Conn.Link.counts in
-    let start = Connecting (viewer c.args.visit.now.address c.args.watcher.now (plain_lines c.args.visit.now.script)) Fresh in
-    let old = booth c.args.out.now c.args.net.now None in
-    record {
-      ran = no_link out net links c.args.visit.now.address c.loop.watcher c.lines-lines.result.now c.loop.next c.loop.how start old c.loop.out c.loop.net c.connect.new.net c.loop.invariant.talk c.connect.result c.connect.ensures
-          c.in-Err-Failed.field-0 fault.Failed c.in-Err-Failed.is c.in-Err-Failed.field-0-is;
-    }
+    record { ran = no_link out net links c.args.visit.now.address c.args.visit.now.script c.args.watcher.now c.loop.watcher c.lines-lines.result.now c.loop.next c.loop.how c.args.out.now c.loop.out c.args.net.now c.loop.net c.connect.new.net c.loop.invariant.talk c.connect.result c.connect.ensures c.in-Err-Failed.field-0 fault.Failed c.in-Err-Failed.is c.in-Err-Failed.field-0-is }
 
 pub returns-in-Err-WantOfMemory : goal.returns-in-Err-WantOfMemory
 returns-in-Err-WantOfMemory g c =
     let out = output_tells g.W.Sink.written g.W.Sink.faults g.W.Sink.wants in
     let net = net_tells g.N.Net.coming g.N.Net.over g.N.Net.asked g.N.Net.faults g.N.Net.lent g.N.Net.link_counts in
     let links = links_tell g.N.Conn.Link.coming g.N.Conn.Link.heard g.N.Conn.Link.sent g.N.Conn.Link.counts in
-    let start = Connecting (viewer c.args.visit.now.address c.args.watcher.now (plain_lines c.args.visit.now.script)) Fresh in
-    let old = booth c.args.out.now c.args.net.now None in
-    record {
-      ran = no_link out net links c.args.visit.now.address c.loop.watcher c.lines-lines.result.now c.loop.next c.loop.how start old c.loop.out c.loop.net c.connect.new.net c.loop.invariant.talk c.connect.result c.connect.ensures
-          c.in-Err-WantOfMemory.field-0 fault.WantOfMemory c.in-Err-WantOfMemory.is c.in-Err-WantOfMemory.field-0-is;
-    }
+    record { ran = no_link out net links c.args.visit.now.address c.args.visit.now.script c.args.watcher.now c.loop.watcher c.lines-lines.result.now c.loop.next c.loop.how c.args.out.now c.loop.out c.args.net.now c.loop.net c.connect.new.net c.loop.invariant.talk c.connect.result c.connect.ensures c.in-Err-WantOfMemory.field-0 fault.WantOfMemory c.in-Err-WantOfMemory.is c.in-Err-WantOfMemory.field-0-is }
 
 pub attend-attended-requires-clause-fit : goal.attend-attended-requires-clause-fit
 attend-attended-requires-clause-fit g c = subst (λ (ls : List ViewLine). AllByRecursion LineFits (plain_lines ls)) (sym (lines_left c.lines-lines.result.now c.loop.next)) c.loop.invariant.fit
@@ -58,8 +48,6 @@ loop-preserved g c =
     let out = output_tells g.W.Sink.written g.W.Sink.faults g.W.Sink.wants in
     let net = net_tells g.N.Net.coming g.N.Net.over g.N.Net.asked g.N.Net.faults g.N.Net.lent g.N.Net.link_counts in
     let links = links_tell g.N.Conn.Link.coming g.N.Conn.Link.heard g.N.Conn.Link.sent g.N.Conn.Link.counts in
-    let start = Connecting (viewer c.args.visit.now.address c.args.watcher.now (plain_lines c.args.visit.now.script)) Fresh in
-    let old = booth c.args.out.now c.args.net.now None in
     let all = c.lines-lines.result.now in
     let next = c.loop.next in
     let count = c.in-Again.count in
@@ -72,11 +60,8 @@ loop-preserved g c =
       within = few_behind all next count c.loop.invariant.within room.0;
       fit = fits_behind all next count c.loop.invariant.fit;
       room = subst (λ (ls : List PlainLine). HasRoomFor c.attend-attended.new.watcher ls) (left_behind all next count) room.1;
-      talk = attended_again out net links c.args.visit.now.address c.loop.watcher c.lines-lines.result.now c.loop.next c.loop.how start old c.loop.out c.loop.net c.connect.new.net c.loop.invariant.talk c.connect.result c.connect.ensures
-          c.in-Ok.link c.attend-attended.new.link c.in-Ok.is c.attend-attended.new.watcher c.attend-attended.new.out c.back.new.self
-          (record { lent = c.back.ensures.lent; over = c.back.ensures.over; counts = c.back.ensures.counts; coming = c.back.ensures.coming; asked = c.back.ensures.asked; faults = c.back.ensures.faults })
-          c.attend-attended.result (c.attend-attended.ensures.talk c.args.visit.now.address)
-          c.in-Ok-attended.departure c.in-Again.again count c.in-Ok-attended.is c.in-Again.is;
+      talk = attended_again out net links c.args.visit.now.address c.args.visit.now.script c.args.watcher.now c.loop.watcher c.lines-lines.result.now c.loop.next c.loop.how c.args.out.now c.loop.out c.args.net.now c.loop.net c.connect.new.net c.loop.invariant.talk c.connect.result c.connect.ensures
+          c.in-Ok.link c.attend-attended.new.link c.in-Ok.is c.attend-attended.new.watcher c.attend-attended.new.out c.back.new.self (record { lent = c.back.ensures.lent; over = c.back.ensures.over; counts = c.back.ensures.counts; coming = c.back.ensures.coming; asked = c.back.ensures.asked; faults = c.back.ensures.faults }) c.attend-attended.result (c.attend-attended.ensures.talk c.args.visit.now.address) c.in-Ok-attended.departure c.in-Again.again count c.in-Ok-attended.is c.in-Again.is;
     }
 
 pub returns-in-Done : goal.returns-in-Done
@@ -84,14 +69,9 @@ returns-in-Done g c =
     let out = output_tells g.W.Sink.written g.W.Sink.faults g.W.Sink.wants in
     let net = net_tells g.N.Net.coming g.N.Net.over g.N.Net.asked g.N.Net.faults g.N.Net.lent g.N.Net.link_counts in
     let links = links_tell g.N.Conn.Link.coming g.N.Conn.Link.heard g.N.Conn.Link.sent g.N.Conn.Link.counts in
-    let start = Connecting (viewer c.args.visit.now.address c.args.watcher.now (plain_lines c.args.visit.now.script)) Fresh in
-    let old = booth c.args.out.now c.args.net.now None in
     record {
-      ran = attended_done out net links c.args.visit.now.address c.loop.watcher c.lines-lines.result.now c.loop.next c.loop.how start old c.loop.out c.loop.net c.connect.new.net c.loop.invariant.talk c.connect.result c.connect.ensures
-          c.in-Ok.link c.attend-attended.new.link c.in-Ok.is c.attend-attended.new.watcher c.attend-attended.new.out c.back.new.self
-          (record { lent = c.back.ensures.lent; over = c.back.ensures.over; counts = c.back.ensures.counts; coming = c.back.ensures.coming; asked = c.back.ensures.asked; faults = c.back.ensures.faults })
-          c.attend-attended.result (c.attend-attended.ensures.talk c.args.visit.now.address)
-          c.in-Ok-attended.departure c.in-Ok-attended.is c.in-Done.is;
+      ran = attended_done out net links c.args.visit.now.address c.args.visit.now.script c.args.watcher.now c.loop.watcher c.lines-lines.result.now c.loop.next c.loop.how c.args.out.now c.loop.out c.args.net.now c.loop.net c.connect.new.net c.loop.invariant.talk c.connect.result c.connect.ensures
+          c.in-Ok.link c.attend-attended.new.link c.in-Ok.is c.attend-attended.new.watcher c.attend-attended.new.out c.back.new.self (record { lent = c.back.ensures.lent; over = c.back.ensures.over; counts = c.back.ensures.counts; coming = c.back.ensures.coming; asked = c.back.ensures.asked; faults = c.back.ensures.faults }) c.attend-attended.result (c.attend-attended.ensures.talk c.args.visit.now.address) c.in-Ok-attended.departure c.in-Ok-attended.is c.in-Done.is;
     }
 
 pub returns-in-Err : goal.returns-in-Err
@@ -99,12 +79,7 @@ returns-in-Err g c =
     let out = output_tells g.W.Sink.written g.W.Sink.faults g.W.Sink.wants in
     let net = net_tells g.N.Net.coming g.N.Net.over g.N.Net.asked g.N.Net.faults g.N.Net.lent g.N.Net.link_counts in
     let links = links_tell g.N.Conn.Link.coming g.N.Conn.Link.heard g.N.Conn.Link.sent g.N.Conn.Link.counts in
-    let start = Connecting (viewer c.args.visit.now.address c.args.watcher.now (plain_lines c.args.visit.now.script)) Fresh in
-    let old = booth c.args.out.now c.args.net.now None in
     record {
-      ran = attended_stops out net links c.args.visit.now.address c.loop.watcher c.lines-lines.result.now c.loop.next c.loop.how start old c.loop.out c.loop.net c.connect.new.net c.loop.invariant.talk c.connect.result c.connect.ensures
-          c.in-Ok.link c.attend-attended.new.link c.in-Ok.is c.attend-attended.new.watcher c.attend-attended.new.out c.back.new.self
-          (record { lent = c.back.ensures.lent; over = c.back.ensures.over; counts = c.back.ensures.counts; coming = c.back.ensures.coming; asked = c.back.ensures.asked; faults = c.back.ensures.faults })
-          c.attend-attended.result (c.attend-attended.ensures.talk c.args.visit.now.address)
-          c.in-Err.end c.in-Err.is;
+      ran = attended_stops out net links c.args.visit.now.address c.args.visit.now.script c.args.watcher.now c.loop.watcher c.lines-lines.result.now c.loop.next c.loop.how c.args.out.now c.loop.out c.args.net.now c.loop.net c.connect.new.net c.loop.invariant.talk c.connect.result c.connect.ensures
+          c.in-Ok.link c.attend-attended.new.link c.in-Ok.is c.attend-attended.new.watcher c.attend-attended.new.out c.back.new.self (record { lent = c.back.ensures.lent; over = c.back.ensures.over; counts = c.back.ensures.counts; coming = c.back.ensures.coming; asked = c.back.ensures.asked; faults = c.back.ensures.faults }) c.attend-attended.result (c.attend-attended.ensures.talk c.args.visit.now.address) c.in-Err.end c.in-Err.is;
     }

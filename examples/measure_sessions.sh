@@ -1,0 +1,57 @@
+#!/usr/bin/env bash
+# Measures `stamp` of many sends, and of many joins and leaves of a thousand views: examples/measure_sessions.sh [PROGRAM], which is the built program.
+# It prints instructions, seconds and the most memory at a time, and the same seconds and memory of stamp.js, a reflector in plain JavaScript, whose
+# text and log have to be the same. It needs valgrind, GNU time and node, and takes some minutes. docs/PERFORMANCE.md has what it printed.
+set -euo pipefail
+top=$(cd "$(dirname "$(readlink -f "${BASH_SOURCE[0]}")")/.." && pwd)
+croquet=$(readlink -f "${1:-$top/crates/croquet_main/out/croquet}")
+work=$(mktemp -d)
+trap 'rm -rf "$work"' EXIT
+cd "$work"
+
+# A view joins, and sends so many events, each with this payload.
+sends() {
+    awk -v count="$1" -v payload="$2" 'BEGIN {
+        print "join 7 0"
+        for (number = 1; number <= count; number++) print "send 7 1", number, 0, payload
+    }'
+}
+
+# A thousand views join one after the other, and then leave; this is done until there are so many entries.
+visits() {
+    awk -v count="$1" 'BEGIN {
+        for (seq = 1; seq <= count; seq++) {
+            view = (seq - 1) % 1000 + 1
+            if (int((seq - 1) / 1000) % 2 == 0) print "join", view, 0
+            else print "leave", view, seq - 1000, 0
+        }
+    }'
+}
+
+# Seconds and KiB of a command.
+cost() {
+    /usr/bin/time -f '%e s, %M KiB' "$@" 2>&1 >/dev/null
+}
+
+measure() {
+    local entries bytes
+    entries=$(wc -l <script)
+    "$croquet" stamp script --log log >printed
+    node "$top/examples/stamp.js" script other >told
+    cmp -s printed told && cmp -s log other || echo "$1: the two differ"
+    bytes=$(wc -c <log)
+    echo "$1: $entries entries, log of $bytes bytes"
+    echo "  $(valgrind --tool=callgrind --callgrind-out-file=/dev/null "$croquet" stamp script --log log 2>&1 >/dev/null | sed -n 's/.*Collected : //p') instructions"
+    echo "  croquet $(cost "$croquet" stamp script --log log); node $(cost node "$top/examples/stamp.js" script other)"
+}
+
+for count in 10000 100000 800000; do
+    sends "$count" - >script
+    measure "$count sends without payload"
+    visits "$count" >script
+    measure "$count joins and leaves"
+done
+for count in 2000 20000 200000; do
+    sends "$count" 00000007636f756e74657200000005726573657400 >script
+    measure "$count sends of 21 bytes"
+done
