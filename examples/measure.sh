@@ -1,5 +1,5 @@
 #!/usr/bin/env bash
-# Counts the instructions of making, taking up and running worlds with many messages, subscriptions and objects, of events, and of a turn of a loop:
+# Counts the instructions of making, taking up and running worlds with many messages, subscriptions, objects and names, of events, and of a turn of a loop:
 # examples/measure.sh [PROGRAM], which is the built program. It needs valgrind, and takes some minutes. docs/PERFORMANCE.md has what it printed.
 set -euo pipefail
 top=$(cd "$(dirname "$(readlink -f "${BASH_SOURCE[0]}")")/.." && pwd)
@@ -82,6 +82,18 @@ handlers() {
 }'
 }
 
+# So many names of one object, in another order than they rise, of which a thousand are looked up.
+names() {
+    program "$1" 'beKnown(text(this.next * 7919 % 100003));' 'this.future(1000000).look();' '
+  look() {
+    let next = 0;
+    while (next < 1000) {
+      known(text(next));
+      next = next + 1;
+    }
+  }' ''
+}
+
 # So many objects, of which each sends itself one message.
 objects() {
     program "$1" 'create(One, nil);' '' '' 'class One {
@@ -142,11 +154,12 @@ measure() {
 
 printf 'join 7 1\n' >script
 "$croquet" stamp script --log log >/dev/null
-for kind in messages topics handlers objects; do
+for kind in messages topics handlers objects names; do
     case $kind in
     messages | topics) sizes='1000 2000 4000 8000 16000' ;;
     handlers) sizes='1000 2000 4000 7500 15000' ;;
     objects) sizes='500 1000 2000 4000' ;;
+    names) sizes='1000 2000 4000 8000 16000 32000' ;;
     esac
     for size in $sizes; do measure "$kind" "$size"; done
 done

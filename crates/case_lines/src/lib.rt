@@ -7,7 +7,8 @@ mod lines;
 mod printing;
 mod wanting;
 
+pub use expansion::expanded;
 pub use fault::CaseFault;
 pub use lines::{lines_of, told_lines};
-pub use printing::{CaseKind, print_files};
+pub use printing::{CaseFile, CaseKind, case_files, is_case, print_files, print_outcome};
 pub use wanting::{WantingFiles, WantingSink};

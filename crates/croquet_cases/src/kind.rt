@@ -3,7 +3,7 @@ use crate::command;
 use crate::run::{Given, NONE};
 use crate::session::{Session, log_of, stamp};
 use crate::spelling::outcome_text;
-use case_lines::{CaseFault, CaseKind};
+use case_lines::CaseFault;
 use std::sync::Wait;
 use std::thread::Threads;
 
@@ -19,8 +19,9 @@ pub(crate) enum CommandCases {
     Commands,
 }
 
-impl<R: Threads + Wait + Sync + AllocGlobal> CaseKind<R> for CommandCases {
-    fn of_word(word: &str) -> Option<Self> {
+impl CommandCases {
+    /// The kind of a word, if there is one.
+    pub(crate) fn of_word(word: &str) -> Option<CommandCases> {
         match word {
             "scripts" => Some(CommandCases::Scripts),
             "logs" => Some(CommandCases::Logs),
@@ -32,18 +33,23 @@ impl<R: Threads + Wait + Sync + AllocGlobal> CaseKind<R> for CommandCases {
             _ => None,
         }
     }
+}
 
-    fn outcome(&self, rt: &R, case: &[u8]) -> Result<String, CaseFault> {
-        let alloc = rt.alloc();
-        match self {
-            CommandCases::Scripts => Ok(outcome_text(alloc, &stamp(rt, case)?)?),
-            CommandCases::Logs => Ok(hex::encode(alloc, log_of(rt, case)?.bytes())?),
-            CommandCases::Programs => check(rt, case),
-            CommandCases::Worlds => world(rt, text_of(case)?),
-            CommandCases::Snapshots => snapshot(rt, text_of(case)?),
-            CommandCases::Resumed => resumed(rt, text_of(case)?),
-            CommandCases::Commands => command::outcome(rt, text_of(case)?),
-        }
+/// What the bytes of a case come to, in one line.
+pub(crate) fn outcome<R: Threads + Wait + Sync + AllocGlobal>(
+    rt: &R,
+    kind: CommandCases,
+    case: &[u8],
+) -> Result<String, CaseFault> {
+    let alloc = rt.alloc();
+    match kind {
+        CommandCases::Scripts => Ok(outcome_text(alloc, &stamp(rt, case)?)?),
+        CommandCases::Logs => Ok(hex::encode(alloc, log_of(rt, case)?.bytes())?),
+        CommandCases::Programs => check(rt, case),
+        CommandCases::Worlds => world(rt, text_of(case)?),
+        CommandCases::Snapshots => snapshot(rt, text_of(case)?),
+        CommandCases::Resumed => resumed(rt, text_of(case)?),
+        CommandCases::Commands => command::outcome(rt, text_of(case)?),
     }
 }
 

@@ -23,10 +23,42 @@ mod run;
 mod session;
 mod spelling;
 
-use crate::kind::CommandCases;
-use case_lines::print_files;
-use std::io;
+use crate::kind::{CommandCases, outcome};
+use case_lines::{CaseFault, case_files, expanded, is_case, print_outcome};
+use std::io::{self, ErrorKind};
+use std::sync::Wait;
+use std::thread::Threads;
 
 fn main(rt: HostRuntime) -> io::Result<()> {
-    print_files::<CommandCases, HostRuntime>(&rt)
+    for file in &case_files(&rt)? {
+        let Some(kind) = CommandCases::of_word(file.word.as_str()) else {
+            return Err(ErrorKind::InvalidInput.into());
+        };
+        print_cases(&rt, kind, file.text.as_str())?;
+    }
+    Ok(())
+}
+
+/// Prints each case of a text with what it comes to. What is no case is printed as it is.
+fn print_cases<R: Threads + Wait + Sync + Print + AllocGlobal>(
+    rt: &R,
+    kind: CommandCases,
+    text: &str,
+) -> io::Result<()> {
+    for line in text.lines() {
+        if is_case(line) {
+            print_outcome(rt, line, line_outcome(rt, kind, line))?;
+        } else {
+            println!(rt; "{line}")?;
+        }
+    }
+    Ok(())
+}
+
+fn line_outcome<R: Threads + Wait + Sync + AllocGlobal>(
+    rt: &R,
+    kind: CommandCases,
+    line: &str,
+) -> Result<String, CaseFault> {
+    outcome(rt, kind, expanded(rt.alloc(), line)?.bytes())
 }

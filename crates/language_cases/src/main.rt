@@ -23,6 +23,7 @@ mod texts;
 mod world_text;
 
 use case_lines::{CaseFault, CaseKind, print_files};
+use std::alloc::Global;
 use std::io;
 
 /// What cases are of.
@@ -36,7 +37,7 @@ enum LanguageCases {
     Text,
 }
 
-impl<R: AllocGlobal> CaseKind<R> for LanguageCases {
+impl CaseKind for LanguageCases {
     fn of_word(word: &str) -> Option<Self> {
         match word {
             "evaluate" => Some(LanguageCases::Evaluate),
@@ -49,8 +50,7 @@ impl<R: AllocGlobal> CaseKind<R> for LanguageCases {
         }
     }
 
-    fn outcome(&self, rt: &R, case: &[u8]) -> Result<String, CaseFault> {
-        let alloc = rt.alloc();
+    fn outcome(&self, alloc: Global, case: &[u8]) -> Result<String, CaseFault> {
         let outcome = match self {
             LanguageCases::Evaluate => evaluation::evaluated(alloc, case),
             LanguageCases::Run => evaluation::played(alloc, case),

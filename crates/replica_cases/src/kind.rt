@@ -16,7 +16,7 @@ pub(crate) enum ReplicaCases {
     Replicas,
 }
 
-impl<R: AllocGlobal> CaseKind<R> for ReplicaCases {
+impl CaseKind for ReplicaCases {
     fn of_word(word: &str) -> Option<Self> {
         match word {
             "replicas" => Some(ReplicaCases::Replicas),
@@ -24,8 +24,8 @@ impl<R: AllocGlobal> CaseKind<R> for ReplicaCases {
         }
     }
 
-    fn outcome(&self, rt: &R, case: &[u8]) -> Result<String, CaseFault> {
-        outcome(rt.alloc(), case)
+    fn outcome(&self, alloc: Global, case: &[u8]) -> Result<String, CaseFault> {
+        outcome(alloc, case)
     }
 }
 

@@ -12,7 +12,7 @@ pub(crate) enum SessionCases {
     Server,
 }
 
-impl<R: AllocGlobal> CaseKind<R> for SessionCases {
+impl CaseKind for SessionCases {
     fn of_word(word: &str) -> Option<Self> {
         match word {
             "client" => Some(SessionCases::Client),
@@ -21,8 +21,7 @@ impl<R: AllocGlobal> CaseKind<R> for SessionCases {
         }
     }
 
-    fn outcome(&self, rt: &R, case: &[u8]) -> Result<String, CaseFault> {
-        let alloc = rt.alloc();
+    fn outcome(&self, alloc: Global, case: &[u8]) -> Result<String, CaseFault> {
         match outcome(alloc, *self, case) {
             Ok(outcome) => Ok(outcome),
             Err(FrameCaseFault::BadFrame) => Ok(String::from_str(alloc, "bad")?),

@@ -16,7 +16,7 @@ pub(crate) enum SystemCases {
     Systems,
 }
 
-impl<R: AllocGlobal> CaseKind<R> for SystemCases {
+impl CaseKind for SystemCases {
     fn of_word(word: &str) -> Option<Self> {
         match word {
             "systems" => Some(SystemCases::Systems),
@@ -24,8 +24,8 @@ impl<R: AllocGlobal> CaseKind<R> for SystemCases {
         }
     }
 
-    fn outcome(&self, rt: &R, case: &[u8]) -> Result<String, CaseFault> {
-        outcome(rt.alloc(), case)
+    fn outcome(&self, alloc: Global, case: &[u8]) -> Result<String, CaseFault> {
+        outcome(alloc, case)
     }
 }
 

@@ -1,5 +1,4 @@
 //! A case, and its parts.
-use crate::kind::NetCases;
 use case_lines::{CaseFault, lines_of};
 use std::alloc::Global;
 use text_lines::number;
@@ -14,6 +13,26 @@ pub(crate) struct Faults {
     pub(crate) failing_file: u32,
     pub(crate) failing_output: u32,
     pub(crate) wanting_output: u32,
+}
+
+/// Which command a case is of.
+#[derive(Clone, Copy)]
+pub(crate) enum NetCases {
+    /// `join`
+    Views,
+    /// `reflect`
+    Reflectors,
+}
+
+impl NetCases {
+    /// The kind of a word, if there is one.
+    pub(crate) fn of_word(word: &str) -> Option<NetCases> {
+        match word {
+            "views" => Some(NetCases::Views),
+            "reflectors" => Some(NetCases::Reflectors),
+            _ => None,
+        }
+    }
 }
 
 /// A case: words of the command, what its files hold, its links as they are written, and what fails.

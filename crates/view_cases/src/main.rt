@@ -21,15 +21,51 @@
 #![tactic(auto)]
 
 mod case;
-mod kind;
 mod link;
 mod run;
 mod telling;
 
-use crate::kind::NetCases;
-use case_lines::print_files;
-use std::io;
+use crate::case::{Case, NetCases};
+use crate::run::run_case;
+use crate::telling::told_run;
+use case_lines::{CaseFault, case_files, expanded, is_case, print_outcome};
+use std::io::{self, ErrorKind};
+use std::sync::Wait;
+use std::thread::Threads;
 
 fn main(rt: HostRuntime) -> io::Result<()> {
-    print_files::<NetCases, HostRuntime>(&rt)
+    for file in &case_files(&rt)? {
+        let Some(kind) = NetCases::of_word(file.word.as_str()) else {
+            return Err(ErrorKind::InvalidInput.into());
+        };
+        print_cases(&rt, kind, file.text.as_str())?;
+    }
+    Ok(())
+}
+
+/// Prints each case of a text with what it comes to. What is no case is printed as it is.
+fn print_cases<R: Threads + Wait + Sync + Print + AllocGlobal>(
+    rt: &R,
+    kind: NetCases,
+    text: &str,
+) -> io::Result<()> {
+    for line in text.lines() {
+        if is_case(line) {
+            print_outcome(rt, line, line_outcome(rt, kind, line))?;
+        } else {
+            println!(rt; "{line}")?;
+        }
+    }
+    Ok(())
+}
+
+fn line_outcome<R: Threads + Wait + Sync + AllocGlobal>(
+    rt: &R,
+    kind: NetCases,
+    line: &str,
+) -> Result<String, CaseFault> {
+    let bytes = expanded(rt.alloc(), line)?;
+    let case = Case::read(rt.alloc(), kind, bytes.bytes())?;
+    let run = run_case(rt, &case)?;
+    Ok(told_run(rt.alloc(), &case, &run)?)
 }

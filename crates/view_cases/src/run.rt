@@ -1,6 +1,5 @@
 //! A run of `join` or `reflect` over files, a net and an output in memory.
-use crate::case::{Case, Faults};
-use crate::kind::NetCases;
+use crate::case::{Case, Faults, NetCases};
 use crate::link::net_of;
 use case_lines::{CaseFault, WantingSink};
 use croquet::{Status, croquet};

@@ -1,6 +1,5 @@
 //! What a run comes to, in one line of a case.
-use crate::case::Case;
-use crate::kind::NetCases;
+use crate::case::{Case, NetCases};
 use crate::run::Run;
 use case_lines::told_lines;
 use std::alloc::{AllocError, Global};
