@@ -45,6 +45,16 @@ measure() {
     echo "  croquet $(cost "$croquet" stamp script --log log); node $(cost node "$top/examples/stamp.js" script other)"
 }
 
+# The memory of a run without a log less that of one whose sends are all refused: what the session has of the entries.
+held() {
+    local most least
+    sends "$1" "$2" >script
+    most=$(/usr/bin/time -f %M "$croquet" stamp script 2>&1 >/dev/null)
+    sed 's/^send 7 1 /send 7 1 9/' script >refused
+    least=$(/usr/bin/time -f %M "$croquet" stamp refused 2>&1 >/dev/null)
+    echo "$1 sends, payload $2: $most KiB, $least KiB where all are refused; an entry has $(((most - least) * 1024 / $1)) bytes"
+}
+
 for count in 10000 100000 800000; do
     sends "$count" - >script
     measure "$count sends without payload"
@@ -55,3 +65,5 @@ for count in 2000 20000 200000; do
     sends "$count" 00000007636f756e74657200000005726573657400 >script
     measure "$count sends of 21 bytes"
 done
+held 800000 -
+held 200000 00000007636f756e74657200000005726573657400

@@ -55,6 +55,18 @@ absent-in p view sound absent = client-absent (arc_value p.program) p.id.0 p.mem
 
 -- ---- a step that is taken
 
+-- the parts of the same program and session are sound by their members
+stays-sound : (old new : Parts) (members : List Member) → IsSound old → new.program ≡ old.program → new.id ≡ old.id → new.members.items ≡ members
+    → AllByRecursion (IsMember (arc_value old.program) old.id.0) members → AreApart (map member_view members) → IsSound new
+stays-sound old new members sound program name are each apart = record {
+  faultless = subst (λ held. IsProgram (program_tree (arc_value held))) (sym program) sound.faultless;
+  members =
+      subst (λ held. AllByRecursion (IsMember (arc_value held) new.id.0) new.members.items) (sym program)
+      (subst (λ id. AllByRecursion (IsMember (arc_value old.program) id.0) new.members.items) (sym name)
+      (subst (AllByRecursion (IsMember (arc_value old.program) old.id.0)) (sym are) each));
+  apart = subst (λ ms. AreApart (map member_view ms)) (sym are) apart;
+}
+
 -- that changes a member and whatever else, not the program and the session's name
 pub changes : (old new : Parts) (step : SystemStep) (k : ℕ) (m changed : Member) → IsSound old → IsTypedStep step → SpellsWorld (part_worlds old) (plain_system old) step
     → new.program ≡ old.program → new.id ≡ old.id → slice_get old.members.items k ≡ Some m → new.members.items ≡ set old.members.items k changed
@@ -69,14 +81,9 @@ changes old new step k m changed sound typed spelled program name at members sam
       spelled = spelled;
       program = program;
       session = name;
-      sound = record {
-        faultless = subst (λ held. IsProgram (program_tree (arc_value held))) (sym program) sound.faultless;
-        members =
-            subst (λ held. AllByRecursion (IsMember (arc_value held) new.id.0) new.members.items) (sym program)
-            (subst (λ id. AllByRecursion (IsMember classes id.0) new.members.items) (sym name)
-            (subst (AllByRecursion (IsMember classes old.id.0)) (sym members) (all-set (IsMember classes old.id.0) old.members.items k changed sound.members is)));
-        apart = subst AreApart (sym (ap (map member_view) members ∙ views-set old.members.items k m changed at same)) sound.apart;
-      };
+      sound =
+          stays-sound old new (set old.members.items k changed) sound program name members (all-set (IsMember classes old.id.0) old.members.items k changed sound.members is)
+          (subst AreApart (sym (views-set old.members.items k m changed at same)) sound.apart);
       system = ap (λ cs. let s : System WorldRecord PlainOutgoing = record { session = new.session.plain; clients = cs; connections = new.connections.items } in s) (ap (map plain_client) members ∙ clients) ∙ made;
     }
 
@@ -90,14 +97,7 @@ keeps-members old new step sound typed spelled program name members made = recor
   spelled = spelled;
   program = program;
   session = name;
-  sound = record {
-    faultless = subst (λ held. IsProgram (program_tree (arc_value held))) (sym program) sound.faultless;
-    members =
-        subst (λ held. AllByRecursion (IsMember (arc_value held) new.id.0) new.members.items) (sym program)
-        (subst (λ id. AllByRecursion (IsMember (arc_value old.program) id.0) new.members.items) (sym name)
-        (subst (AllByRecursion (IsMember (arc_value old.program) old.id.0)) (sym members) sound.members));
-    apart = subst (λ ms. AreApart (map member_view ms)) (sym members) sound.apart;
-  };
+  sound = stays-sound old new old.members.items sound program name members sound.members sound.apart;
   system = ap (λ ms. let s : System WorldRecord PlainOutgoing = record { session = new.session.plain; clients = map plain_client ms; connections = new.connections.items } in s) members ∙ made;
 }
 
@@ -269,15 +269,10 @@ found-takes old new view sound typed named absent program name session members c
       spelled = tt;
       program = program;
       session = name;
-      sound = record {
-        faultless = subst (λ held. IsProgram (program_tree (arc_value held))) (sym program) sound.faultless;
-        members =
-            subst (λ held. AllByRecursion (IsMember (arc_value held) new.id.0) new.members.items) (sym program)
-            (subst (λ id. AllByRecursion (IsMember classes id.0) new.members.items) (sym name)
-            (subst (AllByRecursion (IsMember classes old.id.0)) (sym members)
-            (all-push (IsMember classes old.id.0) old.members.items (founded_member old view) sound.members (record { program = refl; session = refl; viewed = refl; whole = refl }))));
-        apart = subst AreApart (sym (ap (map member_view) members ∙ map-push member_view old.members.items (founded_member old view))) (apart-push (map member_view old.members.items) view sound.apart absent);
-      };
+      sound =
+          stays-sound old new (old.members.items ++ founded_member old view ∷ []) sound program name members
+          (all-push (IsMember classes old.id.0) old.members.items (founded_member old view) sound.members (record { program = refl; session = refl; viewed = refl; whole = refl }))
+          (subst AreApart (sym (map-push member_view old.members.items (founded_member old view))) (apart-push (map member_view old.members.items) view sound.apart absent));
       system =
           ap (λ held. let s : System WorldRecord PlainOutgoing = record { session = held; clients = map plain_client new.members.items; connections = new.connections.items } in s) session
           ∙ ap (λ cs. let s : System WorldRecord PlainOutgoing = record { session = old.session.plain; clients = cs; connections = new.connections.items } in s) (ap (map plain_client) members ∙ map-push plain_client old.members.items (founded_member old view))

@@ -1,6 +1,7 @@
 -- The steps of the parts of a system, by what their calls leave.
-use Rattle.std.proofs.Common.{ℕ, ◌≡◌, ◌≤◌, ◌<◌, true, false, List, Some, get_or, length, map, set, slice_get, refl, sym, ap, ◌∙◌}
+use Rattle.std.proofs.Common.{ℕ, ◌≡◌, ◌≤◌, ◌<◌, true, false, List, Some, get_or, length, map, set, slice_get, vec_len, Vec, refl, sym, ap, ◌∙◌, arith}
 use Rattle.std.specs.Arc.{arc_value}
+use Rattle.std.specs.declared.alloc.Global.{Global}
 use Rattle.std.proofs.lemmas.Option.{get_or_from_slice_get, slice_get_past, slice_get_read, slice_get_within}
 use Rattle.world_plain.specs.Messages.{PlainOutgoing}
 use Rattle.world_plain.specs.World.{WorldRecord}
@@ -26,8 +27,23 @@ read-member members k view x placed is =
 pub read-twice : (members : List Member) (k view : ℕ) (x y : Member) → IsPlaced (Some k) members view → x ≡ get_or members k x → y ≡ get_or members k y → x ≡ y
 read-twice members k view x y placed is other = is ∙ get_or_from_slice_get members k placed.0 x placed.1 ∙ sym (other ∙ get_or_from_slice_get members k placed.0 y placed.1)
 
-pub placed-within : (members : List Member) (k view : ℕ) → IsPlaced (Some k) members view → k < length members
-placed-within members k view placed = slice_get_within members k placed.0 placed.1
+pub placed-within : (members : Vec Member Global) (k view : ℕ) → IsPlaced (Some k) members.items view → k < vec_len members
+placed-within members k view placed =
+    let within = slice_get_within members.items k placed.0 placed.1 in
+    let len = members.ok.0 in
+    omega (arith, within, len)
+
+-- ---- a place against the count that was read
+
+pub counted-past : {A : Type 0} {count k : ℕ} (xs : Vec A Global) → count ≡ vec_len xs → count ≤ k → length xs.items ≤ k
+counted-past xs is past =
+    let len = xs.ok.0 in
+    omega (arith, len, is, past)
+
+pub counted-within : {A : Type 0} {count k : ℕ} (xs : Vec A Global) → count ≡ vec_len xs → k < count → k < length xs.items
+counted-within xs is within =
+    let len = xs.ok.0 in
+    omega (arith, len, is, within)
 
 -- ---- Transmit
 

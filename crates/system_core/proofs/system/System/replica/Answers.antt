@@ -1,4 +1,4 @@
-use Rattle.std.proofs.Common.{sym, arith}
+use Rattle.std.proofs.Common.{sym}
 use Rattle.system_core.proofs.PartJoins.{replica-none, replica-some}
 use Rattle.system_core.proofs.PartTakes.{placed-within}
 use Rattle.system_core.proofs.system.System.replica.Goals as goal
@@ -7,10 +7,7 @@ pub returns-in_default : goal.returns-in_default
 returns-in_default c = replica-none c.self.inside.parts c.self.inside.spoilt c.args.self.now c.args.view (sym c.self.view_is) (c.self.invariant c.if-self.false) c.in_default.ensures
 
 pub index-requires : goal.index-requires
-index-requires c =
-    let within = placed-within c.self.inside.parts.members.items c.in-Some.place c.args.view c.in-Some.ensures in
-    let len = c.self.inside.parts.members.ok.0 in
-    omega (arith, within, len)
+index-requires c = placed-within c.self.inside.parts.members c.in-Some.place c.args.view c.in-Some.ensures
 
 pub returns : goal.returns
 returns c =
