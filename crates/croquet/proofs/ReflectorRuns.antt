@@ -24,10 +24,10 @@ concludes : (net_failed : Bool) → Concludes (reflected_closing net_failed) [] 
 concludes true = (refl, refl)
 concludes false = (refl, refl)
 
--- the log of a session was put and its text printed, or this was cut
+-- what was done with the log of a session and its text, to the end of the run or to a cut
 module _ {F W : Type 0} (files : FilesTell F) (out : OutputTells W) (log : List ℕ) (ends : List Ended) (session : PlainSession) (net_failed : Bool) (steps : List Step) (same : steps ≡ reflected_steps log ends session) (f f' : F) (w w' : W) (result : Status) where
-  pub ran_cut : ((ending : Ending) → DoesAll files out steps ending f w f' w' result) → RanSo files out (Free (Only (reflected_verdict log ends session net_failed))) f w f' w' result
-  ran_cut does = record {
+  ran_with : DoesAll files out steps (reflected_ending net_failed) f w f' w' result → RanSo files out (Free (Only (reflected_verdict log ends session net_failed))) f w f' w' result
+  ran_with does = record {
     steps = reflected_steps log ends session;
     ending = reflected_ending net_failed;
     course = record {
@@ -37,27 +37,21 @@ module _ {F W : Type 0} (files : FilesTell F) (out : OutputTells W) (log : List 
       concludes = concludes net_failed;
       all = sym (append-nil (reflected_steps log ends session));
     };
-    does = subst (λ (given : List Step). DoesAll files out given (reflected_ending net_failed) f w f' w' result) same (does (reflected_ending net_failed));
+    does = subst (λ (given : List Step). DoesAll files out given (reflected_ending net_failed) f w f' w' result) same does;
   }
+
+  -- the log was put and the text printed, or this was cut
+  pub ran_cut : ((ending : Ending) → DoesAll files out steps ending f w f' w' result) → RanSo files out (Free (Only (reflected_verdict log ends session net_failed))) f w f' w' result
+  ran_cut does = ran_with (does (reflected_ending net_failed))
 
 -- they were done, and the end was told
 module _ {F W : Type 0} (files : FilesTell F) (out : OutputTells W) (log : List ℕ) (ends : List Ended) (session : PlainSession) (net_failed : Bool) (steps : List Step) (same : steps ≡ reflected_steps log ends session) (f f' : F) (w next w' : W) (result : Status) where
   pub ran_told
       : Acts (desk_tells files out) steps None (desk f w) (desk f' next) → TellsEnding out (reflected_ending net_failed) next w' result
       → RanSo files out (Free (Only (reflected_verdict log ends session net_failed))) f w f' w' result
-  ran_told acts told = record {
-    steps = reflected_steps log ends session;
-    ending = reflected_ending net_failed;
-    course = record {
-      verdict = reflected_verdict log ends session net_failed;
-      comes = inr refl;
-      more = [];
-      concludes = concludes net_failed;
-      all = sym (append-nil (reflected_steps log ends session));
-    };
-    does = subst (λ (given : List Step). DoesAll files out given (reflected_ending net_failed) f w f' w' result) same
-        (does_so files out steps None (reflected_ending net_failed) f f' w next w' result acts told);
-  }
+  ran_told acts told =
+      ran_with files out log ends session net_failed steps same f f' w w' result
+      (does_so files out steps None (reflected_ending net_failed) f f' w next w' result acts told)
 
 -- the fault of one that has no session to tell of was told
 pub ran_failed

@@ -20,7 +20,7 @@ abbrev pub object_known : List ℕ → List Known → Option ℕ
 object_known x [] = None
 object_known x (k ∷ ks) = if bytes_eq x k.name then Some k.object else object_known x ks
 
--- an object in place of any other that is known by that name
+-- an object in place of any other that is known by that name; a new name goes before the first greater one
 abbrev pub with_known : List ℕ → ℕ → List Known → List Known
 with_known x object [] = record { name = x; object = object } ∷ []
 with_known x object (k ∷ ks) =

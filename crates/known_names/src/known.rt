@@ -1,9 +1,11 @@
 //! Known names in memory: their places, and what they weigh.
-ghost use Rattle.std.specs.Prelude.{◌≡◌, ◌≤◌};
+ghost use Rattle.std.specs.Prelude.{◌≡◌, ◌+◌, ◌≤◌};
+ghost use Rattle.model_value.specs.Plain.{text_weight};
 ghost use Rattle.world_plain.specs.Valid.{KnownRise};
 ghost use Rattle.world_plain.specs.World.{known_weight as weight_of_known, total_weight, most_world_weight};
 ghost use Rattle.known_names.specs.Places.{IsPlaceOf};
 
+use model_value::text_weight;
 use tea_base::Text;
 use world_plain::Known;
 
@@ -22,14 +24,14 @@ pub fn weight_of(names: &[Known]) -> u64
 {
     let mut sum = 0;
     for known in names {
-        sum += known_weight(known);
+        sum += name_weight(&known.name);
     }
     sum
 }
 
-/// How much a known name weighs: 1 and its text, which weighs 1, and 1 for each 16 bytes begun.
-pub fn known_weight(known: &Known) -> u64
-    ensures { result ≡ weight_of_known known.now }
+/// How much a known name weighs, whoever is known by it: 1 and its text.
+pub fn name_weight(name: &Text) -> u64
+    ensures { result ≡ 1 + text_weight name.now }
 {
-    2 + known.name.bytes().len().div_ceil(16) as u64
+    1 + text_weight(name)
 }

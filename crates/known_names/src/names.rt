@@ -1,11 +1,11 @@
 //! The names of a world.
-ghost use Rattle.std.specs.Prelude.{◌≡◌, ◌+◌, ◌≤◌, [], None, OnOk, OnErr, not, nat_eq};
+ghost use Rattle.std.specs.Prelude.{◌≡◌, ◌+◌, ◌≤◌, ℕ, [], None, OnOk, OnErr, not, nat_eq};
 ghost use Rattle.std.specs.List.{filter};
 ghost use Rattle.world_plain.specs.Valid.{KnownRise};
 ghost use Rattle.world_plain.specs.World.{known_weight as weight_of_known, total_weight, most_world_weight};
 ghost use Rattle.known_names.specs.Names.{AreNames, object_known, with_known};
 
-use crate::known::{known_weight, place_of, weight_of};
+use crate::known::{name_weight, place_of, weight_of};
 use std::alloc::Global;
 use std::marker::Model;
 use tea_base::{Text, WantOfMemory};
@@ -73,13 +73,14 @@ impl Names {
         Some(self.names[place].object)
     }
 
-    /// How much more the names weigh with this one among them: nothing where its name is known already. Takes no memory.
-    pub fn added_weight(&self, known: &Known) -> u64
-        ensures { total_weight weight_of_known (with_known known.now.name known.now.object self.now) ≡ total_weight weight_of_known self.now + result }
+    /// How much more the names weigh with this one among them, whoever is known by it: nothing where it is known already.
+    /// Takes no memory.
+    pub fn added_weight(&self, name: &Text) -> u64
+        ensures { (object : ℕ) → total_weight weight_of_known (with_known name.now object self.now) ≡ total_weight weight_of_known self.now + result }
     {
-        match place_of(&self.names, &known.name) {
+        match place_of(&self.names, name) {
             Ok(_) => 0,
-            Err(_) => known_weight(known),
+            Err(_) => name_weight(name),
         }
     }
 
@@ -96,7 +97,7 @@ impl Names {
         match place_of(&self.names, &known.name) {
             Ok(place) => self.names[place] = known,
             Err(place) => {
-                let added = known_weight(&known);
+                let added = name_weight(&known.name);
                 self.names.insert(place, known)?;
                 self.weight += added;
             }

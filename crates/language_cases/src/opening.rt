@@ -4,11 +4,11 @@ use known_names::Names;
 use message_queue::Queue;
 use model_check::Checked;
 use model_eval::State;
-use model_value::{Value, Values};
+use model_value::{Values, nils};
 use object_store::Store;
 use pubsub::Topics;
 use std::alloc::Global;
-use tea_base::{List, SessionId, WantOfMemory};
+use tea_base::{List, SessionId};
 use world_plain::{MOST_WORLD_WEIGHT, object_fits};
 
 /// The session of the world.
@@ -16,15 +16,6 @@ const SESSION: SessionId = SessionId([
     0xab, 1, 2, 3, 4, 5, 6, 7, 8, 9, 10, 11, 12, 13, 14, 15, 16, 17, 18, 19, 20, 21, 22, 23, 24,
     25, 26, 27, 28, 29, 30, 255,
 ]);
-
-/// Nil, so many times.
-fn nils(alloc: Global, count: u32) -> Result<Values, WantOfMemory> {
-    let mut values = List::new(alloc);
-    for _ in 0..count {
-        values.push(Value::Nil)?;
-    }
-    Ok(values)
-}
 
 /// The one object 1, of a class, with these fields.
 fn one_object(alloc: Global, class: u16, fields: Values) -> Result<Store, Stopped> {
@@ -57,6 +48,6 @@ fn world(alloc: Global, objects: Store) -> State {
 /// The world of a program, with the one object 1, of the class Root, with nil in each field.
 pub(crate) fn opened(alloc: Global, program: &Checked) -> Result<State, Stopped> {
     let root = program.root();
-    let fields = nils(alloc, program.fields(root).unwrap_or(0))?;
+    let fields = nils(alloc, program.fields(root).unwrap_or(0) as usize)?;
     Ok(world(alloc, one_object(alloc, root, fields)?))
 }

@@ -1,13 +1,14 @@
 -- The messages in memory and the queue that is seen of them: one more, the first taken, and fewer.
-use Rattle.std.proofs.Common.{◌≡◌, ℕ, ◌+◌, ◌-◌, ◌≤◌, ◌<◌, ◌↔◌, Bool, false, List, [], ◌∷◌, length, nat_eq, slice_get, IsTrue, Some, get_or, refl, sym, ap, subst, ◌∙◌, arith}
-use Rattle.std.specs.List.{All, AllByRecursion, filter}
+use Rattle.std.proofs.Common.{◌≡◌, ℕ, zero, suc, ◌+◌, ◌-◌, ◌≤◌, ◌<◌, ◌↔◌, Bool, false, List, [], ◌∷◌, length, nat_eq, slice_get, IsTrue, Some, get_or, refl, sym, ap, subst, ◌∙◌, arith}
+use Rattle.std.specs.List.{All, AllByRecursion, filter, sum_by}
 use Rattle.std.specs.List.Sorted.{IsPermutation, IsSortedBy}
 use Rattle.std.specs.Option.{option_map}
 use Rattle.std.proofs.lemmas.Bool.{eqb-true, eq-eqb}
 use Rattle.std.proofs.Math.ListN.{get_or-map}
 use Rattle.std.proofs.lemmas.List.{length-map}
 use Rattle.std.proofs.lemmas.List.Elements.{All-from_get_or, All-tail, recursion_from_All}
-use Rattle.std.proofs.lemmas.List.Sorted.{IsPermutation-refl, IsPermutation-map, All-permutation}
+use Rattle.std.proofs.lemmas.List.Sums.{sum_by-cons}
+use Rattle.std.proofs.lemmas.List.Sorted.{IsPermutation-refl, IsPermutation-map, All-permutation, sum_by-IsPermutation}
 use Rattle.world_plain.specs.Messages.{PlainMessage, plain_message}
 use Rattle.world_plain.specs.World.{message_weight, total_weight}
 use Rattle.world_plain.specs.Valid.{PrecedesAll, IsUnused, NumbersDiffer, most_pending}
@@ -153,6 +154,14 @@ seen_kept keeps ms kept new next weight h is p =
     ∙ ap in_order is
     ∙ sym (kept_in_order keeps (messages_seen ms) (differ_before (messages_seen ms) h.queue.differ))
 
+pub total-permuted : (ms new : List Message) → IsPermutation ms new → total_weight message_weight (messages_seen new) ≡ total_weight message_weight (messages_seen ms)
+total-permuted ms new p =
+    total-sum (messages_seen new) ∙ sum_by-IsPermutation message_weight (messages_seen ms) (messages_seen new) (seen_permuted ms new p) ∙ sym (total-sum (messages_seen ms))
+  where
+    total-sum : (ns : List PlainMessage) → total_weight message_weight ns ≡ sum_by message_weight ns
+    total-sum [] = refl
+    total-sum (n ∷ ns) = ap (λ (sum : ℕ). message_weight n + sum) (total-sum ns) ∙ sym (sum_by-cons message_weight n ns)
+
 kept_is_queue : (keeps : PlainMessage → Bool) (ms kept new : List Message) (next weight : ℕ)
     → HoldsQueue ms next weight
     → messages_seen kept ≡ filter keeps (messages_seen ms)
@@ -168,14 +177,7 @@ pub kept_light : (keeps : PlainMessage → Bool) (ms kept new : List Message) (n
     → AreLightMessages (messages_seen new)
 kept_light keeps ms kept new next weight h is p = light_before (messages_seen new) (kept_is_queue keeps ms kept new next weight h is p).light
 
-pub kept_few : (keeps : PlainMessage → Bool) (ms kept new : List Message) (next weight : ℕ)
-    → HoldsQueue ms next weight
-    → messages_seen kept ≡ filter keeps (messages_seen ms)
-    → IsPermutation kept new
-    → length new ≤ most_pending
-kept_few keeps ms kept new next weight h is p = omega (arith, length-seen new, (kept_is_queue keeps ms kept new next weight h is p).few)
-
-pub held_kept : (keeps : PlainMessage → Bool) (ms kept new : List Message) (next weight w : ℕ)
+held_kept : (keeps : PlainMessage → Bool) (ms kept new : List Message) (next weight w : ℕ)
     → HoldsQueue ms next weight
     → messages_seen kept ≡ filter keeps (messages_seen ms)
     → IsPermutation kept new
@@ -199,7 +201,7 @@ heap_seen ms ns e heap =
     same i d = sym (get_or-map plain_message ns i d) ∙ ap (λ (l : List PlainMessage). get_or l i (plain_message d)) e ∙ get_or-map plain_message ms i d
 
 -- where as many messages are left, they are seen as they were
-pub held_all : (keeps : PlainMessage → Bool) (ms kept : List Message) (next weight : ℕ)
+held_all : (keeps : PlainMessage → Bool) (ms kept : List Message) (next weight : ℕ)
     → HoldsQueue ms next weight
     → messages_seen kept ≡ filter keeps (messages_seen ms)
     → length kept ≡ length ms
@@ -211,3 +213,26 @@ held_all keeps ms kept next weight h is long =
       heap = heap_seen ms kept same h.heap;
       total = h.total ∙ ap (λ l. total_weight message_weight (in_order l)) (sym same);
     }
+
+at_most : (P : Type 0) (k n : ℕ) → k ≤ n → (k < n → P) → (k ≡ n → P) → P
+at_most P zero zero most less same = same refl
+at_most P zero (suc n) most less same = less (omega arith)
+at_most P (suc k) zero most less same = absurd (omega (arith, most))
+at_most P (suc k) (suc n) most less same = at_most P k n (omega (arith, most)) (λ l. less (omega (arith, l))) (λ e. same (ap suc e))
+
+-- what is left of the messages, in a heap of its own where some are gone
+pub held_left : (keeps : PlainMessage → Bool) (ms kept new : List Message) (next weight w : ℕ)
+    → HoldsQueue ms next weight
+    → messages_seen kept ≡ filter keeps (messages_seen ms)
+    → IsPermutation kept new
+    → length kept ≤ length ms
+    → (length kept < length ms → IsHeap new × (w ≡ total_weight message_weight (messages_seen new)))
+    → (length kept ≡ length ms → (new ≡ kept) × (w ≡ weight))
+    → HoldsQueue new next w
+held_left keeps ms kept new next weight w h is p left fewer all =
+    at_most (HoldsQueue new next w) (length kept) (length ms) left
+    (λ less. held_kept keeps ms kept new next weight w h is p (fewer less).0 (fewer less).1)
+    (λ long.
+    let same = all long in
+    subst (λ (l : List Message). HoldsQueue l next w) (sym same.0)
+    (subst (HoldsQueue kept next) (sym same.1) (held_all keeps ms kept next weight h is long)))

@@ -4,14 +4,10 @@ use Rattle.std.specs.List.{filter}
 use Rattle.std.specs.Str.{bytes_eq}
 use Rattle.std.specs.Cmp.Lexicographic.{bytes_decides}
 use Rattle.std.proofs.lemmas.List.{length-map}
-use Rattle.model_value.specs.Plain.{weight}
 use Rattle.world_plain.specs.Messages.{PlainMessage, plain_message}
 use Rattle.world_plain.specs.Valid.{most_pending}
 use Rattle.world_plain.specs.declared.message.Message.{Message}
-use Rattle.model_value.specs.declared.value.Value.{Value}
-use Rattle.model_value.specs.Plain.{values_weight}
 use Rattle.world_plain.specs.World.{message_weight, total_weight}
-use Rattle.model_value.specs.View.{plain, plain_values}
 use Rattle.message_queue.specs.Queue.{IsLightMessage, AreLightMessages}
 use Rattle.message_queue.specs.View.{messages_seen}
 
@@ -43,11 +39,6 @@ seen_filter test (m ∷ ms) =
     ∙ ap (λ (rest : List PlainMessage). cond (test (plain_message m)) (plain_message m ∷ rest) rest) (seen_filter test ms)
 
 -- ---- weights
-
-pub value_at : (vs : List Value) (i : ℕ) (d : Value) → i < length vs → weight (plain (get_or vs i d)) ≤ values_weight (plain_values (drop i vs))
-value_at [] i d h = absurd (omega arith)
-value_at (v ∷ vs) zero d h = omega arith
-value_at (v ∷ vs) (suc i) d h = value_at vs i d (omega arith)
 
 pub message_at : (ms : List Message) (i : ℕ) (d : Message) → i < length ms → message_weight (plain_message (get_or ms i d)) ≤ total_weight message_weight (messages_seen (drop i ms))
 message_at [] i d h = absurd (omega arith)

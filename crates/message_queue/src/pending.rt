@@ -2,14 +2,12 @@
 ghost use Rattle.std.specs.Prelude.{◌≡◌, ◌≤◌, length, not, nat_eq};
 ghost use Rattle.std.specs.List.{filter};
 ghost use Rattle.world_plain.specs.Messages.{plain_message};
-ghost use Rattle.model_value.specs.View.{plain_values};
 ghost use Rattle.world_plain.specs.Valid.{most_pending};
-ghost use Rattle.model_value.specs.Plain.{values_weight as weight_of_values, text_weight as weight_of_text};
-ghost use Rattle.world_plain.specs.World.{message_weight, total_weight, most_world_weight};
+ghost use Rattle.world_plain.specs.World.{message_weight, total_weight};
 ghost use Rattle.message_queue.specs.Queue.{AreLightMessages, IsLightMessage, calls};
 ghost use Rattle.message_queue.specs.View.{messages_seen};
 
-use model_value::{Value, weight};
+use model_value::{text_weight, values_weight};
 use tea_base::Text;
 use world_plain::Message;
 
@@ -56,24 +54,4 @@ pub fn message_weight_of(message: &Message) -> u64
     ensures { result ≡ message_weight (plain_message message.now) }
 {
     3 + text_weight(&message.method) + values_weight(message.args.as_slice())
-}
-
-/// How much a text weighs: 1, and 1 for each 16 bytes begun.
-fn text_weight(text: &Text) -> u64
-    requires { weight_of_text text.now ≤ most_world_weight }
-    ensures { result ≡ weight_of_text text.now }
-{
-    1 + text.bytes().len().div_ceil(16) as u64
-}
-
-/// How much values weigh together.
-fn values_weight(values: &[Value]) -> u64
-    requires { weight_of_values (plain_values values.now) ≤ most_world_weight }
-    ensures { result ≡ weight_of_values (plain_values values.now) }
-{
-    let mut sum = 0;
-    for value in values {
-        sum += u64::from(weight(value));
-    }
-    sum
 }

@@ -1,12 +1,14 @@
 //! The queue of a world's messages.
-ghost use Rattle.std.specs.Prelude.{◌≡◌, ◌<◌, ◌+◌, ◌↔◌, [], length, map, IsTrue, IfOk, OnOk, OnErr};
+ghost use Rattle.std.specs.Prelude.{◌≡◌, ◌<◌, ◌≤◌, ◌+◌, ◌↔◌, [], length, map, IsTrue, IfOk, OnOk, OnErr};
 ghost use Rattle.std.specs.Option.{option_map};
 ghost use Rattle.world_plain.specs.Messages.{plain_message};
 ghost use Rattle.model_value.specs.View.{plain_values};
 ghost use Rattle.world_plain.specs.Valid.{IsUnused, most_pending};
 ghost use Rattle.world_plain.specs.World.{message_weight, total_weight};
-ghost use Rattle.message_queue.specs.Queue.{IsLightMessage, IsQueue, TakesLeast, Pushes, empty_queue, least_of, new_message, queue_with, without_calls, without_messages_to};
-ghost use Rattle.message_queue.specs.Heap.{CountsFew};
+ghost use Rattle.std.specs.List.Sorted.{IsPermutation};
+ghost use Rattle.message_queue.specs.Queue.{AreLightMessages, IsLightMessage, IsQueue, TakesLeast, Pushes, empty_queue, least_of, new_message, queue_with, without_calls, without_messages_to};
+ghost use Rattle.message_queue.specs.Heap.{CountsFew, IsHeap};
+ghost use Rattle.message_queue.specs.View.{messages_seen};
 
 use crate::heap::{insert, make_heap, put_in_order, take_first};
 use crate::pending::{message_weight_of, remove_calls, remove_object, weight_of};
@@ -187,13 +189,7 @@ impl Queue {
     {
         let before = self.messages.len();
         remove_calls(&mut self.messages, object, method);
-        let gone = before - self.messages.len();
-        if gone == 0 {
-            return 0;
-        }
-        make_heap(&mut self.messages);
-        self.weight = weight_of(&self.messages);
-        gone as u32
+        rebuild(&mut self.messages, &mut self.weight, before)
     }
 
     /// Takes away all messages to an object, and gives their number. Takes no memory.
@@ -203,13 +199,7 @@ impl Queue {
     {
         let before = self.messages.len();
         remove_object(&mut self.messages, object);
-        let gone = before - self.messages.len();
-        if gone == 0 {
-            return 0;
-        }
-        make_heap(&mut self.messages);
-        self.weight = weight_of(&self.messages);
-        gone as u32
+        rebuild(&mut self.messages, &mut self.weight, before)
     }
 
     /// How much the messages weigh together: each 3, its method's name and its arguments. Takes no memory.
@@ -222,4 +212,24 @@ impl Queue {
     {
         self.weight
     }
+}
+
+/// Makes a heap again of the messages that are left of so many, weighs them anew, and gives how many are gone. Where none
+/// is gone, nothing changes.
+fn rebuild(messages: &mut Vec<Message>, weight: &mut u64, before: usize) -> u32
+    requires left { length messages.old.items ≤ before }
+    requires few { before ≤ most_pending }
+    requires light { AreLightMessages (messages_seen messages.old.items) }
+    ensures number { result + length messages.new.items ≡ before }
+    ensures held { IsPermutation messages.old.items messages.new.items }
+    ensures fewer { length messages.old.items < before → IsHeap messages.new.items × (weight.new ≡ total_weight message_weight (messages_seen messages.new.items)) }
+    ensures all { length messages.old.items ≡ before → (messages.new.items ≡ messages.old.items) × (weight.new ≡ weight.old) }
+{
+    let gone = before - messages.len();
+    if gone == 0 {
+        return 0;
+    }
+    *weight = weight_of(messages);
+    make_heap(messages);
+    gone as u32
 }

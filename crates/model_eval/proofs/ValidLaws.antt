@@ -6,7 +6,7 @@ use Rattle.std.proofs.lemmas.List.{length_push, length-replicate}
 use Rattle.model_value.specs.Plain.{PlainValue, nil}
 use Rattle.world_plain.specs.Messages.{PlainMessage}
 use Rattle.world_plain.specs.World.{ObjectRecord, WorldRecord, object_weight, message_weight, subscription_weight, known_weight, world_weight, most_world_weight}
-use Rattle.world_plain.specs.Valid.{Valid, ValidClock, ValidViews, ValidObjects, ValidNames, ValidSubscriptions, ValidMessages, RiseFrom, IsHeld, ObjectFits, SubscriptionFits, SubscriptionsFit, MessageFits, MessagesFit, IsUnused, most_objects, most_pending}
+use Rattle.world_plain.specs.Valid.{Valid, ValidClock, ValidViews, ValidObjects, ValidNames, ValidSubscriptions, ValidMessages, RiseFrom, IsHeld, ObjectFits, SubscriptionFits, SubscriptionsFit, MessageFits, MessagesFit, IsUnused, most_objects, most_subscriptions, most_pending}
 use Rattle.model_value.specs.Plain.{AllInBounds, TextFits}
 use Rattle.world_plain.specs.declared.message.Subscription.{Subscription}
 use Rattle.world_plain.specs.declared.world.Known.{Known}
@@ -217,8 +217,8 @@ pub valid-subscription : (counts : List ℕ) (s : Subscription) (w : WorldRecord
     → Valid counts w → Valid counts (with_subscription s w)
 valid-subscription counts s w new fits room v =
     let ss = w.subscriptions in
-    let parts = and_parts (nat_lt (length ss) most_pending) (nat_le (world_weight w + subscription_weight s) most_world_weight) room in
-    let few : length ss < most_pending = ltb-true (length ss) most_pending parts.0 in
+    let parts = and_parts (nat_lt (length ss) most_subscriptions) (nat_le (world_weight w + subscription_weight s) most_world_weight) room in
+    let few : length ss < most_subscriptions = ltb-true (length ss) most_subscriptions parts.0 in
     let light : world_weight w + subscription_weight s ≤ most_world_weight = leb-true (world_weight w + subscription_weight s) most_world_weight parts.1 in
     let subscriptions : ValidSubscriptions w.objects (ss ++ s ∷ []) = record {
       differ = SubscriptionsDiffer-appended s ss new v.subscriptions.differ;

@@ -59,6 +59,10 @@ evaluates_by s = evaluate (program_tree s.program.now) s.room
 abbrev pub executes_by : Starter → Execute
 executes_by s = execute (program_tree s.program.now) s.room
 
+-- what an operator gives of its two sides
+abbrev pub operates_by : Starter → ℕ → BinaryOp → SolvedExpression → SolvedExpression → List PlainValue → Running → Outcome PlainValue
+operates_by s object op left right locals r = and_then (evaluates_by s object left locals r) (λ v. binary_outcome op v (evaluates_by s object right locals))
+
 -- a fault of what needs no world
 abbrev pub stop_of : BuiltinStop → EvalStop
 stop_of builtin_stop.BadKind = stop.Fault BadKind

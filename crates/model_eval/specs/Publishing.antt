@@ -5,7 +5,7 @@ use Rattle.model_value.specs.Plain.{PlainValue, nil, int, list}
 use Rattle.model_value.specs.View.{plains_of}
 use Rattle.world_plain.specs.Messages.{PlainMessage}
 use Rattle.world_plain.specs.World.{WorldRecord, subscription_weight, world_weight, most_world_weight}
-use Rattle.world_plain.specs.Valid.{most_pending}
+use Rattle.world_plain.specs.Valid.{most_subscriptions}
 use Rattle.world_plain.specs.declared.message.Subscription.{Subscription}
 use Rattle.pubsub.specs.declared.handler.Handler.{Handler}
 use Rattle.pubsub.specs.Topics.{is_subscribed, without_subscription, handlers_of}
@@ -41,7 +41,7 @@ publish start scope event v r = and_then (tell_handlers start scope event v (wit
 -- ---- subscriptions
 
 abbrev pub has_room_to : WorldRecord → Subscription → Bool
-has_room_to w s = nat_lt (length w.subscriptions) most_pending && nat_le (world_weight w + subscription_weight s) most_world_weight
+has_room_to w s = nat_lt (length w.subscriptions) most_subscriptions && nat_le (world_weight w + subscription_weight s) most_world_weight
 
 abbrev pub with_subscription : Subscription → WorldRecord → WorldRecord
 with_subscription s w = record w { subscriptions = w.subscriptions ++ s ∷ [] }

@@ -1,18 +1,16 @@
 //! Expressions and statements, form by form.
-ghost use Rattle.std.specs.Prelude.{[], ◌∷◌, ◌<◌, ◌≡◌, IfOk, IfSome, Some, slice_get};
+ghost use Rattle.std.specs.Prelude.{[], ◌∷◌, ◌<◌, ◌≡◌, IfOk, Some, slice_get};
 ghost use Rattle.model_lang.specs.Tree.{ClassTree};
 ghost use Rattle.model_lang.specs.TreeView.{program_tree};
 ghost use Rattle.model_check.specs.SolvedView.{solved_expression, solved_expressions, solved_statement, solved_statements, solved_method};
-ghost use Rattle.std.specs.Option.{option_copied, option_map};
-ghost use Rattle.model_value.specs.Plain.{int, ref};
+ghost use Rattle.model_value.specs.Plain.{ref};
 ghost use Rattle.model_value.specs.View.{plain, plain_values};
 ghost use Rattle.model_eval.specs.Running.{and_then, Gives};
-ghost use Rattle.model_eval.specs.Operators.{binary_outcome, truly as truth_of_right};
 ghost use Rattle.model_eval.specs.Builtins.{run_builtin, on_event};
 ghost use Rattle.model_eval.specs.Publishing.{run_handlers, handle, publish, tell_handlers};
 ghost use Rattle.model_eval.specs.Meaning.{call_on, create_object, run_init};
 ghost use Rattle.model_eval.specs.Slots.{block as block_of, room_inside, evaluate_all, expression_row as row_of_expression, in_turn, loop_turns, perform, statement_row as row_of_statement};
-ghost use Rattle.model_eval.specs.Answer.{Answers, AnswersAll, Did, Enters, EvaluatesBoth, GivesInt, Proceeds, Steps, evaluates_by, executes_by, running, starts_by};
+ghost use Rattle.model_eval.specs.Answer.{Answers, AnswersAll, Did, Enters, Proceeds, Steps, evaluates_by, executes_by, running, starts_by};
 ghost use Rattle.model_eval.specs.declared.state.State.{State};
 
 use crate::builtins::answer;
@@ -24,11 +22,11 @@ use crate::locals::{Frame, assign, declare, get_local, leave};
 use crate::messages::send;
 use crate::methods::init_of;
 use crate::objects::{get_slot, is_held, make, set_slot};
-use crate::operator::{operate, operate_on_ints, operate_on_one, truth};
+use crate::operation::Operation;
+use crate::operator::{operate_on_one, truth};
 use crate::state::{Budget, State};
 use crate::values::{list_of, literal, only};
 use model_check::{Builtin, Solved, SolvedExpr, SolvedStmt};
-use model_lang::BinaryOp;
 use model_value::{Value, Values, copy};
 use pubsub::Handler;
 use tea_base::{List, Text};
@@ -42,26 +40,12 @@ pub enum Flow {
     Return,
 }
 
-// The two sides of an operator.
-#[derive(Clone, Copy)]
-struct Sides<'a> {
-    left: &'a SolvedExpr,
-    right: &'a SolvedExpr,
-}
-
-// An operator with its sides.
-#[derive(Clone, Copy)]
-struct Operation<'a> {
-    op: BinaryOp,
-    sides: Sides<'a>,
-}
-
 impl Here<'_> {
-    // What an expression gives. The forms that programs have most come first, and take no call where they have no parts.
+    /// What an expression gives. The forms that programs have most come first, and take no call where they have no parts.
     #[cycle(evaluate)]
     #[inline(always)]
     #[tactic(auto, using(crate::proofs::Steps::by_room))]
-    fn evaluate(
+    pub fn evaluate(
         &self,
         expr: &SolvedExpr,
         locals: &[Value],
@@ -79,7 +63,8 @@ impl Here<'_> {
             SolvedExpr::Binary { op, left, right } => {
                 let operation = Operation {
                     op: *op,
-                    sides: Sides { left, right },
+                    left,
+                    right,
                 };
                 self.evaluate_operation(room, operation, locals, state, budget)
             }
@@ -87,83 +72,8 @@ impl Here<'_> {
         }
     }
 
-    // What an operator gives of its sides, where so many more may be open. No value is made of sides that are Ints already.
-    #[cycle(evaluate)]
-    #[inline(always)]
-    #[tactic(auto, using(crate::proofs::Steps::by_room))]
-    fn evaluate_operation(
-        &self,
-        room: u32,
-        operation: Operation<'_>,
-        locals: &[Value],
-        state: &mut State,
-        budget: &mut Budget,
-    ) -> Result<Value, EvalStop>
-        ensures { let inside = record (self.now.starter) { room = room } in let ev = evaluates_by inside self.now.object in
-            Answers result state.new budget.new (and_then (ev (solved_expression operation.entry.sides.left.now) (plain_values locals.now) (running state.old budget.old)) (λ v. binary_outcome operation.entry.op v (ev (solved_expression operation.entry.sides.right.now) (plain_values locals.now)))) }
-    {
-        match self.int_sides(operation, locals, state) {
-            Some((left, right)) => {
-                enter(room, budget)?;
-                enter(room, budget)?;
-                operate_on_ints(operation.op, left, right)
-            }
-            None => self.evaluate_sides(room, operation, locals, state, budget),
-        }
-    }
-
-    // The same, whatever the sides are.
-    #[cycle(evaluate)]
-    #[inline(always)]
-    fn evaluate_sides(
-        &self,
-        room: u32,
-        operation: Operation<'_>,
-        locals: &[Value],
-        state: &mut State,
-        budget: &mut Budget,
-    ) -> Result<Value, EvalStop>
-        ensures { let inside = record (self.now.starter) { room = room } in let ev = evaluates_by inside self.now.object in
-            Answers result state.new budget.new (and_then (ev (solved_expression operation.entry.sides.left.now) (plain_values locals.now) (running state.old budget.old)) (λ v. binary_outcome operation.entry.op v (ev (solved_expression operation.entry.sides.right.now) (plain_values locals.now)))) }
-    {
-        let here = self.with_room(room);
-        Ok(here.evaluate_binary(operation.op, operation.sides, locals, state, budget)?)
-    }
-
-    // The Ints of both sides, where these are leaves and the operator evaluates both. The right one is asked first: where it
-    // has parts of its own, nothing is read in vain.
-    #[inline(always)]
-    fn int_sides(
-        &self,
-        operation: Operation<'_>,
-        locals: &[Value],
-        state: &State,
-    ) -> Option<(i64, i64)>
-        ensures { let object = self.now.object in
-            IfSome result (λ ints. EvaluatesBoth operation.entry.op × GivesInt state.now object (solved_expression operation.entry.sides.left.now) (plain_values locals.now) ints.0 × GivesInt state.now object (solved_expression operation.entry.sides.right.now) (plain_values locals.now) ints.1) }
-    {
-        if matches!(operation.op, BinaryOp::Or | BinaryOp::And) {
-            return None;
-        }
-        let right = self.int_of_leaf(operation.sides.right, locals, state)?;
-        let left = self.int_of_leaf(operation.sides.left, locals, state)?;
-        Some((left, right))
-    }
-
-    // The Int that a leaf gives, where it gives one.
-    #[inline(always)]
-    fn int_of_leaf(&self, leaf: &SolvedExpr, locals: &[Value], state: &State) -> Option<i64>
-        ensures { IfSome result (λ number. GivesInt state.now self.now.object (solved_expression leaf.now) (plain_values locals.now) number) }
-    {
-        match leaf {
-            SolvedExpr::Int(number) => Some(*number),
-            SolvedExpr::Local { slot } => int_in(locals.get(*slot as usize)),
-            SolvedExpr::Field { slot } => int_in(state.objects.field(self.object, *slot)),
-            _ => None,
-        }
-    }
-
-    // What an expression gives inside another, where so many more may be open.
+    // What an expression gives, where so many more may be open. This slow way stands in an inlined function of its own, with
+    // a `?` at its end, so that the forms without parts have none of its temporaries.
     #[cycle(evaluate)]
     #[inline(always)]
     fn evaluate_inside(
@@ -181,6 +91,8 @@ impl Here<'_> {
         Ok(here.expression_row(expr, locals, state, budget)?)
     }
 
+    // What each form of expressions gives, once it is entered. Ints, locals, fields and operators do not come here, since they
+    // are taken before; with them the table is whole. It is not inlined, since each place that evaluates would hold it.
     #[cycle(evaluate)]
     #[inline(never)]
     fn expression_row(
@@ -210,8 +122,12 @@ impl Here<'_> {
                 operate_on_one(*op, &value)
             }
             SolvedExpr::Binary { op, left, right } => {
-                let sides = Sides { left, right };
-                self.evaluate_binary(*op, sides, locals, state, budget)
+                let operation = Operation {
+                    op: *op,
+                    left,
+                    right,
+                };
+                self.evaluate_binary(operation, locals, state, budget)
             }
             SolvedExpr::Builtin { name, args } => {
                 let values = self.evaluate_all(args, locals, state, budget)?;
@@ -240,86 +156,7 @@ impl Here<'_> {
         }
     }
 
-    // What an operator gives of two sides.
-    #[cycle(evaluate)]
-    #[inline(never)]
-    fn evaluate_binary(
-        &self,
-        op: BinaryOp,
-        sides: Sides<'_>,
-        locals: &[Value],
-        state: &mut State,
-        budget: &mut Budget,
-    ) -> Result<Value, EvalStop>
-        ensures { let here = self.now in let ev = evaluates_by here.starter here.object in
-            Answers result state.new budget.new (and_then (ev (solved_expression sides.entry.left.now) (plain_values locals.now) (running state.old budget.old)) (λ v. binary_outcome op v (ev (solved_expression sides.entry.right.now) (plain_values locals.now)))) }
-    {
-        match op {
-            BinaryOp::Or => return self.evaluate_or(sides, locals, state, budget),
-            BinaryOp::And => return self.evaluate_and(sides, locals, state, budget),
-            _ => {}
-        }
-        let left = self.evaluate(sides.left, locals, state, budget)?;
-        let right = self.evaluate(sides.right, locals, state, budget)?;
-        operate(op, left, right)
-    }
-
-    // What `||` gives. The right side is evaluated only where the left is false.
-    #[cycle(evaluate)]
-    fn evaluate_or(
-        &self,
-        sides: Sides<'_>,
-        locals: &[Value],
-        state: &mut State,
-        budget: &mut Budget,
-    ) -> Result<Value, EvalStop>
-        ensures { let here = self.now in let ev = evaluates_by here.starter here.object in
-            Answers result state.new budget.new (and_then (ev (solved_expression sides.entry.left.now) (plain_values locals.now) (running state.old budget.old)) (λ v. binary_outcome BinaryOp.Or v (ev (solved_expression sides.entry.right.now) (plain_values locals.now)))) }
-    {
-        let value = self.evaluate(sides.left, locals, state, budget)?;
-        if truth(&value)? {
-            Ok(Value::Bool(true))
-        } else {
-            self.truly(sides.right, locals, state, budget)
-        }
-    }
-
-    // What `&&` gives. The right side is evaluated only where the left is true.
-    #[cycle(evaluate)]
-    fn evaluate_and(
-        &self,
-        sides: Sides<'_>,
-        locals: &[Value],
-        state: &mut State,
-        budget: &mut Budget,
-    ) -> Result<Value, EvalStop>
-        ensures { let here = self.now in let ev = evaluates_by here.starter here.object in
-            Answers result state.new budget.new (and_then (ev (solved_expression sides.entry.left.now) (plain_values locals.now) (running state.old budget.old)) (λ v. binary_outcome BinaryOp.And v (ev (solved_expression sides.entry.right.now) (plain_values locals.now)))) }
-    {
-        let value = self.evaluate(sides.left, locals, state, budget)?;
-        if truth(&value)? {
-            self.truly(sides.right, locals, state, budget)
-        } else {
-            Ok(Value::Bool(false))
-        }
-    }
-
-    // The right side of `||` and `&&`, which has to be a truth.
-    #[cycle(evaluate)]
-    fn truly(
-        &self,
-        right: &SolvedExpr,
-        locals: &[Value],
-        state: &mut State,
-        budget: &mut Budget,
-    ) -> Result<Value, EvalStop>
-        ensures { let here = self.now in
-            Answers result state.new budget.new (truth_of_right (evaluates_by here.starter here.object (solved_expression right.now) (plain_values locals.now)) (running state.old budget.old)) }
-    {
-        let value = self.evaluate(right, locals, state, budget)?;
-        Ok(Value::Bool(truth(&value)?))
-    }
-
+    // What expressions give, from the first one on.
     #[cycle(evaluate)]
     fn evaluate_all(
         &self,
@@ -375,6 +212,7 @@ impl Here<'_> {
             .statement_row(stmt, frame, state, budget)
     }
 
+    // What each form of statements does, once it is entered.
     #[cycle(evaluate)]
     fn statement_row(
         &self,
@@ -425,7 +263,8 @@ impl Here<'_> {
         }
     }
 
-    // Each test takes a step of fuel, so there are at most so many turns as there are steps left.
+    // Runs a loop. Each test takes a step of fuel, so there are at most so many turns as there are steps left. It is not
+    // inlined, so that other statements hold nothing of it.
     #[cycle(evaluate)]
     #[inline(never)]
     #[tactic(auto, using(crate::proofs::Steps::by_turn))]
@@ -451,10 +290,11 @@ impl Here<'_> {
                 return Ok(flow);
             }
         }
+        // No step is left, and another test would end so too.
         Err(EvalStop::Fault(Fault::Fuel))
     }
 
-    // Behind a block the locals are those that were there before it.
+    // Runs a block. Behind a block the locals are those that were there before it.
     #[cycle(evaluate)]
     #[tactic(auto, using(crate::proofs::Steps::by_local))]
     fn run_block(
@@ -475,6 +315,7 @@ impl Here<'_> {
         Ok(flow)
     }
 
+    // Runs statements one behind another, until one returns.
     #[cycle(evaluate)]
     fn run_in_turn(
         &self,
@@ -524,14 +365,14 @@ impl Starter<'_> {
     fn perform(
         &self,
         object: u32,
-        method: &Solved,
+        solved: &Solved,
         args: Values,
         state: &mut State,
         budget: &mut Budget,
     ) -> Result<Value, EvalStop>
-        ensures { Answers result state.new budget.new (perform (program_tree self.now.program.now) self.now.room object (solved_method method.now) (plain_values args) (running state.old budget.old)) }
+        ensures { Answers result state.new budget.new (perform (program_tree self.now.program.now) self.now.room object (solved_method solved.now) (plain_values args) (running state.old budget.old)) }
     {
-        if args.len() != method.params as usize {
+        if args.len() != solved.params as usize {
             return Err(EvalStop::Fault(Fault::Arity));
         }
         let here = Here {
@@ -539,12 +380,13 @@ impl Starter<'_> {
             object,
         };
         let mut frame = Frame::new(args.into_vec());
-        match here.run_in_turn(&method.body, &mut frame, state, budget)? {
+        match here.run_in_turn(&solved.body, &mut frame, state, budget)? {
             Flow::Next => Ok(Value::Nil),
             Flow::Return => Ok(frame.returned),
         }
     }
 
+    // Starts a method on what a value refers to.
     #[cycle(evaluate)]
     fn call(
         &self,
@@ -574,6 +416,7 @@ impl Starter<'_> {
         ensures { let tree = program_tree self.now.program.now in
             Answers result state.new budget.new (create_object (starts_by self.now) class (slice_get tree class) (plain options) (running state.old budget.old)) }
     {
+        // A checked program has each class that it makes objects of.
         let Some(fields) = self.program.fields(class) else {
             return Err(EvalStop::Fault(Fault::BadKind));
         };
@@ -617,6 +460,7 @@ impl Starter<'_> {
         Ok(Value::Ref(id))
     }
 
+    // Publishes an event: its scope, its name and a value, where it has these three arguments.
     #[cycle(evaluate)]
     fn publish(
         &self,
@@ -627,11 +471,13 @@ impl Starter<'_> {
         ensures { Answers result state.new budget.new (on_event (publish (starts_by self.now)) (plain_values args.now) (running state.old budget.old)) }
     {
         match args {
-            [scope, event, value] => self.publish_to(scope, event, value, state, budget),
+            [scope, name, value] => self.publish_to(scope, name, value, state, budget),
+            // A checked program gives three arguments.
             _ => Err(EvalStop::Fault(Fault::BadKind)),
         }
     }
 
+    // Publishes an event, where its scope and its name are texts.
     #[cycle(evaluate)]
     fn publish_to(
         &self,
@@ -682,6 +528,7 @@ impl Starter<'_> {
         self.tell_all(handlers.as_slice(), event.value, state, budget)
     }
 
+    // Starts the methods that handle an event with the value, in order.
     #[cycle(evaluate)]
     fn tell_all(
         &self,
@@ -698,6 +545,7 @@ impl Starter<'_> {
         Ok(())
     }
 
+    // Starts one such method and takes a step for it, unless its object is gone.
     #[cycle(evaluate)]
     fn tell_one(
         &self,
@@ -718,8 +566,8 @@ impl Starter<'_> {
     }
 }
 
-// Enters a statement or an expression, where so many may be open: takes a step, and answers how many more may be open.
-fn enter(room: u32, budget: &mut Budget) -> Result<u32, EvalStop>
+/// Enters a statement or an expression, where so many may be open: takes a step, and answers how many more may be open.
+pub fn enter(room: u32, budget: &mut Budget) -> Result<u32, EvalStop>
     ensures answers { Enters result budget.new (λ (state : State). room_inside room (running state budget.old)) }
     ensures less { IfOk result (λ inside. inside < room) }
 {
@@ -739,15 +587,4 @@ fn take_step(budget: &mut Budget) -> Result<(), EvalStop>
     }
     budget.fuel -= 1;
     Ok(())
-}
-
-// The Int that a place holds, where it is one.
-#[inline(always)]
-fn int_in(place: Option<&Value>) -> Option<i64>
-    ensures { IfSome result (λ number. option_map plain (option_copied place.entry) ≡ Some (int number)) }
-{
-    match place {
-        Some(Value::Int(number)) => Some(*number),
-        _ => None,
-    }
 }

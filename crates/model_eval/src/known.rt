@@ -1,5 +1,5 @@
 //! The names by which objects are known.
-ghost use Rattle.std.specs.Prelude.{◌≡◌, nat_le};
+ghost use Rattle.std.specs.Prelude.{◌≡◌, ℕ, nat_le};
 ghost use Rattle.model_value.specs.View.{plain};
 ghost use Rattle.world_plain.specs.World.{world_weight, most_world_weight};
 ghost use Rattle.known_names.specs.Names.{with_known};
@@ -33,23 +33,23 @@ pub fn be_known(name: &Text, object: u32, state: &mut State) -> Result<Value, Ev
     if !is_held(state, object) {
         return Err(EvalStop::Fault(Fault::NoObject));
     }
+    if !has_room_for_name(state, name) {
+        return Err(EvalStop::Fault(Fault::Full));
+    }
     let known = Known {
         name: name.try_clone()?,
         object,
     };
-    if !has_room_for_name(state, &known) {
-        return Err(EvalStop::Fault(Fault::Full));
-    }
     state.known.set(known)?;
     Ok(Value::Nil)
 }
 
-// Whether the world is light enough with one more name, or with another object in place of the one that it tells.
-fn has_room_for_name(state: &State, known: &Known) -> bool
-    ensures { let names = with_known known.now.name known.now.object state.now.known in
-        result ≡ nat_le (world_weight (record (world_of state.now) { known = names })) most_world_weight }
+// Whether the world is light enough with an object known by a name, whichever that is and whoever is known by it now.
+fn has_room_for_name(state: &State, name: &Text) -> bool
+    ensures { (object : ℕ) →
+        result ≡ nat_le (world_weight (record (world_of state.now) { known = with_known name.now object state.now.known })) most_world_weight }
 {
-    let added = state.known.added_weight(known);
+    let added = state.known.added_weight(name);
     match state.room() {
         None => false,
         Some(left) => added <= u64::from(left),

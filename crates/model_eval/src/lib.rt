@@ -14,6 +14,7 @@ mod messages;
 mod method;
 mod methods;
 mod objects;
+mod operation;
 mod operator;
 mod state;
 mod values;

@@ -95,7 +95,7 @@ fn has_room(state: &State, method: &Text, args: &Values) -> bool
 }
 
 /// Takes away the messages to come that call a method of an object, and tells how many there were. Gives the fault NoObject where
-/// the object is gone. Takes no memory.
+/// the object is gone.
 pub fn cancel(object: u32, method: &Text, state: &mut State) -> Result<Value, EvalStop>
     ensures { (budget : Budget) → Answers result state.new budget (cancel object method.now (running state.old budget)) }
 {

@@ -1,6 +1,5 @@
 //! The objects of a world: their fields, how one is made and taken away.
-ghost use Rattle.std.specs.Prelude.{◌≡◌, ◌+◌, ◌≤◌, IfOk, nat_le, replicate};
-ghost use Rattle.model_value.specs.Plain.{nil};
+ghost use Rattle.std.specs.Prelude.{◌≡◌, ◌+◌, ◌≤◌, nat_le};
 ghost use Rattle.model_value.specs.View.{plain, plain_values};
 ghost use Rattle.world_plain.specs.Valid.{object_at};
 ghost use Rattle.model_value.specs.Plain.{weight as weight_of, values_weight};
@@ -14,9 +13,8 @@ ghost use Rattle.model_eval.specs.Answer.{Answers, Did, IsAbsent, Numbers, Repli
 use crate::fault::{EvalStop, Fault};
 use crate::state::State;
 use crate::values::copied;
-use model_value::{Value, Values, weight};
+use model_value::{Value, Values, nils, weight};
 use std::alloc::Global;
-use tea_base::{List, WantOfMemory};
 use world_plain::{MOST_WORLD_WEIGHT, object_fits, value_fits};
 
 /// A copy of what an object's field holds. Gives the fault NoObject where the object is gone.
@@ -106,7 +104,7 @@ pub fn is_held(state: &State, id: u32) -> bool
 pub fn make(alloc: Global, state: &mut State, class: u16, fields: u32) -> Result<u32, EvalStop>
     ensures { (budget : Budget) → Numbers result state.new budget (make_object class fields (running state.old budget)) }
 {
-    let fields = nils(alloc, fields)?;
+    let fields = nils(alloc, fields as usize)?;
     if !has_room(state, &fields) {
         return Err(EvalStop::Fault(Fault::Full));
     }
@@ -123,18 +121,8 @@ fn has_room(state: &State, fields: &Values) -> bool
     }
 }
 
-fn nils(alloc: Global, count: u32) -> Result<Values, WantOfMemory>
-    ensures { IfOk result (λ values. plain_values values ≡ replicate count nil) }
-{
-    let mut values = List::new(alloc);
-    for _index in 0..count {
-        values.push(Value::Nil)?;
-    }
-    Ok(values)
-}
-
 /// Takes away an object, its subscriptions, its pending messages and the names by which it is known. Gives the fault NoObject
-/// where it is gone. Takes no memory.
+/// where it is gone.
 pub fn destroy(state: &mut State, id: u32) -> Result<Value, EvalStop>
     ensures { (budget : Budget) → Answers result state.new budget (destroy id (running state.old budget)) }
 {

@@ -1,6 +1,6 @@
 //! The weight and the depth of values, and their bounds.
 ghost use Rattle.std.specs.Prelude.{◌≡◌, ◌↔◌, ◌^◌, ◌<◌, IsTrue};
-ghost use Rattle.model_value.specs.Plain.{weight as weight_of, weight_of_all, depth as depth_of, greatest_depth, values_weight, text_weight, InBounds, AllInBounds, TextFits, LeavesRoom};
+ghost use Rattle.model_value.specs.Plain.{weight as weight_of, weight_of_all, depth as depth_of, greatest_depth, values_weight as weight_of_values, text_weight as weight_of_text, InBounds, AllInBounds, TextFits, LeavesRoom};
 ghost use Rattle.model_value.specs.Room.{IsRoomBehind};
 ghost use Rattle.model_value.specs.View.{plain, plains, plain_values};
 
@@ -37,6 +37,23 @@ fn weight_all(items: &[Value]) -> u32
         sum += weight(item);
     }
     sum
+}
+
+/// The weight of a text as the value that it is: 1, and one more for each 16 bytes of UTF-8 begun.
+pub fn text_weight(text: &Text) -> u64
+    ensures weight { result ≡ weight_of_text text.now }
+    ensures bound { result < 2 ^ 61 }
+{
+    1 + text.bytes().len().div_ceil(16) as u64
+}
+
+/// The weight of values together. It has to be below 2^32.
+#[tactic(auto, using(crate::proofs::Totals::by_weight))]
+pub fn values_weight(values: &[Value]) -> u64
+    requires { weight_of_values (plain_values values.now) < 2 ^ 32 }
+    ensures { result ≡ weight_of_values (plain_values values.now) }
+{
+    u64::from(weight_all(values))
 }
 
 /// How deep lists nest in a value: 1 more than its deepest item of a List, 1 of the empty List, and 0 of any other
@@ -118,7 +135,7 @@ pub fn text_fits(text: &Text) -> bool
 
 /// What a text's weight leaves of the room, or None where it is greater. A text weighs as the value that it is.
 pub fn room_behind_text(text: &Text, room: u32) -> Option<u32>
-    ensures { IsRoomBehind result room (text_weight text.now) }
+    ensures { IsRoomBehind result room (weight_of_text text.now) }
 {
     let left = (room as usize).checked_sub(1 + text.bytes().len().div_ceil(16))?;
     Some(left as u32)
@@ -137,7 +154,7 @@ pub fn room_behind_value(value: &Value, room: u32) -> Option<u32>
 /// What the weights of values leave of the room, or None where they are greater together.
 #[tactic(auto, using(crate::proofs::Totals::by_weight))]
 pub fn room_behind_values(values: &Values, room: u32) -> Option<u32>
-    ensures { IsRoomBehind result room (values_weight (plain_values values.now)) }
+    ensures { IsRoomBehind result room (weight_of_values (plain_values values.now)) }
 {
     // Lists nest no deeper than their weight.
     let left = room_behind_all(values.as_slice(), room as usize, room)?;

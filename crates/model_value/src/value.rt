@@ -1,5 +1,6 @@
 //! Values as trees, their copy and their comparison.
-ghost use Rattle.std.specs.Prelude.{◌≡◌, ◌↔◌, IsTrue, IfOk};
+ghost use Rattle.std.specs.Prelude.{◌≡◌, ◌↔◌, IsTrue, IfOk, replicate};
+ghost use Rattle.model_value.specs.Plain.{nil};
 ghost use Rattle.model_value.specs.View.{plain, plains, plain_values};
 
 use std::alloc::Global;
@@ -26,6 +27,17 @@ pub enum Value {
 
 /// Values in order, as the arguments of a message.
 pub type Values = List<Value>;
+
+/// Nil, so many times.
+pub fn nils(alloc: Global, count: usize) -> Result<Values, WantOfMemory>
+    ensures { IfOk result (λ values. plain_values values ≡ replicate count nil) }
+{
+    let mut values = List::new(alloc);
+    for _index in 0..count {
+        values.push(Value::Nil)?;
+    }
+    Ok(values)
+}
 
 /// The same value in memory of its own.
 #[cycle(copy)]

@@ -5,7 +5,7 @@ use Rattle.std.specs.List.{list_any}
 use Rattle.std.specs.Set.{remove_key}
 use Rattle.std.proofs.lemmas.Bool.{false≢true}
 use Rattle.std.proofs.lemmas.Slice.Eq.{bytes_eq-Decides}
-use Rattle.world_plain.specs.Valid.{DiffersFromAll, SubscriptionsDiffer, most_pending}
+use Rattle.world_plain.specs.Valid.{DiffersFromAll, SubscriptionsDiffer, most_subscriptions}
 use Rattle.world_plain.specs.ValidTest.{same_subscription}
 use Rattle.world_plain.specs.World.{subscription_weight, total_weight}
 use Rattle.world_plain.specs.Equality.{same_equiv}
@@ -155,7 +155,7 @@ light_held s (t ∷ ts) e light = step (same_subscription t s) refl e (λ there.
 -- ---- the parts of topics
 
 module _ (s : Subscription) (old new : List Subscription) (was index : TopicIndex) (weight : ℕ) (held : HoldsTopics old was weight) where
-  pub one_more : is_subscribed s old ≡ false → length old < most_pending → IsLightSubscription s → new ≡ old ++ s ∷ [] → FindsMore s was index → IsTight index
+  pub one_more : is_subscribed s old ≡ false → length old < most_subscriptions → IsLightSubscription s → new ≡ old ++ s ∷ [] → FindsMore s was index → IsTight index
       → HoldsTopics new index (weight + subscription_weight s)
   one_more is_new room light is finds tight = record {
     topics = appended s new old is held.topics is_new room light;

@@ -7,7 +7,7 @@ use Rattle.std.proofs.lemmas.List.{length-append}
 use Rattle.std.specs.Cmp.{unsigned_Decides}
 use Rattle.std.proofs.lemmas.Slice.Eq.{bytes_eq-Decides}
 use Rattle.model_value.specs.Plain.{TextFits}
-use Rattle.world_plain.specs.Valid.{DiffersFromAll, SubscriptionsDiffer, most_pending}
+use Rattle.world_plain.specs.Valid.{DiffersFromAll, SubscriptionsDiffer, most_subscriptions}
 use Rattle.world_plain.specs.World.{subscription_weight, total_weight}
 use Rattle.world_plain.specs.declared.message.Subscription.{Subscription}
 use Rattle.pubsub.specs.Topics.{AreTopics, AreLightSubscriptions, IsLightSubscription, is_subscribed}
@@ -67,7 +67,7 @@ pub appended : (s : Subscription) (new old : List Subscription)
     → new ≡ old ++ s ∷ []
     → AreTopics old
     → is_subscribed s old ≡ false
-    → length old < most_pending
+    → length old < most_subscriptions
     → IsLightSubscription s
     → AreTopics new
 appended s new old e topics absent room light =

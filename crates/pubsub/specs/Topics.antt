@@ -1,7 +1,7 @@
 -- Subscriptions in order, and what each call makes of them.
 use Rattle.std.specs.Prelude.{◌≡◌, ◌≤◌, ◌<◌, ◌++◌, ℕ, Bool, true, false, ◌&&◌, ◌||◌, List, [], ◌∷◌, length, nat_eq, bytes_eq, if◌then◌else◌, not, Result, Ok, Err}
 use Rattle.std.specs.List.{filter}
-use Rattle.world_plain.specs.Valid.{SubscriptionsDiffer, most_pending}
+use Rattle.world_plain.specs.Valid.{SubscriptionsDiffer, most_subscriptions}
 use Rattle.world_plain.specs.ValidTest.{same_subscription}
 use Rattle.world_plain.specs.World.{subscription_weight, most_world_weight}
 use Rattle.world_plain.specs.declared.message.Subscription.{Subscription}
@@ -21,7 +21,7 @@ AreLightSubscriptions (s ∷ ss) = IsLightSubscription s × AreLightSubscription
 pub record AreTopics (ss : List Subscription) : Type 0 where
   pub differ : SubscriptionsDiffer ss
   pub light : AreLightSubscriptions ss
-  pub few : length ss ≤ most_pending
+  pub few : length ss ≤ most_subscriptions
 
 -- whether a subscription is to this event in this scope
 abbrev pub is_to : List ℕ → List ℕ → Subscription → Bool
@@ -49,7 +49,7 @@ handlers_of scope event (s ∷ ss) =
 -- what a subscribing answers, and what it makes of the topics
 abbrev pub Subscribes : Result Bool StoreRefusal → Subscription → List Subscription → List Subscription → Type 0
 Subscribes (Ok false) s old new = (is_subscribed s old ≡ true) × (new ≡ old)
-Subscribes (Ok true) s old new = (is_subscribed s old ≡ false) × (length old < most_pending) × (new ≡ old ++ s ∷ [])
-Subscribes (Err (Full count)) s old new = (is_subscribed s old ≡ false) × (length old ≡ most_pending) × (count ≡ length old) × (new ≡ old)
+Subscribes (Ok true) s old new = (is_subscribed s old ≡ false) × (length old < most_subscriptions) × (new ≡ old ++ s ∷ [])
+Subscribes (Err (Full count)) s old new = (is_subscribed s old ≡ false) × (length old ≡ most_subscriptions) × (count ≡ length old) × (new ≡ old)
 Subscribes (Err Spent) s old new = ⊥
-Subscribes (Err WantOfMemory) s old new = (is_subscribed s old ≡ false) × (length old < most_pending) × (new ≡ old)
+Subscribes (Err WantOfMemory) s old new = (is_subscribed s old ≡ false) × (length old < most_subscriptions) × (new ≡ old)

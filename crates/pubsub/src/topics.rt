@@ -1,7 +1,7 @@
 //! The topics of a world.
 ghost use Rattle.std.specs.Prelude.{◌≡◌, ◌↔◌, ◌+◌, ◌++◌, ◌<◌, ◌∷◌, [], length, IfOk, OnOk, OnErr, IsTrue, MatchBool, false};
 ghost use Rattle.world_plain.specs.World.{subscription_weight, total_weight};
-ghost use Rattle.world_plain.specs.Valid.{most_pending};
+ghost use Rattle.world_plain.specs.Valid.{most_subscriptions};
 ghost use Rattle.pubsub.specs.Topics.{AreTopics, IsLightSubscription, Subscribes, handlers_of, is_subscribed as holds, without_subscription, without_subscriber};
 
 use crate::handler::{Handlers, copy_handlers};
@@ -20,7 +20,7 @@ pub struct Topics {
     alloc: Global,
     held: IndexSet<Subscription>,
     index: TopicIndex,
-    /// How much the subscriptions weigh together.
+    // What the subscriptions weigh together, so that it need not be summed anew.
     weight: u64,
 }
 
@@ -80,7 +80,7 @@ impl Topics {
     fn hold(&mut self, s: Subscription) -> Result<(), WantOfMemory>
         requires light { IsLightSubscription s }
         requires new { holds s self.old ≡ false }
-        requires few { length self.old < most_pending }
+        requires few { length self.old < most_subscriptions }
         ensures ok { OnOk result (self.new ≡ self.old ++ s ∷ []) }
         ensures err { OnErr result (self.new ≡ self.old) }
     {
@@ -93,7 +93,7 @@ impl Topics {
 
     /// Whether no more can be held.
     fn is_full(&self) -> bool
-        ensures { MatchBool result (length self.now ≡ most_pending) (length self.now < most_pending) }
+        ensures { MatchBool result (length self.now ≡ most_subscriptions) (length self.now < most_subscriptions) }
     {
         self.held.len() == MOST_SUBSCRIPTIONS
     }

@@ -1,7 +1,5 @@
--- Worlds that count their entries: the laws of worlds can be met, and rows of the table over them.
-use Rattle.std.proofs.Common.{ℕ, ◌+◌, ◌-◌, ◌^◌, ◌≡◌, Bool, if◌then◌else◌, nat_lt, subst, arith, true, false, List, [], ◌∷◌, ◌++◌, Option, Some, None, Err, refl}
-use Rattle.std.proofs.lemmas.Bool.Decides.{nat_tests}
-use Rattle.tea_base.specs.Limits.{time_limit}
+-- Rows of the table over worlds that count their entries.
+use Rattle.std.proofs.Common.{ℕ, ◌-◌, ◌^◌, ◌≡◌, true, false, List, [], ◌∷◌, Option, Some, None, Err, refl}
 use Rattle.tea_base.specs.declared.entry.Entry.{Entry}
 use Rattle.tea_base.specs.declared.entry.What.TheVariants as what
 use Rattle.wire_frames.specs.declared.frame.ClientFrame.TheVariants.{Join, Send}
@@ -12,66 +10,15 @@ use Rattle.wire_frames.specs.declared.frame.ServerFrame.TheVariants.{Sync, Recv,
 use Rattle.replica_plain.specs.declared.how.How.TheVariants.{Fresh, Whole, Resume}
 use Rattle.replica_plain.specs.declared.fault.ReplicaFault.{ReplicaFault}
 use Rattle.replica_plain.specs.declared.fault.ReplicaFault.TheVariants as cause
-use Rattle.replica_plain.specs.Worlds.{Worlds, AreWorlds}
+use Rattle.replica_plain.specs.Worlds.{Worlds}
 use Rattle.replica_plain.specs.PlainReplica.{PlainReplica, founded, breaks}
 use Rattle.replica_plain.specs.Taking.{taken, lost_at, IsTaken}
 use Rattle.replica_plain.specs.Calls.{joining, join_frame, publishes, gives, loses, unsent}
+use Rattle.replica_plain.proofs.CountedWorlds.{Counter, counters_from}
 
--- a time and a count
-record Counter : Type 0 where
-  at : ℕ
-  entries : ℕ
-
-abbrev unsnap_counter : List ℕ → Option Counter
-unsnap_counter (at ∷ entries ∷ []) = if nat_lt at time_limit then Some (record { at = at; entries = entries }) else None
-unsnap_counter other = None
-
--- the first world and each entry make it publish how many there are
+-- the first world too makes it publish how many there are
 abbrev counters : Worlds Counter ℕ
-counters =
-    record {
-      session = [];
-      first = record { at = 0; entries = 0 };
-      first_out = 0 ∷ [];
-      external = λ w entry. record { at = entry.time; entries = w.entries + 1 };
-      external_out = λ w entry out. out ++ (w.entries + 1) ∷ [];
-      advance = λ w t. record { at = t; entries = w.entries };
-      advance_out = λ w t out. out;
-      time = λ w. w.at;
-      valid = λ w. nat_lt w.at time_limit;
-      at_rest = λ w. true;
-      snapshot = λ w. w.at ∷ w.entries ∷ [];
-      unsnap = unsnap_counter;
-    }
-
-unsnap_counter-valid_if : (b : Bool) (at entries : ℕ) (w : Counter) → nat_lt at time_limit ≡ b → (if b then Some (record { at = at; entries = entries }) else None) ≡ Some w → nat_lt w.at time_limit ≡ true
-unsnap_counter-valid_if true at entries w is same = let held : record { at = at; entries = entries } ≡ w = cc in subst (λ (t : Counter). nat_lt t.at time_limit ≡ true) held is
-unsnap_counter-valid_if false at entries w is same = absurd cc
-
-unsnap_counter-valid : (bytes : List ℕ) (w : Counter) → unsnap_counter bytes ≡ Some w → nat_lt w.at time_limit ≡ true
-unsnap_counter-valid [] w is = absurd cc
-unsnap_counter-valid (at ∷ []) w is = absurd cc
-unsnap_counter-valid (at ∷ entries ∷ []) w is = unsnap_counter-valid_if (nat_lt at time_limit) at entries w refl is
-unsnap_counter-valid (at ∷ entries ∷ more ∷ rest) w is = absurd cc
-
-counters_are_worlds : AreWorlds counters
-counters_are_worlds =
-    record {
-      first_time = refl;
-      first_valid = refl;
-      valid_time = λ w valid. grind (arith, nat_tests);
-      external_time = λ w entry valid le. refl;
-      external_valid = λ w entry valid later below. grind (arith, nat_tests);
-      external_after = λ w s entry valid le le_too below. refl;
-      advance_time = λ w t valid le. refl;
-      advance_valid = λ w t valid le below. grind (arith, nat_tests);
-      advance_again = λ w s t valid le le_too below. refl;
-      advance_rests = λ w t valid le below. refl;
-      at_rest_stays = λ w valid rests. refl;
-      unsnap_valid = unsnap_counter-valid;
-    }
-
--- ---- rows
+counters = counters_from (0 ∷ [])
 
 -- the replica after these frames
 abbrev taken_all : {W O : Type 0} → Worlds W O → PlainReplica W O → List ServerFrame → PlainReplica W O

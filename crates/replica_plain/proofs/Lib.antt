@@ -3,4 +3,5 @@ pub mod FrameSteps
 pub mod SyncSteps
 pub mod Numbers
 pub mod Unsent
+pub mod CountedWorlds
 pub mod Counters

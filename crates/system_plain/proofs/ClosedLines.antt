@@ -19,7 +19,7 @@ use Rattle.join_sync.specs.declared.cursor.Cursor.{Cursor}
 use Rattle.join_sync.specs.declared.early.Early.TheVariants.{OtherSession}
 use Rattle.system_plain.specs.ConnectionLine.{ConnectionLine, hears, hears_first, line_on, pumps, pumps_batch}
 use Rattle.system_plain.proofs.Facts.{TicksWithin}
-use Rattle.system_plain.proofs.Lines.{LineSends, Stands, answers_of-append, in_order_more, line_stands_grow, sends_grow, served_of}
+use Rattle.system_plain.proofs.Lines.{LineSends, Stands, answers_of-append, in_order_more, line_stands_grow, sends_grow, sends_with, served_of}
 use Rattle.system_plain.proofs.Sessions.{Grows}
 
 abbrev IsRefusal : List ServerFrame → Type 0
@@ -35,25 +35,9 @@ StandsBy false s cursor over given sent = Stands s cursor over given sent
 StandsBy true s cursor over given sent = ClosedStands s given sent
 
 closed_sends : (s : PlainSession) (cursor : Cursor) (over : Bool) (given : List (Option ClientFrame)) (sent : List ServerFrame) → LineSends s false cursor over given sent → LineSends s true cursor true given sent
-closed_sends s cursor over given sent sends = record {
-  want = sends.want;
-  last = sends.last;
-  from = sends.from;
-  time = sends.time;
-  base = sends.base;
-  more = sends.more;
-  rest = sends.rest;
-  session = sends.session;
-  given_is = sends.given_is;
-  sent_is = sends.sent_is;
-  positive = sends.positive;
-  within = sends.within;
-  by = sends.by;
-  answers = sends.answers;
-  flows = record { streams = sends.flows.streams; ticks = sends.flows.ticks; meets = λ ready. absurd cc };
-  replies = sends.replies;
-  whole = λ still. absurd cc;
-}
+closed_sends s cursor over given sent sends =
+    sends_with s s false true cursor over true given sent sends sends.within sends.by sends.answers
+    (record { streams = sends.flows.streams; ticks = sends.flows.ticks; meets = λ ready. absurd cc }) sends.replies (λ still. absurd cc)
 
 closes : (s : PlainSession) (cursor : Option Cursor) (over : Bool) (given : List (Option ClientFrame)) (sent : List ServerFrame) → Stands s cursor over given sent → ClosedStands s given sent
 closes s None false given sent stands = inl stands.1

@@ -1,8 +1,6 @@
 -- Worlds that count their entries, and schedules over them, step by step.
-use Rattle.std.proofs.lemmas.Bool.Decides.{nat_tests}
-use Rattle.std.proofs.Common.{ℕ, ◌+◌, ◌≡◌, Bool, if◌then◌else◌, nat_lt, ap, subst, arith, true, false, List, [], ◌∷◌, ◌++◌, Option, Some, None, refl}
+use Rattle.std.proofs.Common.{ℕ, ◌≡◌, if◌then◌else◌, ap, true, false, List, [], ◌∷◌, Some, None, refl}
 use Rattle.tea_base.specs.declared.entry.What.TheVariants as what
-use Rattle.tea_base.specs.Limits.{time_limit}
 use Rattle.wire_frames.specs.declared.frame.ClientFrame.TheVariants.{Join, Send}
 use Rattle.wire_frames.specs.declared.frame.ServerFrame.TheVariants.{Done, Recv, Refused, Sync, Tick}
 use Rattle.wire_frames.specs.declared.start.Want.TheVariants as want
@@ -12,6 +10,7 @@ use Rattle.replica_plain.specs.declared.fault.ReplicaFault.{ReplicaFault}
 use Rattle.replica_plain.specs.declared.fault.ReplicaFault.TheVariants as cause
 use Rattle.replica_plain.specs.declared.how.How.TheVariants.{Resume, Whole}
 use Rattle.replica_plain.specs.Worlds.{AreWorlds, Worlds}
+use Rattle.replica_plain.proofs.CountedWorlds.{Counter, counters_are_worlds, counters_from}
 use Rattle.system_plain.specs.ConnectionLine.{Hears, Pumps, after_turns, first_line}
 use Rattle.system_plain.specs.Schedule.{AreTypedSteps, IsSchedule, after_schedule, faults_from, faults_in, published_in, replies_in}
 use Rattle.system_plain.specs.Steps.{Cut, Found, Publish, Pump, Receive, Reconnect, Restart, Snap, SystemStep, Take, Transmit}
@@ -19,63 +18,13 @@ use Rattle.system_plain.specs.System.{first_system, view_client}
 use Rattle.system_plain.specs.Traffic.{traffics_in}
 use Rattle.system_plain.proofs.Schedules.{all_are_schedules}
 
--- a time and a count
-record EntryCount : Type 0 where
-  at : ℕ
-  entries : ℕ
-
-abbrev unsnap_count : List ℕ → Option EntryCount
-unsnap_count (at ∷ entries ∷ []) = if nat_lt at time_limit then Some (record { at = at; entries = entries }) else None
-unsnap_count other = None
-
--- each entry makes it publish how many there are
-abbrev entry_counts : Worlds EntryCount ℕ
-entry_counts =
-    record {
-      session = [];
-      first = record { at = 0; entries = 0 };
-      first_out = [];
-      external = λ w entry. record { at = entry.time; entries = w.entries + 1 };
-      external_out = λ w entry out. out ++ (w.entries + 1) ∷ [];
-      advance = λ w t. record { at = t; entries = w.entries };
-      advance_out = λ w t out. out;
-      time = λ w. w.at;
-      valid = λ w. nat_lt w.at time_limit;
-      at_rest = λ w. true;
-      snapshot = λ w. w.at ∷ w.entries ∷ [];
-      unsnap = unsnap_count;
-    }
-
-unsnap_count-valid_if : (b : Bool) (at entries : ℕ) (w : EntryCount) → nat_lt at time_limit ≡ b → (if b then Some (record { at = at; entries = entries }) else None) ≡ Some w → nat_lt w.at time_limit ≡ true
-unsnap_count-valid_if true at entries w is same = let held : record { at = at; entries = entries } ≡ w = cc in subst (λ (t : EntryCount). nat_lt t.at time_limit ≡ true) held is
-unsnap_count-valid_if false at entries w is same = absurd cc
-
-unsnap_count-valid : (bytes : List ℕ) (w : EntryCount) → unsnap_count bytes ≡ Some w → nat_lt w.at time_limit ≡ true
-unsnap_count-valid [] w is = absurd cc
-unsnap_count-valid (at ∷ []) w is = absurd cc
-unsnap_count-valid (at ∷ entries ∷ []) w is = unsnap_count-valid_if (nat_lt at time_limit) at entries w refl is
-unsnap_count-valid (at ∷ entries ∷ more ∷ rest) w is = absurd cc
-
-entry_counts_are_worlds : AreWorlds entry_counts
-entry_counts_are_worlds =
-    record {
-      first_time = refl;
-      first_valid = refl;
-      valid_time = λ w valid. grind (arith, nat_tests);
-      external_time = λ w entry valid le. refl;
-      external_valid = λ w entry valid later below. grind (arith, nat_tests);
-      external_after = λ w s entry valid le le_too below. refl;
-      advance_time = λ w t valid le. refl;
-      advance_valid = λ w t valid le below. grind (arith, nat_tests);
-      advance_again = λ w s t valid le le_too below. refl;
-      advance_rests = λ w t valid le below. refl;
-      at_rest_stays = λ w valid rests. refl;
-      unsnap_valid = unsnap_count-valid;
-    }
+-- nothing is published before the first entry
+abbrev entry_counts : Worlds Counter ℕ
+entry_counts = counters_from []
 
 -- what is asked of a schedule can be met: each list of steps over views of 32 bits is one
 any_schedule : (steps : List SystemStep) → AreTypedSteps steps → IsSchedule entry_counts steps
-any_schedule steps typed = all_are_schedules entry_counts steps entry_counts_are_worlds (λ w valid. ap (λ b. if b then Some w else None) valid) typed
+any_schedule steps typed = all_are_schedules entry_counts steps (counters_are_worlds []) (λ w valid. ap (λ b. if b then Some w else None) valid) typed
 
 -- ---- a view publishes, is cut off before the answer comes, resumes and sends again
 
@@ -176,12 +125,12 @@ nobody_faults = refl
 
 -- ---- why a snapshot is to spell its world: worlds that read no snapshot meet all laws of worlds, and the one that begins from it is surprised
 
-abbrev unread_counts : Worlds EntryCount ℕ
+abbrev unread_counts : Worlds Counter ℕ
 unread_counts = record entry_counts { unsnap = λ bytes. None }
 
 unread_counts_are_worlds : AreWorlds unread_counts
 unread_counts_are_worlds =
-    let laws = entry_counts_are_worlds in
+    let laws = counters_are_worlds [] in
     record {
       first_time = laws.first_time;
       first_valid = laws.first_valid;

@@ -59,6 +59,21 @@ pub record AnswersAwaited {W O : Type 0} (m : Worlds W O) (s : PlainSession) (r 
   pub most : last ≤ published_count r
   pub flows : FlowsFrom s (record { seen = from; least = time }) rest closed cursor
 
+-- the same Sync is awaited where other frames come behind it
+pub awaited_flows : {W O : Type 0} (m : Worlds W O) (s : PlainSession) (r : PlainReplica W O) (last from : ℕ) (base : Option Base) (rest other : List ServerFrame) (closed ends : Bool) (before after : Option Cursor)
+    → (waits : AnswersAwaited m s r last from base rest closed before) → FlowsFrom s (record { seen = from; least = waits.time }) other ends after → AnswersAwaited m s r last from base other ends after
+awaited_flows m s r last from base rest other closed ends before after waits flows = record {
+  how = waits.how;
+  time = waits.time;
+  awaited = waits.awaited;
+  begins = waits.begins;
+  within = waits.within;
+  honest = waits.honest;
+  least = waits.least;
+  most = waits.most;
+  flows = flows;
+}
+
 -- a replica that waits for its Sync has it first of what goes down, or nothing, or the refusal of its join
 abbrev pub WaitsForSync : {W O : Type 0} → Worlds W O → PlainSession → PlainReplica W O → Bool → Bool → Option Cursor → List ServerFrame → Type 0
 WaitsForSync m s r closed over cursor [] = closed ≡ false → over ≡ false → cursor ≡ None

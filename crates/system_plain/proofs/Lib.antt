@@ -5,6 +5,7 @@ pub mod FactsGrow
 pub mod Changes
 pub mod Quiet
 pub mod Receives
+pub mod AnswerFrames
 pub mod Takes
 pub mod Openings
 pub mod Events

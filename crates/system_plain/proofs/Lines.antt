@@ -40,6 +40,7 @@ use Rattle.join_sync.specs.Standing.{StandsAt as CursorStands}
 use Rattle.join_sync.proofs.Openings.{joined_stands}
 use Rattle.system_plain.specs.ConnectionLine.{AreSoundTurns, ConnectionLine, Hears, LineTurn, Others, Pumps, after_turn, after_turns, first_line, hears, hears_act, hears_first, pumps, pumps_batch, unread_frame}
 use Rattle.system_plain.specs.Steps.{answer_frames, ends_connection, found, most_pulled}
+use Rattle.system_plain.proofs.AnswerFrames.{refused_form}
 use Rattle.system_plain.proofs.Facts.{FlowsFrom, Meets}
 use Rattle.system_plain.proofs.FactsGrow.{begins_grow, flows_grow}
 use Rattle.system_plain.proofs.Openings.{based_on, batch_goes_on, begins_for, begins_later, kept_or_none}
@@ -138,8 +139,12 @@ Stands s None false given sent = (given ≡ []) × (sent ≡ [])
 Stands s None true given sent = (about : ℕ) × (code : ℕ) × (kept : ℕ) × (more : ℕ) × (sent ≡ Refused about code kept more ∷ [])
 Stands s (Some cursor) over given sent = LineSends s false cursor over given sent
 
-pub sends_grow : (s new : PlainSession) (closed : Bool) (cursor : Cursor) (over : Bool) (given : List (Option ClientFrame)) (sent : List ServerFrame) → Grows s new → LineSends s closed cursor over given sent → LineSends new closed cursor over given sent
-sends_grow s new closed cursor over given sent grows sends = record {
+-- what was asked and first answered stays, and what is said of the frames behind it is given
+pub sends_with : (s new : PlainSession) (closed ends : Bool) (cursor : Cursor) (over done : Bool) (given : List (Option ClientFrame)) (sent : List ServerFrame)
+    → (sends : LineSends s closed cursor over given sent) → cursor.joined ≤ length new.log → sends.time ≤ new.horizon → AnswersJoin new.log cursor.view sends.want cursor.joined sends.last sends.from sends.time sends.base
+    → FlowsFrom new (record { seen = sends.from; least = sends.time }) sends.rest ends (Some cursor) → AnswersInOrder new.log cursor.view sends.more (answers_of sends.rest) → (done ≡ false → length (answers_of sends.rest) ≡ length sends.more)
+    → LineSends new ends cursor done given sent
+sends_with s new closed ends cursor over done given sent sends within by answers flows replies whole = record {
   want = sends.want;
   last = sends.last;
   from = sends.from;
@@ -151,13 +156,23 @@ sends_grow s new closed cursor over given sent grows sends = record {
   given_is = sends.given_is;
   sent_is = sends.sent_is;
   positive = sends.positive;
-  within = let long = ap length grows.log in let h = sends.within in omega (arith, length-append s.log grows.rest);
-  by = let a = sends.by in let b = grows.horizon in omega arith;
-  answers = join_grows s new cursor.view sends.want cursor.joined sends.last sends.from sends.time sends.base grows sends.positive sends.within sends.by sends.answers;
-  flows = flows_grow s new _ sends.rest closed (Some cursor) grows sends.flows;
-  replies = rw grows.log (in_order_grows s.log grows.rest cursor.view sends.more (answers_of sends.rest) sends.replies);
-  whole = sends.whole;
+  within = within;
+  by = by;
+  answers = answers;
+  flows = flows;
+  replies = replies;
+  whole = whole;
 }
+
+pub sends_grow : (s new : PlainSession) (closed : Bool) (cursor : Cursor) (over : Bool) (given : List (Option ClientFrame)) (sent : List ServerFrame) → Grows s new → LineSends s closed cursor over given sent → LineSends new closed cursor over given sent
+sends_grow s new closed cursor over given sent grows sends =
+    sends_with s new closed closed cursor over over given sent sends
+    (let long = ap length grows.log in let h = sends.within in omega (arith, length-append s.log grows.rest))
+    (let a = sends.by in let b = grows.horizon in omega arith)
+    (join_grows s new cursor.view sends.want cursor.joined sends.last sends.from sends.time sends.base grows sends.positive sends.within sends.by sends.answers)
+    (flows_grow s new _ sends.rest closed (Some cursor) grows sends.flows)
+    (rw grows.log (in_order_grows s.log grows.rest cursor.view sends.more (answers_of sends.rest) sends.replies))
+    sends.whole
 
 pub line_stands_grow : (s new : PlainSession) (cursor : Option Cursor) (over : Bool) (given : List (Option ClientFrame)) (sent : List ServerFrame) → Grows s new → Stands s cursor over given sent → Stands new cursor over given sent
 line_stands_grow s new None false given sent grows stands = stands
@@ -201,19 +216,6 @@ AnsweredBy view frame asked o = (f : ServerFrame) × (answer_frame asked o.reply
 answered_if : (view : ℕ) (frame : ClientFrame) (asked : Request) (test : Bool) (a b : SessionOutcome) → (test ≡ true → AnsweredBy view frame asked a) → (test ≡ false → AnsweredBy view frame asked b) → AnsweredBy view frame asked (cond test a b)
 answered_if view frame asked true a b held fell = held refl
 answered_if view frame asked false a b held fell = fell refl
-
-refused_form : (about : ℕ) (why : Refusal) → (code : ℕ) × (kept : ℕ) × (more : ℕ) × (refused_frame about why ≡ Refused about code kept more)
-refused_form about (refusal.Stale current) = (1, current, 0, refl)
-refused_form about (refusal.TooLong len) = (2, len, 0, refl)
-refused_form about (refusal.Differs seq) = (3, seq, 0, refl)
-refused_form about (refusal.Gap expected) = (4, expected, 0, refl)
-refused_form about (refusal.LogFull entries bytes) = (5, entries, bytes, refl)
-refused_form about (refusal.TimeEnd horizon) = (6, horizon, 0, refl)
-refused_form about (refusal.ViewsFull here) = (7, here, 0, refl)
-refused_form about refusal.BadView = (8, 0, 0, refl)
-refused_form about (refusal.Ahead horizon) = (9, horizon, 0, refl)
-refused_form about (refusal.Older kept) = (10, kept, 0, refl)
-refused_form about (refusal.NoSuchSeq len) = (11, len, 0, refl)
 
 -- a refusal answers the frame that it is about
 answered_refusal : (s : PlainSession) (view tag : ℕ) (frame : ClientFrame) (asked : Request) (why : Refusal) → answer_frame asked (reply.Refused why) ≡ Some (refused_frame tag why) → ((code kept more : ℕ) → AnswersFrame s.log view (Some frame) (Refused tag code kept more))

@@ -5,13 +5,12 @@ use Rattle.std.proofs.lemmas.Bool.Decides.{nat_tests}
 use Rattle.std.proofs.lemmas.Option.{slice_get_within}
 use Rattle.std.proofs.lemmas.List.{append-nil, length-drop}
 use Rattle.tea_base.specs.declared.entry.What.TheVariants as what
-use Rattle.tea_base.specs.Readings.{current, events, last_number}
+use Rattle.tea_base.specs.Readings.{events, last_number}
 use Rattle.wire_frames.specs.declared.frame.ClientFrame.{ClientFrame}
 use Rattle.wire_frames.specs.declared.frame.ClientFrame.TheVariants as up
 use Rattle.wire_frames.specs.declared.frame.ServerFrame.{ServerFrame}
 use Rattle.wire_frames.specs.declared.frame.ServerFrame.TheVariants.{Alive, Done, Recv, Refused, Snapped, Sync, Tick}
 use Rattle.reflector_core.specs.declared.request.Refusal.{Refusal}
-use Rattle.reflector_core.specs.declared.request.Refusal.TheVariants as refusal
 use Rattle.reflector_core.specs.declared.request.Reply.{Reply}
 use Rattle.reflector_core.specs.declared.request.Reply.TheVariants as reply
 use Rattle.reflector_core.specs.declared.request.Request.TheVariants as request
@@ -23,6 +22,7 @@ use Rattle.join_sync.specs.Refusals.{refused_frame}
 use Rattle.system_plain.specs.Schedule.{ViewPayloads, view_payloads}
 use Rattle.system_plain.specs.Steps.{answer_frames, found, may_publish}
 use Rattle.system_plain.specs.System.{Client, Connection, System, view_client}
+use Rattle.system_plain.proofs.AnswerFrames.{of_leave_answer, of_refusal, of_snap_answer}
 use Rattle.system_plain.proofs.Events.{IsNoDoneReply, SameEvents, event_entry, length-view_payloads, send_outcome}
 use Rattle.system_plain.proofs.Facts.{CursorMeant, EventsStand, JoinsMeant}
 use Rattle.system_plain.proofs.Lookups.{client_view}
@@ -171,17 +171,7 @@ event_counts published s time view number payload prefixes next meant =
 
 -- no DONE, or one of this number
 pub dones_of_refusal : (bound about : ℕ) (why : Refusal) → DonesWithin bound (refused_frame about why ∷ [])
-dones_of_refusal bound about (refusal.Stale current) = tt
-dones_of_refusal bound about (refusal.TooLong len) = tt
-dones_of_refusal bound about (refusal.Differs seq) = tt
-dones_of_refusal bound about (refusal.Gap expected) = tt
-dones_of_refusal bound about (refusal.LogFull entries bytes) = tt
-dones_of_refusal bound about (refusal.TimeEnd horizon) = tt
-dones_of_refusal bound about (refusal.ViewsFull here) = tt
-dones_of_refusal bound about refusal.BadView = tt
-dones_of_refusal bound about (refusal.Ahead horizon) = tt
-dones_of_refusal bound about (refusal.Older kept) = tt
-dones_of_refusal bound about (refusal.NoSuchSeq len) = tt
+dones_of_refusal bound about why = of_refusal (DonesWithin bound) (λ about code kept more. tt) about why
 
 pub dones_of_answer : (bound view joined number : ℕ) (payload : List ℕ) (now : ℕ) (answered : Reply) → IsNoDoneReply answered ⊎ (number ≤ bound) → DonesWithin bound (answer_frames (answer_frame (request.Send view joined number payload now) answered))
 dones_of_answer bound view joined number payload now (reply.Stamped seq time) may = elim may [ inl none ↦ absurd none | inr within ↦ (within, tt) ]
@@ -194,24 +184,10 @@ dones_of_answer bound view joined number payload now (reply.Ticked time) may = t
 dones_of_answer bound view joined number payload now (reply.Batch entries tick) may = tt
 
 pub dones_of_snap : (bound time : ℕ) (answered : Reply) → DonesWithin bound (answer_frames (snap_answer time answered))
-dones_of_snap bound time (reply.Refused why) = dones_of_refusal bound 3 why
-dones_of_snap bound time reply.Kept = tt
-dones_of_snap bound time (reply.Stamped seq at) = tt
-dones_of_snap bound time (reply.Again seq at) = tt
-dones_of_snap bound time (reply.Left seq at) = tt
-dones_of_snap bound time (reply.Joined seq at last from base) = tt
-dones_of_snap bound time (reply.Ticked at) = tt
-dones_of_snap bound time (reply.Batch entries tick) = tt
+dones_of_snap bound time answered = of_snap_answer (DonesWithin bound) tt (λ at. tt) (λ about code kept more. tt) time answered
 
 pub dones_of_leave : (bound : ℕ) (answered : Reply) → DonesWithin bound (answer_frames (leave_answer answered))
-dones_of_leave bound (reply.Refused why) = dones_of_refusal bound 4 why
-dones_of_leave bound reply.Kept = tt
-dones_of_leave bound (reply.Stamped seq time) = tt
-dones_of_leave bound (reply.Again seq time) = tt
-dones_of_leave bound (reply.Left seq time) = tt
-dones_of_leave bound (reply.Joined seq time last from base) = tt
-dones_of_leave bound (reply.Ticked time) = tt
-dones_of_leave bound (reply.Batch entries tick) = tt
+dones_of_leave bound answered = of_leave_answer (DonesWithin bound) tt (λ about code kept more. tt) answered
 
 number_within_if : (old new : List (List ℕ)) (payload : List ℕ) (test : Bool) → test ≡ true → new ≡ old ++ cond test (payload ∷ []) [] → length new ≡ length old + 1
 number_within_if old new payload true hit is = ap length is ∙ length-append old (payload ∷ [])

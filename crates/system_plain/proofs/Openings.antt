@@ -6,7 +6,7 @@ use Rattle.std.proofs.lemmas.Bool.Decides.{nat_tests}
 use Rattle.tea_base.specs.declared.entry.Entry.{Entry}
 use Rattle.tea_base.specs.declared.entry.SessionId.{SessionId}
 use Rattle.tea_base.specs.Limits.{end_of_time, most_here}
-use Rattle.tea_base.specs.Readings.{current, here_count, is_here, last_number}
+use Rattle.tea_base.specs.Readings.{here_count, is_here, last_number}
 use Rattle.wire_frames.specs.declared.frame.ClientFrame.{ClientFrame}
 use Rattle.wire_frames.specs.declared.frame.ClientFrame.TheVariants as up
 use Rattle.wire_frames.specs.declared.frame.ServerFrame.{ServerFrame}
@@ -36,6 +36,7 @@ use Rattle.join_sync.proofs.Openings.{joined_stands}
 use Rattle.join_sync.proofs.Pulls.{batch_stands, batch_streams}
 use Rattle.system_plain.specs.Steps.{answer_frames, join_on, leave_on, most_pulled, pump_batch, pump_on, pump_with, take_first, take_frame, take_next, take_on}
 use Rattle.system_plain.specs.System.{Connection, System, over_if, put_down, with_cursor, with_up}
+use Rattle.system_plain.proofs.AnswerFrames.{of_refusal}
 use Rattle.system_plain.proofs.Changes.{connection_changes}
 use Rattle.system_plain.proofs.Facts.{AnswersAwaited, AsksFor, AsksForItsView, CursorMeant, EventsStand, JoinsMeant, Meets, NewestStands, SnapsHonest, TicksWithin, WaitsForSync, WorldsStand}
 use Rattle.system_plain.proofs.FactsGrow.{base_grows, count_stays, joined_grows, lives_grow, snaps_grow}
@@ -107,17 +108,7 @@ opened_connection c rest view answered =
     over_if (is_none cursor) (put_down (with_cursor (with_up c rest) cursor) (answer_frames (join_answer answered)))
 
 refused_waits : {W O : Type 0} (m : Worlds W O) (s : PlainSession) (r : PlainReplica W O) (why : Refusal) → WaitsForSync m s r false true None (refused_frame 1 why ∷ [])
-refused_waits m s r (refusal.Stale current) = (refl, refl)
-refused_waits m s r (refusal.TooLong len) = (refl, refl)
-refused_waits m s r (refusal.Differs seq) = (refl, refl)
-refused_waits m s r (refusal.Gap expected) = (refl, refl)
-refused_waits m s r (refusal.LogFull entries bytes) = (refl, refl)
-refused_waits m s r (refusal.TimeEnd horizon) = (refl, refl)
-refused_waits m s r (refusal.ViewsFull here) = (refl, refl)
-refused_waits m s r refusal.BadView = (refl, refl)
-refused_waits m s r (refusal.Ahead horizon) = (refl, refl)
-refused_waits m s r (refusal.Older kept) = (refl, refl)
-refused_waits m s r (refusal.NoSuchSeq len) = (refl, refl)
+refused_waits m s r why = of_refusal (WaitsForSync m s r false true None) (λ about code kept more. (refl, refl)) 1 why
 
 refused_waits_if : {W O : Type 0} (m : Worlds W O) (s : PlainSession) (r : PlainReplica W O) (closed over : Bool) (why : Refusal) → WaitsForSync m s r closed (over || true) None (cond closed [] (refused_frame 1 why ∷ []))
 refused_waits_if m s r true over why = λ ready going. absurd cc

@@ -2,13 +2,11 @@
 use Rattle.std.proofs.Common.{ℕ, ◌+◌, ◌-◌, ◌≡◌, ◌≢◌, ◌≤◌, ◌<◌, ◌⊎◌, inl, inr, Bool, true, false, cond, List, [], ◌∷◌, ◌++◌, Option, Some, None, length, set, slice_get, refl, arith, sym, ◌∙◌, subst}
 use Rattle.tea_base.specs.declared.entry.Entry.{Entry}
 use Rattle.tea_base.specs.Limits.{most_payload}
-use Rattle.tea_base.specs.Readings.{current, last_number}
+use Rattle.tea_base.specs.Readings.{last_number}
 use Rattle.wire_frames.specs.declared.frame.ClientFrame.{ClientFrame}
 use Rattle.wire_frames.specs.declared.frame.ClientFrame.TheVariants as up
 use Rattle.wire_frames.specs.declared.frame.ServerFrame.{ServerFrame}
 use Rattle.wire_frames.specs.declared.frame.ServerFrame.TheVariants.{Alive, Done, Recv, Refused, Snapped, Sync, Tick}
-use Rattle.reflector_core.specs.declared.request.Refusal.{Refusal}
-use Rattle.reflector_core.specs.declared.request.Refusal.TheVariants as refusal
 use Rattle.reflector_core.specs.declared.request.Reply.{Reply}
 use Rattle.reflector_core.specs.declared.request.Reply.TheVariants as reply
 use Rattle.reflector_core.specs.declared.request.Request.TheVariants as request
@@ -18,10 +16,10 @@ use Rattle.replica_plain.specs.PlainReplica.{PlainReplica}
 use Rattle.replica_plain.specs.Worlds.{Worlds}
 use Rattle.join_sync.specs.declared.cursor.Cursor.{Cursor}
 use Rattle.join_sync.specs.Answers.{answer_frame}
-use Rattle.join_sync.specs.Refusals.{refused_frame}
 use Rattle.system_plain.specs.Schedule.{ViewPayloads}
 use Rattle.system_plain.specs.Steps.{answer_frames, found}
 use Rattle.system_plain.specs.System.{Client, Connection, System, over_if, put_down, view_client, with_up}
+use Rattle.system_plain.proofs.AnswerFrames.{of_refusal}
 use Rattle.system_plain.proofs.Events.{IsNoDoneReply, send_outcome}
 use Rattle.system_plain.proofs.Facts.{WorldsStand}
 use Rattle.system_plain.proofs.Lookups.{get_set}
@@ -171,20 +169,7 @@ no_done_frames : (view joined number : ℕ) (payload : List ℕ) (now : ℕ) (an
 no_done_frames view joined number payload now (reply.Stamped seq time) none = absurd none
 no_done_frames view joined number payload now (reply.Again seq time) none = absurd none
 no_done_frames view joined number payload now reply.Kept none = tt
-no_done_frames view joined number payload now (reply.Refused why) none = refusal_no_done why
-  where
-    refusal_no_done : (why : Refusal) → NoDones (refused_frame 2 why ∷ [])
-    refusal_no_done (refusal.Stale current) = tt
-    refusal_no_done (refusal.TooLong len) = tt
-    refusal_no_done (refusal.Differs seq) = tt
-    refusal_no_done (refusal.Gap expected) = tt
-    refusal_no_done (refusal.LogFull entries bytes) = tt
-    refusal_no_done (refusal.TimeEnd horizon) = tt
-    refusal_no_done (refusal.ViewsFull here) = tt
-    refusal_no_done refusal.BadView = tt
-    refusal_no_done (refusal.Ahead horizon) = tt
-    refusal_no_done (refusal.Older kept) = tt
-    refusal_no_done (refusal.NoSuchSeq len) = tt
+no_done_frames view joined number payload now (reply.Refused why) none = of_refusal NoDones (λ about code kept more. tt) 2 why
 no_done_frames view joined number payload now (reply.Left seq time) none = tt
 no_done_frames view joined number payload now (reply.Joined seq time last from base) none = tt
 no_done_frames view joined number payload now (reply.Ticked time) none = tt

@@ -5,7 +5,7 @@ use Rattle.tea_base.specs.declared.entry.Entry.{Entry}
 use Rattle.tea_base.specs.declared.entry.SessionId.{SessionId}
 use Rattle.tea_base.specs.declared.entry.What.TheVariants as what
 use Rattle.tea_base.specs.Limits.{end_of_time, most_here, most_snapshot}
-use Rattle.tea_base.specs.Readings.{current, here_count, is_here, last_number}
+use Rattle.tea_base.specs.Readings.{here_count, is_here, last_number}
 use Rattle.session_log.specs.LogState.{next_entry}
 use Rattle.wire_frames.specs.declared.frame.ClientFrame.{ClientFrame}
 use Rattle.wire_frames.specs.declared.frame.ClientFrame.TheVariants as up
@@ -13,7 +13,6 @@ use Rattle.wire_frames.specs.declared.frame.ServerFrame.{ServerFrame}
 use Rattle.wire_frames.specs.declared.frame.ServerFrame.TheVariants.{Alive, Done, Recv, Refused, Snapped, Sync, Tick}
 use Rattle.wire_frames.specs.declared.start.Want.{Want}
 use Rattle.reflector_core.specs.declared.request.Refusal.{Refusal}
-use Rattle.reflector_core.specs.declared.request.Refusal.TheVariants as refusal
 use Rattle.reflector_core.specs.declared.request.Reply.{Reply}
 use Rattle.reflector_core.specs.declared.request.Reply.TheVariants as reply
 use Rattle.reflector_core.specs.declared.request.Request.TheVariants as request
@@ -31,6 +30,7 @@ use Rattle.join_sync.specs.Requests.{act_on, first_request}
 use Rattle.system_plain.specs.Schedule.{ViewPayloads}
 use Rattle.system_plain.specs.Steps.{answer_frames, ends_connection, leave_on, pump_batch, pump_on, pump_with, take_act, take_first, take_frame, take_next, take_on}
 use Rattle.system_plain.specs.System.{Client, Connection, System, over_if, put_down, view_client, with_connection, with_cursor, with_up}
+use Rattle.system_plain.proofs.AnswerFrames.{of_leave_answer, of_refusal, of_snap_answer}
 use Rattle.system_plain.proofs.Events.{SameEvents, exit_entry_same, join_entry_same, leave_same, offer_same}
 use Rattle.system_plain.proofs.Facts.{WorldsStand}
 use Rattle.system_plain.proofs.Numbers.{DonesWithin, NumbersStand, SendsMeant}
@@ -42,37 +42,13 @@ use Rattle.system_plain.proofs.Takes.{over_stays}
 
 -- frames with no DONE
 refusal_none : (asked : ℕ) (why : Refusal) → NoDones (refused_frame asked why ∷ [])
-refusal_none asked (refusal.Stale current) = tt
-refusal_none asked (refusal.TooLong len) = tt
-refusal_none asked (refusal.Differs seq) = tt
-refusal_none asked (refusal.Gap expected) = tt
-refusal_none asked (refusal.LogFull entries bytes) = tt
-refusal_none asked (refusal.TimeEnd horizon) = tt
-refusal_none asked (refusal.ViewsFull here) = tt
-refusal_none asked refusal.BadView = tt
-refusal_none asked (refusal.Ahead horizon) = tt
-refusal_none asked (refusal.Older kept) = tt
-refusal_none asked (refusal.NoSuchSeq len) = tt
+refusal_none asked why = of_refusal NoDones (λ about code kept more. tt) asked why
 
 snap_none : (time : ℕ) (answered : Reply) → NoDones (answer_frames (snap_answer time answered))
-snap_none time (reply.Refused why) = refusal_none 3 why
-snap_none time reply.Kept = tt
-snap_none time (reply.Stamped seq at) = tt
-snap_none time (reply.Again seq at) = tt
-snap_none time (reply.Left seq at) = tt
-snap_none time (reply.Joined seq at last from base) = tt
-snap_none time (reply.Ticked at) = tt
-snap_none time (reply.Batch entries tick) = tt
+snap_none time answered = of_snap_answer NoDones tt (λ at. tt) (λ about code kept more. tt) time answered
 
 leave_none : (answered : Reply) → NoDones (answer_frames (leave_answer answered))
-leave_none (reply.Refused why) = refusal_none 4 why
-leave_none reply.Kept = tt
-leave_none (reply.Stamped seq time) = tt
-leave_none (reply.Again seq time) = tt
-leave_none (reply.Left seq time) = tt
-leave_none (reply.Joined seq time last from base) = tt
-leave_none (reply.Ticked time) = tt
-leave_none (reply.Batch entries tick) = tt
+leave_none answered = of_leave_answer NoDones tt (λ about code kept more. tt) answered
 
 join_none : (answered : Reply) → NoDones (answer_frames (join_answer answered))
 join_none (reply.Joined seq time last from base) = tt

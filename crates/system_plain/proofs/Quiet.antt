@@ -21,7 +21,7 @@ use Rattle.system_plain.specs.Schedule.{SpellsWorldBy, SpellsWorldOn}
 use Rattle.system_plain.specs.Steps.{cut_on, found, may_publish, publish_by, reconnect_by, restart_by, snap_by, snap_on, transmit_by, transmit_on, whole_for}
 use Rattle.system_plain.specs.System.{Client, Connection, System, closing, is_open, put_up, view_client, with_client, with_down, with_replica, with_up}
 use Rattle.system_plain.proofs.Changes.{connection_changes, founds, joins_anew, replica_changes}
-use Rattle.system_plain.proofs.Facts.{AsksFor, FlowsFrom, NewestStands, SnapsHonest, TicksWithin, WaitsForSync, WorldStands, WorldsStand}
+use Rattle.system_plain.proofs.Facts.{AsksFor, FlowsFrom, NewestStands, SnapsHonest, TicksWithin, WaitsForSync, WorldStands, WorldsStand, awaited_flows}
 use Rattle.system_plain.proofs.Lookups.{get_set}
 use Rattle.system_plain.proofs.Sessions.{Grows-same}
 
@@ -260,17 +260,8 @@ flows_first s place frames n closed cursor flows = record { streams = streams_cu
 waits_cut : {W O : Type 0} (m : Worlds W O) (s : PlainSession) (r : PlainReplica W O) (closed over : Bool) (cursor : Option Cursor) (n : ℕ) (frames : List ServerFrame) → WaitsForSync m s r closed over cursor frames → WaitsForSync m s r true over cursor (take n frames)
 waits_cut m s r closed over cursor zero frames waits = λ ready going. absurd cc
 waits_cut m s r closed over cursor (suc n) [] waits = λ ready going. absurd cc
-waits_cut m s r closed over cursor (suc n) (Sync joined last from base ∷ rest) waits = record {
-  how = waits.how;
-  time = waits.time;
-  awaited = waits.awaited;
-  begins = waits.begins;
-  within = waits.within;
-  honest = waits.honest;
-  least = waits.least;
-  most = waits.most;
-  flows = flows_first s _ rest n closed cursor waits.flows;
-}
+waits_cut m s r closed over cursor (suc n) (Sync joined last from base ∷ rest) waits =
+    awaited_flows m s r last from base rest (take n rest) closed true cursor cursor waits (flows_first s _ rest n closed cursor waits.flows)
 waits_cut m s r closed over cursor (suc n) (Refused about code kept more ∷ rest) waits = (rw waits.0 (take_none n), waits.1)
 waits_cut m s r closed over cursor (suc n) (Recv entry ∷ rest) waits = waits
 waits_cut m s r closed over cursor (suc n) (Tick t ∷ rest) waits = waits

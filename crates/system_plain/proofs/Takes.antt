@@ -1,7 +1,6 @@
 -- The steps Take and Pump keep the facts.
 use Rattle.std.proofs.Common.{ℕ, ◌≡◌, ◌≤◌, ◌<◌, ◌^◌, inl, inr, Bool, true, false, cond, ◌||◌, List, [], ◌∷◌, ◌++◌, Option, Some, slice_get, refl, sym, ap, subst}
 use Rattle.tea_base.specs.declared.entry.Entry.{Entry}
-use Rattle.tea_base.specs.Readings.{current}
 use Rattle.wire_frames.specs.declared.frame.ClientFrame.{ClientFrame}
 use Rattle.wire_frames.specs.declared.frame.ClientFrame.TheVariants as up
 use Rattle.wire_frames.specs.declared.frame.ServerFrame.{ServerFrame}
@@ -9,7 +8,6 @@ use Rattle.wire_frames.specs.declared.frame.ServerFrame.TheVariants.{Alive, Done
 use Rattle.wire_frames.specs.Served.{Place, Streams, place_after, place_after_all}
 use Rattle.wire_frames.proofs.Streams.{Streams-append}
 use Rattle.reflector_core.specs.declared.request.Refusal.{Refusal}
-use Rattle.reflector_core.specs.declared.request.Refusal.TheVariants as refusal
 use Rattle.reflector_core.specs.declared.request.Reply.{Reply}
 use Rattle.reflector_core.specs.declared.request.Reply.TheVariants as reply
 use Rattle.reflector_core.specs.declared.request.Request.{Request}
@@ -26,8 +24,9 @@ use Rattle.join_sync.specs.Refusals.{refused_frame}
 use Rattle.join_sync.specs.Requests.{act_on}
 use Rattle.system_plain.specs.Steps.{answer_frames, ask_on, ends_connection, take_act}
 use Rattle.system_plain.specs.System.{Connection, System, over_if, put_down, with_connection, with_cursor, with_up}
+use Rattle.system_plain.proofs.AnswerFrames.{of_leave_answer, of_refusal, of_snap_answer}
 use Rattle.system_plain.proofs.Changes.{connection_changes}
-use Rattle.system_plain.proofs.Facts.{FlowsFrom, Meets, NewestStands, SnapsHonest, TicksWithin, WaitsForSync, WorldsStand}
+use Rattle.system_plain.proofs.Facts.{FlowsFrom, Meets, NewestStands, SnapsHonest, TicksWithin, WaitsForSync, WorldsStand, awaited_flows}
 use Rattle.system_plain.proofs.FactsGrow.{base_grows, joined_grows, snaps_grow}
 use Rattle.system_plain.proofs.Sessions.{Grows-same, SessionGoesOn, kept_is_based, session_goes_on}
 
@@ -42,18 +41,8 @@ AreAnswers (Snapped time ∷ rest) = AreAnswers rest
 AreAnswers (Refused about code kept more ∷ rest) = AreAnswers rest
 AreAnswers (Alive ∷ rest) = AreAnswers rest
 
-pub refusal_replies : (about : ℕ) (why : Refusal) → AreAnswers (refused_frame about why ∷ [])
-refusal_replies about (refusal.Stale current) = tt
-refusal_replies about (refusal.TooLong len) = tt
-refusal_replies about (refusal.Differs seq) = tt
-refusal_replies about (refusal.Gap expected) = tt
-refusal_replies about (refusal.LogFull entries bytes) = tt
-refusal_replies about (refusal.TimeEnd horizon) = tt
-refusal_replies about (refusal.ViewsFull here) = tt
-refusal_replies about refusal.BadView = tt
-refusal_replies about (refusal.Ahead horizon) = tt
-refusal_replies about (refusal.Older kept) = tt
-refusal_replies about (refusal.NoSuchSeq len) = tt
+refusal_replies : (about : ℕ) (why : Refusal) → AreAnswers (refused_frame about why ∷ [])
+refusal_replies about why = of_refusal AreAnswers (λ about code kept more. tt) about why
 
 pub send_replies : (number : ℕ) (answered : Reply) → AreAnswers (answer_frames (send_answer number answered))
 send_replies number (reply.Stamped seq time) = tt
@@ -66,24 +55,10 @@ send_replies number (reply.Ticked time) = tt
 send_replies number (reply.Batch entries tick) = tt
 
 pub snap_replies : (time : ℕ) (answered : Reply) → AreAnswers (answer_frames (snap_answer time answered))
-snap_replies time reply.Kept = tt
-snap_replies time (reply.Refused why) = refusal_replies 3 why
-snap_replies time (reply.Stamped seq at) = tt
-snap_replies time (reply.Again seq at) = tt
-snap_replies time (reply.Left seq at) = tt
-snap_replies time (reply.Joined seq at last from base) = tt
-snap_replies time (reply.Ticked at) = tt
-snap_replies time (reply.Batch entries tick) = tt
+snap_replies time answered = of_snap_answer AreAnswers tt (λ at. tt) (λ about code kept more. tt) time answered
 
 pub leave_replies : (answered : Reply) → AreAnswers (answer_frames (leave_answer answered))
-leave_replies (reply.Refused why) = refusal_replies 4 why
-leave_replies reply.Kept = tt
-leave_replies (reply.Stamped seq time) = tt
-leave_replies (reply.Again seq time) = tt
-leave_replies (reply.Left seq time) = tt
-leave_replies (reply.Joined seq time last from base) = tt
-leave_replies (reply.Ticked time) = tt
-leave_replies (reply.Batch entries tick) = tt
+leave_replies answered = of_leave_answer AreAnswers tt (λ about code kept more. tt) answered
 
 replies_stream : (log : List Entry) (place : Place) (frames : List ServerFrame) → AreAnswers frames → Streams log place frames × (place_after_all place frames ≡ place)
 replies_stream log place [] are = (tt, refl)
@@ -146,28 +121,10 @@ waits_put m s r closed over before after (Tick t ∷ rest) more go waits = absur
 waits_put m s r closed over before after (Done number seq time ∷ rest) more go waits = absurd waits
 waits_put m s r closed over before after (Snapped time ∷ rest) more go waits = absurd waits
 waits_put m s r closed over before after (Alive ∷ rest) more go waits = absurd waits
-waits_put m s r true over before after (Sync joined last from base ∷ rest) more go waits = record {
-  how = waits.how;
-  time = waits.time;
-  awaited = waits.awaited;
-  begins = waits.begins;
-  within = waits.within;
-  honest = waits.honest;
-  least = waits.least;
-  most = waits.most;
-  flows = flows_put s _ rest more true (Some before) after (go _) waits.flows;
-}
-waits_put m s r false over before after (Sync joined last from base ∷ rest) more go waits = record {
-  how = waits.how;
-  time = waits.time;
-  awaited = waits.awaited;
-  begins = waits.begins;
-  within = waits.within;
-  honest = waits.honest;
-  least = waits.least;
-  most = waits.most;
-  flows = flows_put s _ rest more false (Some before) after (go _) waits.flows;
-}
+waits_put m s r true over before after (Sync joined last from base ∷ rest) more go waits =
+    awaited_flows m s r last from base rest rest true true (Some before) after waits (flows_put s _ rest more true (Some before) after (go _) waits.flows)
+waits_put m s r false over before after (Sync joined last from base ∷ rest) more go waits =
+    awaited_flows m s r last from base rest (rest ++ more) false false (Some before) after waits (flows_put s _ rest more false (Some before) after (go _) waits.flows)
 
 pub sends_on : {W O : Type 0} (m : Worlds W O) (s : PlainSession) (r : PlainReplica W O) (c : Connection) (before after : Cursor) (ups : List ClientFrame) (more : List ServerFrame) (over : Bool)
     → c.over ≡ false → c.cursor ≡ Some before → ((place : Place) → Meets s place (Some before) → GoOn s place more (Some after)) → NewestStands m s r c → NewestStands m s r (over_if over (put_down (with_cursor (with_up c ups) (Some after)) more))

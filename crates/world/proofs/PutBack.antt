@@ -10,7 +10,7 @@ use Rattle.world_plain.specs.World.{ObjectRecord, WorldRecord, object_weight, to
 use Rattle.world_plain.specs.declared.message.Message.{Message}
 use Rattle.world_plain.specs.declared.message.Subscription.{Subscription}
 use Rattle.world_plain.specs.declared.world.PlainObject.{PlainObject}
-use Rattle.world_plain.specs.Valid.{Valid, RiseFrom, ObjectFits, ObjectsFit, SubscriptionFits, SubscriptionsFit, DiffersFromAll, SubscriptionsDiffer, Precedes, PrecedesAll, AreInOrder, IsUnused, NumbersDiffer, MessageFits, MessagesFit, most_objects, most_pending}
+use Rattle.world_plain.specs.Valid.{Valid, RiseFrom, ObjectFits, ObjectsFit, SubscriptionFits, SubscriptionsFit, DiffersFromAll, SubscriptionsDiffer, Precedes, PrecedesAll, AreInOrder, IsUnused, NumbersDiffer, MessageFits, MessagesFit, most_objects, most_subscriptions, most_pending}
 use Rattle.object_store.specs.Store.{IsAboveAll, AreFields}
 use Rattle.object_store.proofs.Objects.{AreFields-light}
 use Rattle.pubsub.specs.Topics.{IsLightSubscription, is_subscribed}
@@ -96,7 +96,7 @@ subscription-fits objects (t ∷ before) behind s h = subscription-fits objects 
 pub record IsNextSubscription (w : WorldRecord) (before behind : List Subscription) (s : Subscription) : Type 0 where
   pub whole : before ++ s ∷ behind ≡ w.subscriptions
   pub new : is_subscribed s before ≡ false
-  pub few : length before < most_pending
+  pub few : length before < most_subscriptions
   pub light : IsLightSubscription s
 
 subscription-between : (counts : List ℕ) (w : WorldRecord) (before behind : List Subscription) (s : Subscription) → Valid counts w → before ++ s ∷ behind ≡ w.subscriptions → IsNextSubscription w before behind s
@@ -105,7 +105,7 @@ subscription-between counts w before behind s v e =
     record {
       whole = e;
       new = not-held before behind s (rw e v.subscriptions.differ);
-      few = few-before before behind s most_pending (rw e v.subscriptions.few);
+      few = few-before before behind s most_subscriptions (rw e v.subscriptions.few);
       light = IsLight-fits s fits.0 fits.1 fits.2;
     }
 

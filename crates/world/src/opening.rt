@@ -1,8 +1,6 @@
 //! The first world of a session.
-ghost use Rattle.std.specs.Prelude.{◌≡◌, ◌≤◌, ◌∷◌, [], replicate, length, IfOk, OnOk, Some, slice_get, take};
+ghost use Rattle.std.specs.Prelude.{◌≡◌, ◌≤◌, ◌∷◌, [], length, IfOk, OnOk, Some, slice_get, take};
 ghost use Rattle.std.specs.Int.{from_le_bytes, w64};
-ghost use Rattle.model_value.specs.Plain.{nil};
-ghost use Rattle.model_value.specs.View.{plain_values};
 ghost use Rattle.model_lang.specs.Program.{IsProgram};
 ghost use Rattle.model_lang.specs.Tree.{ClassTree};
 ghost use Rattle.model_lang.specs.TreeView.{program_tree};
@@ -15,7 +13,7 @@ use known_names::Names;
 use message_queue::Queue;
 use model_check::Checked;
 use model_eval::{Call, State};
-use model_value::{Value, Values};
+use model_value::nils;
 use object_store::Store;
 use pubsub::Topics;
 use std::alloc::Global;
@@ -95,16 +93,6 @@ fn root_name(alloc: Global) -> Result<Names, WantOfMemory>
         object: 1,
     })?;
     Ok(names)
-}
-
-fn nils(alloc: Global, count: usize) -> Result<Values, WantOfMemory>
-    ensures { IfOk result (λ values. plain_values values ≡ replicate count nil) }
-{
-    let mut values = List::new(alloc);
-    for _index in 0..count {
-        values.push(Value::Nil)?;
-    }
-    Ok(values)
 }
 
 /// Starts the method `init` of the first object, if its class has one.

@@ -1,6 +1,6 @@
 //! A world that goes on from plain data.
 ghost use Rattle.std.specs.Prelude.{◌≡◌, ◌<◌, ◌++◌, ◌∷◌, [], ℕ, List, false, length, IfOk, OnOk};
-ghost use Rattle.world_plain.specs.Valid.{Valid, most_pending};
+ghost use Rattle.world_plain.specs.Valid.{Valid, most_subscriptions};
 ghost use Rattle.world_plain.specs.World.{world_record};
 ghost use Rattle.pubsub.specs.Topics.{IsLightSubscription, is_subscribed};
 ghost use Rattle.world.specs.Worlds.{take_up};
@@ -82,7 +82,7 @@ fn put_subscriptions(alloc: Global, plain: &PlainWorld) -> Result<Topics, WantOf
 /// Adds a subscription, which is new and for which there is room, behind all others.
 fn put_subscription(topics: &mut Topics, subscription: Subscription) -> Result<(), WantOfMemory>
     requires new { is_subscribed subscription topics.old ≡ false }
-    requires few { length topics.old < most_pending }
+    requires few { length topics.old < most_subscriptions }
     requires light { IsLightSubscription subscription }
     ensures { OnOk result (topics.new ≡ topics.old ++ subscription ∷ []) }
 {

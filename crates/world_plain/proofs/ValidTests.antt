@@ -10,7 +10,7 @@ use Rattle.tea_base.specs.Order.{comes_before}
 use Rattle.model_value.specs.Plain.{PlainValue, InBounds, AllInBounds, is_in_bounds, TextFits, text_weight, most_weight, weight, depth, most_depth}
 use Rattle.world_plain.specs.Messages.{PlainMessage}
 use Rattle.world_plain.specs.World.{ObjectRecord, WorldRecord, world_weight, most_world_weight}
-use Rattle.world_plain.specs.Valid.{RiseFrom, EachBefore, object_at, IsHeld, ObjectFits, NameFits, SubscriptionFits, Precedes, MessageFits, ValidClock, ValidViews, ValidObjects, ValidNames, ValidSubscriptions, ValidMessages, Valid, most_turns, most_objects, most_pending, most_parameters}
+use Rattle.world_plain.specs.Valid.{RiseFrom, EachBefore, object_at, IsHeld, ObjectFits, NameFits, SubscriptionFits, Precedes, MessageFits, ValidClock, ValidViews, ValidObjects, ValidNames, ValidSubscriptions, ValidMessages, Valid, most_turns, most_objects, most_subscriptions, most_pending, most_parameters}
 use Rattle.tea_base.specs.Limits.{time_limit, most_here}
 use Rattle.world_plain.specs.ValidTest.{is_rising, each_pair, is_fit_text, holds_object, is_number, is_fit_object, is_fit_name, is_fit_subscription, same_subscription, is_due_before, is_fit_message, is_valid_clock, is_valid_views, is_valid_objects, is_valid_names, is_valid_subscriptions, is_valid_messages, is_valid}
 use Rattle.world_plain.specs.declared.message.Subscription.{Subscription}
@@ -144,10 +144,10 @@ subscriptions-Decides : (w : WorldRecord) → Decides (is_valid_subscriptions w)
 subscriptions-Decides w =
     let other : Subscription → Subscription → Bool = λ s t. not (same_subscription s t) in
     Decides-like (is_valid_subscriptions w) (λ h. record { differ = h.0; fit = h.1; few = h.2 }) (λ v. (v.differ, v.fit, v.few))
-    (three (each_pair other w.subscriptions) (list_all (is_fit_subscription w.objects) w.subscriptions) (nat_le (length w.subscriptions) most_pending)
+    (three (each_pair other w.subscriptions) (list_all (is_fit_subscription w.objects) w.subscriptions) (nat_le (length w.subscriptions) most_subscriptions)
     (Decides-pairs other (λ s t. ¬ (s ≡ t)) (λ s t. Decides-not (same_subscription s t) (same-Decides s t)) w.subscriptions)
     (Decides-all (is_fit_subscription w.objects) (SubscriptionFits w.objects) (subscription-Decides w.objects) w.subscriptions)
-    (Decides-le (length w.subscriptions) most_pending))
+    (Decides-le (length w.subscriptions) most_subscriptions))
 
 messages-Decides : (w : WorldRecord) → Decides (is_valid_messages w) (ValidMessages w.time w.next_number w.objects w.pending)
 messages-Decides w =

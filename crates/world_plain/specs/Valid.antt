@@ -15,7 +15,10 @@ most_turns = 1024
 abbrev pub most_objects : ℕ
 most_objects = 4096
 
--- pending messages, and subscriptions too
+abbrev pub most_subscriptions : ℕ
+most_subscriptions = 16384
+
+-- messages to come
 abbrev pub most_pending : ℕ
 most_pending = 16384
 
@@ -107,7 +110,7 @@ SubscriptionsDiffer = EachBefore (λ s t. ¬ (s ≡ t))
 pub record ValidSubscriptions (objects : List ObjectRecord) (subscriptions : List Subscription) : Type 0 where
   pub differ : SubscriptionsDiffer subscriptions
   pub fit : SubscriptionsFit objects subscriptions
-  pub few : length subscriptions ≤ most_pending
+  pub few : length subscriptions ≤ most_subscriptions
 
 -- ---- messages
 

@@ -5,7 +5,7 @@ use Rattle.tea_base.specs.Order.{comes_before}
 use Rattle.model_value.specs.Plain.{is_in_bounds, text_weight, most_weight}
 use Rattle.world_plain.specs.Messages.{PlainMessage}
 use Rattle.world_plain.specs.World.{ObjectRecord, WorldRecord, world_weight, most_world_weight}
-use Rattle.world_plain.specs.Valid.{object_at, most_turns, most_objects, most_pending, most_parameters}
+use Rattle.world_plain.specs.Valid.{object_at, most_turns, most_objects, most_subscriptions, most_pending, most_parameters}
 use Rattle.tea_base.specs.Limits.{time_limit, most_here}
 use Rattle.world_plain.specs.declared.message.Subscription.{Subscription}
 use Rattle.world_plain.specs.declared.world.Known.{Known}
@@ -82,7 +82,7 @@ abbrev pub is_valid_subscriptions : WorldRecord → Bool
 is_valid_subscriptions w =
     each_pair (λ s t. not (same_subscription s t)) w.subscriptions
     && list_all (is_fit_subscription w.objects) w.subscriptions
-    && nat_le (length w.subscriptions) most_pending
+    && nat_le (length w.subscriptions) most_subscriptions
 
 abbrev pub is_valid_messages : WorldRecord → Bool
 is_valid_messages w =

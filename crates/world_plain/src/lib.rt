@@ -30,7 +30,5 @@ pub use limits::{
 pub use message::{Message, Messages, Outgoing, Published, Subscription, Subscriptions};
 pub use refusal::StoreRefusal;
 pub use validity::valid;
-pub use weights::{
-    known_fits, message_fits, object_fits, room, room_behind_known, subscription_fits, value_fits,
-};
+pub use weights::{message_fits, object_fits, room, subscription_fits, value_fits};
 pub use world::{Known, KnownNames, PlainObject, PlainObjects, PlainWorld};

@@ -1,7 +1,7 @@
 //! What is asked of the subscriptions of a world.
 ghost use Rattle.std.specs.Prelude.{◌≡◌, ◌≤◌, ◌↔◌, map, length, slice_get, IsTrue};
 ghost use Rattle.std.specs.Option.{option_cmp};
-ghost use Rattle.world_plain.specs.Valid.{most_pending, SubscriptionsDiffer, SubscriptionFits, SubscriptionsFit};
+ghost use Rattle.world_plain.specs.Valid.{most_subscriptions, SubscriptionsDiffer, SubscriptionFits, SubscriptionsFit};
 ghost use Rattle.world_plain.specs.World.{object_record};
 ghost use Rattle.world_plain.specs.Ids.{HaveRisingIds};
 ghost use Rattle.world_plain.specs.Order.{subscription_order};
@@ -16,7 +16,7 @@ use std::cmp::Ordering;
 
 /// Whether no two subscriptions are the same. It sorts their places, and takes no memory.
 pub fn subscriptions_differ(subscriptions: &[Subscription]) -> bool
-    requires { length subscriptions.now ≤ most_pending }
+    requires { length subscriptions.now ≤ most_subscriptions }
     ensures { IsTrue result ↔ SubscriptionsDiffer subscriptions.now }
 {
     let mut all = [0; MOST_SUBSCRIPTIONS];

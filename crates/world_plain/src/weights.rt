@@ -27,17 +27,6 @@ pub fn room(world: &PlainWorld) -> Option<u32>
     room_behind_known(world.known.as_slice(), left)
 }
 
-/// What the weights of known names leave of the room, or None where they are greater. Each name weighs 1 and its text.
-pub fn room_behind_known(known: &[Known], room: u32) -> Option<u32>
-    ensures { IsRoomBehind result room (total_weight known_weight known.now) }
-{
-    let mut left = room;
-    for one in known {
-        left = room_behind_name(one, left)?;
-    }
-    Some(left)
-}
-
 /// Whether a value fits into so much room: it weighs no more. Any value may be asked about.
 pub fn value_fits(room: u32, value: &Value) -> bool
     ensures { IsTrue result ↔ weight_of (plain value.now) ≤ room }
@@ -65,13 +54,6 @@ pub fn subscription_fits(room: u32, subscription: &Subscription) -> bool
     ensures { IsTrue result ↔ subscription_weight subscription.now ≤ room }
 {
     room_behind_subscription(subscription, room).is_some()
-}
-
-/// Whether a known name fits into so much room: it weighs 1 and its text.
-pub fn known_fits(room: u32, known: &Known) -> bool
-    ensures { IsTrue result ↔ known_weight known.now ≤ room }
-{
-    room_behind_name(known, room).is_some()
 }
 
 /// What the weight of an object with these fields leaves of the room. So below for each kind.
@@ -122,6 +104,16 @@ fn room_behind_subscriptions(subscriptions: &[Subscription], room: u32) -> Optio
     let mut left = room;
     for subscription in subscriptions {
         left = room_behind_subscription(subscription, left)?;
+    }
+    Some(left)
+}
+
+fn room_behind_known(known: &[Known], room: u32) -> Option<u32>
+    ensures { IsRoomBehind result room (total_weight known_weight known.now) }
+{
+    let mut left = room;
+    for one in known {
+        left = room_behind_name(one, left)?;
     }
     Some(left)
 }

@@ -5,4 +5,4 @@ use Rattle.message_queue.proofs.pending.message_weight_of.Goals as goal
 
 pub overflow_add-result-2 : goal.overflow_add-result-2
 overflow_add-result-2 c =
-    omega (arith, c.requires, c.text_weight.ensures, c.values_weight.ensures, ap (λ vs. values_weight (plain_values vs)) c.as_slice.ensures)
+    omega (arith, c.requires, c.text_weight.ensures.weight, c.values_weight.ensures, ap (λ vs. values_weight (plain_values vs)) c.as_slice.ensures)

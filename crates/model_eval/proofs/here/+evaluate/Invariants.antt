@@ -16,8 +16,8 @@ decreases-Here::execute l = 16 * l.self.now.starter.room
 abbrev pub decreases-Here::evaluate_all : goal.decreases-Here::evaluate_all
 decreases-Here::evaluate_all l = 16 * l.self.now.starter.room + 1
 
-abbrev pub decreases-Here::truly : goal.decreases-Here::truly
-decreases-Here::truly l = 16 * l.self.now.starter.room + 1
+abbrev pub decreases-Here::evaluate_truth : goal.decreases-Here::evaluate_truth
+decreases-Here::evaluate_truth l = 16 * l.self.now.starter.room + 1
 
 abbrev pub decreases-Here::run_in_turn : goal.decreases-Here::run_in_turn
 decreases-Here::run_in_turn l = 16 * l.self.now.starter.room + 1

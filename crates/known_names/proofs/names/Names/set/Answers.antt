@@ -24,7 +24,7 @@ overflow_add-self c =
     let ks = c.self.inside.names.items in
     let at : IsPlaceOf (Err c.in-Err.place) x ks = subst (IsPlaceOf (Err c.in-Err.place) x) c.deref.ensures.value c.in-Err.ensures in
     let light : total_weight known_weight (with_known x object ks) ≤ most_world_weight = subst (λ (l : List Known). total_weight known_weight (with_known x object l) ≤ most_world_weight) (sym c.self.view_is) c.requires in
-    omega (arith, light, weight-new x object ks c.in-Err.place at, c.self.invariant.weight, c.known_weight-added.ensures)
+    omega (arith, light, weight-new x object ks c.in-Err.place at, c.self.invariant.weight, c.name_weight-added.ensures)
 
 pub invariant_of-self-in-Err : goal.invariant_of-self-in-Err
 invariant_of-self-in-Err c =
@@ -33,4 +33,4 @@ invariant_of-self-in-Err c =
     let ks = c.self.inside.names.items in
     let at : IsPlaceOf (Err c.in-Err.place) x ks = subst (IsPlaceOf (Err c.in-Err.place) x) c.deref.ensures.value c.in-Err.ensures in
     let light : total_weight known_weight (with_known x object ks) ≤ most_world_weight = subst (λ (l : List Known). total_weight known_weight (with_known x object l) ≤ most_world_weight) (sym c.self.view_is) c.requires in
-    with_one x object ks c.insert.new.self.items c.self.inside.weight _ c.self.invariant light (c.in_ok-insert-in-Err.ensures.items ∙ sym (at.2 object)) (omega (arith, weight-new x object ks c.in-Err.place at, c.self.invariant.weight, c.known_weight-added.ensures))
+    with_one x object ks c.insert.new.self.items c.self.inside.weight _ c.self.invariant light (c.in_ok-insert-in-Err.ensures.items ∙ sym (at.2 object)) (omega (arith, weight-new x object ks c.in-Err.place at, c.self.invariant.weight, c.name_weight-added.ensures))

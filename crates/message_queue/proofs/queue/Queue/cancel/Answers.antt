@@ -1,63 +1,33 @@
-use Rattle.std.proofs.Common.{length, not, subst, sym, ap, ◌∙◌, arith}
+use Rattle.std.proofs.Common.{length, not, ap, ◌∙◌, arith}
 use Rattle.std.proofs.lemmas.List.Sorted.{IsPermutation-refl, length_permutation}
 use Rattle.world_plain.specs.Messages.{PlainMessage}
-use Rattle.world_plain.specs.World.{message_weight, total_weight}
-use Rattle.message_queue.specs.Queue.{AreLightMessages, QueueRecord, calls, without_calls}
-use Rattle.message_queue.specs.View.{messages_seen}
-use Rattle.message_queue.proofs.Held.{length-seen, few_held, kept_light, kept_few, held_all, held_kept, seen_kept}
+use Rattle.message_queue.specs.Queue.{QueueRecord, calls, without_calls}
+use Rattle.message_queue.proofs.Held.{length-seen, few_held, kept_light, held_left, seen_kept}
 use Rattle.message_queue.proofs.queue.Queue.cancel.Goals as goal
 
-pub overflow_sub-gone : goal.overflow_sub-gone
-overflow_sub-gone c = omega (arith, c.len-before.ensures, c.len.ensures, c.remove_calls.ensures.fewer)
+pub rebuild-requires-clause-left : goal.rebuild-requires-clause-left
+rebuild-requires-clause-left c = omega (arith, c.len-before.ensures, c.remove_calls.ensures.fewer)
+
+pub rebuild-requires-clause-few : goal.rebuild-requires-clause-few
+rebuild-requires-clause-few c = omega (arith, c.len-before.ensures, few_held c.self.inside.messages.items c.self.inside.next c.self.inside.weight c.self.invariant)
+
+pub rebuild-requires-clause-light : goal.rebuild-requires-clause-light
+rebuild-requires-clause-light c =
+    let left = c.remove_calls.new.messages.items in
+    kept_light (λ (m : PlainMessage). not (calls c.args.object c.args.method.now m)) c.self.inside.messages.items left left c.self.inside.next c.self.inside.weight c.self.invariant c.remove_calls.ensures.kept (IsPermutation-refl left)
 
 pub invariant_of-self : goal.invariant_of-self
 invariant_of-self c =
-    let none = c.if-gone-eq0.true in
-    held_all (λ (m : PlainMessage). not (calls c.args.object c.args.method.now m)) c.self.inside.messages.items c.remove_calls.new.messages.items c.self.inside.next c.self.inside.weight c.self.invariant c.remove_calls.ensures.kept (omega (arith, none, c.len-before.ensures, c.len.ensures, c.remove_calls.ensures.fewer))
-
-pub returns-then-gone-eq0-clause-number : goal.returns-then-gone-eq0-clause-number
-returns-then-gone-eq0-clause-number c =
-    let left = c.remove_calls.new.messages.items in
-    omega (arith, c.if-gone-eq0.true, c.len-before.ensures, c.len.ensures, c.remove_calls.ensures.fewer, length-seen left, length-seen c.self.inside.messages.items, ap (λ (q : QueueRecord). length q.messages) c.self.view_is)
-
-pub returns-then-gone-eq0-clause-queue : goal.returns-then-gone-eq0-clause-queue
-returns-then-gone-eq0-clause-queue c =
-    let left = c.remove_calls.new.messages.items in
-    ap (λ l. record { messages = l; next = c.self.inside.next })
-    (seen_kept (λ (m : PlainMessage). not (calls c.args.object c.args.method.now m)) c.self.inside.messages.items left left c.self.inside.next c.self.inside.weight c.self.invariant c.remove_calls.ensures.kept (IsPermutation-refl left))
-    ∙ ap (without_calls c.args.object c.args.method.now) c.self.view_is
-
-pub weight_of-self-inside-requires-clause-light : goal.weight_of-self-inside-requires-clause-light
-weight_of-self-inside-requires-clause-light c =
-    let new = c.make_heap.new.messages.items in
-    subst (λ l. AreLightMessages (messages_seen l)) (sym c.deref.ensures.value)
-    (kept_light (λ (m : PlainMessage). not (calls c.args.object c.args.method.now m)) c.self.inside.messages.items c.remove_calls.new.messages.items new c.self.inside.next c.self.inside.weight c.self.invariant c.remove_calls.ensures.kept c.make_heap.ensures.held)
-
-pub weight_of-self-inside-requires-clause-few : goal.weight_of-self-inside-requires-clause-few
-weight_of-self-inside-requires-clause-few c =
-    let new = c.make_heap.new.messages.items in
-    omega (
-      arith,
-      ap length c.deref.ensures.value,
-      kept_few (λ (m : PlainMessage). not (calls c.args.object c.args.method.now m)) c.self.inside.messages.items c.remove_calls.new.messages.items new c.self.inside.next c.self.inside.weight c.self.invariant c.remove_calls.ensures.kept c.make_heap.ensures.held,
-    )
-
-pub overflow_cast-result : goal.overflow_cast-result
-overflow_cast-result c = omega (arith, c.len-before.ensures, few_held c.self.inside.messages.items c.self.inside.next c.self.inside.weight c.self.invariant)
-
-pub invariant_of-self-2 : goal.invariant_of-self-2
-invariant_of-self-2 c =
-    let new = c.make_heap.new.messages.items in
-    held_kept (λ (m : PlainMessage). not (calls c.args.object c.args.method.now m)) c.self.inside.messages.items c.remove_calls.new.messages.items new c.self.inside.next c.self.inside.weight c.weight_of-self-inside.result c.self.invariant c.remove_calls.ensures.kept c.make_heap.ensures.held c.make_heap.ensures.heap (c.weight_of-self-inside.ensures ∙ ap (λ l. total_weight message_weight (messages_seen l)) c.deref.ensures.value)
+    held_left (λ (m : PlainMessage). not (calls c.args.object c.args.method.now m)) c.self.inside.messages.items c.remove_calls.new.messages.items c.rebuild.new.messages.items c.self.inside.next c.self.inside.weight c.rebuild.new.weight c.self.invariant c.remove_calls.ensures.kept c.rebuild.ensures.held c.remove_calls.ensures.fewer
+    (λ less. c.rebuild.ensures.fewer (omega (arith, less, c.len-before.ensures)))
+    (λ long. c.rebuild.ensures.all (omega (arith, long, c.len-before.ensures)))
 
 pub returns-clause-number : goal.returns-clause-number
 returns-clause-number c =
-    let new = c.make_heap.new.messages.items in
-    omega (arith, c.len-before.ensures, c.len.ensures, c.remove_calls.ensures.fewer, length_permutation c.remove_calls.new.messages.items new c.make_heap.ensures.held, length-seen new, length-seen c.self.inside.messages.items, ap (λ (q : QueueRecord). length q.messages) c.self.view_is)
+    omega (arith, c.len-before.ensures, c.rebuild.ensures.number, length-seen c.rebuild.new.messages.items, length-seen c.self.inside.messages.items, ap (λ (q : QueueRecord). length q.messages) c.self.view_is)
 
 pub returns-clause-queue : goal.returns-clause-queue
 returns-clause-queue c =
-    let new = c.make_heap.new.messages.items in
     ap (λ l. record { messages = l; next = c.self.inside.next })
-    (seen_kept (λ (m : PlainMessage). not (calls c.args.object c.args.method.now m)) c.self.inside.messages.items c.remove_calls.new.messages.items new c.self.inside.next c.self.inside.weight c.self.invariant c.remove_calls.ensures.kept c.make_heap.ensures.held)
+    (seen_kept (λ (m : PlainMessage). not (calls c.args.object c.args.method.now m)) c.self.inside.messages.items c.remove_calls.new.messages.items c.rebuild.new.messages.items c.self.inside.next c.self.inside.weight c.self.invariant c.remove_calls.ensures.kept c.rebuild.ensures.held)
     ∙ ap (without_calls c.args.object c.args.method.now) c.self.view_is

@@ -13,5 +13,5 @@ pub returns-in-Field : goal.returns-in-Field
 returns-in-Field c =
     let leaf : solved_expression c.args.leaf.now ≡ field c.in-Field.slot = rw c.in-Field.is (search (rules, the_lemmas)) in
     let locals = plain_values c.args.locals.now in
-    subst (λ (e : SolvedExpression). IfSome c.int_in-in-Field.result (λ n. GivesInt c.args.state.now c.args.self.now.object e locals n)) (sym leaf)
-    (IfSome_then c.int_in-in-Field.result c.int_in-in-Field.ensures (λ n is. field_gives c.args.state.now c.args.self.now.object c.in-Field.slot locals n (sym c.field.ensures.value ∙ is)))
+    subst (λ (e : SolvedExpression). IfSome c.held_int-in-Field.result (λ n. GivesInt c.args.state.now c.args.self.now.object e locals n)) (sym leaf)
+    (IfSome_then c.held_int-in-Field.result c.held_int-in-Field.ensures (λ n is. field_gives c.args.state.now c.args.self.now.object c.in-Field.slot locals n (sym c.field.ensures.value ∙ is)))

@@ -1,6 +1,6 @@
 use Rattle.std.proofs.Common.{◌≡◌, ℕ, Bool, ◌+◌, ◌<◌, List, [], ◌∷◌, ◌++◌, false, cond, length, sym, ap, subst, ◌∙◌, arith}
 use Rattle.std.specs.List.{list_any}
-use Rattle.world_plain.specs.Valid.{most_pending}
+use Rattle.world_plain.specs.Valid.{most_subscriptions}
 use Rattle.world_plain.specs.ValidTest.{same_subscription}
 use Rattle.world_plain.specs.declared.message.Subscription.{Subscription}
 use Rattle.pubsub.specs.Topics.{is_subscribed}
@@ -29,7 +29,7 @@ pub invariant_of-self-2 : goal.invariant_of-self-2
 invariant_of-self-2 c =
     let was = c.self.inside in
     let new : is_subscribed c.args.s was.held.keys ≡ false = ap (is_subscribed c.args.s) c.self.view_is ∙ c.requires.new in
-    let room : length was.held.keys < most_pending = omega (arith, c.requires.few, ap length c.self.view_is) in
+    let room : length was.held.keys < most_subscriptions = omega (arith, c.requires.few, ap length c.self.view_is) in
     let keys : c.insert.new.self.keys ≡ was.held.keys ++ c.args.s ∷ [] =
     (rw c.unwrap.ensures at c.insert.ensures.keys) ∙ pushed c.args.s c.reserve.new.self.keys was.held.keys c.in_ok-reserve.ensures.keys new in
     subst (λ (n : ℕ). HoldsTopics c.insert.new.self.keys c.add.new.self (was.weight + n)) (sym c.subscription_weight.ensures)
