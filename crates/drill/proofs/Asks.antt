@@ -96,10 +96,11 @@ module _ (gives : ℕ → Type 0) (size : Size) (shared : SharedState TrustRepla
   told_worker (Ok reply) worker asked kept told sound = asks_on reply worker asked told sound
   told_worker (Err want) worker asked kept told sound = tt
 
--- with another replica of the same view, program and session
-pub with_replica : (gives : ℕ → Type 0) (size : Size) (shared : SharedState TrustReplay) (w : Worker) (r : ReplicaView) → IsWorker gives size shared w
-    → r.program ≡ w.replica.program → r.id ≡ w.replica.id → r.plain.view ≡ w.replica.plain.view → IsWorker gives size shared (record w { replica = r })
-with_replica gives size shared w r worker program id view = record {
+-- its source is another one, and its replica another one of the same program, session and view
+pub worker_with
+    : (gives : ℕ → Type 0) (size : Size) (shared : SharedState TrustReplay) (w : Worker) (source : ℕ) (r : ReplicaView) → r.program ≡ w.replica.program → r.id ≡ w.replica.id
+    → r.plain.view ≡ w.replica.plain.view → IsWorker gives size shared w → IsWorker gives size shared (record w { source = source; replica = r })
+worker_with gives size shared w source r program id view worker = record {
   session = worker.session;
   callers = worker.callers;
   numbers = worker.numbers;

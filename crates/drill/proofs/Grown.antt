@@ -139,21 +139,3 @@ module _ (gives : ℕ → Type 0) (views : ℕ) (shared : SharedState TrustRepla
     same = asked_same;
     room = asked_room;
   }
-
--- its replica is another one of the same program, session and view
-pub worker_with
-    : (gives : ℕ → Type 0) (size : Size) (shared : SharedState TrustReplay) (w : Worker) (source : ℕ) (r : ReplicaView) → r.program ≡ w.replica.program → r.id ≡ w.replica.id
-    → r.plain.view ≡ w.replica.plain.view → IsWorker gives size shared w → IsWorker gives size shared (record w { source = source; replica = r })
-worker_with gives size shared w source r program id view worker = record {
-  session = worker.session;
-  callers = worker.callers;
-  numbers = worker.numbers;
-  named = worker.named;
-  asked = worker.asked;
-  sound = worker.sound;
-  trusted = worker.trusted;
-  program = program ∙ worker.program;
-  id = id ∙ worker.id;
-  view = view ∙ worker.view;
-  tree = worker.tree;
-}

@@ -37,7 +37,7 @@ use Rattle.drill.specs.declared.worker.Worker.{Worker}
 use Rattle.drill.specs.Taking.{HasTaken, IsFine, after}
 use Rattle.drill.specs.Turns.{HasJoined, MayJoinBy, TakesSync}
 use Rattle.drill.specs.Workers.{HasAsked, IsWorker}
-use Rattle.drill.proofs.Asks.{with_replica}
+use Rattle.drill.proofs.Asks.{worker_with}
 use Rattle.drill.proofs.Joins.{honest_base, joined_works, joins_with}
 use Rattle.drill.proofs.SyncsTaken.{sync_leaves}
 
@@ -150,6 +150,6 @@ module _ (gives : ℕ → Type 0) (size : Size) (shared : SharedState TrustRepla
       (subst (λ (new : ReplicaView). TakesSync (answer (play asked.history) (request.Join w.view now (join_want (worlds_of w.replica) w.replica.plain how))).session w.replica new how reply cursor) (sym is) there) in
       record {
         joined = record { now = now; reply = reply; asked = asked; opened = opens; taken = taken };
-        worker = with_replica gives size shared asking new worker_then (taken.events.program ∙ sym (ap (λ (r : ReplicaView). r.program) asks.replica))
-            (taken.events.id ∙ sym (ap (λ (r : ReplicaView). r.id) asks.replica)) (taken.events.view ∙ sym (ap (λ (r : ReplicaView). r.plain.view) asks.replica));
+        worker = worker_with gives size shared asking asking.source new (taken.events.program ∙ sym (ap (λ (r : ReplicaView). r.program) asks.replica))
+            (taken.events.id ∙ sym (ap (λ (r : ReplicaView). r.id) asks.replica)) (taken.events.view ∙ sym (ap (λ (r : ReplicaView). r.plain.view) asks.replica)) worker_then;
       }

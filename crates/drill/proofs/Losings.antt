@@ -20,7 +20,8 @@ use Rattle.drill.specs.Doing.{HasDone, KeepsFrom, WasSentBy}
 use Rattle.drill.specs.Drilled.{entries_of, own}
 use Rattle.drill.specs.Turns.{HasOffered, IsLost, IsOwed, Loses, left_behind}
 use Rattle.drill.specs.Workers.{ChangesPass, HasAsked, IsWorker}
-use Rattle.drill.proofs.Grown.{HasCalled, by_horizon, by_later, has_called, sent_later, worker_with}
+use Rattle.drill.proofs.Grown.{HasCalled, by_horizon, by_later, has_called, sent_later}
+use Rattle.drill.proofs.Asks.{worker_with}
 use Rattle.drill.proofs.Histories.{done_same, here_same}
 use Rattle.drill.proofs.Requests.{offer_log, offer_row}
 use Rattle.drill.proofs.Settlings.{base_next}

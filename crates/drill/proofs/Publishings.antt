@@ -19,7 +19,8 @@ use Rattle.drill.specs.Drilled.{add_payload, drawn_numbers, joins_behind, own, o
 use Rattle.drill.specs.Turns.{HasPublished, HasUnsent, IsReady, left_behind}
 use Rattle.drill.specs.Workers.{IsWorker}
 use Rattle.drill.specs.Working.{Works}
-use Rattle.drill.proofs.Grown.{worker_with, works_same}
+use Rattle.drill.proofs.Asks.{worker_with}
+use Rattle.drill.proofs.Grown.{works_same}
 use Rattle.drill.proofs.Payloads.{short_payload}
 use Rattle.drill.proofs.TurnLaws.{turn_begins}
 

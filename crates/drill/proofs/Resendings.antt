@@ -25,7 +25,8 @@ use Rattle.drill.specs.Taking.{HasTaken, IsFine}
 use Rattle.drill.specs.Turns.{HasSentIt, HasStopped, HasUnsent, IsBack, IsSettled, Settles, done_of, left_behind}
 use Rattle.drill.specs.Workers.{HasAsked, IsWorker, KeepsSource}
 use Rattle.drill.specs.Working.{Works}
-use Rattle.drill.proofs.Grown.{HasCalled, base_later, by_horizon, has_called, worker_with, works_same}
+use Rattle.drill.proofs.Grown.{HasCalled, base_later, by_horizon, has_called, works_same}
+use Rattle.drill.proofs.Asks.{worker_with}
 use Rattle.drill.proofs.Histories.{done_same, here_same, sent_same}
 use Rattle.drill.proofs.Requests.{resend_row}
 use Rattle.drill.proofs.Sendings.{done_is, given_if, is_sender, one_payload, sender}

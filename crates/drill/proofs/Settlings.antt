@@ -22,7 +22,8 @@ use Rattle.drill.specs.Taking.{HasTaken, IsFine}
 use Rattle.drill.specs.Turns.{Does, HasTakenMore, IsOwed, IsReady, IsSettled, Settles, left_behind}
 use Rattle.drill.specs.Workers.{IsWorker, KeepsSource}
 use Rattle.drill.specs.Working.{IsCaughtUp}
-use Rattle.drill.proofs.Grown.{base_later, by_later, worker_with, works_same}
+use Rattle.drill.proofs.Grown.{base_later, by_later, works_same}
+use Rattle.drill.proofs.Asks.{worker_with}
 use Rattle.drill.proofs.Histories.{done_same, here_same}
 use Rattle.drill.proofs.TurnLaws.{joins_none, multiple_of_64}
 

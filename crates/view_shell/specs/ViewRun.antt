@@ -1,5 +1,5 @@
 -- What the run of a view does to the outside: the steps of its phases up to a cut, and how it ends.
-use Rattle.std.specs.Prelude.{◌≡◌, ◌⊎◌, ℕ, List, [], ◌∷◌, Option, Some, None}
+use Rattle.std.specs.Prelude.{◌≡◌, ◌⊎◌, ℕ, List, [], ◌∷◌, Option, Some, None, Result, MatchResult}
 use Rattle.run_steps.specs.Steps.{Step, Prints, Connects, Hears, Sends}
 use Rattle.run_steps.specs.Outside.{Outside, OutsideTells, OutputTells, LinksTell, PrintsText, Came, Well, Failed, WantedMemory, Cut, HearsLink, SendsFrame, Acts, LinkGoesBack}
 use Rattle.view_shell.specs.declared.ending.ViewEnd.{ViewEnd}
@@ -53,6 +53,11 @@ pub record Stops {S : Type 0} (does : Doing S) (from : Phase) (end : ViewEnd) (o
   pub walks : Walks from steps last
   pub acts : does steps cut old new
   pub ends : EndsBy last cut end
+
+-- what a call does from a phase on: it goes to the phase that its answer leads to, or it stops with its end
+abbrev pub GoesOrStops : {S A : Type 0} → Doing S → Phase → (A → Phase) → Result A ViewEnd → S → S → Type 0
+GoesOrStops does from to result old new =
+    MatchResult result (λ answer. Goes does from (to answer) old new) (λ end. Stops does from end old new)
 
 -- a run from a phase to its end: its steps, and then the link that is in use, if any, goes back
 pub record ViewRan {F W N L : Type 0} (tells : OutsideTells F W N L) (from : Phase) (end : ViewEnd) (old new : Outside F W N L) : Type 0 where

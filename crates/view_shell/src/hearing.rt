@@ -9,7 +9,7 @@ ghost use Rattle.view_script.specs.PlainLine.{PlainLine};
 ghost use Rattle.view_shell.specs.Phases.{Aim, ToJoin, ToReach, ToSettle, ToSnap, Begins, Receives, Receiving, Tells, finish, go_on, reads, receive, send_all, took};
 ghost use Rattle.view_shell.specs.ViewText.{settled_line, snap_refused_line, snapped_line, time_line};
 ghost use Rattle.view_shell.specs.Viewers.{HasHeard, IsReady, KnowsItself, viewer};
-ghost use Rattle.view_shell.specs.ViewRun.{Goes, LinkActs, Stops};
+ghost use Rattle.view_shell.specs.ViewRun.{Goes, GoesOrStops, LinkActs};
 ghost use Rattle.view_shell.specs.Hearing.{GoesOnFor, HeardPhase, StopsAt, StopsHearing, answer_in, answer_line, answered_phase, joined_phase, stop_for, sync_in, synced_phase};
 
 use crate::ending::ViewEnd;
@@ -107,11 +107,8 @@ fn hear_on<L: Link>(watcher: &mut Watcher, link: &mut L) -> Result<(), ViewEnd>
     requires ready { IsReady watcher.old }
     ensures kept { watcher.new ≡ record watcher.old { replica = watcher.new.replica; receives = watcher.new.receives; quiets = watcher.new.quiets } }
     ensures ready { OnOk result (IsReady watcher.new) }
-    ensures talk { (address : List ℕ) (lines : List PlainLine) (aim : Aim) → GoesOnFor aim → MatchResult result
-        (λ _. Goes (LinkActs (links_tell L.coming L.heard L.sent L.counts))
-        (Receiving (viewer address watcher.old lines) aim) (receive (viewer address watcher.new lines) aim) link.old link.new)
-        (λ end. Stops (LinkActs (links_tell L.coming L.heard L.sent L.counts))
-        (Receiving (viewer address watcher.old lines) aim) end link.old link.new) }
+    ensures talk { (address : List ℕ) (lines : List PlainLine) (aim : Aim) → GoesOnFor aim → GoesOrStops (LinkActs (links_tell L.coming L.heard L.sent L.counts))
+        (Receiving (viewer address watcher.old lines) aim) (λ _. receive (viewer address watcher.new lines) aim) result link.old link.new }
 {
     match hear(watcher, link) {
         Ok(_) => {}
@@ -134,12 +131,8 @@ pub fn reach<R: Wait, L: Link>(
     requires ready { IsReady watcher.old }
     ensures kept { watcher.new ≡ record watcher.old { replica = watcher.new.replica; receives = watcher.new.receives; quiets = watcher.new.quiets } }
     ensures ready { OnOk result (IsReady watcher.new) }
-    ensures talk { (address : List ℕ) (lines : List PlainLine) → MatchResult result
-        (λ _. Goes (LinkActs (links_tell L.coming L.heard L.sent L.counts))
-        (receive (viewer address watcher.old lines) (ToReach time))
-        (finish (viewer address watcher.new lines) (time_line watcher.new.replica.plain.world.time)) link.old link.new)
-        (λ end. Stops (LinkActs (links_tell L.coming L.heard L.sent L.counts))
-        (receive (viewer address watcher.old lines) (ToReach time)) end link.old link.new) }
+    ensures talk { (address : List ℕ) (lines : List PlainLine) → GoesOrStops (LinkActs (links_tell L.coming L.heard L.sent L.counts))
+        (receive (viewer address watcher.old lines) (ToReach time)) (λ _. finish (viewer address watcher.new lines) (time_line watcher.new.replica.plain.world.time)) result link.old link.new }
 {
     for _ in rt.forever() {
         if time <= watcher.replica.time() {
@@ -158,12 +151,8 @@ pub fn settle<R: Wait, L: Link>(rt: &R, watcher: &mut Watcher, link: &mut L) -> 
     requires ready { IsReady watcher.old }
     ensures kept { watcher.new ≡ record watcher.old { replica = watcher.new.replica; receives = watcher.new.receives; quiets = watcher.new.quiets } }
     ensures ready { OnOk result (IsReady watcher.new) }
-    ensures talk { (address : List ℕ) (lines : List PlainLine) → MatchResult result
-        (λ _. Goes (LinkActs (links_tell L.coming L.heard L.sent L.counts))
-        (receive (viewer address watcher.old lines) ToSettle)
-        (finish (viewer address watcher.new lines) (settled_line watcher.new.published)) link.old link.new)
-        (λ end. Stops (LinkActs (links_tell L.coming L.heard L.sent L.counts))
-        (receive (viewer address watcher.old lines) ToSettle) end link.old link.new) }
+    ensures talk { (address : List ℕ) (lines : List PlainLine) → GoesOrStops (LinkActs (links_tell L.coming L.heard L.sent L.counts))
+        (receive (viewer address watcher.old lines) ToSettle) (λ _. finish (viewer address watcher.new lines) (settled_line watcher.new.published)) result link.old link.new }
 {
     for _ in rt.forever() {
         if watcher.replica.settled() {
@@ -205,11 +194,8 @@ fn hear_answer<L: Link>(watcher: &mut Watcher, link: &mut L) -> Result<Option<Sn
     requires ready { IsReady watcher.old }
     ensures kept { watcher.new ≡ record watcher.old { replica = watcher.new.replica; receives = watcher.new.receives; quiets = watcher.new.quiets } }
     ensures ready { OnOk result (IsReady watcher.new) }
-    ensures talk { (address : List ℕ) (lines : List PlainLine) → MatchResult result
-        (λ found. Goes (LinkActs (links_tell L.coming L.heard L.sent L.counts))
-        (Receiving (viewer address watcher.old lines) ToSnap) (answered_phase (viewer address watcher.new lines) found) link.old link.new)
-        (λ end. Stops (LinkActs (links_tell L.coming L.heard L.sent L.counts))
-        (Receiving (viewer address watcher.old lines) ToSnap) end link.old link.new) }
+    ensures talk { (address : List ℕ) (lines : List PlainLine) → GoesOrStops (LinkActs (links_tell L.coming L.heard L.sent L.counts))
+        (Receiving (viewer address watcher.old lines) ToSnap) (λ found. answered_phase (viewer address watcher.new lines) found) result link.old link.new }
 {
     let found = match hear(watcher, link) {
         Ok(frame) => answer_in(&frame),
@@ -231,11 +217,8 @@ pub fn await_answer<R: Wait, L: Link>(
     requires ready { IsReady watcher.old }
     ensures kept { watcher.new ≡ record watcher.old { replica = watcher.new.replica; receives = watcher.new.receives; quiets = watcher.new.quiets } }
     ensures ready { OnOk result (IsReady watcher.new) }
-    ensures talk { (address : List ℕ) (lines : List PlainLine) → MatchResult result
-        (λ answer. Goes (LinkActs (links_tell L.coming L.heard L.sent L.counts))
-        (Receiving (viewer address watcher.old lines) ToSnap) (finish (viewer address watcher.new lines) (answer_line answer)) link.old link.new)
-        (λ end. Stops (LinkActs (links_tell L.coming L.heard L.sent L.counts))
-        (Receiving (viewer address watcher.old lines) ToSnap) end link.old link.new) }
+    ensures talk { (address : List ℕ) (lines : List PlainLine) → GoesOrStops (LinkActs (links_tell L.coming L.heard L.sent L.counts))
+        (Receiving (viewer address watcher.old lines) ToSnap) (λ answer. finish (viewer address watcher.new lines) (answer_line answer)) result link.old link.new }
 {
     for _ in rt.forever() {
         match hear_answer(watcher, link) {

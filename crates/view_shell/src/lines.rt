@@ -1,5 +1,5 @@
 //! The lines of a script, done one after the other on one link.
-ghost use Rattle.std.specs.Prelude.{◌≡◌, ◌≤◌, ◌<◌, ◌+◌, ℕ, List, [], ◌∷◌, map, length, drop, IfOk, IfErr, OnOk, MatchResult, string_bytes};
+ghost use Rattle.std.specs.Prelude.{◌≡◌, ◌≤◌, ◌<◌, ◌+◌, ℕ, List, [], ◌∷◌, map, length, drop, IfOk, IfErr, OnOk, string_bytes};
 ghost use Rattle.run_steps.specs.Outside.{Acts, PrintsText, Well, links_tell, output_tells, window, window_tells};
 ghost use Rattle.model_value.specs.Payload.{payload_spelling};
 ghost use Rattle.model_value.specs.Plain.{InBounds};
@@ -14,7 +14,7 @@ ghost use Rattle.view_shell.specs.Phases.{Over, Viewer, Receives, Receiving, Sen
 ghost use Rattle.view_shell.specs.ViewText.{digested_line, numbers_line, view_line};
 ghost use Rattle.view_shell.specs.Viewers.{HasRoomBehind, HasRoomFor, IsReady, KnowsItself, viewer};
 ghost use Rattle.view_shell.specs.Flows.{departure_phase, flow_of, flow_phase};
-ghost use Rattle.view_shell.specs.ViewRun.{Goes, LinkActs, Stops, StopsPrinting};
+ghost use Rattle.view_shell.specs.ViewRun.{GoesOrStops, LinkActs, StopsPrinting};
 ghost use Rattle.view_shell.specs.Hearing.{answer_line, rejoined_text};
 
 use crate::ending::ViewEnd;
@@ -128,12 +128,8 @@ fn wait<R: Wait, L: Link, W: Sink>(
     requires ready { IsReady watcher.old }
     ensures kept { watcher.new ≡ record watcher.old { replica = watcher.new.replica; receives = watcher.new.receives; quiets = watcher.new.quiets } }
     ensures ready { OnOk result (IsReady watcher.new) }
-    ensures talk { (address : List ℕ) (lines : List PlainLine) → MatchResult result
-        (λ _. Goes (Acts (window_tells (output_tells W.written W.faults W.wants) (links_tell L.coming L.heard L.sent L.counts)))
-        (receive (viewer address watcher.old lines) (ToReach time))
-        (run (viewer address watcher.new lines) lines) (window out.old link.old) (window out.new link.new))
-        (λ end. Stops (Acts (window_tells (output_tells W.written W.faults W.wants) (links_tell L.coming L.heard L.sent L.counts)))
-        (receive (viewer address watcher.old lines) (ToReach time)) end (window out.old link.old) (window out.new link.new)) }
+    ensures talk { (address : List ℕ) (lines : List PlainLine) → GoesOrStops (Acts (window_tells (output_tells W.written W.faults W.wants) (links_tell L.coming L.heard L.sent L.counts)))
+        (receive (viewer address watcher.old lines) (ToReach time)) (λ _. run (viewer address watcher.new lines) lines) result (window out.old link.old) (window out.new link.new) }
 {
     match reach(rt, watcher, link, time) {
         Ok(()) => {}
@@ -156,12 +152,8 @@ fn await_settled<R: Wait, L: Link, W: Sink>(
     requires ready { IsReady watcher.old }
     ensures kept { watcher.new ≡ record watcher.old { replica = watcher.new.replica; receives = watcher.new.receives; quiets = watcher.new.quiets } }
     ensures ready { OnOk result (IsReady watcher.new) }
-    ensures talk { (address : List ℕ) (lines : List PlainLine) → MatchResult result
-        (λ _. Goes (Acts (window_tells (output_tells W.written W.faults W.wants) (links_tell L.coming L.heard L.sent L.counts)))
-        (receive (viewer address watcher.old lines) ToSettle)
-        (run (viewer address watcher.new lines) lines) (window out.old link.old) (window out.new link.new))
-        (λ end. Stops (Acts (window_tells (output_tells W.written W.faults W.wants) (links_tell L.coming L.heard L.sent L.counts)))
-        (receive (viewer address watcher.old lines) ToSettle) end (window out.old link.old) (window out.new link.new)) }
+    ensures talk { (address : List ℕ) (lines : List PlainLine) → GoesOrStops (Acts (window_tells (output_tells W.written W.faults W.wants) (links_tell L.coming L.heard L.sent L.counts)))
+        (receive (viewer address watcher.old lines) ToSettle) (λ _. run (viewer address watcher.new lines) lines) result (window out.old link.old) (window out.new link.new) }
 {
     match settle(rt, watcher, link) {
         Ok(()) => {}
@@ -198,12 +190,8 @@ fn offer<R: Wait, L: Link>(
     requires ready { IsReady watcher.old }
     ensures kept { watcher.new ≡ record watcher.old { replica = watcher.new.replica; receives = watcher.new.receives; quiets = watcher.new.quiets } }
     ensures ready { OnOk result (IsReady watcher.new) }
-    ensures talk { (address : List ℕ) (lines : List PlainLine) → MatchResult result
-        (λ answer. Goes (LinkActs (links_tell L.coming L.heard L.sent L.counts))
-        (Sending (viewer address watcher.old lines) (snap_frame (worlds_of watcher.old.replica) watcher.old.replica.plain) [] (Receives ToSnap))
-        (finish (viewer address watcher.new lines) (answer_line answer)) link.old link.new)
-        (λ end. Stops (LinkActs (links_tell L.coming L.heard L.sent L.counts))
-        (Sending (viewer address watcher.old lines) (snap_frame (worlds_of watcher.old.replica) watcher.old.replica.plain) [] (Receives ToSnap)) end link.old link.new) }
+    ensures talk { (address : List ℕ) (lines : List PlainLine) → GoesOrStops (LinkActs (links_tell L.coming L.heard L.sent L.counts))
+        (Sending (viewer address watcher.old lines) (snap_frame (worlds_of watcher.old.replica) watcher.old.replica.plain) [] (Receives ToSnap)) (λ answer. finish (viewer address watcher.new lines) (answer_line answer)) result link.old link.new }
 {
     let frame = match snap_frame(watcher) {
         Ok(frame) => frame,
@@ -248,12 +236,8 @@ fn snap<R: Wait, L: Link, W: Sink>(
     requires ready { IsReady watcher.old }
     ensures kept { watcher.new ≡ record watcher.old { replica = watcher.new.replica; receives = watcher.new.receives; quiets = watcher.new.quiets } }
     ensures ready { OnOk result (IsReady watcher.new) }
-    ensures talk { (address : List ℕ) (lines : List PlainLine) → MatchResult result
-        (λ _. Goes (Acts (window_tells (output_tells W.written W.faults W.wants) (links_tell L.coming L.heard L.sent L.counts)))
-        (Sending (viewer address watcher.old lines) (snap_frame (worlds_of watcher.old.replica) watcher.old.replica.plain) [] (Receives ToSnap))
-        (run (viewer address watcher.new lines) lines) (window out.old link.old) (window out.new link.new))
-        (λ end. Stops (Acts (window_tells (output_tells W.written W.faults W.wants) (links_tell L.coming L.heard L.sent L.counts)))
-        (Sending (viewer address watcher.old lines) (snap_frame (worlds_of watcher.old.replica) watcher.old.replica.plain) [] (Receives ToSnap)) end (window out.old link.old) (window out.new link.new)) }
+    ensures talk { (address : List ℕ) (lines : List PlainLine) → GoesOrStops (Acts (window_tells (output_tells W.written W.faults W.wants) (links_tell L.coming L.heard L.sent L.counts)))
+        (Sending (viewer address watcher.old lines) (snap_frame (worlds_of watcher.old.replica) watcher.old.replica.plain) [] (Receives ToSnap)) (λ _. run (viewer address watcher.new lines) lines) result (window out.old link.old) (window out.new link.new) }
 {
     let answer = match offer(rt, watcher, link) {
         Ok(answer) => answer,
@@ -323,12 +307,8 @@ pub fn send_and_tell<L: Link, W: Sink>(
     requires ready { IsReady watcher.old }
     ensures kept { watcher.new ≡ record watcher.old { replica = watcher.new.replica; receives = watcher.new.receives; quiets = watcher.new.quiets } }
     ensures ready { OnOk result (IsReady watcher.new) }
-    ensures talk { (address : List ℕ) (lines : List PlainLine) → MatchResult result
-        (λ _. Goes (Acts (window_tells (output_tells W.written W.faults W.wants) (links_tell L.coming L.heard L.sent L.counts)))
-        (send_all (given (viewer address watcher.old lines)) (unsent watcher.old.replica.plain) (Tells (rejoined_text synced)))
-        (run (viewer address watcher.new lines) lines) (window out.old link.old) (window out.new link.new))
-        (λ end. Stops (Acts (window_tells (output_tells W.written W.faults W.wants) (links_tell L.coming L.heard L.sent L.counts)))
-        (send_all (given (viewer address watcher.old lines)) (unsent watcher.old.replica.plain) (Tells (rejoined_text synced))) end (window out.old link.old) (window out.new link.new)) }
+    ensures talk { (address : List ℕ) (lines : List PlainLine) → GoesOrStops (Acts (window_tells (output_tells W.written W.faults W.wants) (links_tell L.coming L.heard L.sent L.counts)))
+        (send_all (given (viewer address watcher.old lines)) (unsent watcher.old.replica.plain) (Tells (rejoined_text synced))) (λ _. run (viewer address watcher.new lines) lines) result (window out.old link.old) (window out.new link.new) }
 {
     match send_unsent(watcher, link) {
         Ok(()) => {}
@@ -403,12 +383,8 @@ fn leave<L: Link, W: Sink>(watcher: &mut Watcher, link: &mut L, out: &mut W) -> 
     requires ready { IsReady watcher.old }
     ensures kept { watcher.new ≡ record watcher.old { receives = watcher.new.receives } }
     ensures ready { OnOk result (IsReady watcher.new) }
-    ensures talk { (address : List ℕ) (lines : List PlainLine) → MatchResult result
-        (λ _. Goes (Acts (window_tells (output_tells W.written W.faults W.wants) (links_tell L.coming L.heard L.sent L.counts)))
-        (leave (viewer address watcher.old lines))
-        (Over ViewEnd.Done) (window out.old link.old) (window out.new link.new))
-        (λ end. Stops (Acts (window_tells (output_tells W.written W.faults W.wants) (links_tell L.coming L.heard L.sent L.counts)))
-        (leave (viewer address watcher.old lines)) end (window out.old link.old) (window out.new link.new)) }
+    ensures talk { (address : List ℕ) (lines : List PlainLine) → GoesOrStops (Acts (window_tells (output_tells W.written W.faults W.wants) (links_tell L.coming L.heard L.sent L.counts)))
+        (leave (viewer address watcher.old lines)) (λ _. Over ViewEnd.Done) result (window out.old link.old) (window out.new link.new) }
 {
     match send(watcher, link, &ClientFrame::Leave) {
         Ok(()) => {}
@@ -449,12 +425,8 @@ fn run_line<R: Wait, L: Link, W: Sink>(
     requires room { watcher.old.published + publishes_one (plain_line line.now) ≤ most_publishes }
     ensures ready { OnOk result (IsReady watcher.new) }
     ensures count { OnOk result (watcher.new.published ≡ watcher.old.published + publishes_one (plain_line line.now)) }
-    ensures talk { (address : List ℕ) (lines : List PlainLine) → MatchResult result
-        (λ flow. Goes (Acts (window_tells (output_tells W.written W.faults W.wants) (links_tell L.coming L.heard L.sent L.counts)))
-        (run (viewer address watcher.old (plain_line line.now ∷ lines)) (plain_line line.now ∷ lines))
-        (flow_phase (viewer address watcher.new lines) lines flow) (window out.old link.old) (window out.new link.new))
-        (λ end. Stops (Acts (window_tells (output_tells W.written W.faults W.wants) (links_tell L.coming L.heard L.sent L.counts)))
-        (run (viewer address watcher.old (plain_line line.now ∷ lines)) (plain_line line.now ∷ lines)) end (window out.old link.old) (window out.new link.new)) }
+    ensures talk { (address : List ℕ) (lines : List PlainLine) → GoesOrStops (Acts (window_tells (output_tells W.written W.faults W.wants) (links_tell L.coming L.heard L.sent L.counts)))
+        (run (viewer address watcher.old (plain_line line.now ∷ lines)) (plain_line line.now ∷ lines)) (λ flow. flow_phase (viewer address watcher.new lines) lines flow) result (window out.old link.old) (window out.new link.new) }
 {
     match line {
         ViewLine::Publish {
@@ -497,12 +469,8 @@ pub fn run_lines<R: Wait, L: Link, W: Sink>(
     requires room { HasRoomFor watcher.old (plain_lines lines.now) }
     ensures knows { OnOk result (KnowsItself watcher.new) }
     ensures room { IfOk result (λ departure. HasRoomBehind departure watcher.new (plain_lines lines.now)) }
-    ensures talk { (address : List ℕ) → MatchResult result
-        (λ departure. Goes (Acts (window_tells (output_tells W.written W.faults W.wants) (links_tell L.coming L.heard L.sent L.counts)))
-        (run (viewer address watcher.old (plain_lines lines.now)) (plain_lines lines.now))
-        (departure_phase (viewer address watcher.new) (plain_lines lines.now) departure) (window out.old link.old) (window out.new link.new))
-        (λ end. Stops (Acts (window_tells (output_tells W.written W.faults W.wants) (links_tell L.coming L.heard L.sent L.counts)))
-        (run (viewer address watcher.old (plain_lines lines.now)) (plain_lines lines.now)) end (window out.old link.old) (window out.new link.new)) }
+    ensures talk { (address : List ℕ) → GoesOrStops (Acts (window_tells (output_tells W.written W.faults W.wants) (links_tell L.coming L.heard L.sent L.counts)))
+        (run (viewer address watcher.old (plain_lines lines.now)) (plain_lines lines.now)) (λ departure. departure_phase (viewer address watcher.new) (plain_lines lines.now) departure) result (window out.old link.old) (window out.new link.new) }
 {
     for place in 0..lines.len() {
         match run_line(rt, watcher, &lines[place], link, out) {

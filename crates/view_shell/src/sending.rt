@@ -1,5 +1,5 @@
 //! Frames that a view sends.
-ghost use Rattle.std.specs.Prelude.{◌≡◌, ℕ, List, [], ◌∷◌, ◌==◌, ◌≤◌, ◌<◌, ◌^◌, length, IfOk, OnOk, IsTrue, MatchResult};
+ghost use Rattle.std.specs.Prelude.{◌≡◌, ℕ, List, [], ◌∷◌, ◌==◌, ◌≤◌, ◌<◌, ◌^◌, length, IfOk, OnOk, IsTrue};
 ghost use Rattle.wire_frames.specs.declared.frame.ClientFrame.{ClientFrame as Frame};
 ghost use Rattle.wire_frames.specs.declared.frame.ClientFrame.TheVariants.{Alive};
 ghost use Rattle.wire_frames.specs.Frames.{FitsClient};
@@ -10,7 +10,7 @@ ghost use Rattle.replica.specs.View.{with_plain};
 ghost use Rattle.view_script.specs.PlainLine.{PlainLine};
 ghost use Rattle.view_shell.specs.Phases.{Sending, Task, Viewer, go_on, send_all, given};
 ghost use Rattle.view_shell.specs.Viewers.{HasHeard, IsReady, viewer};
-ghost use Rattle.view_shell.specs.ViewRun.{Goes, LinkActs, Stops};
+ghost use Rattle.view_shell.specs.ViewRun.{GoesOrStops, LinkActs};
 
 use crate::ending::ViewEnd;
 use crate::watcher::Watcher;
@@ -63,10 +63,8 @@ pub fn send<L: Link>(
 ) -> Result<(), ViewEnd>
     ensures kept { watcher.new ≡ record watcher.old { receives = watcher.new.receives } }
     ensures sent { OnOk result (watcher.new.receives ≡ 0) }
-    ensures talk { (v : Viewer) (frames : List Frame) (task : Task) → MatchResult result
-        (λ _. Goes (LinkActs (links_tell L.coming L.heard L.sent L.counts))
-        (Sending v frame.now frames task) (send_all (record v { receives = 0 }) frames task) link.old link.new)
-        (λ end. Stops (LinkActs (links_tell L.coming L.heard L.sent L.counts)) (Sending v frame.now frames task) end link.old link.new) }
+    ensures talk { (v : Viewer) (frames : List Frame) (task : Task) → GoesOrStops (LinkActs (links_tell L.coming L.heard L.sent L.counts))
+        (Sending v frame.now frames task) (λ _. send_all (record v { receives = 0 }) frames task) result link.old link.new }
 {
     let bytes = match spelling(watcher.alloc, frame) {
         Ok(bytes) => bytes,
@@ -90,10 +88,8 @@ pub fn send_all<L: Link>(
 ) -> Result<(), ViewEnd>
     ensures kept { watcher.new ≡ record watcher.old { receives = watcher.new.receives } }
     ensures ready { IsReady watcher.old → OnOk result (IsReady watcher.new) }
-    ensures talk { (v : Viewer) (task : Task) → v.receives ≡ watcher.old.receives → MatchResult result
-        (λ _. Goes (LinkActs (links_tell L.coming L.heard L.sent L.counts))
-        (send_all v frames.now task) (send_all (record v { receives = watcher.new.receives }) [] task) link.old link.new)
-        (λ end. Stops (LinkActs (links_tell L.coming L.heard L.sent L.counts)) (send_all v frames.now task) end link.old link.new) }
+    ensures talk { (v : Viewer) (task : Task) → v.receives ≡ watcher.old.receives → GoesOrStops (LinkActs (links_tell L.coming L.heard L.sent L.counts))
+        (send_all v frames.now task) (λ _. send_all (record v { receives = watcher.new.receives }) [] task) result link.old link.new }
 {
     for frame in frames {
         match send(watcher, link, frame) {
@@ -109,12 +105,8 @@ pub fn send_unsent<L: Link>(watcher: &mut Watcher, link: &mut L) -> Result<(), V
     ensures kept { watcher.new ≡ record watcher.old { receives = watcher.new.receives; replica = watcher.new.replica } }
     ensures replica { OnOk result (watcher.new.replica ≡ with_plain watcher.old.replica (gives watcher.old.replica.plain)) }
     ensures ready { IsReady watcher.old → OnOk result (IsReady watcher.new) }
-    ensures talk { (address : List ℕ) (lines : List PlainLine) (task : Task) → MatchResult result
-        (λ _. Goes (LinkActs (links_tell L.coming L.heard L.sent L.counts))
-        (send_all (given (viewer address watcher.old lines)) (unsent watcher.old.replica.plain) task)
-        (send_all (viewer address watcher.new lines) [] task) link.old link.new)
-        (λ end. Stops (LinkActs (links_tell L.coming L.heard L.sent L.counts))
-        (send_all (given (viewer address watcher.old lines)) (unsent watcher.old.replica.plain) task) end link.old link.new) }
+    ensures talk { (address : List ℕ) (lines : List PlainLine) (task : Task) → GoesOrStops (LinkActs (links_tell L.coming L.heard L.sent L.counts))
+        (send_all (given (viewer address watcher.old lines)) (unsent watcher.old.replica.plain) task) (λ _. send_all (viewer address watcher.new lines) [] task) result link.old link.new }
 {
     let frames = match watcher.replica.unsent() {
         Ok(frames) => frames,
@@ -131,10 +123,8 @@ pub fn stay_alive<L: Link>(watcher: &mut Watcher, link: &mut L) -> Result<(), Vi
     requires heard { HasHeard watcher.old }
     ensures kept { watcher.new ≡ record watcher.old { receives = watcher.new.receives } }
     ensures ready { OnOk result (IsReady watcher.new) }
-    ensures talk { (v : Viewer) (frames : List Frame) (task : Task) → v.receives ≡ watcher.old.receives → MatchResult result
-        (λ _. Goes (LinkActs (links_tell L.coming L.heard L.sent L.counts))
-        (go_on v frames task) (send_all (record v { receives = watcher.new.receives }) frames task) link.old link.new)
-        (λ end. Stops (LinkActs (links_tell L.coming L.heard L.sent L.counts)) (go_on v frames task) end link.old link.new) }
+    ensures talk { (v : Viewer) (frames : List Frame) (task : Task) → v.receives ≡ watcher.old.receives → GoesOrStops (LinkActs (links_tell L.coming L.heard L.sent L.counts))
+        (go_on v frames task) (λ _. send_all (record v { receives = watcher.new.receives }) frames task) result link.old link.new }
 {
     if watcher.receives != MOST_RECEIVES {
         return Ok(());

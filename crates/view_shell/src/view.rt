@@ -8,7 +8,7 @@ ghost use Rattle.view_script.specs.PlainLine.{LineFits, PlainLine, plain_lines};
 ghost use Rattle.view_shell.specs.Phases.{Connecting, ToJoin, enter, run};
 ghost use Rattle.view_shell.specs.Viewers.{HasRoomBehind, HasRoomFor, IsReady, KnowsItself, first_phase, viewer};
 ghost use Rattle.view_shell.specs.Flows.{bad_base_answer, departure_phase};
-ghost use Rattle.view_shell.specs.ViewRun.{Goes, LinkActs, Stops, ViewRan};
+ghost use Rattle.view_shell.specs.ViewRun.{Goes, GoesOrStops, LinkActs, ViewRan};
 ghost use Rattle.view_shell.specs.Hearing.{StopsHearing, synced_phase};
 
 use crate::ending::ViewEnd;
@@ -91,11 +91,8 @@ fn begin<L: Link, W: Sink>(
     requires ready { IsReady watcher.old }
     ensures ready { OnOk result (IsReady watcher.new) }
     ensures published { watcher.new.published ≡ watcher.old.published }
-    ensures talk { (address : List ℕ) (lines : List PlainLine) → MatchResult result
-        (λ _. Goes (Acts (window_tells (output_tells W.written W.faults W.wants) (links_tell L.coming L.heard L.sent L.counts)))
-        (synced_phase (viewer address watcher.old lines) how found) (run (viewer address watcher.new lines) lines) (window out.old link.old) (window out.new link.new))
-        (λ end. Stops (Acts (window_tells (output_tells W.written W.faults W.wants) (links_tell L.coming L.heard L.sent L.counts)))
-        (synced_phase (viewer address watcher.old lines) how found) end (window out.old link.old) (window out.new link.new)) }
+    ensures talk { (address : List ℕ) (lines : List PlainLine) → GoesOrStops (Acts (window_tells (output_tells W.written W.faults W.wants) (links_tell L.coming L.heard L.sent L.counts)))
+        (synced_phase (viewer address watcher.old lines) how found) (λ _. run (viewer address watcher.new lines) lines) result (window out.old link.old) (window out.new link.new) }
 {
     match how {
         How::Fresh | How::Whole => Ok(()),
@@ -119,12 +116,8 @@ fn attend<R: Wait, L: Link, W: Sink>(
     requires room { HasRoomFor watcher.old (plain_lines entry.now.lines.now) }
     ensures knows { OnOk result (KnowsItself watcher.new) }
     ensures room { IfOk result (λ departure. HasRoomBehind departure watcher.new (plain_lines entry.now.lines.now)) }
-    ensures talk { (address : List ℕ) → MatchResult result
-        (λ departure. Goes (Acts (window_tells (output_tells W.written W.faults W.wants) (links_tell L.coming L.heard L.sent L.counts)))
-        (enter (viewer address watcher.old (plain_lines entry.now.lines.now)) entry.now.how)
-        (departure_phase (viewer address watcher.new) (plain_lines entry.now.lines.now) departure) (window out.old link.old) (window out.new link.new))
-        (λ end. Stops (Acts (window_tells (output_tells W.written W.faults W.wants) (links_tell L.coming L.heard L.sent L.counts)))
-        (enter (viewer address watcher.old (plain_lines entry.now.lines.now)) entry.now.how) end (window out.old link.old) (window out.new link.new)) }
+    ensures talk { (address : List ℕ) → GoesOrStops (Acts (window_tells (output_tells W.written W.faults W.wants) (links_tell L.coming L.heard L.sent L.counts)))
+        (enter (viewer address watcher.old (plain_lines entry.now.lines.now)) entry.now.how) (λ departure. departure_phase (viewer address watcher.new) (plain_lines entry.now.lines.now) departure) result (window out.old link.old) (window out.new link.new) }
 {
     let found = match join(rt, watcher, link, entry.how) {
         Ok(found) => found,

@@ -2,7 +2,7 @@ use Rattle.std.proofs.Common.{Bool, ◌∙◌, refl, subst, sym, ap}
 use Rattle.model_lang.specs.TreeView.{program_tree}
 use Rattle.replica.specs.View.{ReplicaView}
 use Rattle.drill.specs.declared.worker.Worker.{Worker}
-use Rattle.drill.proofs.Asks.{with_replica}
+use Rattle.drill.proofs.Asks.{worker_with}
 use Rattle.drill.proofs.Pulls.{asked_behind, batch_follows, has_taken_more, pull_comes, pull_fine, pull_keeps, pull_passes, pull_works}
 use Rattle.session_lock.specs.History.{play}
 use Rattle.drill.specs.Turns.{HasCome}
@@ -28,8 +28,8 @@ returns-clause-worker g c =
     let asked = asked_behind _ _ _ _ _ _ c.after.result c.args.cursor.now c.in_ok-batch.batch c.in_ok-batch.ensures.asked c.after.ensures in
     let same = ap (λ (w : Worker). w.replica) c.in_ok-batch.ensures.pass in
     let keeps = pull_keeps _ _ _ _ _ _ c.args.self.now.replica c.args.cursor.now c.in_ok-batch.batch asked c.requires.works laws c.take_all.new.replica _ (c.as_slice.ensures ∙ c.in_ok-frames.ensures.frames) (rw same at c.in_ok-take_all.ensures) in
-    with_replica _ _ _ c.ask.new.self c.take_all.new.replica c.in_ok-batch.ensures.worker
-    (rw same (ap (λ (r : ReplicaView). r.program) keeps.0)) (rw same (ap (λ (r : ReplicaView). r.id) keeps.0)) (rw same keeps.1.view)
+    worker_with _ _ _ c.ask.new.self c.ask.new.self.source c.take_all.new.replica
+    (rw same (ap (λ (r : ReplicaView). r.program) keeps.0)) (rw same (ap (λ (r : ReplicaView). r.id) keeps.0)) (rw same keeps.1.view) c.in_ok-batch.ensures.worker
 
 pub returns-clause-more : goal.returns-clause-more
 returns-clause-more g c =
