@@ -1,5 +1,5 @@
 //! The command `check`: how many classes and methods a program has, or its first fault.
-ghost use Rattle.std.specs.Prelude.{◌≡◌, ◌<◌, ℕ, IfOk, string_bytes};
+ghost use Rattle.std.specs.Prelude.{◌≡◌, ◌<◌, IfOk, string_bytes};
 ghost use Rattle.model_lang.specs.Bounds.{ProgramFits};
 ghost use Rattle.model_lang.specs.TreeView.{program_tree};
 ghost use Rattle.commands.specs.PrintedText.{counts_line, method_count};

@@ -1,7 +1,7 @@
 //! Programs, read from their texts and checked.
 ghost use Rattle.std.specs.Prelude.{◌≡◌, [], ◌∷◌, ◌++◌, IfOk, codes};
 ghost use Rattle.text_lines.specs.Lines.{numbered};
-ghost use Rattle.commands.specs.PrintedText.{bound_word, check_line, named_line};
+ghost use Rattle.commands.specs.PrintedText.{bound_word, named_line};
 ghost use Rattle.commands.specs.declared.program.ProgramFault.TheVariants.{WantOfMemory};
 ghost use Rattle.commands.specs.Work.{IsUnread, IsUnsound, ProgramEnd};
 

@@ -1,5 +1,5 @@
 //! The visit of a view to a session: the command `join`.
-ghost use Rattle.std.specs.Prelude.{◌≡◌, ◌<◌, ◌≤◌, IfOk};
+ghost use Rattle.std.specs.Prelude.{◌<◌, IfOk};
 ghost use Rattle.model_lang.specs.TreeView.{program_tree};
 ghost use Rattle.view_script.specs.ViewScript.{view_script_of};
 ghost use Rattle.commands.specs.CommandWords.{IsBoundedJoin};

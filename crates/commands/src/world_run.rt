@@ -1,6 +1,5 @@
 //! A world that goes on over the entries of a log.
 ghost use Rattle.std.specs.Prelude.{◌≡◌, ◌<◌, ◌≤◌, ◌-◌, length, slice_get, false, Some, IfOk, OnOk};
-ghost use Rattle.std.specs.Arc.{arc_value};
 ghost use Rattle.std.specs.Option.{IfSome, option_map};
 ghost use Rattle.tea_base.specs.Legal.{IsLegal};
 ghost use Rattle.model_check.specs.Methods.{field_counts};

@@ -1,5 +1,5 @@
 //! From a world to the line that tells it.
-ghost use Rattle.std.specs.Prelude.{◌≡◌, ◌++◌, string_bytes, ◌∷◌, [], codes, sum, IfOk};
+ghost use Rattle.std.specs.Prelude.{◌≡◌, string_bytes, ◌∷◌, [], codes, sum, IfOk};
 ghost use Rattle.world_plain.specs.World.{world_record};
 ghost use Rattle.text_lines.specs.Lines.{numbered};
 ghost use Rattle.commands.specs.PrintedText.{counts_part, digest_part, digested_line};

@@ -1,5 +1,5 @@
 -- Talks from the first frame to the end.
-use Rattle.std.proofs.Common.{◌≡◌, ◌⊎◌, inl, inr, ℕ, ◌-◌, List, [], ◌∷◌, ◌++◌, map, slice_get, Option, Some, None, refl, sym, ap, ◌∙◌, subst}
+use Rattle.std.proofs.Common.{◌≡◌, inl, inr, ℕ, ◌-◌, List, [], ◌∷◌, ◌++◌, map, slice_get, Option, Some, None, refl, sym, ap, ◌∙◌, subst}
 use Rattle.std.specs.List.{AllByRecursion}
 use Rattle.std.proofs.lemmas.List.{append-nil}
 use Rattle.tea_base.specs.declared.entry.Entry.{Entry}
@@ -14,7 +14,7 @@ use Rattle.wire_frames.specs.declared.frame.ServerFrame.TheVariants.{Sync, Recv,
 use Rattle.reflector_core.specs.Play.{first_session}
 use Rattle.reflector_core.proofs.SoundLaws.{IsSoundSession-first}
 use Rattle.session_lock.specs.declared.knowledge.Item.{Item}
-use Rattle.session_lock.specs.History.{calls_of, play, IsSoundThrough}
+use Rattle.session_lock.specs.History.{calls_of, play}
 use Rattle.session_lock.specs.Passes.{PassState, caller}
 use Rattle.connection.specs.declared.ending.Ended.{Ended}
 use Rattle.connection.specs.Exchanges.{Exchange, exchanges_in, IsAskedInTime}

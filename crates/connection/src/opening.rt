@@ -1,16 +1,14 @@
 //! The first frame of a connection.
-ghost use Rattle.std.specs.Prelude.{◌≡◌, ℕ, List, [], ◌∷◌, Option, Some, None, IfOk, MatchResult};
-ghost use Rattle.reflector_core.specs.Growth.{GrowsTo};
+ghost use Rattle.std.specs.Prelude.{◌≡◌, ℕ, List, Option, Some, IfOk, MatchResult};
 ghost use Rattle.session_lock.specs.History.{play};
 ghost use Rattle.session_lock.specs.Passes.{PassState};
 ghost use Rattle.byte_fields.specs.Fields.{whole};
 ghost use Rattle.wire_frames.specs.Reading.{client_at};
 ghost use Rattle.system_plain.specs.Steps.{joined_view};
-ghost use Rattle.join_sync.specs.Answers.{first_cursor, join_answer};
 ghost use Rattle.wire_frames.specs.declared.frame.ServerFrame.{ServerFrame};
 ghost use Rattle.reflector_core.specs.declared.request.Reply.{Reply};
 ghost use Rattle.connection.specs.Exchanges.{Answered, IsAskedInTime};
-ghost use Rattle.connection.specs.Phases.{Joining, Opening, Over, Reading, Ticking, entered_phase, greeted_phase};
+ghost use Rattle.connection.specs.Phases.{Joining, Opening, Over, Reading, Ticking, greeted_phase};
 ghost use Rattle.connection.specs.Standing.{IsJoin, IsStanding};
 ghost use Rattle.connection.specs.Talk.{TalksOn, TalksOrHalts, account, link_account};
 

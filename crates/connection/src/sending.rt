@@ -1,5 +1,5 @@
 //! Frames that go to a link.
-ghost use Rattle.std.specs.Prelude.{◌≡◌, ◌<◌, ◌^◌, length, List, Some, IfOk, IsTrue, [], ◌∷◌, ◌++◌};
+ghost use Rattle.std.specs.Prelude.{◌≡◌, ◌<◌, ◌^◌, length, List, Some, IfOk, IsTrue, [], ◌∷◌};
 ghost use Rattle.tea_io.specs.Links.{NoneFalls, SendCause};
 ghost use Rattle.entry_fields.specs.Spelling.{FitsWhat};
 ghost use Rattle.wire_frames.specs.Frames.{FitsServer, IsServerFrame};

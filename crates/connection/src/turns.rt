@@ -1,10 +1,9 @@
 //! The turns of a connection whose view has joined.
-ghost use Rattle.std.specs.Prelude.{◌≡◌, ◌<◌, ℕ, List, [], ◌∷◌, Option, Some, None, IfOk, IsOk};
+ghost use Rattle.std.specs.Prelude.{◌≡◌, ◌<◌, ℕ, List, Option, Some, None, IfOk};
 ghost use Rattle.byte_fields.specs.Fields.{whole};
 ghost use Rattle.wire_frames.specs.Reading.{client_at};
 ghost use Rattle.wire_frames.specs.declared.frame.ServerFrame.{ServerFrame};
 ghost use Rattle.reflector_core.specs.Growth.{GrowsTo};
-ghost use Rattle.reflector_core.specs.PlainSession.{PlainSession};
 ghost use Rattle.session_lock.specs.History.{play};
 ghost use Rattle.session_lock.specs.Passes.{PassState};
 ghost use Rattle.join_sync.specs.Requests.{IsOfFrame};

@@ -1,5 +1,5 @@
 //! The words, the files, the clock and the standard output of the system. They tell no content, only how often they failed.
-ghost use Rattle.std.specs.Prelude.{◌≡◌, ℕ, ⊤, None, IfOk, IfErr};
+ghost use Rattle.std.specs.Prelude.{◌≡◌, ⊤, None, IfOk, IfErr};
 ghost use Rattle.tea_io.specs.declared.files.FileFault.TheVariants.{Failed};
 ghost use Rattle.tea_io.specs.Files.{Untold, FileCause};
 ghost use Rattle.croquet_main.specs.System.{IsCounted, IsWithin};

@@ -1,18 +1,13 @@
 -- What a call of a worker's pass comes to.
-use Rattle.std.proofs.Common.{IfOk, OnOk, MatchResult, Result, Ok, Err, ◌≡◌, ◌≤◌, ℕ, true, false, List, [], ◌∷◌, ◌++◌, length, slice_index, refl, sym, ap, ◌∙◌, subst, arith}
+use Rattle.std.proofs.Common.{IfOk, OnOk, MatchResult, Result, Ok, Err, ◌≡◌, ℕ, List, [], ◌∷◌, ◌++◌, slice_index, sym, ap, ◌∙◌, subst}
 use Rattle.std.specs.List.{AllByRecursion}
-use Rattle.std.specs.Arc.{arc_value}
-use Rattle.model_lang.specs.TreeView.{program_tree}
 use Rattle.tea_base.specs.declared.want.WantOfMemory.{WantOfMemory}
-use Rattle.reflector_core.specs.PlainSession.{PlainSession, IsSoundSession}
-use Rattle.reflector_core.specs.Answer.{answer}
-use Rattle.reflector_core.specs.Growth.{GrowsTo}
 use Rattle.reflector_core.specs.Play.{first_session}
 use Rattle.reflector_core.specs.declared.request.Request.{Request}
 use Rattle.reflector_core.specs.declared.request.Reply.{Reply}
 use Rattle.session_lock.specs.declared.knowledge.Item.{Item}
 use Rattle.session_lock.specs.declared.knowledge.Item.TheVariants.{Did}
-use Rattle.session_lock.specs.History.{IsSoundThrough, Saw, calls_of, play}
+use Rattle.session_lock.specs.History.{IsSoundThrough, Saw, play}
 use Rattle.session_lock.specs.Passes.{Grew, PassState, Replied, Voided, SharedState, caller, numbers_held, own_calls}
 use Rattle.session_lock.proofs.Histories.{history_grows, play_snoc, sound_end, sound_first}
 use Rattle.replica.specs.View.{ReplicaView}

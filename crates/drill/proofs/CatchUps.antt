@@ -1,11 +1,11 @@
 -- A worker takes batch after batch.
-use Rattle.std.proofs.Common.{◌≡◌, ◌⊎◌, inl, inr, ◌≤◌, ◌<◌, ◌+◌, ◌*◌, ℕ, Bool, true, false, length, refl, sym, ap, ◌∙◌, subst, arith}
-use Rattle.reflector_core.specs.PlainSession.{PlainSession, IsSoundSession}
+use Rattle.std.proofs.Common.{◌≡◌, ◌⊎◌, inl, inr, ◌≤◌, ◌<◌, ◌+◌, ◌*◌, ℕ, false, length, refl, sym, ap, ◌∙◌, subst, arith}
+use Rattle.reflector_core.specs.PlainSession.{IsSoundSession}
 use Rattle.reflector_core.specs.Play.{first_session}
 use Rattle.reflector_core.specs.declared.request.Request.TheVariants as request
 use Rattle.reflector_core.specs.declared.request.Reply.{Reply}
 use Rattle.join_sync.specs.declared.cursor.Cursor.{Cursor}
-use Rattle.session_lock.specs.History.{IsSoundThrough, play}
+use Rattle.session_lock.specs.History.{play}
 use Rattle.session_lock.specs.Passes.{PassState, SharedState}
 use Rattle.session_lock.proofs.Histories.{sound_end}
 use Rattle.replica.specs.View.{ReplicaView}
@@ -13,9 +13,9 @@ use Rattle.system_plain.proofs.Sessions.{Grows-legal}
 use Rattle.drill.specs.declared.size.Size.{Size}
 use Rattle.drill.specs.declared.trust.TrustReplay.{TrustReplay}
 use Rattle.drill.specs.declared.worker.Worker.{Worker}
-use Rattle.drill.specs.Turns.{HasCome, HasTakenMore, KeepsConnection, KeepsEvents}
+use Rattle.drill.specs.Turns.{HasCome, HasTakenMore, KeepsEvents}
 use Rattle.drill.specs.Workers.{HasAsked, HasPassed, IsWorker, KeepsSource}
-use Rattle.drill.specs.Working.{IsCaughtUp, Works}
+use Rattle.drill.specs.Working.{Works}
 use Rattle.drill.proofs.Passing.{has_passed, passes_on}
 use Rattle.drill.proofs.Requests.{tick_log}
 use Rattle.drill.proofs.Workers.{works_grow}

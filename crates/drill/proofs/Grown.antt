@@ -21,12 +21,10 @@ use Rattle.replica_plain.specs.PlainReplica.{PlainReplica}
 use Rattle.replica.specs.View.{ReplicaView, with_plain}
 use Rattle.system_plain.proofs.Sessions.{Grows-answer, Grows-legal}
 use Rattle.drill.specs.declared.trust.TrustReplay.{TrustReplay}
-use Rattle.drill.specs.declared.size.Size.{Size}
-use Rattle.drill.specs.declared.worker.Worker.{Worker}
 use Rattle.drill.specs.Asking.{IsDrillHistory, entries_asked}
 use Rattle.drill.specs.Doing.{HasBase, HasSent, KeepsFrom, WasSentBy}
 use Rattle.drill.specs.Drilled.{entries_of}
-use Rattle.drill.specs.Workers.{HasAsked, IsWorker}
+use Rattle.drill.specs.Workers.{HasAsked}
 use Rattle.drill.specs.Working.{IsCaughtUp, Works}
 use Rattle.drill.proofs.Histories.{HasRoom, by_grown, has_room, kept_on, sent_grown}
 use Rattle.drill.proofs.Passing.{asked_more}

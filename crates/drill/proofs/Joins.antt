@@ -1,5 +1,5 @@
 -- A worker joins, and its replica takes the Sync.
-use Rattle.std.proofs.Common.{◌≡◌, ◌≤◌, ◌<◌, ◌+◌, ◌⊎◌, inl, inr, IfSome, ℕ, Bool, true, false, cond, eqb, not, nat_le, nat_lt, ◌&&◌, List, [], ◌∷◌, ◌++◌, length, length-append, Option, Some, None, Result, Ok, Err, refl, sym, ap, ◌∙◌, subst, arith}
+use Rattle.std.proofs.Common.{◌≡◌, ◌≤◌, ◌<◌, ◌⊎◌, inl, inr, IfSome, ℕ, Bool, true, false, cond, eqb, not, nat_le, nat_lt, ◌&&◌, List, [], ◌∷◌, length, length-append, Option, Some, None, refl, sym, ap, ◌∙◌, subst, arith}
 use Rattle.std.proofs.lemmas.Bool.Decides.{nat_tests}
 use Rattle.std.specs.Arc.{arc_value}
 use Rattle.tea_base.specs.declared.entry.Entry.{Entry}
@@ -8,17 +8,16 @@ use Rattle.tea_base.specs.Limits.{end_of_time, most_here}
 use Rattle.tea_base.proofs.LogLaws.{TimesRise-legal}
 use Rattle.wire_frames.proofs.Times.{all_until}
 use Rattle.session_log.specs.LogState.{next_entry}
-use Rattle.tea_base.specs.Readings.{count_until, here_count, is_here, last_number}
+use Rattle.tea_base.specs.Readings.{count_until, here_count, is_here}
 use Rattle.wire_frames.specs.declared.start.Base.{Base}
 use Rattle.wire_frames.specs.declared.start.Want.{Want}
 use Rattle.wire_frames.specs.declared.start.Want.TheVariants as want
-use Rattle.wire_frames.specs.declared.frame.ServerFrame.{ServerFrame}
 use Rattle.wire_frames.specs.declared.frame.ServerFrame.TheVariants.{Sync}
-use Rattle.wire_frames.specs.Served.{BeginsFor, Place}
+use Rattle.wire_frames.specs.Served.{BeginsFor}
 use Rattle.reflector_core.specs.declared.request.Request.TheVariants as request
 use Rattle.reflector_core.specs.declared.request.Reply.{Reply}
 use Rattle.reflector_core.specs.declared.request.Reply.TheVariants as reply
-use Rattle.reflector_core.specs.Answer.{SessionOutcome, answer, base_for, from_for, is_ahead, is_closed, join, stamp}
+use Rattle.reflector_core.specs.Answer.{SessionOutcome, answer, from_for, is_ahead, is_closed, join, stamp}
 use Rattle.reflector_core.specs.PlainSession.{IsSoundSession, PlainSession}
 use Rattle.join_sync.specs.declared.cursor.Cursor.{Cursor}
 use Rattle.join_sync.specs.Answers.{first_cursor}
@@ -33,18 +32,17 @@ use Rattle.replica_plain.specs.declared.how.How.TheVariants.{Fresh, Whole, Resum
 use Rattle.replica_plain.specs.Worlds.{Worlds, AreWorlds, IsHonest, replay_world}
 use Rattle.replica_plain.specs.PlainReplica.{PlainReplica, published_count}
 use Rattle.replica_plain.specs.Calls.{join_want, joining}
-use Rattle.replica_plain.specs.Taking.{Taken, begins_with, begins_with_world, faults, out_of_order, take_sync, taken}
-use Rattle.replica_plain.specs.Following.{FollowsLog, IsHonestBase, MayJoin}
-use Rattle.replica_plain.proofs.FrameSteps.{StandsAt}
+use Rattle.replica_plain.specs.Taking.{Taken, begins_with, out_of_order, taken}
+use Rattle.replica_plain.specs.Following.{IsHonestBase, MayJoin}
 use Rattle.replica_plain.proofs.SyncSteps.{SyncBegins, sync_begins}
 use Rattle.replica.specs.View.{ReplicaView, with_plain, worlds_of}
 use Rattle.system_plain.proofs.FactsGrow.{base_grows, follows_log_grows}
 use Rattle.system_plain.proofs.Openings.{based_on, begins_for, begins_later}
 use Rattle.system_plain.proofs.Sessions.{Grows, Grows-answer, IsBasedBy, kept_is_based}
 use Rattle.drill.specs.declared.trust.TrustReplay.{TrustReplay}
-use Rattle.drill.specs.Taking.{HasTaken, IsFine, after}
+use Rattle.drill.specs.Taking.{IsFine, after}
 use Rattle.drill.specs.Trust.{AllowsReplay}
-use Rattle.drill.specs.Turns.{KeepsEvents, MayJoinBy, TakesSync, base_after}
+use Rattle.drill.specs.Turns.{MayJoinBy}
 use Rattle.drill.specs.Workers.{IsTrustedReplay}
 use Rattle.drill.specs.Working.{Works}
 use Rattle.drill.proofs.Catching.{count_until-few}

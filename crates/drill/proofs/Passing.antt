@@ -1,20 +1,18 @@
 -- Calls that put nothing into the log, one after the other.
-use Rattle.std.proofs.Common.{◌≡◌, ◌⊎◌, inl, inr, ◌≤◌, ◌<◌, ◌+◌, ◌*◌, ℕ, true, false, Bool, List, [], ◌∷◌, ◌++◌, length, refl, sym, ap, ◌∙◌, subst, arith}
-use Rattle.tea_base.specs.declared.entry.Entry.{Entry}
-use Rattle.reflector_core.specs.PlainSession.{PlainSession, IsSoundSession}
+use Rattle.std.proofs.Common.{◌≡◌, ◌+◌, ℕ, List, [], ◌∷◌, ◌++◌, refl, sym, ap, ◌∙◌, subst, arith}
+use Rattle.reflector_core.specs.PlainSession.{PlainSession}
 use Rattle.reflector_core.specs.Answer.{answer}
 use Rattle.reflector_core.specs.Growth.{GrowsTo}
 use Rattle.reflector_core.specs.SessionState.{entries_used}
 use Rattle.reflector_core.specs.declared.request.Request.{Request}
 use Rattle.reflector_core.specs.declared.request.Reply.{Reply}
 use Rattle.reflector_core.proofs.GrowthLaws.{GrowsTo-answer, GrowsTo-same, GrowsTo-then}
-use Rattle.wire_frames.specs.declared.start.Base.{Base}
 use Rattle.session_lock.specs.declared.knowledge.Item.{Item}
 use Rattle.session_lock.specs.declared.knowledge.Item.TheVariants.{Did, Void}
 use Rattle.session_lock.specs.History.{play}
 use Rattle.session_lock.specs.Passes.{PassState, SharedState, own_calls}
 use Rattle.drill.specs.declared.trust.TrustReplay.{TrustReplay}
-use Rattle.drill.specs.Asking.{IsDrillHistory, entries_asked}
+use Rattle.drill.specs.Asking.{entries_asked}
 use Rattle.drill.specs.Doing.{KeepsFrom}
 use Rattle.drill.specs.Drilled.{entries_of}
 use Rattle.drill.specs.Workers.{GoesOn, HasAsked, HasPassed}

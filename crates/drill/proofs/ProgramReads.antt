@@ -1,6 +1,6 @@
 -- The text of the drill is a program, and has no fault: both by what readers compute of it.
 use Rattle.std.specs.Str.{chars, is_utf8}
-use Rattle.std.proofs.Common.{true, ◌≢◌, ◌≡◌, ℕ, zero, suc, List, [], ◌∷◌, ◌++◌, length, Option, Some, None, refl, subst, arith}
+use Rattle.std.proofs.Common.{true, ◌≢◌, ◌≡◌, ℕ, zero, suc, List, [], ◌∷◌, ◌++◌, Option, Some, None, refl, subst, arith}
 use Rattle.std.proofs.Math.Dec.{leb}
 use Rattle.std.proofs.lemmas.Bool.{leb-true}
 use Rattle.model_tokens.specs.declared.token.Token.{Token}
@@ -10,7 +10,6 @@ use Rattle.model_tokens.proofs.Steps.{piece_before}
 use Rattle.model_lang.specs.Tree.{ProgramTree}
 use Rattle.model_lang.specs.Reader.{read_operator_line, read_program}
 use Rattle.model_lang.specs.Bounds.{most_nested, greatest, brackets_after, operators_after, first_excess}
-use Rattle.model_lang.specs.Program.{IsRead}
 use Rattle.model_lang.proofs.Whole.{are_spelled}
 use Rattle.model_check.specs.Answer.{IsFirstFault}
 use Rattle.model_check.specs.Faults.{first_of, faults_of_program}

@@ -1,9 +1,7 @@
 -- A worker pulls a batch.
-use Rattle.std.proofs.Common.{IfOk, OnOk, Result, Ok, Err, ◌≡◌, ◌⊎◌, inl, inr, ◌≤◌, ◌<◌, ◌+◌, ℕ, Bool, true, false, List, Option, is_some, length, refl, sym, ap, ◌∙◌, subst, arith}
-use Rattle.tea_base.specs.declared.entry.Entry.{Entry}
+use Rattle.std.proofs.Common.{◌≡◌, ℕ, List, refl, sym, ap, ◌∙◌, subst}
 use Rattle.wire_frames.specs.declared.frame.ServerFrame.{ServerFrame}
-use Rattle.reflector_core.specs.PlainSession.{PlainSession, IsSoundSession}
-use Rattle.reflector_core.specs.Answer.{answer, pull}
+use Rattle.reflector_core.specs.PlainSession.{PlainSession}
 use Rattle.reflector_core.specs.declared.request.Request.TheVariants as request
 use Rattle.reflector_core.specs.declared.request.Reply.{Reply}
 use Rattle.reflector_core.specs.declared.request.Reply.TheVariants.{Again, Batch, Joined, Kept, Left, Refused, Stamped, Ticked}
@@ -12,8 +10,6 @@ use Rattle.join_sync.specs.declared.cursor.Cursor.{Cursor}
 use Rattle.join_sync.proofs.Pulls.{batch_comes_after}
 use Rattle.session_lock.specs.History.{play}
 use Rattle.session_lock.specs.Passes.{PassState, SharedState}
-use Rattle.session_lock.proofs.Histories.{sound_end}
-use Rattle.reflector_core.specs.Play.{first_session}
 use Rattle.replica_plain.specs.Worlds.{AreWorlds}
 use Rattle.replica.specs.View.{ReplicaView, with_plain, worlds_of}
 use Rattle.system_plain.proofs.Sessions.{Grows-legal}
@@ -22,8 +18,8 @@ use Rattle.drill.specs.declared.trust.TrustReplay.{TrustReplay}
 use Rattle.drill.specs.declared.worker.Worker.{Worker}
 use Rattle.drill.specs.Taking.{AreFine, HasTakenAll, after_all}
 use Rattle.drill.specs.Turns.{HasCome, HasTakenMore, KeepsConnection, KeepsEvents}
-use Rattle.drill.specs.Workers.{HasAsked, HasPassed, IsWorker}
-use Rattle.drill.specs.Working.{IsCaughtUp, Works}
+use Rattle.drill.specs.Workers.{HasAsked, HasPassed}
+use Rattle.drill.specs.Working.{Works}
 use Rattle.drill.proofs.Passing.{has_passed}
 use Rattle.drill.proofs.Requests.{pull_session}
 use Rattle.drill.proofs.ViewsKept.{SameView}

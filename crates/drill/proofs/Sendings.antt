@@ -16,7 +16,6 @@ use Rattle.session_lock.specs.Passes.{PassState, SharedState, own_calls}
 use Rattle.join_sync.specs.declared.cursor.Cursor.{Cursor}
 use Rattle.replica_plain.specs.PlainReplica.{published_count}
 use Rattle.replica_plain.specs.Calls as calls
-use Rattle.replica_plain.specs.Calls.{publishes}
 use Rattle.replica.specs.RealWorlds.{is_at_rest}
 use Rattle.replica.specs.View.{ReplicaView, with_plain}
 use Rattle.drill.specs.declared.trust.TrustReplay.{TrustReplay}

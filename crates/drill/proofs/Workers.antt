@@ -18,8 +18,7 @@ use Rattle.join_sync.specs.Batches.{entry_frames, newer_tick, next_cursor, next_
 use Rattle.join_sync.specs.declared.cursor.Cursor.{Cursor}
 use Rattle.join_sync.specs.Standing as at
 use Rattle.join_sync.proofs.Pulls.{batch_streams, batch_stands}
-use Rattle.replica_plain.specs.Worlds.{Worlds, AreWorlds}
-use Rattle.replica_plain.specs.PlainReplica.{PlainReplica}
+use Rattle.replica_plain.specs.Worlds.{AreWorlds}
 use Rattle.replica_plain.specs.Taking.{taken}
 use Rattle.replica_plain.specs.Following.{IsReadFrame}
 use Rattle.model_lang.specs.Program.{IsProgram}
@@ -32,7 +31,6 @@ use Rattle.system_plain.proofs.Sessions.{Grows}
 use Rattle.drill.specs.Taking.{AreFine, IsFine, after, after_all}
 use Rattle.drill.specs.Working.{IsCaughtUp, Works}
 use Rattle.drill.specs.Turns.{HasCome}
-use Rattle.drill.specs.Ending.{Catches}
 use Rattle.drill.proofs.Catching.{takes_entry, tick_time}
 use Rattle.drill.proofs.ViewsKept.{SameView, same_at_entry, same_at_tick, same_first, same_then}
 

@@ -1,15 +1,15 @@
 -- The replay of a log to a time that is past, when the log has gone on.
-use Rattle.std.proofs.Common.{if◌then◌else◌, ℕ, ◌≡◌, ◌≤◌, ◌<◌, Bool, true, false, List, [], ◌∷◌, ◌++◌, Some, ap, sym, ◌∙◌, nat_le, nat_lt, refl, arith}
+use Rattle.std.proofs.Common.{if◌then◌else◌, ℕ, ◌≡◌, ◌≤◌, Bool, false, List, [], ◌∷◌, ◌++◌, Some, ap, sym, ◌∙◌, nat_le, refl, arith}
 use Rattle.std.proofs.lemmas.Bool.Decides.{nat_tests}
 use Rattle.tea_base.specs.declared.entry.Entry.{Entry}
 use Rattle.model_lang.specs.Tree.{ProgramTree}
-use Rattle.world.specs.Worlds.{Scene, external, advance, first_scene, replay, replay_from}
+use Rattle.world.specs.Worlds.{Scene, external, first_scene, replay, replay_from}
 use Rattle.reflector_core.specs.PlainSession.{PlainSession}
 use Rattle.reflector_core.specs.Answer.{answer}
 use Rattle.reflector_core.specs.Growth.{AreLater, GrowsTo}
 use Rattle.reflector_core.specs.declared.request.Request.{Request}
 use Rattle.reflector_core.proofs.GrowthLaws.{GrowsTo-answer}
-use Rattle.replica.specs.RealWorlds.{is_at_rest, worlds}
+use Rattle.replica.specs.RealWorlds.{is_at_rest}
 use Rattle.world_plain.specs.World.{WorldRecord}
 use Rattle.drill.specs.Trust.{AllowsReplay}
 

@@ -1,5 +1,5 @@
 -- A worker of the drill, and what a call of its pass comes to.
-use Rattle.std.specs.Prelude.{◌≡◌, ◌≤◌, ◌+◌, ◌*◌, ◌-◌, ℕ, List, [], ◌∷◌, ◌++◌}
+use Rattle.std.specs.Prelude.{◌≡◌, ◌+◌, ◌*◌, ◌-◌, ℕ, List, [], ◌∷◌, ◌++◌}
 use Rattle.std.specs.List.{AllByRecursion}
 use Rattle.std.specs.Arc.{arc_value}
 use Rattle.model_lang.specs.Program.{IsProgram}
@@ -15,7 +15,6 @@ use Rattle.session_lock.specs.declared.knowledge.Item.TheVariants.{Did}
 use Rattle.session_lock.specs.History.{IsSoundThrough, play}
 use Rattle.session_lock.specs.Passes.{PassState, SharedState, numbers_held, own_calls}
 use Rattle.session_lock.specs.Trusts.{IsTrusted}
-use Rattle.replica.specs.View.{ReplicaView}
 use Rattle.drill.specs.declared.trust.TrustReplay.{TrustReplay}
 use Rattle.drill.specs.declared.size.Size.{Size}
 use Rattle.drill.specs.declared.worker.Worker.{Worker}

@@ -1,5 +1,5 @@
 //! The turns of a worker.
-ghost use Rattle.std.specs.Prelude.{◌≡◌, ◌+◌, ◌-◌, ◌%◌, ◌≤◌, ℕ, List, IfOk, OnOk};
+ghost use Rattle.std.specs.Prelude.{◌≡◌, ◌-◌, ◌%◌, ◌≤◌, ℕ, List, IfOk, OnOk};
 ghost use Rattle.wire_frames.specs.declared.frame.ServerFrame.TheVariants.{Done};
 ghost use Rattle.reflector_core.specs.declared.request.Reply.{Reply};
 ghost use Rattle.reflector_core.specs.declared.request.Request.TheVariants.{Leave};

@@ -1,7 +1,7 @@
 //! The builtins, by their names and arguments.
 ghost use Rattle.model_value.specs.View.{plain, plain_values};
 ghost use Rattle.model_builtin.specs.Answer.{Applies};
-ghost use Rattle.model_builtin.specs.Builtins.{BuiltinReply, value, apply, builtin_gives, of_one, of_two, of_three, reply_in_bounds};
+ghost use Rattle.model_builtin.specs.Builtins.{value, apply, builtin_gives, of_one, of_two, of_three};
 
 use crate::fault::BuiltinStop;
 use crate::numbers::{compare, read_number, text};

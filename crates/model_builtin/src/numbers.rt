@@ -1,5 +1,5 @@
 //! Numbers and other values as texts, numbers of texts, and order.
-ghost use Rattle.std.specs.Prelude.{◌≡◌, IfOk, codes};
+ghost use Rattle.std.specs.Prelude.{◌≡◌, IfOk};
 ghost use Rattle.std.specs.Fmt.{signed_decimal};
 ghost use Rattle.model_value.specs.View.{plain};
 ghost use Rattle.model_builtin.specs.Answer.{Applies};

@@ -1,5 +1,5 @@
 //! Lengths, items and parts of texts and lists.
-ghost use Rattle.std.specs.Prelude.{◌≡◌, ℕ, pos, negsuc, [], ◌∷◌, ◌++◌, map, IfOk, MatchOption};
+ghost use Rattle.std.specs.Prelude.{◌≡◌, ℕ, pos, negsuc, [], ◌∷◌, ◌++◌, IfOk, MatchOption};
 ghost use Rattle.model_value.specs.Plain.{int, text as text_tree};
 ghost use Rattle.model_value.specs.View.{plain, plain_values};
 ghost use Rattle.model_builtin.specs.Answer.{Applies};

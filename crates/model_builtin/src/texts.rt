@@ -1,5 +1,5 @@
 //! The characters of texts.
-ghost use Rattle.std.specs.Prelude.{◌≡◌, ◌++◌, ◌≤◌, IfOk, length, take, drop, slice_range, encode_utf8_all};
+ghost use Rattle.std.specs.Prelude.{◌≡◌, ◌++◌, ◌≤◌, IfOk, length, take, slice_range, encode_utf8_all};
 ghost use Rattle.std.specs.Str.{chars};
 
 use std::alloc::Global;

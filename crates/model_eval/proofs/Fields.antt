@@ -6,7 +6,7 @@ use Rattle.std.specs.Option.{option_copied, option_map}
 use Rattle.std.proofs.lemmas.Bool.{false≢true, lt-leb, le-leb, cases_lt}
 use Rattle.std.proofs.lemmas.Bool.Decides.{nat_tests}
 use Rattle.std.proofs.lemmas.Option.{none-some, same_Some, slice_get_within}
-use Rattle.std.proofs.lemmas.List.{map-set, set_past, length-map, set-set, set-get_or}
+use Rattle.std.proofs.lemmas.List.{map-set, set_past, length-map}
 use Rattle.model_value.specs.Plain.{PlainValue, nil, weight}
 use Rattle.model_value.specs.Room.{IsRoomBehind}
 use Rattle.world_plain.specs.Valid.{object_at, if_same}

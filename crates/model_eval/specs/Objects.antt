@@ -1,5 +1,5 @@
 -- Objects: their fields, how one is made and taken away, and the names by which they are known.
-use Rattle.std.specs.Prelude.{ℕ, ◌+◌, ◌-◌, ◌^◌, Bool, not, nat_eq, nat_lt, nat_le, if◌then◌else◌, ◌&&◌, List, [], ◌∷◌, ◌++◌, length, replicate, bytes_eq, Option, Some, None, is_some, ⊤}
+use Rattle.std.specs.Prelude.{ℕ, ◌+◌, Bool, not, nat_eq, nat_lt, nat_le, if◌then◌else◌, ◌&&◌, List, [], ◌∷◌, ◌++◌, length, replicate, bytes_eq, Option, Some, None, is_some, ⊤}
 use Rattle.std.specs.List.{filter}
 use Rattle.model_value.specs.Plain.{PlainValue, nil, ref}
 use Rattle.world_plain.specs.World.{ObjectRecord, WorldRecord, object_weight, world_weight, most_world_weight}

@@ -4,7 +4,7 @@ ghost use Rattle.model_value.specs.Plain.{int};
 ghost use Rattle.model_value.specs.View.{plain, plain_values};
 ghost use Rattle.world_plain.specs.World.{subscription_weight, world_weight, most_world_weight};
 ghost use Rattle.model_eval.specs.declared.state.Budget.{Budget};
-ghost use Rattle.model_eval.specs.Publishing.{add_subscription, has_room_to, subscribe, subscription, unsubscribe, with_outgoing};
+ghost use Rattle.model_eval.specs.Publishing.{add_subscription, subscribe, subscription, unsubscribe, with_outgoing};
 ghost use Rattle.model_eval.specs.Answer.{Answers, running, world_of};
 
 use crate::calls::Event;

@@ -1,5 +1,5 @@
 //! Operators and kinds: what needs no world.
-ghost use Rattle.std.specs.Prelude.{◌≡◌, MatchOption, Ok, Err, ◌≢◌, pos};
+ghost use Rattle.std.specs.Prelude.{◌≡◌, MatchOption, Ok, Err};
 ghost use Rattle.model_value.specs.Plain.{int};
 ghost use Rattle.model_value.specs.View.{plain};
 ghost use Rattle.model_eval.specs.Running.{truth as truth_of};

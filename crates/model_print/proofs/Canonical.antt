@@ -1,5 +1,5 @@
 -- The canonical text of a program is read as that program.
-use Rattle.std.proofs.Common.{◌≡◌, ℕ, ◌≤◌, ◌<◌, false, List, [], ◌∷◌, length, map, refl, sym, ap, ◌∙◌, subst, arith}
+use Rattle.std.proofs.Common.{ℕ, ◌≤◌, ◌<◌, false, List, [], ◌∷◌, length, map, refl, ap, subst, arith}
 use Rattle.std.proofs.lemmas.List.{length-map}
 use Rattle.model_tokens.specs.declared.token.Token.{Token}
 use Rattle.model_tokens.specs.declared.token.Token.TheVariants.{Symbol as symbol}
@@ -8,7 +8,7 @@ use Rattle.model_tokens.specs.Division.{Piece, blank, comment, a_token, ArePiece
 use Rattle.model_lang.specs.Tree.{ProgramTree}
 use Rattle.model_lang.specs.Grammar.{tree_of_class, classes_spelling, Derives}
 use Rattle.model_lang.specs.Program.{IsSpelled, IsRead, IsProgram}
-use Rattle.model_print.specs.Canonical.{class_form, canonical_tokens, text_behind, canonical_text}
+use Rattle.model_print.specs.Canonical.{class_form, canonical_tokens, canonical_text}
 use Rattle.model_print.proofs.Written.{classes-stand, trees-classes}
 use Rattle.model_print.proofs.Shedding.{Sheds, classes_shed}
 use Rattle.model_print.proofs.ShedCounts.{AreTokens, tokens_shed, nests_shed, counts_shed}

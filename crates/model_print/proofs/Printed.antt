@@ -8,7 +8,7 @@ use Rattle.model_tokens.specs.declared.token.Token.{Token}
 use Rattle.model_tokens.specs.declared.token.Token.TheVariants.{Name as name, ClassName as class_name, Number as number, Text as literal, Word as word, Symbol as symbol}
 use Rattle.model_tokens.specs.Bytes.{goes_on_name, begins_name, begins_class_name}
 use Rattle.model_tokens.specs.Spelling.{token_spelling, spelled_text, IsNamed, IsToken}
-use Rattle.model_tokens.proofs.Lists.{both, from_both}
+use Rattle.model_tokens.proofs.Lists.{from_both}
 use Rattle.model_tokens.proofs.NameLaws.{ascii_at}
 use Rattle.model_lang.specs.Tree.{ProgramTree}
 use Rattle.model_lang.specs.Program.{IsProgram}

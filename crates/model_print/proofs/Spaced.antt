@@ -1,5 +1,5 @@
 -- The text of a program's tokens is divided into them.
-use Rattle.std.proofs.Common.{◌≡◌, ℕ, ℤ, pos, negsuc, zero, suc, ◌+◌, ◌<◌, ◌≤◌, ◌^◌, Bool, true, false, List, [], ◌∷◌, ◌++◌, length, refl, sym, ap, ◌∙◌, subst, arith, append_assoc}
+use Rattle.std.proofs.Common.{◌≡◌, ℕ, ℤ, pos, negsuc, zero, suc, ◌+◌, ◌<◌, ◌≤◌, ◌^◌, Bool, true, false, List, [], ◌∷◌, ◌++◌, length, refl, sym, ap, ◌∙◌, subst, arith}
 use Rattle.std.specs.Prelude.{◌==◌, ◌||◌}
 use Rattle.std.specs.Char.{digit_value}
 use Rattle.std.specs.Str.Parse.{AllDigits}
@@ -8,16 +8,15 @@ use Rattle.std.proofs.lemmas.Bool.Decides.{nat_tests}
 use Rattle.std.proofs.lemmas.Fmt.{decimal_is_IsNumeral, decimal_nonempty}
 use Rattle.model_tokens.specs.declared.token.Token.{Token}
 use Rattle.model_tokens.specs.declared.token.Token.TheVariants.{Name as name, ClassName as class_name, Number as number, Text as literal, Word as word, Symbol as symbol}
-use Rattle.model_tokens.specs.declared.token.Word.{Word}
 use Rattle.model_tokens.specs.declared.token.Symbol.{Symbol}
 use Rattle.model_tokens.specs.declared.token.Symbol.TheVariants as s
 use Rattle.model_tokens.specs.Bytes.{is_digit, goes_on_name, begins_name, begins_class_name}
 use Rattle.model_tokens.specs.Spelling.{token_spelling, spelled_word, spelled_symbol, IsNamed, IsToken}
-use Rattle.model_tokens.specs.Division.{Piece, blank, a_token, spelling, symbol_goes_on, number_goes_on, token_goes_on, EndsBefore, EndsPiece, spelling_of, ArePieces, tokens_of, Divides}
+use Rattle.model_tokens.specs.Division.{Piece, blank, a_token, symbol_goes_on, number_goes_on, token_goes_on, EndsBefore, spelling_of, ArePieces, tokens_of, Divides}
 use Rattle.model_tokens.proofs.NameLaws.{word_is_named}
 use Rattle.model_print.specs.Canonical.{is_worded, token_gap, text_behind}
 use Rattle.model_print.proofs.ShedCounts.{AreTokens}
-use Rattle.model_print.proofs.Neighbours.{begins, may_follow, Chain}
+use Rattle.model_print.proofs.Neighbours.{begins, Chain}
 
 -- ---- the first byte of a token
 

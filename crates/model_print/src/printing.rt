@@ -1,7 +1,7 @@
 //! The canonical text of a program.
 #![tactic(auto, using(crate::proofs::Printed::by_append))]
 
-ghost use Rattle.std.specs.Prelude.{◌≡◌, ◌∷◌, [], ◌++◌, ◌-◌, ◌<◌, true, false, map, encode_utf8_all, IfOk, OnOk, string_bytes, List, Result, ℕ, length, ◌≤◌};
+ghost use Rattle.std.specs.Prelude.{◌≡◌, ◌∷◌, [], ◌++◌, ◌-◌, ◌<◌, true, false, map, IfOk, OnOk, string_bytes, List, Result, ℕ, length, ◌≤◌};
 ghost use Rattle.model_tokens.specs.declared.token.Token.TheVariants as token;
 ghost use Rattle.model_tokens.specs.declared.token.Word.TheVariants as word;
 ghost use Rattle.model_tokens.specs.declared.token.Symbol.TheVariants as symbol;
@@ -10,7 +10,7 @@ ghost use Rattle.model_lang.specs.Tree.{ProgramTree};
 ghost use Rattle.model_lang.specs.declared.tree.Class.{Class as Held};
 ghost use Rattle.model_lang.specs.declared.fault.LangFault.{LangFault};
 ghost use Rattle.model_lang.specs.TreeView.{expression_tree, expression_trees, statement_tree, statement_trees, method_tree, class_tree, program_tree};
-ghost use Rattle.model_lang.specs.Grammar.{line, operator_line as number_of, left_of as number_left_of, op_symbol as meant_op, sign_symbol as meant_sign, in_round, in_square, in_braces, phrase_spelling, args_spelling, end_spelling, action_spelling, block_spelling, further_spelling, params_spelling, method_spelling, methods_spelling, fields_spelling, class_spelling, classes_spelling};
+ghost use Rattle.model_lang.specs.Grammar.{line, operator_line as number_of, left_of as number_left_of, op_symbol as meant_op, sign_symbol as meant_sign, in_round, in_square, in_braces, phrase_spelling, args_spelling, end_spelling, action_spelling, block_spelling, further_spelling, params_spelling, method_spelling, methods_spelling, fields_spelling, class_spelling};
 ghost use Rattle.model_lang.specs.Program.{IsRead, IsProgram};
 ghost use Rattle.model_lang.specs.Answer.{Parses};
 ghost use Rattle.model_print.specs.Canonical.{at_line, phrase_of, phrases_of, action_of, block_of, method_form, class_form, canonical_tokens, canonical_text};

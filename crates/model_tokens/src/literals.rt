@@ -1,6 +1,5 @@
 //! Text literals.
-ghost use Rattle.std.specs.Prelude.{◌≡◌, ◌<◌, length, Err, IfOk, OnOk, IfSome};
-ghost use Rattle.std.specs.Str.{IsUtf8, chars};
+ghost use Rattle.std.specs.Prelude.{◌≡◌, ◌<◌, length, Err, IfSome};
 ghost use Rattle.model_tokens.specs.Bytes.{is_control};
 ghost use Rattle.model_tokens.specs.Reader.{hex_value, control_at, escape_at, literal_byte_at, literal_at, literal_text_at, as_text};
 ghost use Rattle.model_tokens.specs.Answer.{ReadsText, ReadsLiteral, ReadsToken, ReadsBytes};

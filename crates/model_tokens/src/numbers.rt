@@ -1,5 +1,5 @@
 //! Numbers.
-ghost use Rattle.std.specs.Prelude.{◌≡◌, ◌≤◌, pos, nat_le, if◌then◌else◌, Some, None};
+ghost use Rattle.std.specs.Prelude.{◌≡◌, pos, nat_le, if◌then◌else◌, Some, None};
 ghost use Rattle.std.specs.Str.Parse.{digits_value, AllDigits};
 ghost use Rattle.model_tokens.specs.Reader.{number_token_at};
 ghost use Rattle.model_tokens.specs.Answer.{ReadsToken};

@@ -1,5 +1,4 @@
 //! The piece at the front of a text: a blank, a comment or a token.
-ghost use Rattle.std.specs.Prelude.{◌≡◌};
 ghost use Rattle.model_tokens.specs.Reader.{next_piece};
 ghost use Rattle.model_tokens.specs.Answer.{ReadsPiece};
 

@@ -1,5 +1,5 @@
 //! Symbols and comments.
-ghost use Rattle.std.specs.Prelude.{◌≡◌, option_copied};
+ghost use Rattle.std.specs.Prelude.{◌≡◌};
 ghost use Rattle.model_tokens.specs.Reader.{single_among, singles, double_of, symbol_at, comment_at, other_at};
 ghost use Rattle.model_tokens.specs.Answer.{ReadsPiece, FindsSymbolAt, FindsComment};
 

@@ -1,5 +1,5 @@
 -- A talk that ends holds its view no more, unless a call of it found no memory.
-use Rattle.std.proofs.Common.{◌≡◌, ◌⊎◌, inl, inr, ℕ, ◌+◌, ◌==◌, eqb, Bool, true, false, not, ◌&&◌, ◌||◌, if◌then◌else◌, List, [], ◌∷◌, ◌++◌, Option, Some, None, Result, Ok, Err, refl, sym, ap, ◌∙◌, subst, append_assoc, append-nil}
+use Rattle.std.proofs.Common.{◌≡◌, ℕ, ◌+◌, ◌==◌, eqb, Bool, true, false, not, ◌&&◌, ◌||◌, if◌then◌else◌, List, [], ◌∷◌, ◌++◌, Option, Some, None, Result, Ok, Err, refl, sym, ap, ◌∙◌, subst, append_assoc, append-nil}
 use Rattle.std.proofs.lemmas.Bool.{eqb-true, eq-eqb}
 use Rattle.std.specs.Cmp.Derive.{both_true}
 use Rattle.byte_fields.specs.Fields.{whole}
@@ -17,13 +17,10 @@ use Rattle.reflector_core.specs.declared.request.Reply.{Reply}
 use Rattle.reflector_core.specs.declared.request.Reply.TheVariants as reply
 use Rattle.reflector_core.specs.declared.request.Refusal.{Refusal}
 use Rattle.reflector_core.specs.declared.request.Refusal.TheVariants as refusal
-use Rattle.join_sync.specs.declared.act.Act.{Act}
-use Rattle.join_sync.specs.declared.act.Act.TheVariants.{Call, Answer}
 use Rattle.join_sync.specs.declared.cursor.Cursor.{Cursor}
 use Rattle.join_sync.specs.declared.early.Early.{Early}
 use Rattle.join_sync.specs.Answers.{answer_frame}
 use Rattle.join_sync.specs.Batches.{next_cursor, next_frames}
-use Rattle.join_sync.specs.Refusals.{early_frame, refused_frame}
 use Rattle.join_sync.specs.Requests.{act_on, first_request}
 use Rattle.system_plain.specs.ConnectionLine.{unread_frame}
 use Rattle.system_plain.specs.Steps.{answer_frames, most_pulled}
@@ -34,8 +31,8 @@ use Rattle.reflector_core.specs.PlainSession.{PlainSession}
 use Rattle.reflector_core.specs.Play.{first_session}
 use Rattle.connection.specs.declared.ending.Ended.{Ended}
 use Rattle.connection.specs.declared.ending.Ended.TheVariants as ended
-use Rattle.connection.specs.Exchanges.{Exchange, Answered, Unanswered, exchange_in, exchanges_from, exchanges_in}
-use Rattle.connection.specs.Phases.{TalkPhase, Opening, Reading, Joining, Ticking, Pulling, Hearing, Taking, Asking, Sending, Leaving, Over, Wrong, TalkEvent, Hears, Reads, Makes, MakesAt, Misses, Sends, Loses, Fails, Wants, acted_phase, ending_phase, entered_phase, join_phase, most_quiets, opened_phase, read_phase, refused_phase, reply_phase, sending_phase, talk_step, talk_walk, telling_phase}
+use Rattle.connection.specs.Exchanges.{Exchange, Answered, Unanswered, exchanges_from, exchanges_in}
+use Rattle.connection.specs.Phases.{TalkPhase, Opening, Reading, Joining, Ticking, Pulling, Hearing, Taking, Asking, Sending, Leaving, Over, Wrong, TalkEvent, Hears, Reads, Makes, MakesAt, Misses, Sends, Loses, Fails, Wants, acted_phase, ending_phase, entered_phase, join_phase, most_quiets, opened_phase, read_phase, reply_phase, sending_phase, talk_step, talk_walk, telling_phase}
 use Rattle.connection.specs.Standing.{IsJoin}
 use Rattle.connection.specs.Talk.{Talk}
 use Rattle.connection.proofs.Callers.{first_is_join}

@@ -3,12 +3,12 @@ use Rattle.std.proofs.Common.{◌≡◌, ℕ, Bool, true, false, ◌||◌, eqb, 
 use Rattle.std.specs.List.{AllByRecursion}
 use Rattle.std.proofs.lemmas.Bool.{eqb-true}
 use Rattle.tea_base.specs.declared.entry.SessionId.{SessionId}
-use Rattle.tea_base.specs.Readings.{current, is_here}
+use Rattle.tea_base.specs.Readings.{current}
 use Rattle.run_steps.specs.Outside.{LinksTell}
 use Rattle.reflector_core.specs.Play.{first_session}
 use Rattle.session_lock.specs.declared.knowledge.Item.{Item}
 use Rattle.session_lock.specs.History.{calls_of, has, play}
-use Rattle.connection.specs.Exchanges.{Exchange, exchanges_in}
+use Rattle.connection.specs.Exchanges.{exchanges_in}
 use Rattle.connection.proofs.Callers.{exchanges_none}
 use Rattle.reflect_server.specs.Connections.{ServedConnection, HasTalk, callers_of}
 use Rattle.reflect_server.specs.Views.{StaysByVoid, has_void, holds}

@@ -2,14 +2,14 @@
 use Rattle.std.specs.Prelude.{◌≡◌, ℕ, ◌==◌, Bool, true, false, not, ◌&&◌, ◌||◌, List, [], ◌∷◌, eqb}
 use Rattle.tea_base.specs.declared.entry.Entry.{Entry}
 use Rattle.tea_base.specs.Readings.{current, is_here}
-use Rattle.reflector_core.specs.declared.request.Request.TheVariants.{Join, Send, Tick, Leave, Offer, Pull}
+use Rattle.reflector_core.specs.declared.request.Request.TheVariants.{Join, Send, Leave, Offer}
 use Rattle.reflector_core.specs.declared.request.Reply.{Reply}
 use Rattle.reflector_core.specs.declared.request.Reply.TheVariants.{Joined, Left, Refused}
 use Rattle.reflector_core.specs.declared.request.Refusal.TheVariants.{Stale}
 use Rattle.session_lock.specs.declared.knowledge.Item.{Item}
 use Rattle.session_lock.specs.declared.knowledge.Item.TheVariants.{Did, Void}
 use Rattle.session_lock.specs.History.{has}
-use Rattle.connection.specs.Exchanges.{Exchange, Answered, Unanswered, exchanges_in}
+use Rattle.connection.specs.Exchanges.{Exchange, Answered, exchanges_in}
 
 -- the exchange is a Join of the view that got this seq
 abbrev pub opens : ℕ → ℕ → Exchange → Bool

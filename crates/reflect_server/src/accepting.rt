@@ -1,7 +1,6 @@
 //! Links that are accepted one after the other, each served in a thread beside the rest.
 ghost use Rattle.std.specs.Prelude.{◌≡◌, ◌+◌, ◌<◌, ◌≤◌, ◌++◌, ◌∷◌, [], All, Some, None, vec_len, vec_capacity};
 ghost use Rattle.std.specs.Thread.{IsSync};
-ghost use Rattle.tea_io.specs.Links.{no_counts};
 ghost use Rattle.run_steps.specs.Outside.{links_tell, net_tells};
 ghost use Rattle.session_lock.specs.Passes.{Merged, numbers_held};
 ghost use Rattle.reflect_server.specs.Passes.{IsFresh, HasNotCalled};

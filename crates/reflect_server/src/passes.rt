@@ -1,8 +1,8 @@
 //! The passes of a session that connections are served by.
-ghost use Rattle.std.specs.Prelude.{◌≡◌, ◌+◌, ◌≤◌, [], All, IfOk, vec_len};
+ghost use Rattle.std.specs.Prelude.{◌≡◌, ◌+◌, ◌≤◌, All, IfOk, vec_len};
 ghost use Rattle.session_lock.specs.Numbers.{count_of};
 ghost use Rattle.session_lock.specs.Passes.{numbers_held};
-ghost use Rattle.reflect_server.specs.Passes.{HasCalledAs, IsFresh, HasNotCalled};
+ghost use Rattle.reflect_server.specs.Passes.{IsFresh, HasNotCalled};
 
 use session_lock::{Pass, SharedSession, TrustAll};
 use std::alloc::Global;

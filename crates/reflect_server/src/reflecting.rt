@@ -1,11 +1,8 @@
 //! A session that is reflected over a net.
-ghost use Rattle.std.specs.Prelude.{◌≡◌, ◌+◌, ◌≤◌, ◌++◌, ◌∷◌, [], All, IfOk, vec_len, vec_capacity};
+ghost use Rattle.std.specs.Prelude.{◌≡◌, ◌+◌, ◌≤◌, ◌++◌, ◌∷◌, [], IfOk, vec_len, vec_capacity};
 ghost use Rattle.run_steps.specs.Outside.{links_tell, net_tells};
 ghost use Rattle.tea_io.specs.Told.{grown};
 ghost use Rattle.tea_io.specs.declared.net.NetCall.TheVariants.{Listen};
-ghost use Rattle.session_lock.specs.Passes.{numbers_held};
-ghost use Rattle.session_lock.specs.Rules.{all_numbers};
-ghost use Rattle.reflect_server.specs.Passes.{IsFresh, HasNotCalled};
 ghost use Rattle.reflect_server.specs.Rounds.{ended_of, links_of, with_links};
 ghost use Rattle.reflect_server.specs.Reflects.{IsPrepared, Reflects, answer_for};
 

@@ -1,5 +1,5 @@
 //! What a reflector makes of links in memory, in threads.
-ghost use Rattle.std.specs.Prelude.{◌≡◌, ◌≤◌, All};
+ghost use Rattle.std.specs.Prelude.{◌≤◌};
 ghost use Rattle.tea_io.specs.MemNet.{HasNoCounts};
 
 use crate::gates::SecondFirst;

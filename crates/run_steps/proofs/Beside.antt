@@ -1,5 +1,5 @@
 -- Steps over some parts of the outside are steps over all.
-use Rattle.std.proofs.Common.{◌≡◌, inl, inr, List, [], ◌∷◌, Option, Some, None, refl, ap}
+use Rattle.std.proofs.Common.{◌≡◌, inl, inr, List, [], ◌∷◌, Option, Some, None, ap}
 use Rattle.std.specs.Prelude.{⊤}
 use Rattle.run_steps.specs.Steps.{Step, Loads, Puts, Prints, Connects, Returns, Hears, Sends}
 use Rattle.run_steps.specs.Outside.{Outside, outside, OutsideTells, FilesTell, NetTells, LinksTell, Came, Well, Failed, WantedMemory, Cut, ActsOn, Acts}

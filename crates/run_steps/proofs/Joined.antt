@@ -1,5 +1,5 @@
 -- Steps behind steps.
-use Rattle.std.proofs.Common.{◌≡◌, inl, inr, List, [], ◌∷◌, ◌++◌, Option, Some, None, subst}
+use Rattle.std.proofs.Common.{inl, inr, List, [], ◌∷◌, ◌++◌, Option, None, subst}
 use Rattle.std.proofs.lemmas.Option.{none-some}
 use Rattle.run_steps.specs.Steps.{Step}
 use Rattle.run_steps.specs.Outside.{Outside, OutsideTells, Cut, Acts}

@@ -1,5 +1,5 @@
 //! Connections of a system.
-ghost use Rattle.std.specs.Prelude.{◌≡◌, ◌∷◌, take, None, Some, OnOk, MatchOption, IfOk, IfSome};
+ghost use Rattle.std.specs.Prelude.{◌≡◌, take, None, Some, OnOk, IfOk};
 ghost use Rattle.std.specs.List.{AllByRecursion};
 ghost use Rattle.replica.specs.View.{IsTimely};
 ghost use Rattle.reflector_core.specs.Answer.{answer};

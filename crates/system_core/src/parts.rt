@@ -1,7 +1,5 @@
 //! The parts of a system, and its steps.
 ghost use Rattle.std.specs.Prelude.{◌≡◌, OnOk};
-ghost use Rattle.std.specs.Arc.{arc_value};
-ghost use Rattle.std.specs.Option.{option_map_or};
 ghost use Rattle.model_value.specs.Payload.{payload_spelling};
 ghost use Rattle.model_value.specs.Plain.{InBounds};
 ghost use Rattle.model_value.specs.View.{plain};

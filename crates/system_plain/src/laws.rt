@@ -30,7 +30,7 @@ ghost use Rattle.replica_plain.specs.Taking.{taken};
 ghost use Rattle.replica_plain.specs.declared.how.How.{How};
 ghost use Rattle.replica_plain.specs.declared.how.How.TheVariants.{Fresh, Resume, Whole};
 ghost use Rattle.replica_plain.specs.Following.{FollowsLog, IsHonestBase};
-ghost use Rattle.system_plain.specs.System.{Client, Connection, System, close, closing, connecting, first_system, is_open, over_if, put_down, view_client, with_client, with_connection, with_cursor, with_down, with_replica, with_up};
+ghost use Rattle.system_plain.specs.System.{Client, Connection, System, close, closing, connecting, is_open, over_if, put_down, view_client, with_client, with_connection, with_cursor, with_down, with_replica, with_up};
 ghost use Rattle.system_plain.specs.Steps.{SystemStep, answer_frames, ends_connection, Cut, Found, Publish, Pump, Receive, Reconnect, Restart, Snap, Take, Transmit, after_step, asked_connection, can_be_made, joined_connection, joined_view, may_publish, whole_for};
 ghost use Rattle.system_plain.specs.Schedule.{AreTypedSteps, HasEventsOnce, IsExpected, IsTypedStep, MovesInTime, ViewPayloads, IsNoSurprise, IsNotDiffers, IsSchedule, SpellWorlds, SpellsWorld, after_schedule, faults_from, faults_in, faults_of, next_fault, published_after, published_by, published_in, replies_from, replies_in, run_schedule, step_faults, step_replies};
 ghost use Rattle.system_plain.specs.Traffic.{Traffics, traffics_after, traffics_by, traffics_in};

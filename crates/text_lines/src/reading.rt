@@ -3,7 +3,7 @@ ghost use Rattle.std.specs.Prelude.{◌≡◌, ℕ, ◌≤◌, ◌<◌, ◌^◌,
 ghost use Rattle.std.specs.Fmt.{decimal};
 ghost use Rattle.std.specs.Str.Lines.{lines};
 ghost use Rattle.std.specs.List.{slice_split};
-ghost use Rattle.text_lines.specs.Lines.{words_of, ends_in_space, nonempty_parts, spelled_by, number_of_word, IsPlain};
+ghost use Rattle.text_lines.specs.Lines.{words_of, ends_in_space, spelled_by, number_of_word, IsPlain};
 
 use std::alloc::{AllocError, Global};
 use tea_base::WantOfMemory;

@@ -1,8 +1,5 @@
 //! How the run of a view ends.
 ghost use Rattle.std.specs.Prelude.{◌≡◌};
-ghost use Rattle.run_steps.specs.Outside.{Failed, WantedMemory};
-ghost use Rattle.run_steps.specs.Calls.{came_of};
-ghost use Rattle.std.specs.Prelude.{Err};
 
 use run_steps::CallFault;
 use tea_base::WantOfMemory;

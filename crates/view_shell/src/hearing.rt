@@ -1,13 +1,13 @@
 //! What a view hears its link for.
-ghost use Rattle.std.specs.Prelude.{◌≡◌, ℕ, List, [], ◌∷◌, ◌≤◌, ◌<◌, ◌+◌, None, Some, IfOk, OnOk, MatchResult};
+ghost use Rattle.std.specs.Prelude.{◌≡◌, ℕ, List, [], ◌<◌, ◌+◌, None, Some, OnOk, MatchResult};
 ghost use Rattle.byte_fields.specs.Fields.{whole};
 ghost use Rattle.wire_frames.specs.Reading.{server_at};
 ghost use Rattle.run_steps.specs.Outside.{links_tell};
 ghost use Rattle.replica.specs.View.{KeepsSession};
 ghost use Rattle.replica_plain.specs.declared.how.How.{How};
 ghost use Rattle.view_script.specs.PlainLine.{PlainLine};
-ghost use Rattle.view_shell.specs.Phases.{Aim, ToJoin, ToReach, ToSettle, ToSnap, Begins, Receives, Receiving, Tells, finish, go_on, reads, receive, send_all, took};
-ghost use Rattle.view_shell.specs.ViewText.{settled_line, snap_refused_line, snapped_line, time_line};
+ghost use Rattle.view_shell.specs.Phases.{Aim, ToJoin, ToReach, ToSettle, ToSnap, Receiving, finish, reads, receive, took};
+ghost use Rattle.view_shell.specs.ViewText.{settled_line, time_line};
 ghost use Rattle.view_shell.specs.Viewers.{HasHeard, IsReady, KnowsItself, viewer};
 ghost use Rattle.view_shell.specs.ViewRun.{Goes, GoesOrStops, LinkActs};
 ghost use Rattle.view_shell.specs.Hearing.{GoesOnFor, HeardPhase, StopsAt, StopsHearing, answer_in, answer_line, answered_phase, joined_phase, stop_for, sync_in, synced_phase};

@@ -1,5 +1,5 @@
 //! The lines of a script, done one after the other on one link.
-ghost use Rattle.std.specs.Prelude.{◌≡◌, ◌≤◌, ◌<◌, ◌+◌, ℕ, List, [], ◌∷◌, map, length, drop, IfOk, IfErr, OnOk, string_bytes};
+ghost use Rattle.std.specs.Prelude.{◌≡◌, ◌≤◌, ◌<◌, ◌+◌, ℕ, List, [], ◌∷◌, IfOk, IfErr, OnOk, string_bytes};
 ghost use Rattle.run_steps.specs.Outside.{Acts, PrintsText, Well, links_tell, output_tells, window, window_tells};
 ghost use Rattle.model_value.specs.Payload.{payload_spelling};
 ghost use Rattle.model_value.specs.Plain.{InBounds};
@@ -10,7 +10,7 @@ ghost use Rattle.tea_base.specs.Limits.{most_payload};
 ghost use Rattle.view_bridge.specs.Topics.{subscribes};
 ghost use Rattle.view_script.specs.PlainLine.{LineFits, PlainLine, most_publishes, payload_length, plain_line, plain_lines, publishes as publishes_one};
 ghost use Rattle.std.specs.List.{AllByRecursion};
-ghost use Rattle.view_shell.specs.Phases.{Over, Viewer, Receives, Receiving, Sending, Tells, ToReach, ToSettle, ToSnap, finish, given, leave, receive, run, send_all, shown_text};
+ghost use Rattle.view_shell.specs.Phases.{Over, Viewer, Receives, Sending, Tells, ToReach, ToSettle, ToSnap, finish, given, leave, receive, run, send_all, shown_text};
 ghost use Rattle.view_shell.specs.ViewText.{digested_line, numbers_line, view_line};
 ghost use Rattle.view_shell.specs.Viewers.{HasRoomBehind, HasRoomFor, IsReady, KnowsItself, viewer};
 ghost use Rattle.view_shell.specs.Flows.{departure_phase, flow_of, flow_phase};

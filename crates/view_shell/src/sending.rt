@@ -1,5 +1,5 @@
 //! Frames that a view sends.
-ghost use Rattle.std.specs.Prelude.{◌≡◌, ℕ, List, [], ◌∷◌, ◌==◌, ◌≤◌, ◌<◌, ◌^◌, length, IfOk, OnOk, IsTrue};
+ghost use Rattle.std.specs.Prelude.{◌≡◌, ℕ, List, [], ◌<◌, ◌^◌, length, IfOk, OnOk, IsTrue};
 ghost use Rattle.wire_frames.specs.declared.frame.ClientFrame.{ClientFrame as Frame};
 ghost use Rattle.wire_frames.specs.declared.frame.ClientFrame.TheVariants.{Alive};
 ghost use Rattle.wire_frames.specs.Frames.{FitsClient};

@@ -1,5 +1,5 @@
 //! The lines that a view prints.
-ghost use Rattle.std.specs.Prelude.{◌≡◌, ◌++◌, ◌∷◌, [], IfOk, OnOk, string_bytes, codes, map, encode_utf8_all};
+ghost use Rattle.std.specs.Prelude.{◌≡◌, ◌++◌, [], IfOk, OnOk, string_bytes, map};
 ghost use Rattle.text_lines.specs.Lines.{numbered};
 ghost use Rattle.world_plain.specs.Messages.{plain_outgoing};
 ghost use Rattle.view_shell.specs.ViewText.{event_line, events_text, numbers_line};

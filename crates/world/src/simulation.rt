@@ -1,6 +1,5 @@
 //! The first world, and how time and entries change a world.
 ghost use Rattle.std.specs.Prelude.{◌≡◌, ◌≤◌, ◌<◌, IfOk, OnOk, length, insert};
-ghost use Rattle.tea_base.specs.declared.entry.Entry.{Entry as Held};
 ghost use Rattle.world_plain.specs.Valid.{Valid};
 ghost use Rattle.tea_base.specs.Limits.{time_limit};
 ghost use Rattle.model_value.specs.Payload.{whole_payload};

@@ -1,5 +1,5 @@
 //! Worlds.
-ghost use Rattle.std.specs.Prelude.{◌≡◌, ◌≢◌, ◌<◌, [], map, nat_lt, nat_le, IfOk, OnOk, false};
+ghost use Rattle.std.specs.Prelude.{◌≡◌, ◌<◌, [], map, nat_lt, nat_le, IfOk, OnOk, false};
 ghost use Rattle.std.specs.Arc.{arc_value};
 ghost use Rattle.world_plain.specs.Messages.{plain_outgoing};
 ghost use Rattle.world_plain.specs.Valid.{Valid};

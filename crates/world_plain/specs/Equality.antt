@@ -1,6 +1,5 @@
 -- The laws by which a set holds subscriptions: equal ones are alike to all others, and are hashed alike.
-use Rattle.std.specs.Prelude.{◌≡◌, ℕ, true, ◌&&◌, ◌++◌, List, nat_eq, bytes_eq, IsTrue, encode_utf8_all}
-use Rattle.std.proofs.Common.{ap}
+use Rattle.std.specs.Prelude.{◌≡◌, ℕ, ◌&&◌, ◌++◌, List, nat_eq, bytes_eq, IsTrue, encode_utf8_all}
 use Rattle.std.specs.Cmp.{IsEquivalence, and_equiv, on_equiv, nat_eq_equiv, unsigned_Decides, first_so, second_so}
 use Rattle.std.specs.Cmp.Lexicographic.{nat_list_eq_equiv, bytes_decides}
 use Rattle.std.specs.Hash.{HashWrites, str, u32}

@@ -2,8 +2,7 @@
 ghost use Rattle.std.specs.Prelude.{◌≡◌, ◌≤◌, ◌<◌, ◌↔◌, map, length, slice_get, IsTrue};
 ghost use Rattle.std.specs.Option.{option_map};
 ghost use Rattle.world_plain.specs.Messages.{plain_message};
-ghost use Rattle.tea_base.specs.Limits.{time_limit};
-ghost use Rattle.world_plain.specs.Valid.{most_parameters, most_pending, Precedes, AreInOrder, NumbersDiffer, MessageFits, MessagesFit};
+ghost use Rattle.world_plain.specs.Valid.{most_pending, Precedes, AreInOrder, NumbersDiffer, MessageFits, MessagesFit};
 ghost use Rattle.world_plain.specs.World.{object_record};
 ghost use Rattle.world_plain.specs.Ids.{HaveRisingIds};
 

@@ -1,9 +1,8 @@
 //! A net of links over WebSockets.
-ghost use Rattle.std.specs.Prelude.{◌≡◌, ◌≤◌, ◌+◌, None, OnOk, OnErr, IfOk};
+ghost use Rattle.std.specs.Prelude.{◌≡◌, ◌≤◌, ◌+◌, None};
 ghost use Rattle.tea_io.specs.declared.net.NetFault.TheVariants.{Failed};
 ghost use Rattle.tea_io.specs.Told.{count_up};
 ghost use Rattle.tea_io.specs.Links.{no_counts};
-ghost use Rattle.tea_io.specs.Nets.{NetCause};
 ghost use Rattle.ws_link.specs.Counting.{counts_of};
 
 use crate::address::socket_address;

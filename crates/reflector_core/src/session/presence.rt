@@ -1,5 +1,5 @@
 //! The coming and going of views.
-ghost use Rattle.std.specs.Prelude.{◌≡◌, ◌≢◌, ◌<◌, ◌≤◌, ◌^◌, false, length, IfOk, IsOk, OnErr};
+ghost use Rattle.std.specs.Prelude.{◌≡◌, ◌≢◌, ◌<◌, false, length, IfOk, IsOk, OnErr};
 ghost use Rattle.tea_base.specs.Readings.{current, here_count, is_here};
 ghost use Rattle.tea_base.specs.Limits.{most_here, most_open_entries, end_of_time};
 ghost use Rattle.reflector_core.specs.SessionState.{UsesAtMost};

@@ -1,4 +1,3 @@
-use Rattle.std.proofs.Common.{List}
 use Rattle.session_lock.specs.Passes.{PassState}
 use Rattle.connection.specs.Phases.{Opening, opening_row}
 use Rattle.connection.specs.Talk.{TalksOn, account, link_account}

@@ -1,4 +1,4 @@
-use Rattle.std.proofs.Common.{List, drop}
+use Rattle.std.proofs.Common.{drop}
 use Rattle.session_lock.specs.Passes.{PassState}
 use Rattle.connection.specs.Phases.{TalkPhase, telling_phase}
 use Rattle.connection.specs.Talk.{TalksOn, account, link_account}

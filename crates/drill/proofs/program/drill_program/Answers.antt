@@ -1,4 +1,3 @@
-use Rattle.std.proofs.Common.{◌≡◌}
 use Rattle.model_lang.specs.TreeView.{program_tree}
 use Rattle.drill.proofs.ProgramReads.{drill_reads, drill_tree, has_no_fault}
 use Rattle.drill.specs.Program.{drill_text}

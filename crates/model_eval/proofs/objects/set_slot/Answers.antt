@@ -1,5 +1,5 @@
-use Rattle.std.proofs.Common.{◌≡◌, ◌+◌, List, set, sym, ap, subst, ◌∙◌, arith}
-use Rattle.std.specs.Prelude.{⊤, nat_le}
+use Rattle.std.proofs.Common.{◌+◌, List, set, sym, ap, subst, ◌∙◌, arith}
+use Rattle.std.specs.Prelude.{⊤}
 use Rattle.std.proofs.lemmas.Bool.{leb-true}
 use Rattle.model_value.specs.Plain.{PlainValue, weight}
 use Rattle.model_value.specs.View.{plain}

@@ -1,4 +1,4 @@
-use Rattle.std.proofs.Common.{◌≡◌, ◌+◌, ◌≤◌, refl, arith}
+use Rattle.std.proofs.Common.{refl, arith}
 use Rattle.reflect_server.proofs.Reflections.{reflects_behind, wanted_before}
 use Rattle.reflect_server.proofs.reflecting.reflect.Goals as goal
 

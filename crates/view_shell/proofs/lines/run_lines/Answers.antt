@@ -1,6 +1,6 @@
-use Rattle.std.proofs.Common.{◌≡◌, ◌+◌, ◌≤◌, List, [], length, refl, sym, subst, arith}
+use Rattle.std.proofs.Common.{◌+◌, ◌≤◌, List, [], length, refl, sym, subst, arith}
 use Rattle.run_steps.specs.Outside.{links_tell, output_tells}
-use Rattle.view_script.specs.PlainLine.{PlainLine, plain_lines}
+use Rattle.view_script.specs.PlainLine.{PlainLine}
 use Rattle.view_shell.specs.declared.ending.ViewEnd.TheVariants as ending
 use Rattle.view_shell.specs.declared.lines.Flow.TheVariants as flow
 use Rattle.view_shell.specs.Phases.{Over}

@@ -1,5 +1,3 @@
-use Rattle.std.proofs.Common.{IfOk, OnOk}
-use Rattle.drill.specs.Workers.{HasAsked, IsWorker}
 use Rattle.drill.proofs.Asks.{told_asked, told_worker}
 use Rattle.drill.proofs.worker.Worker.ask.Goals as goal
 

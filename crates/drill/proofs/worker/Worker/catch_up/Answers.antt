@@ -1,4 +1,4 @@
-use Rattle.std.proofs.Common.{Bool, ap, subst, sym, arith}
+use Rattle.std.proofs.Common.{Bool, ap, subst, arith}
 use Rattle.session_lock.specs.History.{play}
 use Rattle.drill.specs.declared.worker.Worker.{Worker}
 use Rattle.drill.specs.Turns.{HasCome}

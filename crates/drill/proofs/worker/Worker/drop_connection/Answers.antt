@@ -1,7 +1,7 @@
-use Rattle.std.proofs.Common.{◌≡◌, ℕ, List, Option, ap, subst}
+use Rattle.std.proofs.Common.{subst}
 use Rattle.drill.specs.Turns.{HasJoined, HasSentIt}
 use Rattle.drill.proofs.Rejoinings.{joined_none, joined_some}
-use Rattle.drill.proofs.Resendings.{resent_none, resent_some, unsent_again}
+use Rattle.drill.proofs.Resendings.{resent_none, resent_some}
 use Rattle.drill.proofs.worker.Worker.drop_connection.Goals as goal
 
 pub returns-in_default-clause-resent : goal.returns-in_default-clause-resent

@@ -1,4 +1,4 @@
-use Rattle.std.proofs.Common.{◌≡◌, ◌+◌, ◌-◌, ◌≤◌, ℕ, List, subst, arith}
+use Rattle.std.proofs.Common.{◌≡◌, ◌+◌, ◌-◌, ◌≤◌, ℕ, subst, arith}
 use Rattle.wire_frames.specs.declared.frame.ServerFrame.TheVariants.{Done}
 use Rattle.drill.specs.Turns.{HasResent, HasSentIt, IsOwed}
 use Rattle.drill.proofs.Publishings.{published}

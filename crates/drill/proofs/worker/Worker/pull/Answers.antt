@@ -1,4 +1,4 @@
-use Rattle.std.proofs.Common.{Bool, ◌∙◌, refl, subst, sym, ap}
+use Rattle.std.proofs.Common.{Bool, ◌∙◌, subst, sym, ap}
 use Rattle.model_lang.specs.TreeView.{program_tree}
 use Rattle.replica.specs.View.{ReplicaView}
 use Rattle.drill.specs.declared.worker.Worker.{Worker}

@@ -1,4 +1,4 @@
-use Rattle.std.proofs.Common.{◌+◌, ◌∙◌, ap, refl, subst, sym}
+use Rattle.std.proofs.Common.{◌+◌, ◌∙◌, ap, subst, sym}
 use Rattle.reflector_core.specs.Answer.{answer}
 use Rattle.session_lock.specs.History.{play}
 use Rattle.join_sync.specs.Answers.{IsReplyTo}

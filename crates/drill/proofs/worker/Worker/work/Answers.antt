@@ -1,4 +1,4 @@
-use Rattle.std.proofs.Common.{◌≡◌, Bool, sym, subst}
+use Rattle.std.proofs.Common.{Bool, sym, subst}
 use Rattle.drill.specs.Turns.{HasEnded, HasJoined}
 use Rattle.drill.proofs.Courses.{made_worker, synced_is}
 use Rattle.drill.proofs.Joinings.{first_joined, first_refused}

@@ -1,5 +1,5 @@
 use Rattle.std.proofs.Common.{length, not, ap, ◌∙◌, arith}
-use Rattle.std.proofs.lemmas.List.Sorted.{IsPermutation-refl, length_permutation}
+use Rattle.std.proofs.lemmas.List.Sorted.{IsPermutation-refl}
 use Rattle.world_plain.specs.Messages.{PlainMessage}
 use Rattle.message_queue.specs.Queue.{QueueRecord, calls, without_calls}
 use Rattle.message_queue.proofs.Held.{length-seen, few_held, kept_light, held_left, seen_kept}
