@@ -47,9 +47,6 @@ one_more_view workers new w made is view before =
 
 -- ---- passes
 
-spare_after : ℕ → List Range
-spare_after made = record { first = made + 1; count = 4294967295 - made } ∷ []
-
 cut_first : (b : Bool) (r : Range) (rest : List Range) → b ≡ true → (if b then record { first = r.first + 1; count = r.count - 1 } ∷ [] else rest) ≡ record { first = r.first + 1; count = r.count - 1 } ∷ []
 cut_first true r rest is = refl
 cut_first false r rest is = absurd (cc is)

@@ -22,7 +22,7 @@ use Rattle.drill.specs.Doing.{HasDone, IsHereBy}
 use Rattle.drill.specs.Drilled.{own}
 use Rattle.drill.specs.Sizes.{IsOfSize}
 use Rattle.drill.specs.Taking.{HasTaken, IsFine}
-use Rattle.drill.specs.Turns.{HasSentIt, HasStopped, HasUnsent, IsBack, IsSettled, Settles, done_of, left_behind}
+use Rattle.drill.specs.Turns.{HasSentIt, HasStopped, IsBack, IsSettled, Settles, done_of, left_behind}
 use Rattle.drill.specs.Workers.{HasAsked, IsWorker, KeepsSource}
 use Rattle.drill.specs.Working.{Works}
 use Rattle.drill.proofs.Grown.{HasCalled, base_later, by_horizon, has_called, works_same}
@@ -31,16 +31,6 @@ use Rattle.drill.proofs.Histories.{done_same, here_same, sent_same}
 use Rattle.drill.proofs.Requests.{resend_row}
 use Rattle.drill.proofs.Sendings.{done_is, given_if, is_sender, one_payload, sender}
 use Rattle.drill.proofs.Settlings.{done_taken}
-
-pub unsent_again
-    : (gives : ℕ → Type 0) (size : Size) (shared : SharedState TrustReplay) (w : Worker) (cursor : Cursor) (number : ℕ) (payload : List ℕ) → IsBack gives size shared w cursor number payload → HasUnsent w.replica
-unsent_again gives size shared w cursor number payload back = record {
-  payload = payload;
-  outbox = back.waiting.outbox;
-  short = back.waiting.short;
-  given = back.given;
-  synced = back.works.synced;
-}
 
 -- the worker that has sent, and has taken the Done
 abbrev taker : Worker → PassState → Worker

@@ -19,16 +19,5 @@ joins_none number other = ap (λ (b : Bool). if b then Join ∷ [] else []) (ne_
 pub joins_once : (number : ℕ) → number % 64 ≡ 0 → joins_behind number ≡ Join ∷ []
 joins_once number multiple = ap (λ (b : Bool). if b then Join ∷ [] else []) (eq-eqb (number % 64) 0 multiple)
 
-pub own_turns_some : (number : ℕ) (drawn : List ℕ) → own_turns number drawn ≡ [] → ⊥
-own_turns_some number [] none = cc (none)
-own_turns_some number (first ∷ rest) none = cc (none)
-
 pub multiple_of_64 : (number : ℕ) → number % 256 ≡ 0 → number % 64 ≡ 0
 multiple_of_64 number multiple = omega arith
-
--- the last multiple of 256 stays, or is the next number
-pub mark_stays : (number : ℕ) → ((number + 1) % 256 ≡ 0 → ⊥) → (number + 1) - (number + 1) % 256 ≡ number - number % 256
-mark_stays number other = omega (arith, other)
-
-pub mark_moves : (number : ℕ) → (number + 1) % 256 ≡ 0 → (number + 1) - (number + 1) % 256 ≡ number + 1
-mark_moves number multiple = omega arith

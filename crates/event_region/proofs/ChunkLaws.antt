@@ -39,16 +39,6 @@ kept_more before after chunk push none room =
       more = omega (arith, counts, counts_after, ap length push, length-append before.items (chunk ∷ []));
     }
 
-pub kept_twice : (before between after : Vec (Vec ℕ Global) Global) → AreKept before between → AreKept between after → AreKept before after
-kept_twice before between after first second =
-    let more = first.more in
-    let more_again = second.more in
-    record {
-      joined = second.joined ∙ first.joined;
-      filled = λ len bound filled. second.filled len (omega arith) (first.filled len bound filled);
-      more = omega arith;
-    }
-
 -- ---- more bytes in the chunk that is being filled
 
 -- the chunk with a number, where so many bytes of it are used

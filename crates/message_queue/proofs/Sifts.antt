@@ -110,9 +110,3 @@ few_counted place n old new more within up few c = (
       omega (arith, grown, pow-suc 2 digits, c.deep))) in
       omega (arith, c.few, low),
 )
-
-pub fewer_counted : (m n old new : ℕ) → m ≤ n → CountsFew m old new → CountsFew n old new
-fewer_counted m n old new le h = (h.0, λ digits short. h.1 digits (omega arith))
-
-pub none_few : (n old : ℕ) → CountsFew n old old
-none_few n old = (omega arith, λ digits short. omega arith)

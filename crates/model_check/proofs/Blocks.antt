@@ -1,7 +1,7 @@
 -- A block up to a statement: what stands behind it has the faults, the form and the slots that the whole has.
 use Rattle.std.proofs.Common.{◌≡◌, ◌≤◌, ◌<◌, ℕ, ◌+◌, List, [], ◌∷◌, ◌++◌, length, map, take, drop, get_or, None, refl, sym, ap, ◌∙◌, arith, subst}
 use Rattle.std.specs.Prelude.{max}
-use Rattle.std.proofs.lemmas.List.{take_all, drop_more, at_drop_all, map-append}
+use Rattle.std.proofs.lemmas.List.{drop_more, at_drop_all, map-append}
 use Rattle.model_lang.specs.Tree.{Name, Statement, Statements, no_statements, statement, MethodTree}
 use Rattle.model_lang.specs.TreeView.{statement_tree, statement_trees}
 use Rattle.model_lang.specs.declared.tree.Stmt.{Stmt}
@@ -24,9 +24,6 @@ pub record IsUpTo (classes fields before : List Name) (all : Statements) (taken 
   pub slots : max most (slots_of_statements scope rest) ≡ max taken (slots_of_statements before all)
   pub grown : length before ≤ length scope
   pub kept : take (length before) scope ≡ before
-
-pub block_begins : (classes fields before : List Name) (all : Statements) (taken : ℕ) → IsUpTo classes fields before all taken before taken [] all
-block_begins classes fields before all taken = record { faults = refl; solved = refl; slots = refl; grown = omega arith; kept = take_all (length before) before (omega arith) }
 
 goes : (classes fields before : List Name) (all : Statements) (taken : ℕ) (scope : List Name) (most : ℕ) (done : List SolvedStatement) (s : Statement) (rest : Statements) → IsUpTo classes fields before all taken scope most done (statement s rest) → first_of (faults_of_statement classes fields scope s) ≡ None → IsUpTo classes fields before all taken (scope_behind scope s) (max most (slots_of_statement scope s)) (done ++ solve_statement classes fields scope s ∷ []) rest
 goes classes fields before all taken scope most done s rest h none =

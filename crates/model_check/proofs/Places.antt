@@ -1,14 +1,14 @@
 -- Where a name stands among names, and which builtin it names.
-use Rattle.std.proofs.Common.{◌≡◌, ℕ, ◌+◌, Bool, true, false, cond, List, [], ◌∷◌, Option, Some, None, refl, sym, ap, ◌∙◌, subst}
-use Rattle.std.specs.Prelude.{◌||◌, bytes_eq, nat_eq, is_some, unwrap_or}
+use Rattle.std.proofs.Common.{◌≡◌, ℕ, ◌+◌, Bool, true, false, cond, List, [], ◌∷◌, Option, Some, None, refl, sym, ap, ◌∙◌}
+use Rattle.std.specs.Prelude.{◌||◌, bytes_eq, is_some, unwrap_or}
 use Rattle.std.specs.List.{position_from}
 use Rattle.std.proofs.lemmas.Option.{none-some}
 use Rattle.model_lang.specs.Tree.{Name}
 use Rattle.model_check.specs.declared.builtin.Builtin.{Builtin}
 use Rattle.model_check.specs.declared.builtin.Builtin.TheVariants.{Now}
 use Rattle.model_check.specs.declared.fault.CheckFault.{CheckFault}
-use Rattle.model_check.specs.declared.fault.CheckFault.TheVariants.{NoName, Count}
-use Rattle.model_check.specs.Builtins.{arguments_of, builtin_named}
+use Rattle.model_check.specs.declared.fault.CheckFault.TheVariants.{NoName}
+use Rattle.model_check.specs.Builtins.{builtin_named}
 use Rattle.model_check.specs.Faults.{is_among, missing_from, faults_of_count, faults_of_builtin, first_of}
 use Rattle.model_check.specs.Solving.{place_of, builtin_of}
 use Rattle.model_check.specs.Resolution.{IsPlace}
@@ -51,15 +51,3 @@ counted_found (Some b) x given h = refl
 
 pub builtin_placed : (x : Name) (given : ℕ) → first_of (faults_of_builtin x given) ≡ None → builtin_named x ≡ Some (builtin_of x)
 builtin_placed x given h = counted_found (builtin_named x) x given h
-
-pub builtin_missing : (x y : Name) (given : ℕ) → None ≡ builtin_named x → y ≡ x → first_of (faults_of_builtin x given) ≡ Some (NoName y)
-builtin_missing x y given e told =
-    subst (λ (found : Option Builtin). first_of (faults_of_count found x given) ≡ Some (NoName y)) e (ap (λ (x : Name). Some (NoName x)) (sym told))
-
-pub builtin_miscounted : (x y : Name) (b : Builtin) (given : ℕ) → Some b ≡ builtin_named x → nat_eq given (arguments_of b) ≡ false → y ≡ x → first_of (faults_of_builtin x given) ≡ Some (Count y)
-builtin_miscounted x y b given e other told =
-    subst (λ (found : Option Builtin). first_of (faults_of_count found x given) ≡ Some (Count y)) e (rw other (ap (λ (x : Name). Some (Count x)) (sym told)))
-
-pub builtin_counted : (x : Name) (b : Builtin) (given : ℕ) → Some b ≡ builtin_named x → nat_eq given (arguments_of b) ≡ true → (first_of (faults_of_builtin x given) ≡ None) × (b ≡ builtin_of x)
-builtin_counted x b given e same =
-    (subst (λ (found : Option Builtin). first_of (faults_of_count found x given) ≡ None) e (rw same refl), ap (λ (found : Option Builtin). unwrap_or found Now) e)

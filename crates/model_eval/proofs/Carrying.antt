@@ -1,5 +1,5 @@
 -- What a part of a method keeps, what follows on it keeps too.
-use Rattle.std.proofs.Common.{◌≡◌, ℕ, ◌-◌, ◌≤◌, Bool, true, false, List, [], ◌++◌, Option, Some, None, nat_eq, nat_le, refl, sym, ap, ◌∙◌, subst, append_assoc, arith, if◌then◌else◌}
+use Rattle.std.proofs.Common.{◌≡◌, ℕ, ◌-◌, ◌≤◌, Bool, true, false, List, [], ◌++◌, Option, Some, None, nat_eq, nat_le, refl, sym, ap, ◌∙◌, append_assoc, arith, if◌then◌else◌}
 use Rattle.std.proofs.lemmas.List.{append-nil}
 use Rattle.model_value.specs.Plain.{PlainValue, InBounds, weight, is_in_bounds}
 use Rattle.world_plain.specs.Messages.{PlainMessage, PlainOutgoing}
@@ -7,7 +7,6 @@ use Rattle.world_plain.specs.World.{ObjectRecord}
 use Rattle.world_plain.specs.Valid.{Valid, most_turns}
 use Rattle.world_plain.specs.declared.message.Subscription.{Subscription}
 use Rattle.world_plain.specs.declared.world.Known.{Known}
-use Rattle.model_eval.specs.declared.fault.Fault.{Fault}
 use Rattle.model_eval.specs.declared.fault.Fault.TheVariants.{Fuel, Size}
 use Rattle.model_eval.specs.Running.{Running, Outcome, Gives, Faults, and_then, enter, spend, give_in_bounds, give_by_weight, PureOutcome, value, fails, give_pure, decide}
 use Rattle.model_eval.specs.Kept.{count_due, now_due, Kept, CarriesIf}
@@ -135,11 +134,3 @@ module _ (counts : List ℕ) where
       (λ e. carries-spending H InBounds r (weight a) a v (λ _. fits-true a e)) (λ _. (kept-refl r, v))
 
 -- ---- what an outcome that carries tells
-
-pub carried-gives : {A : Type 0} (H : Type 0) (counts : List ℕ) (P : A → Type 0) (r : Running) (o : Outcome A) (a : A) (s : Running)
-    → CarriesIf H counts P r o → o ≡ Gives a s → Kept r s × (H → Valid counts s.world × P a)
-carried-gives H counts P r o a s h e = subst (CarriesIf H counts P r) e h
-
-pub carried-faults : {A : Type 0} (H : Type 0) (counts : List ℕ) (P : A → Type 0) (r : Running) (o : Outcome A) (f : Fault) (s : Running)
-    → CarriesIf H counts P r o → o ≡ Faults f s → Kept r s × (H → Valid counts s.world)
-carried-faults H counts P r o f s h e = subst (CarriesIf H counts P r) e h

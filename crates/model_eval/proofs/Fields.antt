@@ -1,10 +1,7 @@
 -- Fields of objects, and what objects weigh with one of theirs changed.
-use Rattle.std.proofs.Common.{◌≡◌, ℕ, zero, suc, ◌+◌, ◌<◌, ◌≤◌, Bool, true, false, List, [], ◌∷◌, length, set, Option, Some, None, refl, sym, ap, ◌∙◌, ⊎_elim, IsTrue, ◌↔◌, arith}
+use Rattle.std.proofs.Common.{◌≡◌, ℕ, zero, suc, ◌+◌, ◌<◌, ◌≤◌, Bool, true, false, List, [], ◌∷◌, length, set, Option, Some, None, refl, sym, ap, ◌∙◌, ⊎_elim, arith}
 use Rattle.std.specs.Prelude.{nat_eq, nat_le, is_some, slice_get, slice_index_or, Result, Ok, Err, if◌then◌else◌}
-use Rattle.std.specs.Borrow.{Bor}
-use Rattle.std.specs.Option.{option_copied, option_map}
 use Rattle.std.proofs.lemmas.Bool.{false≢true, lt-leb, le-leb, cases_lt}
-use Rattle.std.proofs.lemmas.Bool.Decides.{nat_tests}
 use Rattle.std.proofs.lemmas.Option.{none-some, same_Some, slice_get_within}
 use Rattle.std.proofs.lemmas.List.{map-set, set_past, length-map}
 use Rattle.model_value.specs.Plain.{PlainValue, nil, weight}
@@ -106,15 +103,6 @@ absent-replies (Ok v) (Some o) k e h = ap value (absent_index o.fields k e ∙ s
 absent-replies (Err (Fault f)) found k e h = ap (λ (o : Option ObjectRecord). slot_value o k) h.1 ∙ ap fails (sym h.0)
 absent-replies (Err WantOfMemory) found k e h = absurd h
 
--- a field that is given is there
-pub given_some : (given : Option (Bor Value)) (field : Option PlainValue) → is_some given ≡ true → option_map plain (option_copied given) ≡ field → (old : PlainValue) × (field ≡ Some old)
-given_some None field some e = absurd (false≢true some)
-given_some (Some v) field some e = (plain v.now, sym e)
-
-pub given_none : (given : Option (Bor Value)) (field : Option PlainValue) → is_some given ≡ false → option_map plain (option_copied given) ≡ field → field ≡ None
-given_none None field none e = sym e
-given_none (Some v) field none e = absurd (false≢true (sym none))
-
 pub has_field : (found : Option ObjectRecord) (k : ℕ) (v : PlainValue) → field_of found k ≡ Some v → HasField found k
 has_field None k v e = none-some v e
 has_field (Some o) k v e = slice_get_within o.fields k v e
@@ -133,16 +121,6 @@ class_of-is (Some o) class e = (o, refl, same_Some o.class class e)
 pub heavy : (left : Option ℕ) (most weight : ℕ) → is_some left ≡ false → IsRoomBehind left most weight → most < weight
 heavy None most weight is h = h
 heavy (Some x) most weight is h = absurd (false≢true (sym is))
-
-pub too_heavy : {A : Type 0} (a : A) (r changed : Running) → most_world_weight < world_weight changed.world → if_light a r changed ≡ Faults Full r
-too_heavy a r changed h =
-    let e : nat_le (world_weight changed.world) most_world_weight ≡ false = grind (arith, nat_tests) in
-    rw e refl
-
-pub light_enough : {A : Type 0} (a : A) (r changed : Running) → world_weight changed.world ≤ most_world_weight → if_light a r changed ≡ Gives a changed
-light_enough a r changed h =
-    let e : nat_le (world_weight changed.world) most_world_weight ≡ true = grind (arith, nat_tests) in
-    rw e refl
 
 -- a field of an object that is there is put, if the world stays light
 pub put-heavy : (found : Option ObjectRecord) (id : ℕ) (change : List PlainValue → List PlainValue) (r : Running) → is_some found ≡ true
@@ -163,12 +141,6 @@ put-as (Some o) id f g r e = ap (λ (os : List ObjectRecord). if_light tt r (wit
 pub room-tells : (left : Option ℕ) (most weight : ℕ) → IsRoomBehind left most weight → is_some left ≡ nat_le weight most
 room-tells None most weight h = sym (lt-leb weight most h)
 room-tells (Some x) most weight h = sym (le-leb weight most (omega (arith, h)))
-
--- a weight that fits into what is left, as a test of another sum
-pub told-le : (told : Bool) (m n p q : ℕ) → (IsTrue told ↔ (m ≤ n)) → p + n ≡ q + m → told ≡ nat_le p q
-told-le true m n p q h e = let fits : m ≤ n = h.0 refl in sym (le-leb p q (omega (arith, e)))
-told-le false m n p q h e =
-    ⊎_elim (λ over. sym (lt-leb p q (omega (arith, over, e)))) (λ fits. absurd (false≢true (h.1 fits))) (cases_lt n m)
 
 -- a test of a sum, as one with a further weight on each side
 pub le-beside : (p q m n : ℕ) → p + n ≡ m → nat_le p q ≡ nat_le m (q + n)

@@ -1,5 +1,5 @@
 -- One turn of the reader's loops, and one level of room.
-use Rattle.std.proofs.Common.{◌≡◌, ℕ, zero, suc, ◌+◌, ◌-◌, ◌<◌, ◌≤◌, List, [], ◌∷◌, ◌++◌, length, Option, Some, None, refl, sym, ap, ◌∙◌, arith}
+use Rattle.std.proofs.Common.{◌≡◌, ℕ, zero, suc, ◌+◌, ◌-◌, ◌<◌, ◌≤◌, List, [], ◌∷◌, ◌++◌, length, Some, None, refl, sym, ap, ◌∙◌, arith}
 use Rattle.std.proofs.lemmas.List.{map-append}
 use Rattle.model_tokens.specs.declared.token.Token.{Token}
 use Rattle.model_tokens.specs.declared.token.Symbol.{Symbol}
@@ -105,10 +105,6 @@ pub read_line-next : (inner : ExpressionReader) (k : ℕ) (ts : List Token) → 
 unfolding read_operator_line
 read_line-next inner k ts = refl
 
-abbrev line_number_if : Option Line → ℕ
-line_number_if None = 0
-line_number_if (Some l) = line_number l
-
 -- the same by the lines of operators
 pub read_line-turns : (inner : ExpressionReader) (l : Line) (ts : List Token) → read_operator_line inner (line_number l) ts ≡ on_read (read_operator_line inner (line_number l - 1) ts) (more_of (line_number l) (read_operator_line inner (line_number l - 1)) (turns_of (line_number l) (length ts)))
 read_line-turns inner line.Term ts = read_line-next inner 0 ts
@@ -116,13 +112,6 @@ read_line-turns inner line.Sum ts = read_line-next inner 1 ts
 read_line-turns inner line.Relation ts = read_line-next inner 2 ts
 read_line-turns inner line.And ts = read_line-next inner 3 ts
 read_line-turns inner line.Or ts = read_line-next inner 4 ts
-
-pub tighter-number : (l t : Line) → tighter_of l ≡ Some t → line_number l - 1 ≡ line_number t
-tighter-number line.Term t h = cc
-tighter-number line.Sum t h = ap line_number_if h
-tighter-number line.Relation t h = ap line_number_if h
-tighter-number line.And t h = ap line_number_if h
-tighter-number line.Or t h = ap line_number_if h
 
 pub tightest-number : (l : Line) → tighter_of l ≡ None → line_number l ≡ 2
 tightest-number line.Term h = refl

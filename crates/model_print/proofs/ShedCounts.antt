@@ -55,10 +55,6 @@ behind-append : (after : ℕ → Symbol → ℕ) (k : ℕ) (a b : List Token) �
 behind-append after k [] b = refl
 behind-append after k (t ∷ a) b = behind-append after (count_after after k t) a b
 
-behind-le : (after : ℕ → Symbol → ℕ) (k : ℕ) (a : List Token) → behind after k a ≤ greatest after k a
-behind-le after k [] = omega arith
-behind-le after k (t ∷ a) = omega (arith, behind-le after (count_after after k t) a)
-
 greatest-append : (after : ℕ → Symbol → ℕ) (k : ℕ) (a b : List Token) → greatest after k (a ++ b) ≡ max (greatest after k a) (greatest after (behind after k a) b)
 greatest-append after k [] b = omega (arith, greatest-le after k b)
 greatest-append after k (t ∷ a) b = omega (arith, greatest-append after (count_after after k t) a b)

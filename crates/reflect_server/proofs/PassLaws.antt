@@ -2,9 +2,8 @@
 use Rattle.std.proofs.Common.{◌≡◌, ℕ, Bool, true, false, ◌||◌, eqb, List, [], ◌∷◌, ◌++◌, slice_index, refl, sym, ap, ◌∙◌, subst, ◌⊎◌, inl, inr}
 use Rattle.std.proofs.lemmas.Bool.{eqb-true}
 use Rattle.atomic_table.specs.Seated.{TableId}
-use Rattle.session_lock.specs.declared.knowledge.Range.{Range}
 use Rattle.session_lock.specs.History.{has, calls_of}
-use Rattle.session_lock.specs.Passes.{PassState, caller, numbers_held, Given, Merged}
+use Rattle.session_lock.specs.Passes.{PassState, caller, Merged}
 use Rattle.reflect_server.specs.Passes.{HasCalledAs, IsFresh, HasNotCalled}
 
 -- ---- who stands in a list
@@ -69,17 +68,5 @@ idle_merged table a b m idle fresh merged = record {
 
 -- ---- splits
 
-pub idle_split : (table : TableId) (a m : PassState) (spare : List Range) → HasNotCalled table a → m ≡ record a { spare = spare } → HasNotCalled table m
-idle_split table a m spare idle same = subst (HasNotCalled table) (sym same) (record { session = idle.session; calls = idle.calls })
-
 pub one_caller : (p : PassState) (c : ℕ) → p.callers ≡ c ∷ [] → p.callers ≡ caller p ∷ []
 one_caller p c one = one ∙ ap (λ (m : ℕ). m ∷ []) (sym (ap (λ (l : List ℕ). slice_index l 0) one))
-
-pub fresh_split : (table : TableId) (a p : PassState) (numbers : ℕ) → a.session ≡ table → Given a numbers p → numbers_held p ≡ 1 → IsFresh table p
-fresh_split table a p numbers session given one =
-    let callers = one_caller p _ (ap (λ (q : PassState). q.callers) given.same) in record {
-      session = ap (λ (q : PassState). q.session) given.same ∙ session;
-      one = callers;
-      calls = ap (λ (l : List ℕ). calls_of l p.seen) (sym callers) ∙ given.own;
-      numbers = one;
-    }

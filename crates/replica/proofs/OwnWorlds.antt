@@ -40,10 +40,6 @@ first-of-session program id w same is sound =
       session = λ _. ap (λ (s : Scene). s.world.id) is ∙ first-id (program_tree program) (program-fits (program_tree program) faultless) id;
     }
 
-pub quiet-of-session : (program : List Class) (id : List ℕ) (w : WorldView) (world : WorldRecord) → program ≡ w.program → IsProgram (program_tree program) → w.scene ≡ take_up world → world.id ≡ id → IsOfSession program id w
-quiet-of-session program id w world same faultless is session =
-    record { same = same; faultless = subst (λ p. IsProgram (program_tree p)) same faultless; session = λ _. ap (λ (s : Scene). s.world.id) is ∙ session }
-
 moves-keeps : (result : Result ⊤ WorldFault) (program : List Class) (id : List ℕ) (v w : WorldView) (back : Bool) (meant : Scene) → meant.world.id ≡ v.scene.world.id → Moves result v w back meant → IsOfSession program id v → IsOfSession program id w
 moves-keeps (Ok done) program id v w back meant stays moves is =
     subst (IsOfSession program id) (sym moves.2) (record { same = is.same; faultless = is.faultless; session = λ e. stays ∙ is.session e })

@@ -46,10 +46,6 @@ IsKindWithin-grows a b Join le within = tt
 IsKindWithin-grows a b Exit le within = tt
 IsKindWithin-grows a b (Event number place) le within = (omega arith, within.1)
 
-AreWithin-grows : (a b : ℕ) (heads : List Head) → a ≤ b → AreWithin a heads → AreWithin b heads
-AreWithin-grows a b [] le within = tt
-AreWithin-grows a b (head ∷ rest) le within = (IsKindWithin-grows a b head.kind le within.0, AreWithin-grows a b rest le within.1)
-
 AreWithin-append : (a b : ℕ) (heads : List Head) (head : Head) → a ≤ b → AreWithin a heads → IsKindWithin b head.kind → AreWithin b (heads ++ head ∷ [])
 AreWithin-append a b [] head le within last = (last, tt)
 AreWithin-append a b (first ∷ rest) head le within last = (IsKindWithin-grows a b first.kind le within.0, AreWithin-append a b rest head le within.1 last)

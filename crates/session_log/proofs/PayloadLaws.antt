@@ -1,13 +1,6 @@
 -- Payloads in two pieces.
-use Rattle.std.proofs.Common.{ℕ, ◌+◌, ◌-◌, ◌^◌, ◌≡◌, ◌≤◌, ◌<◌, List, ◌++◌, length, take, drop, sym, ap, ◌∙◌, refl, arith}
-use Rattle.std.proofs.lemmas.List.{length-take, take-append-drop, take_at, drop_at}
-use Rattle.tea_base.specs.Limits.{most_payload}
-use Rattle.event_region.specs.declared.region.Place.{Place}
-use Rattle.event_region.specs.RegionState.{bytes_at}
-
-pub pieces_fit : (payloads bytes : List ℕ) (place : Place) → bytes ≡ bytes_at payloads place → place.len ≤ most_payload → length bytes < 2 ^ 32
-pieces_fit payloads bytes place is short =
-    omega (arith, ap length is, length-take (place.start + place.len - place.start) (drop place.start payloads))
+use Rattle.std.proofs.Common.{ℕ, ◌+◌, ◌-◌, ◌≡◌, List, ◌++◌, length, take, drop, sym, ap, ◌∙◌, refl}
+use Rattle.std.proofs.lemmas.List.{take-append-drop, take_at, drop_at}
 
 pub joined_at : (first second bytes : List ℕ) → take (length first) bytes ≡ first → drop (length first) bytes ≡ second → first ++ second ≡ bytes
 joined_at first second bytes front back =

@@ -3,24 +3,22 @@ use Rattle.std.proofs.Common.{ℕ, ◌≡◌, ◌≢◌, ◌≤◌, ◌<◌, Boo
 use Rattle.std.specs.Arc.{arc_value}
 use Rattle.std.proofs.lemmas.Option.{get_or_from_slice_get, slice_get_past, slice_get_read}
 use Rattle.model_lang.specs.declared.tree.Class.{Class}
-use Rattle.model_lang.specs.TreeView.{program_tree}
 use Rattle.world_plain.specs.Messages.{PlainOutgoing}
 use Rattle.world_plain.specs.World.{WorldRecord}
 use Rattle.wire_frames.specs.declared.frame.ClientFrame.{ClientFrame}
 use Rattle.wire_frames.specs.declared.frame.ClientFrame.TheVariants as up
-use Rattle.replica_plain.specs.declared.how.How.{How}
 use Rattle.replica_plain.specs.declared.how.How.TheVariants.{Fresh}
 use Rattle.replica_plain.specs.Worlds.{Worlds}
 use Rattle.replica_plain.specs.Calls.{join_frame, joining, loses, snap_frame}
 use Rattle.replica.specs.RealWorlds.{worlds}
 use Rattle.replica.specs.SessionWorlds.{Snaps}
 use Rattle.replica.specs.View.{ReplicaView, founded_replica, with_plain, world_part, worlds_of}
-use Rattle.system_plain.specs.System.{Connection, System, close, connecting, is_open, put_up}
+use Rattle.system_plain.specs.System.{Connection, System, connecting, is_open, put_up}
 use Rattle.system_plain.specs.Steps.{Found, Snap, snap_by}
 use Rattle.system_plain.specs.Schedule.{IsTypedStep}
 use Rattle.system_core.specs.declared.member.Member.{Member}
 use Rattle.system_core.specs.declared.parts.Parts.{Parts}
-use Rattle.system_core.specs.Parts.{Connects, HasMember, IsAbsent, IsMember, IsPlaced, IsSound, Takes, member_view, part_worlds, plain_client, plain_system}
+use Rattle.system_core.specs.Parts.{HasMember, IsAbsent, IsMember, IsPlaced, IsSound, Takes, member_view, part_worlds, plain_client, plain_system}
 use Rattle.system_core.specs.Systems.{IsReplicaOf, SystemView, system_view}
 use Rattle.system_core.proofs.Members.{get-set}
 use Rattle.system_core.proofs.PartSteps.{absent-in, found-at, found-takes, founded_member, is-member-with, keeps-members, lost_member, member-at, snaps, snaps-none, snaps-shut, spells-lost, spells-none, spells-open, spells-shut, unmade, worlds-at}
@@ -72,33 +70,6 @@ snap-takes old new k view x y z c d after time bytes frames sound placed read re
     ∙ snaps m (plain_system old) view (plain_client x) c client there opened)
 
 -- ---- a member joins by a new connection
-
-pub connect-takes : (old new : Parts) (k : ℕ) (how : How) (x y : Member) (replica : ReplicaView) (frame : ClientFrame) (left : List Connection) (c : Connection) → HasMember old k
-    → x ≡ get_or old.members.items k x → y ≡ get_or old.members.items k y → replica ≡ with_plain y.replica (joining y.replica.plain how) → frame ≡ join_frame (worlds_of y.replica) y.replica.plain how
-    → left ≡ close old.connections.items x.newest → c ≡ connecting y.view frame → new.program ≡ old.program → new.id ≡ old.id → new.session.plain ≡ old.session.plain
-    → new.members.items ≡ set old.members.items k (record { view = y.view; replica = replica; newest = length old.connections.items }) → new.connections.items ≡ left ++ c ∷ [] → Connects old new k how
-connect-takes old new k how x y replica frame left c has read read_again joined frame_is left_is c_is program name held members connections =
-    let m = has.0 in
-    let is = has.2 in
-    let e : y ≡ m = read_again ∙ get_or_from_slice_get old.members.items k m y has.1 in
-    let f : x ≡ m = read ∙ get_or_from_slice_get old.members.items k m x has.1 in
-    let own : worlds_of m.replica ≡ part_worlds old = ap (λ classes. worlds (program_tree classes) m.replica.id) is.program ∙ ap (worlds (program_tree (arc_value old.program))) is.session in
-    let frame_of : frame ≡ join_frame (part_worlds old) m.replica.plain how =
-    frame_is ∙ ap (λ (r : Member). join_frame (worlds_of r.replica) r.replica.plain how) e ∙ ap (λ w. join_frame w m.replica.plain how) own in
-    let viewed : y.view ≡ m.replica.plain.view = ap (λ (r : Member). r.view) e ∙ is.viewed in
-    record {
-      member = m;
-      placed = has.1;
-      program = program;
-      session = name;
-      stands = held;
-      members =
-          members ∙ ap (λ (r : ReplicaView). set old.members.items k (let t : Member = record { view = y.view; replica = r; newest = length old.connections.items } in t)) joined
-          ∙ ap (λ (r : Member). set old.members.items k (let t : Member = record { view = r.view; replica = with_plain r.replica (joining r.replica.plain how); newest = length old.connections.items } in t)) e;
-      connections =
-          connections ∙ ap (λ cs. cs ++ c ∷ []) (left_is ∙ ap (λ (r : Member). close old.connections.items r.newest) f)
-          ∙ ap (λ t. close old.connections.items m.newest ++ t ∷ []) (c_is ∙ ap (λ v. connecting v frame) viewed ∙ ap (connecting m.replica.plain.view) frame_of);
-    }
 
 -- ---- a member lost its world
 

@@ -65,21 +65,6 @@ put_keeps : {W O : Type 0} (published : ViewPayloads) (s : System W O) (new : Pl
 put_keeps published s new number c ups cursor more over numbered at counts sends joins meant dones =
     link_changes published s new number (over_if over (put_down (with_cursor (with_up c ups) cursor) more)) numbered counts (link_put published s.session new c ups cursor more over counts (numbered.links number c at) sends joins meant dones)
 
--- what is left up after the first frame
-sends_rest : (published : List (List ℕ)) (frame : ClientFrame) (rest : List ClientFrame) → SendsMeant published (frame ∷ rest) → SendsMeant published rest
-sends_rest published (up.Join session view want) rest sends = sends
-sends_rest published (up.Send number payload) rest sends = sends.1
-sends_rest published (up.Snap time bytes) rest sends = sends
-sends_rest published up.Leave rest sends = sends
-sends_rest published up.Alive rest sends = sends
-
-joins_rest : (view : ℕ) (frame : ClientFrame) (rest : List ClientFrame) → JoinsMeant view (frame ∷ rest) → JoinsMeant view rest
-joins_rest view (up.Join session named want) rest joins = joins.1
-joins_rest view (up.Send number payload) rest joins = joins
-joins_rest view (up.Snap time bytes) rest joins = joins
-joins_rest view up.Leave rest joins = joins
-joins_rest view up.Alive rest joins = joins
-
 same_cursor : (c : Connection) (ups : List ClientFrame) (cursor : Option Cursor) → c.cursor ≡ cursor → with_cursor (with_up c ups) cursor ≡ with_up c ups
 same_cursor c ups cursor is = ap (λ (x : Option Cursor). with_cursor (with_up c ups) x) (sym is)
 

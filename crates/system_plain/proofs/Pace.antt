@@ -1,5 +1,5 @@
 -- The numbers of SENDs and DONEs in flight, that their order suffices, and when a SEND makes no DONE.
-use Rattle.std.proofs.Common.{ℕ, ◌+◌, ◌-◌, ◌≡◌, ◌≤◌, ◌<◌, Bool, true, false, cond, eqb, nat_lt, List, [], ◌∷◌, Some, length, slice_get, refl, arith, ap, ◌∙◌, sym, subst}
+use Rattle.std.proofs.Common.{ℕ, ◌+◌, ◌-◌, ◌≡◌, ◌≤◌, ◌<◌, Bool, true, false, cond, eqb, List, [], ◌∷◌, Some, length, slice_get, refl, arith, ap, ◌∙◌, sym, subst}
 use Rattle.std.proofs.lemmas.Bool.Decides.{nat_tests}
 use Rattle.std.proofs.lemmas.List.{length-drop}
 use Rattle.tea_base.specs.Limits.{most_payload}
@@ -74,15 +74,6 @@ done_is_taken m published s r number seq time rest synced box prefixes within ri
 no_done_if : (test : Bool) (a b : SessionOutcome) → (test ≡ true → IsNoDoneReply a.reply) → (test ≡ false → IsNoDoneReply b.reply) → IsNoDoneReply (cond test a b).reply
 no_done_if true a b held fell = held refl
 no_done_if false a b held fell = fell refl
-
-pub gap_no_done : (s : PlainSession) (view joined number : ℕ) (payload : List ℕ) (now : ℕ) → last_number s.log view + 1 < number → IsNoDoneReply (send_event s view joined number payload now).reply
-gap_no_done s view joined number payload now gap =
-    let next = last_number s.log view + 1 in
-    no_done_if (is_stale s.log view joined) _ _ (λ h. tt) λ fresh.
-    no_done_if (nat_lt most_payload (length payload)) _ _ (λ h. tt) λ short.
-    no_done_if (eqb number 0) _ _ (λ h. tt) λ named.
-    no_done_if (nat_lt number next) _ _ (λ old. absurd (grind (arith, nat_tests))) λ new.
-    no_done_if (nat_lt next number) _ _ (λ h. tt) λ no_gap. absurd (grind (arith, nat_tests))
 
 pub stale_no_done : (s : PlainSession) (view joined number : ℕ) (payload : List ℕ) (now : ℕ) → is_stale s.log view joined ≡ true → IsNoDoneReply (send_event s view joined number payload now).reply
 stale_no_done s view joined number payload now stale = no_done_if (is_stale s.log view joined) _ _ (λ h. tt) (λ fresh. absurd cc)

@@ -1,5 +1,5 @@
 -- What comes of hearing a link once.
-use Rattle.std.proofs.Common.{◌≡◌, inl, inr, ℕ, ◌==◌, Bool, true, false, if◌then◌else◌, List, [], ◌∷◌, Option, Some, None, refl, sym, ap, subst, ◌∙◌}
+use Rattle.std.proofs.Common.{◌≡◌, inl, inr, ℕ, ◌==◌, Bool, true, false, if◌then◌else◌, List, [], ◌∷◌, Option, Some, None, refl, sym, ap, subst}
 use Rattle.byte_fields.specs.Fields.{whole}
 use Rattle.tea_io.specs.declared.link.Heard.{Heard}
 use Rattle.tea_io.specs.declared.link.Heard.TheVariants as heard
@@ -9,10 +9,8 @@ use Rattle.wire_frames.specs.declared.frame.ServerFrame.{ServerFrame}
 use Rattle.wire_frames.specs.declared.frame.ServerFrame.TheVariants as server
 use Rattle.replica_plain.specs.declared.how.How.{How}
 use Rattle.replica_plain.specs.declared.how.How.TheVariants.{Fresh, Whole, Resume}
-use Rattle.replica_plain.specs.declared.fault.ReplicaFault.{ReplicaFault}
 use Rattle.replica_plain.specs.declared.fault.ReplicaFault.TheVariants as fault
 use Rattle.replica_plain.specs.Calls.{unsent}
-use Rattle.replica_plain.specs.Taking.{taken}
 use Rattle.run_steps.specs.Steps.{Hears}
 use Rattle.run_steps.specs.Outside.{LinksTell, Well, Failed, WantedMemory, HearsLink}
 use Rattle.view_shell.specs.declared.ending.ViewEnd.{ViewEnd}
@@ -21,35 +19,13 @@ use Rattle.view_shell.specs.declared.hearing.Stop.{Stop}
 use Rattle.view_shell.specs.declared.hearing.Stop.TheVariants as stop
 use Rattle.view_shell.specs.declared.hearing.SnapAnswer.{SnapAnswer}
 use Rattle.view_shell.specs.declared.hearing.Synced.{Synced}
-use Rattle.view_shell.specs.Phases.{Viewer, Phase, Aim, ToJoin, ToReach, ToSettle, ToSnap, Task, Begins, Receives, Tells, Receiving, Over, Hearing, bad_base, given, go_on, heard_frame, heard_quiet, most_quiets, quiet, reads, send_all, synced, takes, took, with_taken}
+use Rattle.view_shell.specs.Phases.{Viewer, Phase, Aim, ToJoin, ToReach, ToSettle, ToSnap, Task, Begins, Receives, Tells, Receiving, Over, Hearing, bad_base, given, go_on, heard_frame, heard_quiet, most_quiets, quiet, reads, send_all, synced}
 use Rattle.view_shell.proofs.Going.{Follows, goes_and_stops, goes_on}
 use Rattle.view_shell.specs.ViewText.{rejoined_line}
 use Rattle.view_shell.specs.ViewRun.{Doing, Goes, Stops, LinkActs}
-use Rattle.view_shell.specs.Hearing.{GoesOnFor, HeardPhase, StopsHearing, answer_in, answer_line, answered_phase, joined_phase, stop_for, sync_in, StopsAt}
+use Rattle.view_shell.specs.Hearing.{GoesOnFor, HeardPhase, StopsHearing, answer_in, answer_line, answered_phase, joined_phase, sync_in, StopsAt}
 
 -- ---- a frame is taken, or not
-
-pub took_frame : (v v' : Viewer) (aim : Aim) (frame : ServerFrame) (read : Option ServerFrame) → read ≡ Some frame → (taken v.worlds v.replica frame).fault ≡ None → v' ≡ with_taken v (taken v.worlds v.replica frame)
-    → reads v aim read ≡ took v' aim frame
-took_frame v v' aim frame read is faultless with =
-    ap (reads v aim) is ∙ ap (takes (with_taken v (taken v.worlds v.replica frame)) aim frame) faultless ∙ ap (λ (w : Viewer). took w aim frame) (sym with)
-
-stops_by : (v : Viewer) (aim : Aim) (frame : ServerFrame) (cause : ReplicaFault) → StopsAt (stop_for cause) (takes v aim frame (Some cause)) v aim
-stops_by v aim frame (fault.Refused about code kept) = inl refl
-stops_by v aim frame fault.BadBase = refl
-stops_by v aim frame fault.WantOfMemory = inr refl
-stops_by v aim frame fault.Unasked = inl refl
-stops_by v aim frame (fault.OutOfOrder expected found) = inl refl
-stops_by v aim frame (fault.Back time) = inl refl
-stops_by v aim frame fault.Broken = inr refl
-
-pub stopped_at_frame : (v v' : Viewer) (aim : Aim) (frame : ServerFrame) (read : Option ServerFrame) (cause : ReplicaFault) → read ≡ Some frame → (taken v.worlds v.replica frame).fault ≡ Some cause
-    → v' ≡ with_taken v (taken v.worlds v.replica frame) → StopsAt (stop_for cause) (reads v aim read) v' aim
-stopped_at_frame v v' aim frame read cause is faulty with =
-    let w : Viewer = with_taken v (taken v.worlds v.replica frame) in
-    let same : reads v aim read ≡ takes w aim frame (Some cause) = ap (reads v aim) is ∙ ap (takes w aim frame) faulty in
-    subst (λ (u : Viewer). StopsAt (stop_for cause) (reads v aim read) u aim) (sym with)
-    (subst (λ (p : Phase). StopsAt (stop_for cause) p w aim) (sym same) (stops_by w aim frame cause))
 
 -- ---- the phases behind a frame
 

@@ -21,9 +21,6 @@ stays n = omega arith
 pub prints_nothing : {W : Type 0} (out : OutputTells W) (w : W) → PrintsText out Well [] w w
 prints_nothing out w = record { written = grown_nothing (out.written w); counted = stays (out.faults w); wanted = stays (out.wants w) }
 
-pub prints_empty : {W : Type 0} (out : OutputTells W) (text : List ℕ) (w : W) → text ≡ [] → PrintsText out Well text w w
-prints_empty out text w is = subst (λ (t : List ℕ). PrintsText out Well t w w) (sym is) (prints_nothing out w)
-
 module _ {W L : Type 0} (out : OutputTells W) (links : LinksTell L) (l : L) (w w' : W) where
   pub printed_goes : (v : Viewer) (text : List ℕ) → PrintsText out Well text w w' → Goes (Acts (window_tells out links)) (Printing v text) (run v v.lines) (window w l) (window w' l)
   printed_goes v text prints = record { steps = Prints text ∷ []; walks = (run v v.lines, (refl, refl), refl); acts = inl (window w' l, (prints, refl), refl) }

@@ -1,5 +1,5 @@
 -- When a view has what it hears its link for.
-use Rattle.std.proofs.Common.{◌≡◌, ℕ, ◌≤◌, ◌<◌, Bool, true, false, if◌then◌else◌, List, [], ◌∷◌, length, refl, sym, ap, ◌∙◌, arith}
+use Rattle.std.proofs.Common.{◌≡◌, ℕ, ◌≤◌, ◌<◌, Bool, true, false, if◌then◌else◌, List, [], ◌∷◌, length, refl, ap, ◌∙◌, arith}
 use Rattle.std.specs.Prelude.{nat_le}
 use Rattle.std.proofs.lemmas.Bool.Decides.{nat_tests}
 use Rattle.replica_plain.specs.PlainReplica.{published_count}
@@ -42,9 +42,3 @@ unsettled v not = unsettled_by v v.replica.outbox not
 pub kept_on : (w0 w1 w2 : Watcher) → w1 ≡ record w0 { replica = w1.replica; receives = w1.receives; quiets = w1.quiets } → w2 ≡ record w1 { replica = w2.replica; receives = w2.receives; quiets = w2.quiets }
     → w2 ≡ record w0 { replica = w2.replica; receives = w2.receives; quiets = w2.quiets }
 kept_on w0 w1 w2 first second = second ∙ ap (λ (w : Watcher). record w { replica = w2.replica; receives = w2.receives; quiets = w2.quiets }) first
-
--- and goes on being kept once it has sent a frame
-pub kept_sent : (w0 w1 w2 : Watcher) → w1 ≡ record w0 { replica = w1.replica; receives = w1.receives; quiets = w1.quiets } → w2 ≡ record w1 { receives = w2.receives }
-    → w2 ≡ record w0 { replica = w2.replica; receives = w2.receives; quiets = w2.quiets }
-kept_sent w0 w1 w2 first second =
-    kept_on w0 w1 w2 first (second ∙ ap (λ (w : Watcher). record w1 { replica = w.replica; receives = w2.receives; quiets = w.quiets }) (sym second))

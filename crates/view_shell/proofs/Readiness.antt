@@ -32,12 +32,6 @@ pub viewer_told : (address : List ℕ) (lines : List PlainLine) (w w' : Watcher)
 viewer_told address lines w w' kept is =
     ap (λ (one : Watcher). viewer address one lines) kept ∙ ap (λ (r : ReplicaView). viewer address (record w { replica = r }) lines) is
 
--- it is as ready as before
-pub ready_told : (w w' : Watcher) → w' ≡ record w { replica = w'.replica } → w'.replica ≡ with_plain w.replica (takes_out w.replica.plain) → IsReady w → IsReady w'
-ready_told w w' kept is ready =
-    let whole : w' ≡ record w { replica = with_plain w.replica (takes_out w.replica.plain) } = kept ∙ ap (λ (r : ReplicaView). record w { replica = r }) is in
-    subst IsReady (sym whole) (record { knows = record { view = ready.knows.view; published = ready.knows.published }; receives = ready.receives; quiets = ready.quiets })
-
 -- a view that sent one frame
 pub viewer_after_send : (address : List ℕ) (lines : List PlainLine) (w w' : Watcher) → w' ≡ record w { receives = w'.receives } → w'.receives ≡ 0 → record (viewer address w lines) { receives = 0 } ≡ viewer address w' lines
 viewer_after_send address lines w w' kept zero = ap (λ (n : ℕ). record (viewer address w lines) { receives = n }) (sym zero) ∙ viewer_sent address lines w w' kept

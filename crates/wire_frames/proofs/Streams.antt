@@ -8,10 +8,6 @@ pub Streams-front : (log : List Entry) (place : Place) (front rest : List Server
 Streams-front log place [] rest streams = tt
 Streams-front log place (frame ∷ front) rest streams = (streams.0, Streams-front log (place_after place frame) front rest streams.1)
 
-pub Streams-rest : (log : List Entry) (place : Place) (front rest : List ServerFrame) → Streams log place (front ++ rest) → Streams log (place_after_all place front) rest
-Streams-rest log place [] rest streams = streams
-Streams-rest log place (frame ∷ front) rest streams = Streams-rest log (place_after place frame) front rest streams.1
-
 pub Streams-append : (log : List Entry) (place : Place) (front rest : List ServerFrame) → Streams log place front → Streams log (place_after_all place front) rest → Streams log place (front ++ rest)
 Streams-append log place [] rest streams more = more
 Streams-append log place (frame ∷ front) rest streams more = (streams.0, Streams-append log (place_after place frame) front rest streams.1 more)

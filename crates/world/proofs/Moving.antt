@@ -19,13 +19,6 @@ preceded-from m [] h = tt
 preceded-from m (n ∷ ns) (inl before, h) = (omega (arith, before), preceded-from m ns h)
 preceded-from m (n ∷ ns) (inr same, h) = (omega (arith, same.0), preceded-from m ns h)
 
-from-less : (t u : ℕ) (ms : List PlainMessage) → t ≤ u → AllFrom u ms → AllFrom t ms
-from-less t u [] le h = tt
-from-less t u (m ∷ ms) le h = (omega (arith, le, h.0), from-less t u ms le h.1)
-
-pub ordered-from : (t : ℕ) (m : PlainMessage) (ms : List PlainMessage) → t ≤ m.time → AreInOrder (m ∷ ms) → AllFrom t (m ∷ ms)
-ordered-from t m ms le h = (le, from-less t m.time ms le (preceded-from m ms h.0))
-
 -- where nothing is due, all lies behind
 none_due : (t : ℕ) (b : Bool) (m : PlainMessage) (ms : List PlainMessage) → b ≡ nat_le m.time t → first_where b m ms ≡ None → t < m.time
 none_due t true m ms e h = absurd (none-some (m, ms) (sym h))

@@ -1,23 +1,8 @@
 -- The object of a number is one of the objects, and has that number.
-use Rattle.std.proofs.Common.{◌≡◌, ℕ, Bool, true, false, List, [], ◌∷◌, Option, Some, refl, sym, ap, subst, ◌∙◌}
+use Rattle.std.proofs.Common.{◌≡◌, ℕ, Bool, true, false, List, [], ◌∷◌, Option, Some, subst}
 use Rattle.std.specs.Prelude.{nat_eq}
-use Rattle.std.proofs.lemmas.Bool.{eqb-true}
 use Rattle.world_plain.specs.World.{ObjectRecord}
 use Rattle.world_plain.specs.Valid.{object_at, if_same, ObjectFits, ObjectsFit}
-
-id-if_same :
-    (same : Bool) (first : ObjectRecord) (other : Option ObjectRecord) (id : ℕ) (o : ObjectRecord)
-    → nat_eq first.id id ≡ same
-    → (other ≡ Some o → o.id ≡ id)
-    → if_same same first other ≡ Some o
-    → o.id ≡ id
-id-if_same true first other id o test later e =
-    let found : first ≡ o = cc in ap (λ (x : ObjectRecord). x.id) (sym found) ∙ eqb-true first.id id test
-id-if_same false first other id o test later e = later e
-
-pub object_at-id : (os : List ObjectRecord) (id : ℕ) (o : ObjectRecord) → object_at os id ≡ Some o → o.id ≡ id
-object_at-id [] id o e = cc
-object_at-id (first ∷ os) id o e = id-if_same (nat_eq first.id id) first (object_at os id) id o refl (object_at-id os id o) e
 
 fits-if_same :
     (counts : List ℕ) (next : ℕ) (same : Bool) (first : ObjectRecord) (other : Option ObjectRecord) (o : ObjectRecord)
