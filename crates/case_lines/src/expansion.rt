@@ -20,7 +20,7 @@ const MOST_COPIES: u64 = 1_000_000;
 ///
 /// What is not closed stands as it is, and so does what has another head, more than a million copies, or no bytes in
 /// hexadecimal digits.
-pub fn expanded(alloc: Global, case: &str) -> Result<Blob, WantOfMemory>
+pub fn expand(alloc: Global, case: &str) -> Result<Blob, WantOfMemory>
     // Without `<` a case stands as it is.
     ensures { ¬ Contains case.now 60 → IfOk result (λ bytes. bytes ≡ case.now) }
 {

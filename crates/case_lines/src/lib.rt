@@ -7,7 +7,7 @@ mod lines;
 mod printing;
 mod wanting;
 
-pub use expansion::expanded;
+pub use expansion::expand;
 pub use fault::CaseFault;
 pub use lines::{lines_of, told_lines};
 pub use printing::{CaseFile, CaseKind, case_files, is_case, print_files, print_outcome};

@@ -1,5 +1,5 @@
 //! The lines of files of cases, printed with what the cases come to.
-use crate::expansion::expanded;
+use crate::expansion::expand;
 use crate::fault::CaseFault;
 use std::alloc::Global;
 use std::io::{self, ErrorKind};
@@ -85,5 +85,5 @@ fn print_lines<K: CaseKind>(
 }
 
 fn outcome<K: CaseKind>(alloc: Global, kind: &K, line: &str) -> Result<String, CaseFault> {
-    kind.outcome(alloc, expanded(alloc, line)?.bytes())
+    kind.outcome(alloc, expand(alloc, line)?.bytes())
 }

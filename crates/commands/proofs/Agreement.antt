@@ -11,7 +11,7 @@ use Rattle.world_plain.specs.Valid.{Valid}
 use Rattle.world_plain.specs.World.{WorldRecord}
 use Rattle.world.specs.Worlds.{Follows, replay, replay_on}
 use Rattle.commands.specs.declared.outcome.Input.TheVariants as input
-use Rattle.commands.specs.declared.outcome.Refusal.TheVariants as refusal
+use Rattle.commands.specs.declared.outcome.CommandRefusal.TheVariants as refusal
 use Rattle.commands.specs.declared.words.ReplayRequest.{ReplayRequest}
 use Rattle.commands.specs.Verdict.{ByRefusal, SnapshotsAgree, at_once, resumed_verdict, world_verdict}
 

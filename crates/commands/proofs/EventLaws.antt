@@ -6,14 +6,14 @@ use Rattle.std.specs.Option.{option_map}
 use Rattle.std.specs.Prelude.{nat_le, ◌&&◌, if◌then◌else◌, option_and_then}
 use Rattle.std.specs.Str.{bytes_eq, is_utf8}
 use Rattle.std.specs.Str.Lines.{lines}
-use Rattle.text_lines.specs.Lines.{LineWord, in_range, spelled_by, words_of}
+use Rattle.text_lines.specs.Lines.{LineWord, in_range, is_skipped, spelled_by, time_of_word, words_of}
 use Rattle.wire_frames.specs.declared.start.Want.{Want}
 use Rattle.reflector_core.specs.declared.request.Request.{Request}
 use Rattle.reflector_core.specs.declared.request.Request.TheVariants.{Join, Send, Tick, Leave, Offer, Pull}
 use Rattle.reflector_core.specs.Play.{first_session, after_all, replies_from}
 use Rattle.reflector_core.proofs.PlayLaws.{TellsItsEvents-all}
 use Rattle.reflector_core.proofs.SoundLaws.{AreBounded, IsBounded, IsSoundSession-after_all, IsSoundSession-first}
-use Rattle.commands.specs.Script.{hex_of, is_skipped, join_of, join_with, large_of, leave_of, leave_with, offer_of, offer_with, pull_of, pull_with, request_of, requests_of, send_of, send_with, small_of, then_request, tick_of, time_of, want_of}
+use Rattle.commands.specs.Script.{hex_of, join_of, join_with, large_of, leave_of, leave_with, offer_of, offer_with, pull_of, pull_with, request_of, requests_of, send_of, send_with, small_of, then_request, tick_of, want_of}
 use Rattle.commands.specs.Verdict.{LogsTellTheirEvents}
 
 -- ---- numbers of 32 bits
@@ -107,7 +107,7 @@ offer_of-bounded [] = none_read
 offer_of-bounded (a ∷ []) = none_read
 offer_of-bounded (a ∷ b ∷ []) = none_read
 offer_of-bounded (a ∷ b ∷ c ∷ []) = none_read
-offer_of-bounded (view ∷ joined ∷ time ∷ snapshot ∷ []) = offer_with-bounded (small_of view) (small_of joined) (time_of time) (hex_of snapshot) (small view)
+offer_of-bounded (view ∷ joined ∷ time ∷ snapshot ∷ []) = offer_with-bounded (small_of view) (small_of joined) (time_of_word time) (hex_of snapshot) (small view)
 offer_of-bounded (a ∷ b ∷ c ∷ d ∷ e ∷ more) = none_read
 
 pull_with-bounded : (after limit : Option ℕ) → AreRequests (pull_with after limit)

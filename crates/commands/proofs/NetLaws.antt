@@ -7,8 +7,8 @@ use Rattle.model_lang.specs.Tree.{ProgramTree}
 use Rattle.run_steps.specs.Steps.{Ask, Step}
 use Rattle.commands.specs.declared.outcome.Input.{Input}
 use Rattle.commands.specs.declared.outcome.Input.TheVariants as input
-use Rattle.commands.specs.declared.outcome.Refusal.{Refusal}
-use Rattle.commands.specs.declared.outcome.Refusal.TheVariants as refusal
+use Rattle.commands.specs.declared.outcome.CommandRefusal.{CommandRefusal}
+use Rattle.commands.specs.declared.outcome.CommandRefusal.TheVariants as refusal
 use Rattle.commands.specs.declared.words.ReplayRequest.{ReplayRequest}
 use Rattle.commands.specs.declared.words.Command.{Command}
 use Rattle.commands.specs.declared.words.Command.TheVariants.{Stamp, Check, Replay, Join, Reflect, Drill}
@@ -32,7 +32,7 @@ only_never verdict never other is on = never (subst (λ (v : Verdict). IsOnNet v
 fine_never : (steps : List Step) → NeverOnNet (Only (fine steps))
 fine_never steps = only_never (fine steps) (λ on. absurd on)
 
-refused_never : (why : Refusal) → NeverOnNet (Only (at_once (ByRefusal why)))
+refused_never : (why : CommandRefusal) → NeverOnNet (Only (at_once (ByRefusal why)))
 refused_never why = only_never (at_once (ByRefusal why)) (λ on. absurd on)
 
 want_never : NeverOnNet (Only (at_once ByWant))
@@ -60,7 +60,7 @@ program_never : (next : ProgramTree → Coming) (bytes : List ℕ) → ((tree : 
 program_never next bytes each verdict (inl (tree, sound, comes)) on = each tree verdict comes on
 program_never next bytes each verdict (inr (line, refused, comes)) on = refused_never (refusal.Program line) verdict comes on
 
-resumed_never : (early : Bool) (why : Refusal) (steps : List Step) → NeverOnNet (Only (cond early (at_once (ByRefusal why)) (fine steps)))
+resumed_never : (early : Bool) (why : CommandRefusal) (steps : List Step) → NeverOnNet (Only (cond early (at_once (ByRefusal why)) (fine steps)))
 resumed_never true why steps = refused_never why
 resumed_never false why steps = fine_never steps
 

@@ -22,7 +22,7 @@ use Rattle.snapshot_codec.proofs.WorldCodec.{world_codec}
 use Rattle.run_steps.specs.Steps.{Ask, Step, Loads, Puts, Prints, Connects, Returns, Hears, Sends}
 use Rattle.commands.specs.declared.outcome.Input.{Input}
 use Rattle.commands.specs.declared.outcome.Input.TheVariants as input
-use Rattle.commands.specs.declared.outcome.Refusal.TheVariants as refusal
+use Rattle.commands.specs.declared.outcome.CommandRefusal.TheVariants as refusal
 use Rattle.view_script.specs.PlainLine.{PlainLine}
 use Rattle.view_script.specs.ViewScript.{view_script_of}
 use Rattle.commands.specs.Address.{is_address}

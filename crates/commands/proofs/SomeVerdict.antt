@@ -9,8 +9,8 @@ use Rattle.model_check.specs.Faults.{first_fault}
 use Rattle.run_steps.specs.Steps.{Ask, Loads}
 use Rattle.commands.specs.declared.outcome.Input.{Input}
 use Rattle.commands.specs.declared.outcome.Input.TheVariants as input
-use Rattle.commands.specs.declared.outcome.Refusal.{Refusal}
-use Rattle.commands.specs.declared.outcome.Refusal.TheVariants as refusal
+use Rattle.commands.specs.declared.outcome.CommandRefusal.{CommandRefusal}
+use Rattle.commands.specs.declared.outcome.CommandRefusal.TheVariants as refusal
 use Rattle.commands.specs.declared.outcome.Put.{Put}
 use Rattle.view_script.specs.PlainLine.{PlainLine}
 use Rattle.view_script.specs.ViewScript.{view_script_of}
@@ -34,7 +34,7 @@ abbrev pub IsSomeReading : Type 0
 IsSomeReading = (text : List ℕ) → ¬ ((reading : Reading) → ¬ IsReading text reading)
 
 -- a refusal is no want of memory, a visit is none, a reflection is none, a drill is none, and a text that was printed is none
-refused_not_want : (told : Told) (coming : Coming) (why : Refusal) → coming (at_once (ByRefusal why)) → ¬ IsOnlyWant told coming
+refused_not_want : (told : Told) (coming : Coming) (why : CommandRefusal) → coming (at_once (ByRefusal why)) → ¬ IsOnlyWant told coming
 refused_not_want told coming why comes only = let want : ByRefusal why ≡ ByWant = only (at_once (ByRefusal why)) comes tt in absurd cc
 
 visit_not_want : (told : Told) (coming : Coming) (visit : PlainVisit) → coming (at_once (ByVisit visit)) → ¬ IsOnlyWant told coming
@@ -95,7 +95,7 @@ program_not_want some told next bytes each only = some bytes (λ reading is. rea
 
 -- ---- replay
 
-resumed_if : (told : Told) (coming : Coming) (early : Bool) (puts : List Put) (text : List ℕ) (why : Refusal) → coming (cond early (at_once (ByRefusal why)) (fine (steps_of puts text))) → ¬ IsOnlyWant told coming
+resumed_if : (told : Told) (coming : Coming) (early : Bool) (puts : List Put) (text : List ℕ) (why : CommandRefusal) → coming (cond early (at_once (ByRefusal why)) (fine (steps_of puts text))) → ¬ IsOnlyWant told coming
 resumed_if told coming true puts text why comes = refused_not_want told coming why comes
 resumed_if told coming false puts text why comes = fine_not_want told coming puts text comes
 

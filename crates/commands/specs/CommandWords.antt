@@ -2,8 +2,8 @@
 use Rattle.std.specs.Prelude.{ℕ, ⊤, ◌≤◌, Bool, false, ◌≡◌, ◌==◌, ◌<◌, ◌||◌, if◌then◌else◌, nat_le, length, slice_index_or, remove, encode_utf8_all, List, [], ◌∷◌, ◌++◌, Option, Some, None, option_map, option_and_then, codes}
 use Rattle.std.specs.Str.{bytes_eq}
 use Rattle.tea_base.specs.Limits.{time_limit}
-use Rattle.text_lines.specs.Lines.{LineWord, is_empty, number_of_word}
-use Rattle.commands.specs.Script.{time_of}
+use Rattle.run_steps.specs.Limits.{most_connections, most_drill_events, most_drill_views}
+use Rattle.text_lines.specs.Lines.{LineWord, is_empty, number_of_word, time_of_word}
 use Rattle.commands.specs.declared.words.Parts.{Parts}
 use Rattle.commands.specs.declared.words.Reader.{Reader}
 use Rattle.commands.specs.declared.words.Setting.{Setting}
@@ -32,33 +32,33 @@ setting option value = record { positionals = []; settings = record { option = o
 
 -- the parts of these words, after an option that waits for its value, or none that does: a word that begins with `-` is
 -- an option, the word after it, which does not, is its value, the others are the positionals in order, and none is empty
-abbrev pub parts_from : Option LineWord → List LineWord → Option Parts
-parts_from None [] = Some (record { positionals = []; settings = [] })
-parts_from None (word ∷ words) =
+abbrev pub parts_after_option : Option LineWord → List LineWord → Option Parts
+parts_after_option None [] = Some (record { positionals = []; settings = [] })
+parts_after_option None (word ∷ words) =
     if is_empty word then None
-    else if is_option word then parts_from (Some word) words
-    else with_parts (positional word) (parts_from None words)
-parts_from (Some option) [] = None
-parts_from (Some option) (word ∷ words) =
+    else if is_option word then parts_after_option (Some word) words
+    else with_parts (positional word) (parts_after_option None words)
+parts_after_option (Some option) [] = None
+parts_after_option (Some option) (word ∷ words) =
     if is_empty word || is_option word then None
-    else with_parts (setting option word) (parts_from None words)
+    else with_parts (setting option word) (parts_after_option None words)
 
 abbrev pub all_parts : List LineWord → Option Parts
-all_parts words = parts_from None words
+all_parts words = parts_after_option None words
 
 -- a setting of this option
-abbrev pub is_of : LineWord → Setting → Bool
-is_of option found = bytes_eq found.option option
+abbrev pub sets_option : LineWord → Setting → Bool
+sets_option option found = bytes_eq found.option option
 
 -- the value of the first setting of an option
 abbrev pub setting_value : LineWord → List Setting → Option LineWord
 setting_value option [] = None
-setting_value option (found ∷ settings) = if is_of option found then Some found.value else setting_value option settings
+setting_value option (found ∷ settings) = if sets_option option found then Some found.value else setting_value option settings
 
 -- the settings without the first one of an option
 abbrev pub without : LineWord → List Setting → List Setting
 without option [] = []
-without option (found ∷ settings) = if is_of option found then settings else found ∷ without option settings
+without option (found ∷ settings) = if sets_option option found then settings else found ∷ without option settings
 
 -- `stamp` has one positional, and no setting is left once `--log` is taken out
 abbrev pub stamp_with : List LineWord → Option LineWord → List Setting → Option Command
@@ -92,7 +92,7 @@ replay_named program name log from snapshot time =
 
 -- `replay` has four positionals, and no setting is left once `--from` and `--snapshot` are taken out
 abbrev pub replay_words : List LineWord → Option LineWord → Option LineWord → Option Command
-replay_words (program ∷ name ∷ log ∷ time ∷ []) from snapshot = replay_named program name log from snapshot (time_of (encode_utf8_all time))
+replay_words (program ∷ name ∷ log ∷ time ∷ []) from snapshot = replay_named program name log from snapshot (time_of_word (encode_utf8_all time))
 replay_words positionals from snapshot = None
 
 abbrev pub replay_with : List Setting → List LineWord → Option LineWord → Option LineWord → Option Command
@@ -132,7 +132,7 @@ join_command parts = join_without parts.settings parts.positionals
 
 -- how many links a reflector accepts
 abbrev pub connections_of : LineWord → Option ℕ
-connections_of word = number_of_word 1 64 word
+connections_of word = number_of_word 1 most_connections word
 
 abbrev pub reflect_to : LineWord → LineWord → LineWord → LineWord → ℕ → Command
 reflect_to program name address log connections =
@@ -168,12 +168,12 @@ abbrev pub seed_of : LineWord → Option ℕ
 seed_of word = number_of_word 0 4294967295 word
 
 -- how many views it has
-abbrev pub views_of : LineWord → Option ℕ
-views_of word = number_of_word 1 8 word
+abbrev pub view_count_of : LineWord → Option ℕ
+view_count_of word = number_of_word 1 most_drill_views word
 
 -- how many events each of them publishes
-abbrev pub events_of : LineWord → Option ℕ
-events_of word = number_of_word 0 10000 word
+abbrev pub event_count_of : LineWord → Option ℕ
+event_count_of word = number_of_word 0 most_drill_events word
 
 -- all three are numbers within their bounds
 abbrev pub drill_numbered : LineWord → LineWord → Option ℕ → Option ℕ → Option ℕ → Option Command
@@ -184,7 +184,7 @@ drill_numbered log snapshots seed views events = None
 -- `drill` has three positionals
 abbrev pub drill_words : List LineWord → LineWord → LineWord → Option Command
 drill_words (seed ∷ views ∷ events ∷ []) log snapshots =
-    drill_numbered log snapshots (seed_of (encode_utf8_all seed)) (views_of (encode_utf8_all views)) (events_of (encode_utf8_all events))
+    drill_numbered log snapshots (seed_of (encode_utf8_all seed)) (view_count_of (encode_utf8_all views)) (event_count_of (encode_utf8_all events))
 drill_words positionals log snapshots = None
 
 -- both of its options stand
@@ -233,21 +233,21 @@ IsBounded request = (length (encode_utf8_all request.name) ≤ most_name) × (re
 abbrev pub IsBoundedJoin : JoinRequest → Type 0
 IsBoundedJoin request = (length (encode_utf8_all request.name) ≤ most_name) × (1 ≤ request.view)
 
--- from 1 to 64 links
+-- from 1 to the most links
 abbrev pub AreConnections : ℕ → Type 0
-AreConnections count = (1 ≤ count) × (count ≤ 64)
+AreConnections count = (1 ≤ count) × (count ≤ most_connections)
 
 -- a reflect has a name of at most so many bytes too, and so many connections
 abbrev pub IsBoundedReflect : ReflectRequest → Type 0
 IsBoundedReflect request = (length (encode_utf8_all request.name) ≤ most_name) × AreConnections request.connections
 
--- from 1 to 8 views
+-- from 1 to the most views
 abbrev pub AreViews : ℕ → Type 0
-AreViews count = (1 ≤ count) × (count ≤ 8)
+AreViews count = (1 ≤ count) × (count ≤ most_drill_views)
 
--- a drill has so many views, of at most 10,000 events each
+-- a drill has so many views, of so many events each at most
 abbrev pub IsBoundedDrill : DrillRequest → Type 0
-IsBoundedDrill request = AreViews request.views × (request.events ≤ 10000)
+IsBoundedDrill request = AreViews request.views × (request.events ≤ most_drill_events)
 
 abbrev pub IsWithinBounds : Command → Type 0
 IsWithinBounds (Stamp script log) = ⊤
@@ -259,7 +259,7 @@ IsWithinBounds (Drill request) = IsBoundedDrill request
 
 -- what a reader makes of these words, after those that it has read
 abbrev pub read_on : Reader → List LineWord → Option Parts
-read_on reader words = with_parts reader.parts (parts_from reader.awaiting words)
+read_on reader words = with_parts reader.parts (parts_after_option reader.awaiting words)
 
 -- the first setting of an option stands at this place
 pub record IsFirstOf (option : LineWord) (settings : List Setting) (place : ℕ) : Type 0 where

@@ -2,7 +2,7 @@
 use Rattle.std.specs.Prelude.{ℕ, ℤ, ◌+◌, ◌*◌, List, [], ◌∷◌, ◌++◌, length, sum, encode_utf8_all, Option, Some, None, codes}
 use Rattle.std.specs.Fmt.{signed_decimal}
 use Rattle.std.specs.List.{sum_by}
-use Rattle.text_lines.specs.Lines.{numbered}
+use Rattle.text_lines.specs.Lines.{spell_numbers}
 use Rattle.hex.specs.Hex.{encode_lower}
 use Rattle.sha2.specs.Sha256.{sha256}
 use Rattle.snapshot_codec.specs.Spelling.{world_spelling}
@@ -25,36 +25,36 @@ use Rattle.reflector_core.specs.declared.request.Refusal.TheVariants.{Stale, Too
 -- what a base adds to the line of a Join
 abbrev pub base_part : Option Base → List ℕ
 base_part None = []
-base_part (Some base) = numbered (codes " base") (base.time ∷ [])
+base_part (Some base) = spell_numbers (codes " base") (base.time ∷ [])
 
 -- what a tick adds to the line of a Batch
 abbrev pub tick_part : Option ℕ → List ℕ
 tick_part None = codes " more"
-tick_part (Some time) = numbered (codes " tick") (time ∷ [])
+tick_part (Some time) = spell_numbers (codes " tick") (time ∷ [])
 
 -- what a refusal says, and the value that it carries
 abbrev pub refusal_part : Refusal → List ℕ
-refusal_part (Stale current) = numbered (codes " stale") (current ∷ [])
-refusal_part (TooLong len) = numbered (codes " too-long") (len ∷ [])
-refusal_part (Differs seq) = numbered (codes " differs") (seq ∷ [])
-refusal_part (Gap expected) = numbered (codes " gap") (expected ∷ [])
-refusal_part (LogFull entries bytes) = numbered (codes " log-full") (entries ∷ bytes ∷ [])
-refusal_part (TimeEnd horizon) = numbered (codes " time-end") (horizon ∷ [])
-refusal_part (ViewsFull here) = numbered (codes " views-full") (here ∷ [])
+refusal_part (Stale current) = spell_numbers (codes " stale") (current ∷ [])
+refusal_part (TooLong len) = spell_numbers (codes " too-long") (len ∷ [])
+refusal_part (Differs seq) = spell_numbers (codes " differs") (seq ∷ [])
+refusal_part (Gap expected) = spell_numbers (codes " gap") (expected ∷ [])
+refusal_part (LogFull entries bytes) = spell_numbers (codes " log-full") (entries ∷ bytes ∷ [])
+refusal_part (TimeEnd horizon) = spell_numbers (codes " time-end") (horizon ∷ [])
+refusal_part (ViewsFull here) = spell_numbers (codes " views-full") (here ∷ [])
 refusal_part BadView = codes " bad-view"
-refusal_part (Ahead horizon) = numbered (codes " ahead") (horizon ∷ [])
-refusal_part (Older kept) = numbered (codes " older") (kept ∷ [])
-refusal_part (NoSuchSeq len) = numbered (codes " no-such-seq") (len ∷ [])
+refusal_part (Ahead horizon) = spell_numbers (codes " ahead") (horizon ∷ [])
+refusal_part (Older kept) = spell_numbers (codes " older") (kept ∷ [])
+refusal_part (NoSuchSeq len) = spell_numbers (codes " no-such-seq") (len ∷ [])
 
 -- what a reply says: one row for each
 abbrev pub said_of : Reply → List ℕ
-said_of (Joined seq time last from base) = numbered (codes "joined") (seq ∷ time ∷ last ∷ from ∷ []) ++ base_part base
-said_of (Stamped seq time) = numbered (codes "stamped") (seq ∷ time ∷ [])
-said_of (Again seq time) = numbered (codes "again") (seq ∷ time ∷ [])
-said_of (Ticked time) = numbered (codes "ticked") (time ∷ [])
-said_of (Left seq time) = numbered (codes "left") (seq ∷ time ∷ [])
+said_of (Joined seq time last from base) = spell_numbers (codes "joined") (seq ∷ time ∷ last ∷ from ∷ []) ++ base_part base
+said_of (Stamped seq time) = spell_numbers (codes "stamped") (seq ∷ time ∷ [])
+said_of (Again seq time) = spell_numbers (codes "again") (seq ∷ time ∷ [])
+said_of (Ticked time) = spell_numbers (codes "ticked") (time ∷ [])
+said_of (Left seq time) = spell_numbers (codes "left") (seq ∷ time ∷ [])
 said_of Kept = codes "kept"
-said_of (Batch entries tick) = numbered (codes "batch") (length entries ∷ []) ++ tick_part tick
+said_of (Batch entries tick) = spell_numbers (codes "batch") (length entries ∷ []) ++ tick_part tick
 said_of (Refused refusal) = codes "refused" ++ refusal_part refusal
 
 -- the line of a reply
@@ -72,13 +72,13 @@ end_part ended.Left = codes " left"
 end_part ended.LinkEnd = codes " link-end"
 end_part ended.LinkFault = codes " link-fault"
 end_part (ended.Idle quiets) = codes " idle"
-end_part (ended.Stale current) = numbered (codes " stale") (current ∷ [])
-end_part (ended.Refused code) = numbered (codes " refused") (code ∷ [])
+end_part (ended.Stale current) = spell_numbers (codes " stale") (current ∷ [])
+end_part (ended.Refused code) = spell_numbers (codes " refused") (code ∷ [])
 end_part ended.WantOfMemory = codes " memory"
 
 -- the line of the connection of this number
 abbrev pub end_line : ℕ → Ended → List ℕ
-end_line number how = numbered (codes "connection") (number ∷ []) ++ end_part how ++ codes "\n"
+end_line number how = spell_numbers (codes "connection") (number ∷ []) ++ end_part how ++ codes "\n"
 
 -- the lines of connections, numbered from here on
 abbrev pub end_lines : ℕ → List Ended → List ℕ
@@ -88,7 +88,7 @@ end_lines number (how ∷ ends) = end_line number how ++ end_lines (number + 1) 
 -- the line of a session: how many entries its log has, and its horizon
 abbrev pub session_line : PlainSession → List ℕ
 session_line session =
-    numbered (codes "entries") (length session.log ∷ []) ++ numbered (codes " time") (session.horizon ∷ []) ++ codes "\n"
+    spell_numbers (codes "entries") (length session.log ∷ []) ++ spell_numbers (codes " time") (session.horizon ∷ []) ++ codes "\n"
 
 -- the text of a session that was reflected: a line for each connection, and then its own
 abbrev pub reflected_text : List Ended → PlainSession → List ℕ
@@ -101,35 +101,35 @@ total_part total = codes " total " ++ signed_decimal total
 -- the line of a drill: its size, how many entries its log has, the total of its views, and how many of them agree
 abbrev pub drilled_line : DrillRequest → ℕ → ℤ → ℕ → List ℕ
 drilled_line request entries total agree =
-    numbered (codes "views") (request.views ∷ [])
-    ++ numbered (codes " events") (request.views * request.events ∷ [])
-    ++ numbered (codes " entries") (entries ∷ [])
+    spell_numbers (codes "views") (request.views ∷ [])
+    ++ spell_numbers (codes " events") (request.views * request.events ∷ [])
+    ++ spell_numbers (codes " entries") (entries ∷ [])
     ++ total_part total
-    ++ numbered (codes " agree") (agree ∷ [])
+    ++ spell_numbers (codes " agree") (agree ∷ [])
     ++ codes "\n"
 
 -- the numbers of a world
 abbrev pub counts_part : WorldRecord → List ℕ
 counts_part w =
-    numbered (codes "time") (w.time ∷ [])
-    ++ numbered (codes " objects") (length w.objects ∷ [])
-    ++ numbered (codes " pending") (length w.pending ∷ [])
-    ++ numbered (codes " subscriptions") (length w.subscriptions ∷ [])
+    spell_numbers (codes "time") (w.time ∷ [])
+    ++ spell_numbers (codes " objects") (length w.objects ∷ [])
+    ++ spell_numbers (codes " pending") (length w.pending ∷ [])
+    ++ spell_numbers (codes " subscriptions") (length w.subscriptions ∷ [])
 
 -- how often messages were ended by faults of any kind
 abbrev pub faults_part : WorldRecord → List ℕ
-faults_part w = numbered (codes " faults") (sum w.faults ∷ [])
+faults_part w = spell_numbers (codes " faults") (sum w.faults ∷ [])
 
 abbrev pub digest_part : List ℕ → List ℕ
 digest_part digest = codes " digest " ++ encode_lower digest
 
 -- the line of a world with the digest of its snapshot
-abbrev pub digested_line : WorldRecord → List ℕ → List ℕ
-digested_line w digest = counts_part w ++ faults_part w ++ digest_part digest ++ codes "\n"
+abbrev pub digested_world_line : WorldRecord → List ℕ → List ℕ
+digested_world_line w digest = counts_part w ++ faults_part w ++ digest_part digest ++ codes "\n"
 
 -- the line of a world: its numbers, and the digest of its snapshot
 abbrev pub world_line : WorldRecord → List ℕ
-world_line w = digested_line w (sha256 (world_spelling w))
+world_line w = digested_world_line w (sha256 (world_spelling w))
 
 -- how many methods all classes have together
 abbrev pub method_count : ProgramTree → ℕ
@@ -137,11 +137,11 @@ method_count tree = sum_by (λ c. length c.methods) tree
 
 -- the line of a program without faults: the numbers of its classes and of its methods
 abbrev pub counts_line : ProgramTree → List ℕ
-counts_line tree = numbered (codes "classes") (length tree ∷ []) ++ numbered (codes " methods") (method_count tree ∷ []) ++ codes "\n"
+counts_line tree = spell_numbers (codes "classes") (length tree ∷ []) ++ spell_numbers (codes " methods") (method_count tree ∷ []) ++ codes "\n"
 
 -- the text is no program from this place on
 abbrev pub syntax_line : ℕ → List ℕ
-syntax_line at = numbered (codes "syntax") (at ∷ []) ++ codes "\n"
+syntax_line at = spell_numbers (codes "syntax") (at ∷ []) ++ codes "\n"
 
 abbrev pub bound_word : Bound → List ℕ
 bound_word bound.Bytes = codes "too-large bytes"
@@ -154,7 +154,7 @@ bound_word bound.Parameters = codes "too-large parameters"
 
 -- the text passes this bound, with this count
 abbrev pub too_large_line : Bound → ℕ → List ℕ
-too_large_line what count = numbered (bound_word what) (count ∷ []) ++ codes "\n"
+too_large_line what count = spell_numbers (bound_word what) (count ∷ []) ++ codes "\n"
 
 -- a word and a name
 abbrev pub named_line : List ℕ → List ℕ → List ℕ

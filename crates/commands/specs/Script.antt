@@ -1,26 +1,22 @@
 -- The grammar of a session script, over plain lists: lines, words and numbers. Texts are seen as their UTF-8.
-use Rattle.std.specs.Prelude.{ℕ, Bool, true, ◌==◌, ◌-◌, if◌then◌else◌, List, [], ◌∷◌, ◌++◌, Option, Some, None, codes}
+use Rattle.std.specs.Prelude.{ℕ, if◌then◌else◌, List, [], ◌∷◌, ◌++◌, Option, Some, None, codes}
 use Rattle.std.specs.Option.{option_map}
 use Rattle.std.specs.Result.{result_ok}
 use Rattle.std.specs.Str.{bytes_eq, is_utf8}
 use Rattle.std.specs.Str.Lines.{lines}
 use Rattle.hex.specs.Hex.{decode_of}
-use Rattle.tea_base.specs.Limits.{time_limit}
-use Rattle.text_lines.specs.Lines.{LineWord, is_empty, words_of, number_of_word}
+use Rattle.text_lines.specs.Lines.{LineWord, is_empty, is_skipped, words_of, number_of_word, time_of_word}
 use Rattle.wire_frames.specs.declared.start.Want.{Want}
 use Rattle.wire_frames.specs.declared.start.Want.TheVariants.{Fresh, Whole, After}
 use Rattle.reflector_core.specs.declared.request.Request.{Request}
 use Rattle.reflector_core.specs.declared.request.Request.TheVariants.{Join, Send, Tick, Leave, Offer, Pull}
 
--- a number of 32 bits, one of 64 bits, and a TeaTime
+-- a number of 32 bits, and one of 64 bits
 abbrev pub small_of : LineWord → Option ℕ
 small_of word = number_of_word 0 4294967295 word
 
 abbrev pub large_of : LineWord → Option ℕ
 large_of word = number_of_word 0 18446744073709551615 word
-
-abbrev pub time_of : LineWord → Option ℕ
-time_of word = number_of_word 0 (time_limit - 1) word
 
 -- an even number of hexadecimal digits of either case, at least two; `-` is no bytes
 abbrev pub hex_of : LineWord → Option (List ℕ)
@@ -36,7 +32,7 @@ plain_want_of word =
     else None
 
 abbrev pub want_after_of : LineWord → LineWord → Option Want
-want_after_of word time = if bytes_eq word (codes "after") then option_map After (time_of time) else None
+want_after_of word time = if bytes_eq word (codes "after") then option_map After (time_of_word time) else None
 
 -- `[fresh | whole | after T]`, fresh where left out
 abbrev pub want_of : List LineWord → Option Want
@@ -83,7 +79,7 @@ offer_with view joined time snapshot = None
 
 -- `VIEW JOINED TIME HEX`
 abbrev pub offer_of : List LineWord → Option Request
-offer_of (view ∷ joined ∷ time ∷ snapshot ∷ []) = offer_with (small_of view) (small_of joined) (time_of time) (hex_of snapshot)
+offer_of (view ∷ joined ∷ time ∷ snapshot ∷ []) = offer_with (small_of view) (small_of joined) (time_of_word time) (hex_of snapshot)
 offer_of words = None
 
 abbrev pub pull_with : Option ℕ → Option ℕ → Option Request
@@ -106,11 +102,6 @@ request_of (name ∷ fields) =
     else if bytes_eq name (codes "offer") then offer_of fields
     else if bytes_eq name (codes "pull") then pull_of fields
     else None
-
--- an empty line or one that begins with `#`
-abbrev pub is_skipped : List ℕ → Bool
-is_skipped [] = true
-is_skipped (first ∷ rest) = first == 35
 
 -- these requests, and then those
 abbrev pub then_requests : List Request → Option (List Request) → Option (List Request)

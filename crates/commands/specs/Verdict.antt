@@ -8,6 +8,7 @@ use Rattle.reflector_core.specs.PlainSession.{PlainSession}
 use Rattle.session_log.specs.Spelling.{log_spelling}
 use Rattle.reflector_core.specs.declared.request.Request.{Request}
 use Rattle.reflector_core.specs.Play.{first_session, after_all, replies_from, TellsItsEvents}
+use Rattle.model_lang.specs.Bounds.{most_program_bytes}
 use Rattle.model_lang.specs.Program.{IsProgram, IsRead, Reading, a_program, no_program, too_large, IsReading}
 use Rattle.model_lang.specs.Tree.{ProgramTree}
 use Rattle.model_check.specs.declared.fault.CheckFault.{CheckFault}
@@ -26,8 +27,8 @@ use Rattle.view_script.specs.PlainLine.{PlainLine}
 use Rattle.view_script.specs.ViewScript.{view_script_of}
 use Rattle.commands.specs.declared.outcome.Input.{Input}
 use Rattle.commands.specs.declared.outcome.Input.TheVariants as input
-use Rattle.commands.specs.declared.outcome.Refusal.{Refusal}
-use Rattle.commands.specs.declared.outcome.Refusal.TheVariants as refusal
+use Rattle.commands.specs.declared.outcome.CommandRefusal.{CommandRefusal}
+use Rattle.commands.specs.declared.outcome.CommandRefusal.TheVariants as refusal
 use Rattle.commands.specs.declared.outcome.Put.{Put}
 use Rattle.commands.specs.declared.words.ReplayRequest.{ReplayRequest}
 use Rattle.commands.specs.declared.words.JoinRequest.{JoinRequest}
@@ -54,7 +55,7 @@ pub data Closing : Type 0 where
   -- all went well
   Fine : Closing
   -- it is refused
-  ByRefusal : Refusal → Closing
+  ByRefusal : CommandRefusal → Closing
   -- memory is wanted
   ByWant : Closing
   -- the net has failed
@@ -129,8 +130,12 @@ abbrev pub OfScript : Option (List ℕ) → Option (List Request) → Coming
 OfScript log None = Only (at_once (ByRefusal (refusal.Input input.Script)))
 OfScript log (Some requests) = Only (stamp_verdict log requests)
 
+-- the most bytes of a script
+abbrev pub most_script : ℕ
+most_script = 16777216
+
 abbrev pub ask_script : List ℕ → Ask
-ask_script name = record { name = name; limit = 16777216 }
+ask_script name = record { name = name; limit = most_script }
 
 -- ---- programs
 
@@ -163,7 +168,7 @@ OfProgram next bytes verdict =
     ⊎ ((line : List ℕ) × IsRefused bytes line × Only (at_once (ByRefusal (refusal.Program line))) verdict)
 
 abbrev pub ask_program : List ℕ → Ask
-ask_program name = record { name = name; limit = 65536 }
+ask_program name = record { name = name; limit = most_program_bytes }
 
 -- a program without faults is counted
 abbrev pub count_verdict : ProgramTree → Verdict
@@ -205,8 +210,12 @@ OfLog next bytes verdict =
     ((log : List Entry) × IsLegal log × (bytes ≡ log_spelling log) × next log verdict)
     ⊎ (((log : List Entry) → IsLegal log → bytes ≢ log_spelling log) × Only (at_once (ByRefusal (refusal.Input input.Log))) verdict)
 
+-- the most bytes of a log
+abbrev pub most_log : ℕ
+most_log = 134217728
+
 abbrev pub ask_log : List ℕ → Ask
-ask_log name = record { name = name; limit = 134217728 }
+ask_log name = record { name = name; limit = most_log }
 
 -- once the program was read, the log is, and then the replay begins
 abbrev pub OfTree : ReplayRequest → List ℕ → ProgramTree → Coming

@@ -6,14 +6,14 @@ ghost use Rattle.commands.specs.PrintedText.{counts_line, method_count};
 ghost use Rattle.commands.specs.Verdict.{Free, OfProgram, Only, count_verdict};
 ghost use Rattle.commands.specs.Work.{IsBoundedNext, Leads, reads_left};
 
-use crate::outcome::{Outcome, Puts, Refusal};
+use crate::outcome::{CommandRefusal, Outcome, Puts};
 use crate::program::{ProgramFault, read_program};
 use crate::work::Next;
 use model_check::Checked;
 use model_lang::Class;
 use std::alloc::Global;
 use tea_base::{Blob, WantOfMemory};
-use text_lines::numbered;
+use text_lines::spell_numbers;
 
 /// How many methods all classes of a program have together.
 fn method_count(classes: &[Class]) -> u64
@@ -32,8 +32,8 @@ fn counts_line(alloc: Global, program: &Checked) -> Result<String, WantOfMemory>
     ensures { IfOk result (λ line. string_bytes line ≡ counts_line (program_tree program.now)) }
 {
     let classes = program.program().classes();
-    let mut line = numbered(alloc, "classes", &[classes.len() as u64])?;
-    let methods = numbered(alloc, " methods", &[method_count(classes)])?;
+    let mut line = spell_numbers(alloc, "classes", &[classes.len() as u64])?;
+    let methods = spell_numbers(alloc, " methods", &[method_count(classes)])?;
     line.push_str(methods.as_str())?;
     line.push_str("\n")?;
     Ok(line)
@@ -62,7 +62,7 @@ pub(crate) fn check(alloc: Global, text: &[u8]) -> Next
 {
     match read_program(alloc, text) {
         Ok(program) => count(alloc, &program),
-        Err(ProgramFault::Refused { line }) => Next::Refuses(Refusal::Program { line }),
+        Err(ProgramFault::Refused { line }) => Next::Refuses(CommandRefusal::Program { line }),
         Err(ProgramFault::WantOfMemory) => Next::WantOfMemory,
     }
 }

@@ -11,7 +11,7 @@ use session_log::encode;
 use std::alloc::Global;
 use std::fmt::Write;
 use tea_base::{Blob, List, Text, WantOfMemory};
-use text_lines::numbered;
+use text_lines::spell_numbers;
 
 /// What a drill has left.
 #[derive(Drop)]
@@ -46,11 +46,11 @@ fn drilled_line(
 {
     let events = u64::from(request.views) * u64::from(request.events);
     let entries = u64::from(drilled.session.log().len());
-    let mut line = numbered(alloc, "views", &[u64::from(request.views)])?;
-    line.push_str(numbered(alloc, " events", &[events])?.as_str())?;
-    line.push_str(numbered(alloc, " entries", &[entries])?.as_str())?;
+    let mut line = spell_numbers(alloc, "views", &[u64::from(request.views)])?;
+    line.push_str(spell_numbers(alloc, " events", &[events])?.as_str())?;
+    line.push_str(spell_numbers(alloc, " entries", &[entries])?.as_str())?;
     line.push_str(total_part(alloc, drilled.total)?.as_str())?;
-    line.push_str(numbered(alloc, " agree", &[u64::from(drilled.agree)])?.as_str())?;
+    line.push_str(spell_numbers(alloc, " agree", &[u64::from(drilled.agree)])?.as_str())?;
     line.push_str("\n")?;
     Ok(line)
 }

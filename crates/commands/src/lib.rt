@@ -25,7 +25,7 @@ mod world_text;
 
 pub use drill::{Drilled, drilled_outcome};
 pub use laws::{logs_tell_their_events, one_verdict, snapshots_agree, some_verdict};
-pub use outcome::{Input, Outcome, Put, Puts, Refusal};
+pub use outcome::{CommandRefusal, Input, Outcome, Put, Puts};
 pub use recording::{LogWait, Recording, SnapshotWait};
 pub use reflection::{Reflection, reflected_outcome};
 pub use visit::{ScriptWait, VisitRequest};

@@ -20,7 +20,7 @@ pub enum Input {
 
 /// Why a command is refused.
 #[derive(Debug, Drop)]
-pub enum Refusal {
+pub enum CommandRefusal {
     /// The words break their rules.
     Usage,
     /// The program is refused, with the line that tells why.

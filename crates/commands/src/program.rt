@@ -1,6 +1,6 @@
 //! Programs, read from their texts and checked.
 ghost use Rattle.std.specs.Prelude.{◌≡◌, [], ◌∷◌, ◌++◌, IfOk, codes};
-ghost use Rattle.text_lines.specs.Lines.{numbered};
+ghost use Rattle.text_lines.specs.Lines.{spell_numbers};
 ghost use Rattle.commands.specs.PrintedText.{bound_word, named_line};
 ghost use Rattle.commands.specs.declared.program.ProgramFault.TheVariants.{WantOfMemory};
 ghost use Rattle.commands.specs.Work.{IsUnread, IsUnsound, ProgramEnd};
@@ -9,7 +9,7 @@ use model_check::{CheckFault, Checked, check};
 use model_lang::{Bound, LangFault, parse};
 use std::alloc::{AllocError, Global};
 use tea_base::{Blob, Text, WantOfMemory};
-use text_lines::numbered;
+use text_lines::spell_numbers;
 
 /// Why a text gives no program.
 #[derive(Debug, Drop)]
@@ -37,9 +37,9 @@ impl From<tea_base::WantOfMemory> for ProgramFault {
 
 /// The line of words and a number.
 fn numbered_line(alloc: Global, words: &str, number: u64) -> Result<Blob, WantOfMemory>
-    ensures { IfOk result (λ line. line ≡ numbered words.now (number ∷ []) ++ codes "\n") }
+    ensures { IfOk result (λ line. line ≡ spell_numbers words.now (number ∷ []) ++ codes "\n") }
 {
-    let mut line = numbered(alloc, words, &[number])?;
+    let mut line = spell_numbers(alloc, words, &[number])?;
     line.push_str("\n")?;
     Ok(Blob::from_vec(line.into_bytes()))
 }
@@ -60,7 +60,7 @@ fn bound_word(what: Bound) -> &'static str
 }
 
 /// The fault of a text that is not read, with its line.
-fn unread(alloc: Global, fault: LangFault) -> Result<ProgramFault, WantOfMemory>
+fn reading_fault(alloc: Global, fault: LangFault) -> Result<ProgramFault, WantOfMemory>
     ensures { IfOk result (IsUnread fault) }
 {
     match fault {
@@ -85,7 +85,7 @@ fn named_line(alloc: Global, word: &str, name: &Text) -> Result<Blob, WantOfMemo
 }
 
 /// The fault of a program that a check refuses, with its line.
-fn unsound(alloc: Global, fault: CheckFault) -> Result<ProgramFault, WantOfMemory>
+fn soundness_fault(alloc: Global, fault: CheckFault) -> Result<ProgramFault, WantOfMemory>
     ensures { IfOk result (IsUnsound fault) }
 {
     let line = match fault {
@@ -106,10 +106,10 @@ pub(crate) fn read_program(alloc: Global, text: &[u8]) -> Result<Checked, Progra
 {
     let program = match parse(alloc, text) {
         Ok(program) => program,
-        Err(fault) => return Err(unread(alloc, fault)?),
+        Err(fault) => return Err(reading_fault(alloc, fault)?),
     };
     match check(alloc, program) {
         Ok(checked) => Ok(checked),
-        Err(fault) => Err(unsound(alloc, fault)?),
+        Err(fault) => Err(soundness_fault(alloc, fault)?),
     }
 }

@@ -10,11 +10,11 @@ ghost use Rattle.commands.specs.CommandWords.{IsBounded};
 ghost use Rattle.commands.specs.Verdict.{Free, OfLog, OfProgram, OfSnapshot, OfTree, Only, Starts, fine, resumed_verdict, session_of, steps_of, world_verdict};
 ghost use Rattle.commands.specs.Work.{IsBoundedNext, Leads, reads_left, world_at};
 
-use crate::outcome::{Input, Outcome, Refusal, optional_put};
+use crate::outcome::{CommandRefusal, Input, Outcome, optional_put};
 use crate::program::{ProgramFault, read_program};
 use crate::words::ReplayRequest;
 use crate::work::{Next, Waiting};
-use crate::world_run::replayed;
+use crate::world_run::tell_replay;
 use model_check::Checked;
 use session_log::{Log, LogFault, decode};
 use snapshot_codec::{SnapFault, session_id, unsnap};
@@ -59,7 +59,7 @@ fn tell(
     ensures { IfOk result (λ outcome. fine (steps_of outcome.files outcome.text)
         ≡ world_verdict request.snapshot (world_at recording request.time (option_map world_record start))) }
 {
-    let told = replayed(alloc, recording, start, request.time)?;
+    let told = tell_replay(alloc, recording, start, request.time)?;
     let files = optional_put(alloc, request.snapshot, told.snapshot)?;
     Ok(Outcome {
         files,
@@ -103,7 +103,7 @@ pub(crate) fn take_program(alloc: Global, request: ReplayRequest, text: &[u8]) -
                 id,
             }))
         }
-        Err(ProgramFault::Refused { line }) => Next::Refuses(Refusal::Program { line }),
+        Err(ProgramFault::Refused { line }) => Next::Refuses(CommandRefusal::Program { line }),
         Err(ProgramFault::WantOfMemory) => Next::WantOfMemory,
     }
 }
@@ -143,7 +143,7 @@ pub(crate) fn take_log(alloc: Global, wait: LogWait, bytes: &[u8]) -> Next
             let _entries = log.len();
             start(alloc, request, Recording { program, id, log })
         }
-        Err(LogFault::BadLog) => Next::Refuses(Refusal::Input(Input::Log)),
+        Err(LogFault::BadLog) => Next::Refuses(CommandRefusal::Input(Input::Log)),
         Err(LogFault::WantOfMemory) => Next::WantOfMemory,
     }
 }
@@ -157,7 +157,7 @@ fn resume(alloc: Global, request: ReplayRequest, recording: Recording, world: Pl
     ensures fewer { reads_left result < 1 }
 {
     if request.time < world.time {
-        return Next::Refuses(Refusal::Input(Input::Time));
+        return Next::Refuses(CommandRefusal::Input(Input::Time));
     }
     finish(alloc, request, recording, Some(world))
 }
@@ -176,8 +176,10 @@ pub(crate) fn take_snapshot(alloc: Global, wait: SnapshotWait, bytes: &[u8]) -> 
     } = wait;
     match unsnap(alloc, &recording.program, &recording.id, bytes) {
         Ok(world) => resume(alloc, request, recording, world),
-        Err(SnapFault::OtherSession { .. }) => Next::Refuses(Refusal::Input(Input::Snapshot)),
-        Err(SnapFault::Bad) => Next::Refuses(Refusal::Input(Input::Snapshot)),
+        Err(SnapFault::OtherSession { .. }) => Next::Refuses(CommandRefusal::Input(
+            Input::Snapshot,
+        )),
+        Err(SnapFault::Bad) => Next::Refuses(CommandRefusal::Input(Input::Snapshot)),
         Err(SnapFault::WantOfMemory) => Next::WantOfMemory,
     }
 }

@@ -5,7 +5,7 @@ ghost use Rattle.commands.specs.Verdict.{Free, OfProgram, OfReflect, reflected_s
 ghost use Rattle.commands.specs.Work.{IsBoundedNext, Leads, reads_left};
 
 use crate::address::is_address;
-use crate::outcome::{Input, Outcome, Refusal, optional_put};
+use crate::outcome::{CommandRefusal, Input, Outcome, optional_put};
 use crate::program::{ProgramFault, read_program};
 use crate::text::reflected_text;
 use crate::words::ReflectRequest;
@@ -42,7 +42,7 @@ fn answer_address(
     ensures fewer { IfOk result (λ step. reads_left step < 3) }
 {
     if !is_address(alloc, request.address.as_str())? {
-        return Ok(Next::Refuses(Refusal::Input(Input::Address)));
+        return Ok(Next::Refuses(CommandRefusal::Input(Input::Address)));
     }
     Ok(Next::Reflects(Reflection {
         id,
@@ -77,7 +77,7 @@ pub(crate) fn take_reflector_program(alloc: Global, request: ReflectRequest, tex
             let id = session_id(&request.name, text);
             take_address(alloc, request, id)
         }
-        Err(ProgramFault::Refused { line }) => Next::Refuses(Refusal::Program { line }),
+        Err(ProgramFault::Refused { line }) => Next::Refuses(CommandRefusal::Program { line }),
         Err(ProgramFault::WantOfMemory) => Next::WantOfMemory,
     }
 }

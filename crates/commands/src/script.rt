@@ -1,18 +1,14 @@
 //! Session scripts: a request a line.
-ghost use Rattle.std.specs.Prelude.{◌≡◌, ℕ, ◌<◌, ◌≤◌, List, ◌∷◌, None, map, IfOk, IfSome, MatchBool};
+ghost use Rattle.std.specs.Prelude.{◌≡◌, ℕ, ◌≤◌, List, ◌∷◌, None, map, IfOk, IfSome, MatchBool};
 ghost use Rattle.std.specs.Str.Lines.{lines};
-ghost use Rattle.tea_base.specs.Limits.{time_limit};
 ghost use Rattle.text_lines.specs.Lines.{number_of_word, words_of};
-ghost use Rattle.commands.specs.Script.{small_of, large_of, time_of, plain_want_of, want_after_of, want_of, join_of, send_of, tick_of, leave_of, offer_of, pull_of, hex_of, request_of, requests_of, then_requests, script_of, is_skipped};
+ghost use Rattle.commands.specs.Script.{small_of, large_of, plain_want_of, want_after_of, want_of, join_of, send_of, tick_of, leave_of, offer_of, pull_of, hex_of, request_of, requests_of, then_requests, script_of};
 
 use hex::FromHexError;
 use reflector_core::{Request, Requests, Want};
 use std::alloc::Global;
-use tea_base::{Blob, TIME_LIMIT, WantOfMemory};
-use text_lines::{number, split_lines, split_words};
-
-/// The latest TeaTime that is named, in microseconds.
-const LAST_TIME: u64 = TIME_LIMIT - 1;
+use tea_base::{Blob, WantOfMemory};
+use text_lines::{is_skipped, number, split_lines, split_words, time_of_word};
 
 /// The number from `low` to `high` that a word spells.
 pub(crate) fn small_number(word: &str, low: u32, high: u32) -> Option<u32>
@@ -39,14 +35,6 @@ fn large(word: &str) -> Option<u64>
     number(word, 0, 18446744073709551615)
 }
 
-/// A TeaTime.
-pub(crate) fn time_in(word: &str) -> Option<u64>
-    ensures read { result ≡ time_of word.now }
-    ensures bound { IfSome result (λ time. time < time_limit) }
-{
-    number(word, 0, LAST_TIME)
-}
-
 /// `fresh | whole`
 fn plain_want(word: &str) -> Option<Want>
     ensures { result ≡ plain_want_of word.now }
@@ -65,7 +53,7 @@ fn want_after(word: &str, time: &str) -> Option<Want>
     if word != "after" {
         return None;
     }
-    Some(Want::After(time_in(time)?))
+    Some(Want::After(time_of_word(time)?))
 }
 
 /// `[fresh | whole | after T]`
@@ -167,7 +155,8 @@ fn offer(alloc: Global, fields: &[&str]) -> Result<Option<Request>, WantOfMemory
     let [view, joined, time, snapshot] = fields else {
         return Ok(None);
     };
-    let (Some(view), Some(joined), Some(time)) = (small(view), small(joined), time_in(time)) else {
+    let (Some(view), Some(joined), Some(time)) = (small(view), small(joined), time_of_word(time))
+    else {
         return Ok(None);
     };
     match bytes(alloc, snapshot)? {
@@ -208,16 +197,6 @@ fn request(alloc: Global, words: &[&str]) -> Result<Option<Request>, WantOfMemor
         "offer" => offer(alloc, fields),
         "pull" => Ok(pull(fields)),
         _ => Ok(None),
-    }
-}
-
-/// Whether a line is empty or begins with `#`.
-fn is_skipped(line: &[u8]) -> bool
-    ensures { result ≡ is_skipped line.now }
-{
-    match line {
-        [] => true,
-        [first, ..] => *first == b'#',
     }
 }
 

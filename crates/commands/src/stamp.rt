@@ -5,7 +5,7 @@ ghost use Rattle.commands.specs.Script.{script_of};
 ghost use Rattle.commands.specs.Verdict.{Free, OfScript, optional_put};
 ghost use Rattle.commands.specs.Work.{IsBoundedNext, Leads, reads_left};
 
-use crate::outcome::{Input, Outcome, Puts, Refusal, optional_put};
+use crate::outcome::{CommandRefusal, Input, Outcome, Puts, optional_put};
 use crate::script::read_script;
 use crate::text::text;
 use crate::work::Next;
@@ -31,7 +31,7 @@ fn answer_script(alloc: Global, log: Option<Text>, script: &[u8]) -> Result<Next
     ensures fewer { IfOk result (λ step. reads_left step < 3) }
 {
     let Some(requests) = read_script(alloc, script)? else {
-        return Ok(Next::Refuses(Refusal::Input(Input::Script)));
+        return Ok(Next::Refuses(CommandRefusal::Input(Input::Script)));
     };
     let (session, replies) = play(alloc, requests.as_slice())?;
     let text = text(alloc, replies.as_slice())?;

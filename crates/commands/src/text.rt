@@ -6,7 +6,7 @@ use connection::Ended;
 use reflector_core::{Base, Refusal, Reply, Session};
 use std::alloc::Global;
 use tea_base::WantOfMemory;
-use text_lines::numbered;
+use text_lines::spell_numbers;
 
 /// What a base adds to the line of a Join.
 fn base_part(alloc: Global, base: &Option<Base>) -> Result<String, WantOfMemory>
@@ -14,7 +14,7 @@ fn base_part(alloc: Global, base: &Option<Base>) -> Result<String, WantOfMemory>
 {
     match base {
         None => Ok(String::new(alloc)),
-        Some(base) => numbered(alloc, " base", &[base.time]),
+        Some(base) => spell_numbers(alloc, " base", &[base.time]),
     }
 }
 
@@ -23,8 +23,8 @@ fn tick_part(alloc: Global, tick: Option<u64>) -> Result<String, WantOfMemory>
     ensures { IfOk result (λ text. string_bytes text ≡ tick_part tick) }
 {
     match tick {
-        None => numbered(alloc, " more", &[]),
-        Some(time) => numbered(alloc, " tick", &[time]),
+        None => spell_numbers(alloc, " more", &[]),
+        Some(time) => spell_numbers(alloc, " tick", &[time]),
     }
 }
 
@@ -33,19 +33,19 @@ fn refusal_part(alloc: Global, refusal: Refusal) -> Result<String, WantOfMemory>
     ensures { IfOk result (λ text. string_bytes text ≡ refusal_part refusal) }
 {
     match refusal {
-        Refusal::Stale { current } => numbered(alloc, " stale", &[u64::from(current)]),
-        Refusal::TooLong { len } => numbered(alloc, " too-long", &[u64::from(len)]),
-        Refusal::Differs { seq } => numbered(alloc, " differs", &[u64::from(seq)]),
-        Refusal::Gap { expected } => numbered(alloc, " gap", &[u64::from(expected)]),
+        Refusal::Stale { current } => spell_numbers(alloc, " stale", &[u64::from(current)]),
+        Refusal::TooLong { len } => spell_numbers(alloc, " too-long", &[u64::from(len)]),
+        Refusal::Differs { seq } => spell_numbers(alloc, " differs", &[u64::from(seq)]),
+        Refusal::Gap { expected } => spell_numbers(alloc, " gap", &[u64::from(expected)]),
         Refusal::LogFull { entries, bytes } => {
-            numbered(alloc, " log-full", &[u64::from(entries), bytes])
+            spell_numbers(alloc, " log-full", &[u64::from(entries), bytes])
         }
-        Refusal::TimeEnd { horizon } => numbered(alloc, " time-end", &[horizon]),
-        Refusal::ViewsFull { here } => numbered(alloc, " views-full", &[u64::from(here)]),
-        Refusal::BadView => numbered(alloc, " bad-view", &[]),
-        Refusal::Ahead { horizon } => numbered(alloc, " ahead", &[horizon]),
-        Refusal::Older { kept } => numbered(alloc, " older", &[kept]),
-        Refusal::NoSuchSeq { len } => numbered(alloc, " no-such-seq", &[u64::from(len)]),
+        Refusal::TimeEnd { horizon } => spell_numbers(alloc, " time-end", &[horizon]),
+        Refusal::ViewsFull { here } => spell_numbers(alloc, " views-full", &[u64::from(here)]),
+        Refusal::BadView => spell_numbers(alloc, " bad-view", &[]),
+        Refusal::Ahead { horizon } => spell_numbers(alloc, " ahead", &[horizon]),
+        Refusal::Older { kept } => spell_numbers(alloc, " older", &[kept]),
+        Refusal::NoSuchSeq { len } => spell_numbers(alloc, " no-such-seq", &[u64::from(len)]),
     }
 }
 
@@ -71,26 +71,32 @@ fn line(alloc: Global, reply: &Reply) -> Result<String, WantOfMemory>
             base,
         } => {
             let numbers = [u64::from(*seq), *time, u64::from(*last), u64::from(*from)];
-            let front = numbered(alloc, "joined", &numbers)?;
+            let front = spell_numbers(alloc, "joined", &numbers)?;
             line_of_parts(front, base_part(alloc, base)?.as_str())
         }
         Reply::Stamped { seq, time } => {
-            line_of_parts(numbered(alloc, "stamped", &[u64::from(*seq), *time])?, "")
+            line_of_parts(
+                spell_numbers(alloc, "stamped", &[u64::from(*seq), *time])?,
+                "",
+            )
         }
         Reply::Again { seq, time } => {
-            line_of_parts(numbered(alloc, "again", &[u64::from(*seq), *time])?, "")
+            line_of_parts(
+                spell_numbers(alloc, "again", &[u64::from(*seq), *time])?,
+                "",
+            )
         }
-        Reply::Ticked { time } => line_of_parts(numbered(alloc, "ticked", &[*time])?, ""),
+        Reply::Ticked { time } => line_of_parts(spell_numbers(alloc, "ticked", &[*time])?, ""),
         Reply::Left { seq, time } => {
-            line_of_parts(numbered(alloc, "left", &[u64::from(*seq), *time])?, "")
+            line_of_parts(spell_numbers(alloc, "left", &[u64::from(*seq), *time])?, "")
         }
-        Reply::Kept => line_of_parts(numbered(alloc, "kept", &[])?, ""),
+        Reply::Kept => line_of_parts(spell_numbers(alloc, "kept", &[])?, ""),
         Reply::Batch { entries, tick } => {
-            let front = numbered(alloc, "batch", &[entries.len() as u64])?;
+            let front = spell_numbers(alloc, "batch", &[entries.len() as u64])?;
             line_of_parts(front, tick_part(alloc, *tick)?.as_str())
         }
         Reply::Refused(refusal) => {
-            let front = numbered(alloc, "refused", &[])?;
+            let front = spell_numbers(alloc, "refused", &[])?;
             line_of_parts(front, refusal_part(alloc, *refusal)?.as_str())
         }
     }
@@ -112,13 +118,13 @@ fn end_part(alloc: Global, ended: Ended) -> Result<String, WantOfMemory>
     ensures { IfOk result (λ text. string_bytes text ≡ end_part ended) }
 {
     match ended {
-        Ended::Left => numbered(alloc, " left", &[]),
-        Ended::LinkEnd => numbered(alloc, " link-end", &[]),
-        Ended::LinkFault => numbered(alloc, " link-fault", &[]),
-        Ended::Idle { quiets: _ } => numbered(alloc, " idle", &[]),
-        Ended::Stale { current } => numbered(alloc, " stale", &[u64::from(current)]),
-        Ended::Refused { code } => numbered(alloc, " refused", &[u64::from(code)]),
-        Ended::WantOfMemory => numbered(alloc, " memory", &[]),
+        Ended::Left => spell_numbers(alloc, " left", &[]),
+        Ended::LinkEnd => spell_numbers(alloc, " link-end", &[]),
+        Ended::LinkFault => spell_numbers(alloc, " link-fault", &[]),
+        Ended::Idle { quiets: _ } => spell_numbers(alloc, " idle", &[]),
+        Ended::Stale { current } => spell_numbers(alloc, " stale", &[u64::from(current)]),
+        Ended::Refused { code } => spell_numbers(alloc, " refused", &[u64::from(code)]),
+        Ended::WantOfMemory => spell_numbers(alloc, " memory", &[]),
     }
 }
 
@@ -126,7 +132,7 @@ fn end_part(alloc: Global, ended: Ended) -> Result<String, WantOfMemory>
 fn end_line(alloc: Global, number: u64, ended: Ended) -> Result<String, WantOfMemory>
     ensures { IfOk result (λ line. string_bytes line ≡ end_line number ended) }
 {
-    let front = numbered(alloc, "connection", &[number])?;
+    let front = spell_numbers(alloc, "connection", &[number])?;
     line_of_parts(front, end_part(alloc, ended)?.as_str())
 }
 
@@ -145,10 +151,10 @@ fn end_lines(alloc: Global, ends: &[Ended]) -> Result<String, WantOfMemory>
 fn session_line(alloc: Global, session: &Session) -> Result<String, WantOfMemory>
     ensures { IfOk result (λ line. string_bytes line ≡ session_line session.now.plain) }
 {
-    let entries = numbered(alloc, "entries", &[u64::from(session.log().len())])?;
+    let entries = spell_numbers(alloc, "entries", &[u64::from(session.log().len())])?;
     line_of_parts(
         entries,
-        numbered(alloc, " time", &[session.horizon()])?.as_str(),
+        spell_numbers(alloc, " time", &[session.horizon()])?.as_str(),
     )
 }
 

@@ -7,7 +7,7 @@ ghost use Rattle.commands.specs.Verdict.{Free, OfJoin, OfProgram, OfViewScript, 
 ghost use Rattle.commands.specs.Work.{IsBoundedNext, Leads, reads_left};
 
 use crate::address::is_address;
-use crate::outcome::{Input, Refusal};
+use crate::outcome::{CommandRefusal, Input};
 use crate::program::{ProgramFault, read_program};
 use crate::words::JoinRequest;
 use crate::work::{Next, Waiting};
@@ -52,7 +52,7 @@ fn answer_address(
     ensures fewer { IfOk result (λ step. reads_left step < 3) }
 {
     if !is_address(alloc, request.address.as_str())? {
-        return Ok(Next::Refuses(Refusal::Input(Input::Address)));
+        return Ok(Next::Refuses(CommandRefusal::Input(Input::Address)));
     }
     Ok(Next::Reads(Waiting::Script(ScriptWait {
         request,
@@ -86,7 +86,7 @@ pub(crate) fn take_view_program(alloc: Global, request: JoinRequest, text: &[u8]
             let id = session_id(&request.name, text);
             take_address(alloc, request, program, id)
         }
-        Err(ProgramFault::Refused { line }) => Next::Refuses(Refusal::Program { line }),
+        Err(ProgramFault::Refused { line }) => Next::Refuses(CommandRefusal::Program { line }),
         Err(ProgramFault::WantOfMemory) => Next::WantOfMemory,
     }
 }
@@ -111,7 +111,7 @@ pub(crate) fn take_view_script(alloc: Global, wait: ScriptWait, bytes: &[u8]) ->
             address: request.address,
             script,
         }),
-        Err(ScriptFault::Bad) => Next::Refuses(Refusal::Input(Input::Script)),
+        Err(ScriptFault::Bad) => Next::Refuses(CommandRefusal::Input(Input::Script)),
         Err(ScriptFault::WantOfMemory) => Next::WantOfMemory,
     }
 }

@@ -3,23 +3,16 @@ ghost use Rattle.std.specs.Prelude.{◌≡◌, [], ◌∷◌, true, None, IfOk, 
 ghost use Rattle.std.specs.List.{list_all};
 ghost use Rattle.std.specs.Str.{bytes_eq};
 ghost use Rattle.text_lines.specs.Lines.{is_empty};
-ghost use Rattle.commands.specs.CommandWords.{command_of, command_named, stamp_of, check_of, replay_of, replay_words, join_command, join_named, join_words, view_of, reflect_of, reflect_options, reflect_words, reflect_named, connections_of, drill_of, drill_options, drill_words, drill_numbered, seed_of, views_of, events_of, all_parts, is_option, setting_value, without, IsFirstOf, IsWithinBounds, HasNone};
+ghost use Rattle.commands.specs.CommandWords.{command_of, command_named, stamp_of, check_of, replay_of, replay_words, join_command, join_named, join_words, view_of, reflect_of, reflect_options, reflect_words, reflect_named, connections_of, drill_of, drill_options, drill_words, drill_numbered, seed_of, view_count_of, event_count_of, all_parts, is_option, setting_value, without, IsFirstOf, IsWithinBounds, HasNone};
 
-use crate::script::{small_number, time_in};
+use crate::script::small_number;
+use run_steps::{MOST_CONNECTIONS, MOST_DRILL_EVENTS, MOST_DRILL_VIEWS};
 use std::alloc::Global;
 use tea_base::{List, Text, WantOfMemory, Words};
+use text_lines::time_of_word;
 
 /// The most bytes of UTF-8 that the name of a session has.
 const MOST_NAME: usize = 255;
-
-/// The most links that a reflector accepts.
-const MOST_CONNECTIONS: u32 = 64;
-
-/// The most views of a drill.
-const MOST_DRILL_VIEWS: u32 = 8;
-
-/// The most events that each view of a drill publishes.
-const MOST_DRILL_EVENTS: u32 = 10000;
 
 /// A command with its words.
 #[derive(Drop)]
@@ -294,7 +287,7 @@ fn replay_words(positionals: Words, from: Option<Text>, snapshot: Option<Text>) 
     if !positionals.is_empty() || name.bytes().len() > MOST_NAME {
         return None;
     }
-    let time = time_in(time.as_str())?;
+    let time = time_of_word(time.as_str())?;
     Some(Command::Replay(ReplayRequest {
         program,
         name,
@@ -483,7 +476,7 @@ fn drill_numbered(
     log: Text,
     snapshots: Text,
 ) -> Option<Command>
-    ensures read { result ≡ drill_numbered log snapshots (seed_of (encode_utf8_all seed.now)) (views_of (encode_utf8_all views.now)) (events_of (encode_utf8_all events.now)) }
+    ensures read { result ≡ drill_numbered log snapshots (seed_of (encode_utf8_all seed.now)) (view_count_of (encode_utf8_all views.now)) (event_count_of (encode_utf8_all events.now)) }
     ensures bounds { IfSome result IsWithinBounds }
 {
     let seed = small_number(seed.as_str(), 0, u32::MAX)?;

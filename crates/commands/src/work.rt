@@ -7,12 +7,13 @@ ghost use Rattle.commands.specs.Verdict.{OfWords, Verdict, before};
 ghost use Rattle.commands.specs.Work.{ComesNext, IsBoundedNext, IsBoundedWait, Leads, Remains, ask_of, files_left, input_of, reads_left};
 
 use crate::check::check;
-use crate::outcome::{Input, Outcome, Refusal};
+use crate::outcome::{CommandRefusal, Input, Outcome};
 use crate::recording::{LogWait, SnapshotWait, take_log, take_program, take_snapshot};
 use crate::reflection::{Reflection, take_reflector_program};
 use crate::stamp::stamp;
 use crate::visit::{ScriptWait, VisitRequest, take_view_program, take_view_script};
 use crate::words::{Command, DrillRequest, JoinRequest, ReflectRequest, ReplayRequest};
+use model_lang::MOST_PROGRAM_BYTES;
 use std::alloc::Global;
 use tea_base::{Blob, MOST_SNAPSHOT, Text};
 
@@ -43,7 +44,7 @@ pub enum Next {
     /// It reads a file.
     Reads(Waiting),
     /// It is refused.
-    Refuses(Refusal),
+    Refuses(CommandRefusal),
     /// It puts files and prints a text.
     Gives(Outcome),
     /// It goes on as a view's run.
@@ -57,9 +58,6 @@ pub enum Next {
 
 /// The most bytes of a script.
 const SCRIPT_LIMIT: u64 = 16777216;
-
-/// The most bytes of a program.
-const PROGRAM_LIMIT: u64 = 65536;
 
 /// The most bytes of a log.
 const LOG_LIMIT: u64 = 134217728;
@@ -78,7 +76,7 @@ impl Next {
             Some(Command::Join(request)) => Next::Reads(Waiting::Join(request)),
             Some(Command::Reflect(request)) => Next::Reads(Waiting::Reflect(request)),
             Some(Command::Drill(request)) => Next::Drills(request),
-            None => Next::Refuses(Refusal::Usage),
+            None => Next::Refuses(CommandRefusal::Usage),
         }
     }
 }
@@ -122,7 +120,7 @@ impl Waiting {
     {
         match self.input() {
             Input::Script => SCRIPT_LIMIT,
-            Input::Program => PROGRAM_LIMIT,
+            Input::Program => MOST_PROGRAM_BYTES as u64,
             Input::Log => LOG_LIMIT,
             Input::Snapshot => MOST_SNAPSHOT as u64,
             Input::Time => 0,
@@ -139,7 +137,7 @@ impl Waiting {
         ensures fewer { reads_left result < files_left self }
     {
         let Some(bytes) = given else {
-            return Next::Refuses(Refusal::Input(self.input()));
+            return Next::Refuses(CommandRefusal::Input(self.input()));
         };
         match self {
             Waiting::Stamp {

@@ -159,7 +159,7 @@ fn tell_world(alloc: Global, world: &PlainWorld) -> Result<Told, WantOfMemory>
 }
 
 /// What is told of the world of a session at a time, from its beginning or from a world that is taken up.
-pub fn replayed(
+pub fn tell_replay(
     alloc: Global,
     recording: Recording,
     start: Option<PlainWorld>,

@@ -1,22 +1,26 @@
 //! From a world to the line that tells it.
 ghost use Rattle.std.specs.Prelude.{◌≡◌, string_bytes, ◌∷◌, [], codes, sum, IfOk};
 ghost use Rattle.world_plain.specs.World.{world_record};
-ghost use Rattle.text_lines.specs.Lines.{numbered};
-ghost use Rattle.commands.specs.PrintedText.{counts_part, digest_part, digested_line};
+ghost use Rattle.text_lines.specs.Lines.{spell_numbers};
+ghost use Rattle.commands.specs.PrintedText.{counts_part, digest_part, digested_world_line};
 
 use std::alloc::Global;
 use tea_base::WantOfMemory;
-use text_lines::numbered;
+use text_lines::spell_numbers;
 use world_plain::PlainWorld;
 
 /// The numbers of a world.
 fn counts_part(alloc: Global, world: &PlainWorld) -> Result<String, WantOfMemory>
     ensures { IfOk result (λ text. string_bytes text ≡ counts_part (world_record world.now)) }
 {
-    let mut text = numbered(alloc, "time", &[world.time])?;
-    let objects = numbered(alloc, " objects", &[world.objects.len() as u64])?;
-    let pending = numbered(alloc, " pending", &[world.pending.len() as u64])?;
-    let subscriptions = numbered(alloc, " subscriptions", &[world.subscriptions.len() as u64])?;
+    let mut text = spell_numbers(alloc, "time", &[world.time])?;
+    let objects = spell_numbers(alloc, " objects", &[world.objects.len() as u64])?;
+    let pending = spell_numbers(alloc, " pending", &[world.pending.len() as u64])?;
+    let subscriptions = spell_numbers(
+        alloc,
+        " subscriptions",
+        &[world.subscriptions.len() as u64],
+    )?;
     text.push_str(objects.as_str())?;
     text.push_str(pending.as_str())?;
     text.push_str(subscriptions.as_str())?;
@@ -36,7 +40,7 @@ fn faults_sum(faults: &[u64; 14]) -> u128
 
 /// How often messages were ended by faults of any kind.
 fn faults_part(alloc: Global, faults: &[u64; 14]) -> Result<String, WantOfMemory>
-    ensures { IfOk result (λ text. string_bytes text ≡ numbered (codes " faults") (sum faults.now ∷ [])) }
+    ensures { IfOk result (λ text. string_bytes text ≡ spell_numbers (codes " faults") (sum faults.now ∷ [])) }
 {
     let mut text = String::from_str(alloc, " faults ")?;
     text.push_str(faults_sum(faults).to_string(alloc)?.as_str())?;
@@ -58,7 +62,7 @@ pub fn world_line(
     world: &PlainWorld,
     digest: &[u8; 32],
 ) -> Result<String, WantOfMemory>
-    ensures { IfOk result (λ line. string_bytes line ≡ digested_line (world_record world.now) digest.now) }
+    ensures { IfOk result (λ line. string_bytes line ≡ digested_world_line (world_record world.now) digest.now) }
 {
     let mut line = counts_part(alloc, world)?;
     let faults = faults_part(alloc, &world.faults)?;

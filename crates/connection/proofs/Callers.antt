@@ -22,7 +22,7 @@ use Rattle.reflector_core.specs.declared.request.Request.TheVariants.{Join, Send
 use Rattle.reflector_core.specs.declared.request.Reply.TheVariants as reply
 use Rattle.join_sync.specs.Answers.{IsJoinReply, IsReplyTo, first_cursor}
 use Rattle.join_sync.specs.Batches.{IsBatchAfter, next_cursor, next_frames}
-use Rattle.join_sync.specs.Requests.{first_request}
+use Rattle.join_sync.specs.Requests.{IsJoin, first_request}
 use Rattle.join_sync.specs.Standing.{StandsAt}
 use Rattle.join_sync.specs.declared.cursor.Cursor.{Cursor}
 use Rattle.join_sync.specs.declared.early.Early.TheVariants.{OtherSession}
@@ -34,7 +34,7 @@ use Rattle.std.specs.Str.{bytes_eq}
 use Rattle.connection.proofs.Lines.{pull_nothing}
 use Rattle.connection.specs.declared.ending.Halt.{Halt}
 use Rattle.connection.specs.Exchanges.{Exchange, Answered, Unanswered, exchange_in, exchanges_from, exchanges_in}
-use Rattle.connection.specs.Standing.{IsAnsweredAt, IsJoin, IsStanding, SeesOn, exchange_of}
+use Rattle.connection.specs.Standing.{IsAnsweredAt, IsStanding, SeesOn, exchange_of}
 
 -- ---- exchanges along a history
 

@@ -4,7 +4,7 @@ use Rattle.std.proofs.lemmas.Bool.Decides.{nat_tests}
 use Rattle.byte_fields.specs.Fields.{whole}
 use Rattle.tea_base.specs.declared.entry.SessionId.{SessionId}
 use Rattle.tea_io.specs.Told.{Rose}
-use Rattle.tea_io.specs.Links.{Counts, NoneFalls}
+use Rattle.tea_io.specs.Links.{Counts, NoneFalls, most_quiets}
 use Rattle.tea_io.specs.declared.link.Heard.TheVariants as heard
 use Rattle.wire_frames.specs.Reading.{client_at}
 use Rattle.wire_frames.specs.declared.frame.ClientFrame.{ClientFrame}
@@ -26,7 +26,7 @@ use Rattle.system_plain.specs.Steps.{answer_frames, joined_view}
 use Rattle.connection.specs.declared.ending.Ended.{Ended}
 use Rattle.connection.specs.declared.ending.Ended.TheVariants as ended
 use Rattle.connection.specs.Causes.{IsCauseCounted, RoseBy}
-use Rattle.connection.specs.Phases.{TalkPhase, Opening, Reading, Joining, Ticking, Pulling, Hearing, Taking, Asking, Sending, Leaving, Over, Wrong, TalkEvent, Hears, Reads, Makes, MakesAt, Misses, Sends, Loses, Fails, Wants, acted_phase, ending_phase, entered_phase, greeted_phase, most_quiets, opened_phase, read_phase, refused_phase, reply_phase, sending_phase, talk_step, talk_walk, telling_phase}
+use Rattle.connection.specs.Phases.{TalkPhase, Opening, Reading, Joining, Ticking, Pulling, Hearing, Taking, Asking, Sending, Leaving, Over, Wrong, TalkEvent, Hears, Reads, Makes, MakesAt, Misses, Sends, Loses, Fails, Wants, acted_phase, ending_phase, entered_phase, greeted_phase, opened_phase, read_phase, refused_phase, reply_phase, sending_phase, talk_step, talk_walk, telling_phase}
 use Rattle.connection.specs.Talk.{Account, EventCounts, EventsCount, TalksOn}
 
 pub none_falls : (a : Counts) → NoneFalls a a

@@ -20,20 +20,20 @@ use Rattle.join_sync.specs.declared.cursor.Cursor.{Cursor}
 use Rattle.join_sync.specs.declared.early.Early.{Early}
 use Rattle.join_sync.specs.declared.early.Early.TheVariants.{OtherSession, NotJoined}
 use Rattle.join_sync.specs.Answers.{answer_frame}
-use Rattle.join_sync.specs.Batches.{next_cursor, next_frames}
+use Rattle.join_sync.specs.Batches.{most_pulled, next_cursor, next_frames}
 use Rattle.join_sync.specs.Refusals.{early_frame, refused_frame}
-use Rattle.join_sync.specs.Requests.{IsOfFrame, act_on, first_request}
+use Rattle.join_sync.specs.Requests.{IsJoin, IsOfFrame, act_on, first_request}
 use Rattle.join_sync.proofs.Replies.{request_fits}
 use Rattle.system_plain.specs.ConnectionLine.{unread_frame}
-use Rattle.system_plain.specs.Steps.{answer_frames, most_pulled}
+use Rattle.system_plain.specs.Steps.{answer_frames}
 use Rattle.session_lock.specs.declared.knowledge.Item.{Item}
 use Rattle.tea_io.specs.declared.link.Heard.{Heard}
+use Rattle.tea_io.specs.Links.{most_quiets}
 use Rattle.connection.specs.declared.ending.Ended.{Ended}
 use Rattle.connection.specs.declared.ending.Ended.TheVariants as ended
 use Rattle.connection.specs.Causes.{EndNothing, EndsElse, EndsExactly, EndsByReply, IsLastLeave, IsTurnedDown, LeavesStale, end_of}
 use Rattle.connection.specs.Exchanges.{Exchange, Answered, Unanswered, exchanges_in}
-use Rattle.connection.specs.Phases.{TalkPhase, Opening, Reading, Joining, Ticking, Pulling, Hearing, Taking, Asking, Sending, Leaving, Over, Wrong, TalkEvent, Hears, Reads, Makes, MakesAt, Misses, Sends, Loses, Fails, Wants, acted_phase, code_in, end_in, ending_phase, entered_phase, join_phase, most_quiets, opened_phase, read_phase, refused_phase, reply_phase, sending_phase, talk_step, talk_walk, telling_phase}
-use Rattle.connection.specs.Standing.{IsJoin}
+use Rattle.connection.specs.Phases.{TalkPhase, Opening, Reading, Joining, Ticking, Pulling, Hearing, Taking, Asking, Sending, Leaving, Over, Wrong, TalkEvent, Hears, Reads, Makes, MakesAt, Misses, Sends, Loses, Fails, Wants, acted_phase, code_in, end_in, ending_phase, entered_phase, join_phase, opened_phase, read_phase, refused_phase, reply_phase, sending_phase, talk_step, talk_walk, telling_phase}
 use Rattle.connection.specs.Talk.{Talk}
 use Rattle.connection.proofs.Callers.{first_is_join}
 

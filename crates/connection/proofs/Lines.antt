@@ -14,9 +14,8 @@ use Rattle.session_lock.specs.declared.knowledge.Item.{Item}
 use Rattle.session_lock.specs.declared.knowledge.Item.TheVariants.{Did, Void}
 use Rattle.session_lock.specs.History.{play_from, IsSoundThrough}
 use Rattle.join_sync.specs.declared.cursor.Cursor.{Cursor}
-use Rattle.join_sync.specs.Batches.{next_cursor, next_frames}
+use Rattle.join_sync.specs.Batches.{most_pulled, next_cursor, next_frames}
 use Rattle.system_plain.specs.ConnectionLine.{AreSoundTurns, ConnectionLine, Hears, LineTurn, Others, Pumps, after_turn, after_turns, hears, pumps, pumps_batch}
-use Rattle.system_plain.specs.Steps.{most_pulled}
 use Rattle.connection.specs.Exchanges.{Exchange, Answered, Unanswered, exchanges_from}
 
 -- From the line some turns lead to a session. It hears the first of the frames that were given, and sends those that were sent and perhaps more.

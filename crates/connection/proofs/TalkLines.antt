@@ -6,6 +6,7 @@ use Rattle.byte_fields.specs.Fields.{whole}
 use Rattle.tea_base.specs.declared.entry.SessionId.{SessionId}
 use Rattle.tea_io.specs.declared.link.Heard.{Heard}
 use Rattle.tea_io.specs.declared.link.Heard.TheVariants as heard
+use Rattle.tea_io.specs.Links.{most_quiets}
 use Rattle.wire_frames.specs.Reading.{client_at}
 use Rattle.wire_frames.specs.Served.{Served}
 use Rattle.wire_frames.specs.declared.frame.ClientFrame.{ClientFrame}
@@ -27,17 +28,17 @@ use Rattle.join_sync.specs.declared.act.Act.TheVariants.{Call, Answer}
 use Rattle.join_sync.specs.declared.cursor.Cursor.{Cursor}
 use Rattle.join_sync.specs.declared.early.Early.{Early}
 use Rattle.join_sync.specs.Answers.{answer_frame, first_cursor, join_answer}
-use Rattle.join_sync.specs.Batches.{next_cursor, next_frames}
+use Rattle.join_sync.specs.Batches.{most_pulled, next_cursor, next_frames}
 use Rattle.join_sync.specs.Refusals.{early_frame}
 use Rattle.join_sync.specs.Requests.{act_on, first_request}
 use Rattle.system_plain.specs.ConnectionLine.{ConnectionLine, after_turn, after_turns, first_line, hears, hears_act, hears_first, unread_frame}
 use Rattle.system_plain.specs.ConnectionLine as line
-use Rattle.system_plain.specs.Steps.{answer_frames, ends_connection, joined_view, most_pulled}
+use Rattle.system_plain.specs.Steps.{answer_frames, ends_connection, joined_view}
 use Rattle.system_plain.proofs.Lines.{served_by}
 use Rattle.connection.specs.declared.ending.Ended.{Ended}
 use Rattle.connection.specs.declared.ending.Ended.TheVariants as ended
 use Rattle.connection.specs.Exchanges.{Answered, Unanswered, exchanges_from}
-use Rattle.connection.specs.Phases.{TalkPhase, Opening, Reading, Joining, Ticking, Pulling, Hearing, Taking, Asking, Sending, Leaving, Over, Wrong, TalkEvent, Hears, Reads, Makes, MakesAt, Misses, Sends, Loses, Fails, Wants, answered_by, acted_phase, code_in, end_in, ending_phase, entered_phase, greeted_phase, heard_in, hearing_row, join_phase, most_quiets, opened_phase, opening_row, pulled_phase, read_phase, reply_phase, sending_phase, talk_walk}
+use Rattle.connection.specs.Phases.{TalkPhase, Opening, Reading, Joining, Ticking, Pulling, Hearing, Taking, Asking, Sending, Leaving, Over, Wrong, TalkEvent, Hears, Reads, Makes, MakesAt, Misses, Sends, Loses, Fails, Wants, answered_by, acted_phase, code_in, end_in, ending_phase, entered_phase, greeted_phase, heard_in, hearing_row, join_phase, opened_phase, opening_row, pulled_phase, read_phase, reply_phase, sending_phase, talk_walk}
 use Rattle.connection.specs.Talk.{Talk}
 use Rattle.connection.specs.TalkServed.{IsTalkServed, frames_of}
 use Rattle.connection.proofs.Lines.{IsLine, at_session, hears_is, misses, others_end, pull_nothing, pumps_is, reaches, turn_to}

@@ -5,7 +5,7 @@ use Rattle.std.proofs.lemmas.List.{append-nil, drop_more}
 use Rattle.tea_base.specs.declared.entry.SessionId.{SessionId}
 use Rattle.tea_base.specs.declared.want.WantOfMemory.{WantOfMemory}
 use Rattle.tea_io.specs.Told.{grown, Rose}
-use Rattle.tea_io.specs.Links.{CountRises, NoneFalls, SendCause, Sends as LinkSends, note_of}
+use Rattle.tea_io.specs.Links.{CountRises, NoneFalls, SendCause, Sends as LinkSends, most_quiets, note_of}
 use Rattle.tea_io.specs.declared.link.Heard.{Heard}
 use Rattle.tea_io.specs.declared.link.Heard.TheVariants as heard
 use Rattle.tea_io.specs.declared.link.LinkFault.{LinkFault}
@@ -29,13 +29,13 @@ use Rattle.join_sync.specs.declared.act.Act.TheVariants.{Call}
 use Rattle.join_sync.specs.declared.early.Early.TheVariants.{OtherSession}
 use Rattle.join_sync.specs.Answers.{answer_frame, first_cursor, join_answer}
 use Rattle.join_sync.specs.Requests.{act_on, first_request}
-use Rattle.system_plain.specs.Steps.{answer_frames, joined_view, most_pulled}
+use Rattle.system_plain.specs.Steps.{answer_frames, joined_view}
 use Rattle.reflector_core.specs.declared.request.Request.{Request}
 use Rattle.session_lock.specs.declared.knowledge.Item.{Item}
 use Rattle.session_lock.specs.History.{calls_of}
 use Rattle.session_lock.specs.Passes.{PassState, caller}
 use Rattle.join_sync.specs.declared.cursor.Cursor.{Cursor}
-use Rattle.join_sync.specs.Batches.{entry_frames, newer_tick, next_cursor, next_frames, tick_frames}
+use Rattle.join_sync.specs.Batches.{entry_frames, most_pulled, newer_tick, next_cursor, next_frames, tick_frames}
 use Rattle.connection.specs.declared.ending.Ended.{Ended}
 use Rattle.connection.specs.declared.ending.Ended.TheVariants as ended
 use Rattle.connection.specs.declared.ending.Halt.{Halt}
@@ -249,10 +249,10 @@ hears_first gives id quiets what pass a b h =
     (sym (append-nil (asked_by pass))) (sees_still pass.seen) h.heard (h.sent ∙ sym (grown_none a.sent)) (h.later, h.cause) tt tt
 
 -- a row of Quiets that is not at its end
-pub opening_row_is : (quiets : ℕ) → quiets < 6000 → opening_row quiets ≡ Opening quiets
-opening_row_is quiets below = let other : (quiets == 6000) ≡ false = ne_eqb quiets 6000 (λ e. omega (arith, e, below)) in rw other refl
+pub opening_row_is : (quiets : ℕ) → quiets < most_quiets → opening_row quiets ≡ Opening quiets
+opening_row_is quiets below = let other : (quiets == most_quiets) ≡ false = ne_eqb quiets most_quiets (λ e. omega (arith, e, below)) in rw other refl
 
-pub opens : (gives : ℕ → Type 0) (id : SessionId) (quiets : ℕ) (what : Heard) (pass : PassState) (first : Account) (a b : LinkAccount) → quiets < 6000
+pub opens : (gives : ℕ → Type 0) (id : SessionId) (quiets : ℕ) (what : Heard) (pass : PassState) (first : Account) (a b : LinkAccount) → quiets < most_quiets
     → TalksOn gives id (Opening 0) (opening_row quiets) first (account pass a) → HeardOnce a b what
     → TalksOn gives id (Opening 0) (opening quiets what) first (account pass b)
 opens gives id quiets what pass first a b below so_far h =
@@ -260,14 +260,14 @@ opens gives id quiets what pass first a b below so_far h =
     (talks_to gives id (Opening 0) (opening_row quiets) (Opening quiets) first (account pass a) (sym (opening_row_is quiets below)) so_far)
     (hears_first gives id quiets what pass a b h)
 
-pub opening_over : (gives : ℕ → Type 0) (id : SessionId) (quiets : ℕ) (first b : Account) → quiets ≡ 6000 → TalksOn gives id (Opening 0) (opening_row quiets) first b → TalksOn gives id (Opening 0) (opening_row 6000) first b
+pub opening_over : (gives : ℕ → Type 0) (id : SessionId) (quiets : ℕ) (first b : Account) → quiets ≡ most_quiets → TalksOn gives id (Opening 0) (opening_row quiets) first b → TalksOn gives id (Opening 0) (opening_row most_quiets) first b
 opening_over gives id quiets first b is f = subst (λ (n : ℕ). TalksOn gives id (Opening 0) (opening_row n) first b) is f
 
-pub hearing_row_on : (cursor : Cursor) (quiets : ℕ) → quiets ≢ 6000 → hearing_row cursor quiets ≡ Ticking cursor quiets
-hearing_row_on cursor quiets ne = rw (ne_eqb quiets 6000 ne) refl
+pub hearing_row_on : (cursor : Cursor) (quiets : ℕ) → quiets ≢ most_quiets → hearing_row cursor quiets ≡ Ticking cursor quiets
+hearing_row_on cursor quiets ne = rw (ne_eqb quiets most_quiets ne) refl
 
-pub hearing_row_over : (cursor : Cursor) (quiets : ℕ) → quiets ≡ 6000 → hearing_row cursor quiets ≡ Leaving cursor (ended.Idle 6000)
-hearing_row_over cursor quiets is = rw (eq-eqb quiets 6000 is) refl
+pub hearing_row_over : (cursor : Cursor) (quiets : ℕ) → quiets ≡ most_quiets → hearing_row cursor quiets ≡ Leaving cursor (ended.Idle most_quiets)
+hearing_row_over cursor quiets is = rw (eq-eqb quiets most_quiets is) refl
 
 -- ---- whole talks
 

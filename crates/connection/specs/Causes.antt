@@ -2,7 +2,7 @@
 use Rattle.std.specs.Prelude.{◌≡◌, ◌⊎◌, ℕ, ◌+◌, ◌-◌, ◌^◌, ◌≤◌, min, List, [], ◌∷◌, ◌++◌, Option, Some, None}
 use Rattle.std.specs.List.{AllByRecursion}
 use Rattle.tea_io.specs.Told.{Rose}
-use Rattle.tea_io.specs.Links.{Counts}
+use Rattle.tea_io.specs.Links.{Counts, most_quiets}
 use Rattle.reflector_core.specs.declared.request.Request.TheVariants.{Join, Send, Leave, Offer}
 use Rattle.reflector_core.specs.declared.request.Reply.TheVariants.{Refused}
 use Rattle.join_sync.specs.Refusals.{refused_frame}
@@ -21,7 +21,7 @@ RoseBy times before now = min (before + times) (2 ^ 64 - 1) ≤ now
 abbrev pub IsCauseCounted : Counts → Counts → Ended → Type 0
 IsCauseCounted before now ended.LinkEnd = Rose before.ends now.ends
 IsCauseCounted before now ended.LinkFault = Rose before.faults now.faults
-IsCauseCounted before now (ended.Idle quiets) = (quiets ≡ 6000) × RoseBy quiets before.quiets now.quiets
+IsCauseCounted before now (ended.Idle quiets) = (quiets ≡ most_quiets) × RoseBy quiets before.quiets now.quiets
 IsCauseCounted before now other = Unit {0}
 
 -- ---- what the caller asked

@@ -4,7 +4,7 @@ use Rattle.byte_fields.specs.Fields.{whole}
 use Rattle.tea_base.specs.declared.entry.SessionId.{SessionId}
 use Rattle.tea_io.specs.declared.link.Heard.{Heard}
 use Rattle.tea_io.specs.declared.link.Heard.TheVariants as heard
-use Rattle.tea_io.specs.Links.{note_of}
+use Rattle.tea_io.specs.Links.{most_quiets, note_of}
 use Rattle.wire_frames.specs.Reading.{client_at}
 use Rattle.wire_frames.specs.declared.frame.ClientFrame.{ClientFrame}
 use Rattle.wire_frames.specs.declared.frame.ServerFrame.{ServerFrame}
@@ -19,20 +19,16 @@ use Rattle.join_sync.specs.declared.act.Act.TheVariants.{Call, Answer}
 use Rattle.join_sync.specs.declared.cursor.Cursor.{Cursor}
 use Rattle.join_sync.specs.declared.early.Early.{Early}
 use Rattle.join_sync.specs.Answers.{answer_frame, first_cursor, join_answer}
-use Rattle.join_sync.specs.Batches.{next_cursor, next_frames}
+use Rattle.join_sync.specs.Batches.{most_pulled, next_cursor, next_frames}
 use Rattle.join_sync.specs.Refusals.{early_frame}
 use Rattle.join_sync.specs.Requests.{act_on, first_request}
 use Rattle.system_plain.specs.ConnectionLine.{unread_frame}
-use Rattle.system_plain.specs.Steps.{answer_frames, joined_view, most_pulled}
+use Rattle.system_plain.specs.Steps.{answer_frames, joined_view}
 use Rattle.connection.specs.declared.ending.Ended.{Ended}
 use Rattle.connection.specs.declared.ending.Ended.TheVariants as ended
 use Rattle.connection.specs.declared.ending.Halt.{Halt}
 use Rattle.connection.specs.declared.ending.Halt.TheVariants as halt
 use Rattle.connection.specs.Exchanges.{Exchange, Answered, Unanswered}
-
--- a connection ends at so many Quiets in a row
-abbrev pub most_quiets : ℕ
-most_quiets = 6000
 
 -- where a connection stands
 pub data TalkPhase : Type 0 where

@@ -7,7 +7,6 @@ use Rattle.reflector_core.specs.Answer.{answer}
 use Rattle.reflector_core.specs.Growth.{GrowsTo}
 use Rattle.reflector_core.specs.Play.{first_session}
 use Rattle.reflector_core.specs.declared.request.Request.{Request}
-use Rattle.reflector_core.specs.declared.request.Request.TheVariants.{Join}
 use Rattle.reflector_core.specs.declared.request.Reply.{Reply}
 use Rattle.session_lock.specs.declared.knowledge.Item.{Item}
 use Rattle.session_lock.specs.History.{IsSoundThrough}
@@ -36,7 +35,3 @@ pub record IsAnsweredAt (before at now : PlainSession) (request : Request) (give
 -- the entries that the cursor counts are in the log
 abbrev pub IsStanding : PlainSession → Cursor → Type 0
 IsStanding s cursor = (place : Place) × StandsAt s place cursor
-
-abbrev pub IsJoin : Request → Type 0
-IsJoin (Join view now want) = Unit {0}
-IsJoin other = ⊥

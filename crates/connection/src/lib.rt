@@ -12,7 +12,6 @@ mod sending;
 mod serving;
 mod turns;
 
-pub use asking::Service;
 pub use ending::Ended;
 pub use laws::each_talk_is_served;
 pub use serving::serve_connection;

@@ -9,7 +9,8 @@ ghost use Rattle.wire_frames.specs.declared.frame.ServerFrame.{ServerFrame};
 ghost use Rattle.reflector_core.specs.declared.request.Reply.{Reply};
 ghost use Rattle.connection.specs.Exchanges.{Answered, IsAskedInTime};
 ghost use Rattle.connection.specs.Phases.{Joining, Opening, Over, Reading, Ticking, greeted_phase};
-ghost use Rattle.connection.specs.Standing.{IsJoin, IsStanding};
+ghost use Rattle.join_sync.specs.Requests.{IsJoin};
+ghost use Rattle.connection.specs.Standing.{IsStanding};
 ghost use Rattle.connection.specs.Talk.{TalksOn, TalksOrHalts, account, link_account};
 
 use crate::asking::{Service, ask};
@@ -20,11 +21,8 @@ use reflector_core::Request;
 use session_lock::Pass;
 use std::sync::Wait;
 use tea_base::{Blob, WantOfMemory};
-use tea_io::{Clock, Heard, Link};
+use tea_io::{Clock, Heard, Link, MOST_QUIETS};
 use wire_frames::{ClientFrame, FrameFault, ServerFrame, read_client};
-
-/// A connection ends at so many Quiets in a row.
-pub const MOST_QUIETS: u32 = 6000;
 
 /// Waits for the first frame.
 pub fn first_frame<C: Clock, R: Wait, L: Link>(

@@ -1,6 +1,7 @@
 //! The turns of a connection whose view has joined.
 ghost use Rattle.std.specs.Prelude.{◌≡◌, ◌<◌, ℕ, List, Option, Some, None, IfOk};
 ghost use Rattle.byte_fields.specs.Fields.{whole};
+ghost use Rattle.tea_io.specs.Links.{most_quiets};
 ghost use Rattle.wire_frames.specs.Reading.{client_at};
 ghost use Rattle.wire_frames.specs.declared.frame.ServerFrame.{ServerFrame};
 ghost use Rattle.reflector_core.specs.Growth.{GrowsTo};
@@ -12,24 +13,20 @@ ghost use Rattle.join_sync.specs.Batches.{IsBatchAfter, next_cursor};
 ghost use Rattle.system_plain.specs.Steps.{answer_frames};
 ghost use Rattle.reflector_core.specs.declared.request.Reply.{Reply};
 ghost use Rattle.connection.specs.Exchanges.{Answered, IsAskedInTime};
-ghost use Rattle.connection.specs.Phases.{Asking, Hearing, Leaving, Over, Pulling, Taking, Ticking, answered_by, end_in, halt_phase, most_quiets, pulled_phase};
+ghost use Rattle.connection.specs.Phases.{Asking, Hearing, Leaving, Over, Pulling, Taking, Ticking, answered_by, end_in, halt_phase, pulled_phase};
 ghost use Rattle.connection.specs.Standing.{IsStanding};
 ghost use Rattle.connection.specs.Talk.{LinkAccount, TalksOn, TalksOrHalts, account, link_account};
 
 use crate::asking::{Service, ask};
 use crate::ending::{Ended, Halt};
-use crate::opening::MOST_QUIETS;
 use crate::sending::{leave_at, tell, tell_all, tell_end, unread_frame};
-use join_sync::{Act, Cursor};
+use join_sync::{Act, Cursor, MOST_PULLED};
 use reflector_core::{Refusal, Reply, Request};
 use session_lock::Pass;
 use std::sync::Wait;
 use tea_base::{Blob, WantOfMemory};
-use tea_io::{Clock, Heard, Link};
+use tea_io::{Clock, Heard, Link, MOST_QUIETS};
 use wire_frames::{ClientFrame, FrameFault, ServerFrame, read_client};
-
-/// How many entries a turn pulls at most.
-const MOST_PULLED: u32 = 256;
 
 // ---- a frame
 

@@ -15,7 +15,7 @@ use Rattle.commands.specs.declared.words.DrillRequest.{DrillRequest}
 use Rattle.commands.specs.Verdict.{ByDrill, Coming, Only, Verdict, drilled_steps, drilled_verdict, fine}
 use Rattle.croquet.specs.declared.status.Status.{Status}
 use Rattle.croquet.specs.Calls.{OfReport, snapshot_of}
-use Rattle.croquet.specs.Drills.{OfDrilled, agreed_verdict, size_of}
+use Rattle.croquet.specs.Drills.{OfDrilled, agreed_verdict, drill_size}
 use Rattle.croquet.specs.Run.{EndsWell, RanAsDrill, Reaches}
 use Rattle.croquet.proofs.Acts.{DoesAll}
 use Rattle.croquet.proofs.Runs.{RanSo, ran_done, ran_leading}
@@ -39,14 +39,14 @@ snapshots_agree s tree id view (r ∷ replicas) are =
     ∙ ap (λ (all : List (List ℕ)). world_spelling (replay tree id s.log s.horizon).world ∷ all) (snapshots_agree s tree id (view + 1) replicas are.1)
 
 -- so what comes of a report comes of the replay
-agreed : (gives : ℕ → Type 0) (request : DrillRequest) (report : DrillReport) (has : HasDrilled gives (size_of request) report)
+agreed : (gives : ℕ → Type 0) (request : DrillRequest) (report : DrillReport) (has : HasDrilled gives (drill_size request) report)
     → drilled_verdict request report.session.plain.log (map snapshot_of report.replicas) report.total report.agree
     ≡ agreed_verdict request report.session.plain.log (replay has.tree drill_id report.session.plain.log report.session.plain.horizon).world
 agreed gives request report has =
     rw (snapshots_agree report.session.plain has.tree drill_id 1 report.replicas has.replicas, has.number, has.total, has.agree) refl
 
 report_leads
-    : (gives : ℕ → Type 0) (request : DrillRequest) (answer : Result DrillReport WantOfMemory) → IfOk answer (HasDrilled gives (size_of request))
+    : (gives : ℕ → Type 0) (request : DrillRequest) (answer : Result DrillReport WantOfMemory) → IfOk answer (HasDrilled gives (drill_size request))
     → (verdict : Verdict) → OfReport request answer verdict → OfDrilled gives request answer verdict
 report_leads gives request (Ok report) has verdict (inl want) = inl want
 report_leads gives request (Ok report) has verdict (inr is) = inr (record { has = has; is = is ∙ agreed gives request report has })
@@ -56,7 +56,7 @@ report_leads gives request (Err wanting) has verdict is = is
 pub ran_drilling
     : {F W N L : Type 0} (gives : ℕ → Type 0) (files : FilesTell F) (out : OutputTells W) (net : NetTells N L) (links : LinksTell L) (coming : Coming) (request : DrillRequest) (answer : Result DrillReport WantOfMemory)
     (f mid f' : F) (w next w' : W) (n : N) (result : Status)
-    → Reaches (desk_tells files out) coming (ByDrill request) (desk f w) (desk mid next) → IfOk answer (HasDrilled gives (size_of request))
+    → Reaches (desk_tells files out) coming (ByDrill request) (desk f w) (desk mid next) → IfOk answer (HasDrilled gives (drill_size request))
     → RanSo files out (OfReport request answer) mid next f' w' result
     → RanAsDrill gives (outside_tells files out net links) coming (outside f w n None) (outside f' w' n None) result
 ran_drilling gives files out net links coming request answer f mid f' w next w' n result reached has ran = record {

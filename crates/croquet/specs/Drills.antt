@@ -12,8 +12,8 @@ use Rattle.drill.specs.Ending.{root_total}
 use Rattle.commands.specs.declared.words.DrillRequest.{DrillRequest}
 use Rattle.commands.specs.Verdict.{ByWant, Coming, Free, Only, Verdict, at_once, drilled_verdict}
 
-abbrev pub size_of : DrillRequest → Size
-size_of request = record { seed = request.seed; views = request.views; events = request.events }
+abbrev pub drill_size : DrillRequest → Size
+drill_size request = record { seed = request.seed; views = request.views; events = request.events }
 
 -- what comes of a drill whose views have all come to this world: the log is put, and the snapshot of the world for each view
 abbrev pub agreed_verdict : DrillRequest → List Entry → WorldRecord → Verdict
@@ -21,7 +21,7 @@ agreed_verdict request log w = drilled_verdict request log (replicate request.vi
 
 -- the views of a drill have all come to the replay of its log to the horizon
 pub record IsDrilled (gives : ℕ → Type 0) (request : DrillRequest) (report : DrillReport) (verdict : Verdict) : Type 0 where
-  pub has : HasDrilled gives (size_of request) report
+  pub has : HasDrilled gives (drill_size request) report
   pub is : verdict ≡ agreed_verdict request report.session.plain.log (replay has.tree drill_id report.session.plain.log report.session.plain.horizon).world
 
 -- what comes of the answer

@@ -1,6 +1,6 @@
 -- What a run does to the outside: all that comes of its command, or this up to one place, and then the line of its fault.
 use Rattle.std.specs.Prelude.{◌≡◌, ℕ, List, [], ◌∷◌, ◌++◌, ◌⊎◌, Option, Some, None, Result, Ok, Err, IfOk, codes}
-use Rattle.text_lines.specs.Lines.{numbered}
+use Rattle.text_lines.specs.Lines.{spell_numbers}
 use Rattle.run_steps.specs.Steps.{Step, Loads, Puts, Prints}
 use Rattle.run_steps.specs.Outside.{Outside, OutsideTells, OutputTells, Came, Well, Failed, WantedMemory, PrintsText, Cut, Acts, LinkGoesBack, OnPart}
 use Rattle.tea_io.specs.declared.net.NetCall.TheVariants.{Listen}
@@ -18,12 +18,12 @@ use Rattle.view_shell.specs.Viewers.{first_phase}
 use Rattle.view_shell.specs.ViewRun.{EndsBy}
 use Rattle.commands.specs.declared.outcome.Input.{Input}
 use Rattle.commands.specs.declared.outcome.Input.TheVariants as input
-use Rattle.commands.specs.declared.outcome.Refusal.{Refusal}
-use Rattle.commands.specs.declared.outcome.Refusal.TheVariants as refusal
+use Rattle.commands.specs.declared.outcome.CommandRefusal.{CommandRefusal}
+use Rattle.commands.specs.declared.outcome.CommandRefusal.TheVariants as refusal
 use Rattle.commands.specs.declared.reflection.Reflection.{Reflection}
 use Rattle.commands.specs.declared.words.DrillRequest.{DrillRequest}
 use Rattle.commands.specs.Verdict.{Closing, Fine, ByRefusal, ByWant, ByNetFault, ByVisit, ByReflecting, ByDrill, Verdict, PlainVisit, Coming, Free, Only, at_once, reflected_verdict}
-use Rattle.croquet.specs.Drills.{OfDrilled, size_of}
+use Rattle.croquet.specs.Drills.{OfDrilled, drill_size}
 use Rattle.croquet.specs.declared.status.Status.{Status}
 use Rattle.croquet.specs.declared.status.Status.TheVariants as status
 
@@ -34,7 +34,7 @@ pub data Ending : Type 0 where
   -- all went well
   EndsWell : Ending
   -- its command is refused
-  EndsRefused : Refusal → Ending
+  EndsRefused : CommandRefusal → Ending
   -- memory is wanted
   EndsWanting : Ending
   -- its net has failed
@@ -85,14 +85,14 @@ abbrev pub LastLine : Type 0
 LastLine = Option (List ℕ) × Status
 
 -- those of a refusal
-abbrev pub refusal_told : Refusal → LastLine
+abbrev pub refusal_told : CommandRefusal → LastLine
 refusal_told refusal.Usage = (Some (codes "usage\n"), status.Usage)
 refusal_told (refusal.Program line) = (Some line, status.Program)
 refusal_told (refusal.Input at) = (Some (codes "input " ++ name_of at ++ codes "\n"), status.Input)
 
 -- the reflector refused a frame, with this code and the value that comes with it
 abbrev pub refused_line : ℕ → ℕ → List ℕ
-refused_line code kept = numbered (codes "refused") (code ∷ kept ∷ []) ++ 10 ∷ []
+refused_line code kept = spell_numbers (codes "refused") (code ∷ kept ∷ []) ++ 10 ∷ []
 
 -- those of a view's end: an output that failed takes no line
 abbrev pub view_told : ViewEnd → LastLine
@@ -220,7 +220,7 @@ pub record RanAsDrill (gives : ℕ → Type 0) {F W N L : Type 0} (tells : Outsi
   pub ready : Outside F W N L
   pub reaches : Reaches tells coming (ByDrill request) old ready
   pub answer : Result DrillReport WantOfMemory
-  pub drilled : IfOk answer (HasDrilled gives (size_of request))
+  pub drilled : IfOk answer (HasDrilled gives (drill_size request))
   pub behind : RanBySteps tells (OfDrilled gives request answer) ready new result
 
 -- ---- every run

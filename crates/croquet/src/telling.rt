@@ -6,12 +6,12 @@ ghost use Rattle.croquet.specs.Calls.{TellsViewEnd};
 ghost use Rattle.croquet.specs.Run.{EndsRefused, Tells, TellsEnding, TellsMemory, name_of, refused_line};
 
 use crate::status::Status;
-use commands::{Input, Refusal};
+use commands::{CommandRefusal, Input};
 use run_steps::{CallFault, print_text};
 use std::alloc::Global;
 use tea_base::WantOfMemory;
 use tea_io::Sink;
-use text_lines::numbered;
+use text_lines::spell_numbers;
 use view_shell::ViewEnd;
 
 /// The end of a run for which memory was wanting.
@@ -58,13 +58,13 @@ fn input_line(input: Input) -> &'static str
 }
 
 /// Tells a refusal.
-pub(crate) fn tell_refusal<W: Sink>(out: &mut W, refusal: &Refusal) -> Status
+pub(crate) fn tell_refusal<W: Sink>(out: &mut W, refusal: &CommandRefusal) -> Status
     ensures { TellsEnding (output_tells W.written W.faults W.wants) (EndsRefused refusal.now) out.old out.new result }
 {
     match refusal {
-        Refusal::Usage => tell(out, "usage\n", Status::Usage),
-        Refusal::Program { line } => tell_line(out, line.bytes(), Status::Program),
-        Refusal::Input(input) => tell(out, input_line(*input), Status::Input),
+        CommandRefusal::Usage => tell(out, "usage\n", Status::Usage),
+        CommandRefusal::Program { line } => tell_line(out, line.bytes(), Status::Program),
+        CommandRefusal::Input(input) => tell(out, input_line(*input), Status::Input),
     }
 }
 
@@ -72,7 +72,7 @@ pub(crate) fn tell_refusal<W: Sink>(out: &mut W, refusal: &Refusal) -> Status
 fn refused_line(alloc: Global, code: u8, kept: u64) -> Result<String, WantOfMemory>
     ensures { IfOk result (λ line. string_bytes line ≡ refused_line code kept) }
 {
-    let mut line = numbered(alloc, "refused", &[u64::from(code), kept])?;
+    let mut line = spell_numbers(alloc, "refused", &[u64::from(code), kept])?;
     line.push_str("\n")?;
     Ok(line)
 }

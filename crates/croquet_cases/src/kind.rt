@@ -48,7 +48,7 @@ pub(crate) fn outcome<R: Threads + Wait + Sync + AllocGlobal>(
         CommandCases::Programs => check(rt, case),
         CommandCases::Worlds => world(rt, text_of(case)?),
         CommandCases::Snapshots => snapshot(rt, text_of(case)?),
-        CommandCases::Resumed => resumed(rt, text_of(case)?),
+        CommandCases::Resumed => tell_resumption(rt, text_of(case)?),
         CommandCases::Commands => command::outcome(rt, text_of(case)?),
     }
 }
@@ -89,7 +89,7 @@ fn snapshot<R: Threads + Wait + Sync + AllocGlobal>(
     Ok(hex::encode(rt.alloc(), session.snapshot(rt, time)?.bytes())?)
 }
 
-fn resumed<R: Threads + Wait + Sync + AllocGlobal>(
+fn tell_resumption<R: Threads + Wait + Sync + AllocGlobal>(
     rt: &R,
     case: &str,
 ) -> Result<String, CaseFault> {

@@ -24,7 +24,7 @@ mod session;
 mod spelling;
 
 use crate::kind::{CommandCases, outcome};
-use case_lines::{CaseFault, case_files, expanded, is_case, print_outcome};
+use case_lines::{CaseFault, case_files, expand, is_case, print_outcome};
 use std::io::{self, ErrorKind};
 use std::sync::Wait;
 use std::thread::Threads;
@@ -60,5 +60,5 @@ fn line_outcome<R: Threads + Wait + Sync + AllocGlobal>(
     kind: CommandCases,
     line: &str,
 ) -> Result<String, CaseFault> {
-    outcome(rt, kind, expanded(rt.alloc(), line)?.bytes())
+    outcome(rt, kind, expand(rt.alloc(), line)?.bytes())
 }

@@ -25,11 +25,11 @@ pub(crate) fn log_of<R: Threads + Wait + Sync + AllocGlobal>(
     rt: &R,
     script: &[u8],
 ) -> Result<Blob, CaseFault> {
-    written(rt.alloc(), &stamp(rt, script)?, "l")
+    file_bytes(rt.alloc(), &stamp(rt, script)?, "l")
 }
 
 /// The file that a run wrote, or what the run told where there is none.
-fn written(alloc: Global, run: &Run, name: &str) -> Result<Blob, CaseFault> {
+fn file_bytes(alloc: Global, run: &Run, name: &str) -> Result<Blob, CaseFault> {
     match run.file(alloc, name)? {
         Some(bytes) => Ok(bytes),
         None => Err(CaseFault::Refused {
@@ -63,7 +63,7 @@ impl<'a> Session<'a> {
     }
 
     /// What `replay` to this time is given. It writes the snapshot into the file `f`.
-    fn given(&self, alloc: Global, time: &str) -> Result<Given, WantOfMemory> {
+    fn replay_input(&self, alloc: Global, time: &str) -> Result<Given, WantOfMemory> {
         let mut given = Given::new(alloc);
         given.add_words("replay p")?;
         given.add_word(self.name)?;
@@ -81,7 +81,7 @@ impl<'a> Session<'a> {
         rt: &R,
         time: &str,
     ) -> Result<Run, WantOfMemory> {
-        self.given(rt.alloc(), time)?.run(rt, NONE)
+        self.replay_input(rt.alloc(), time)?.run(rt, NONE)
     }
 
     /// A run of `replay` to this time, from a snapshot.
@@ -91,7 +91,7 @@ impl<'a> Session<'a> {
         time: &str,
         snapshot: &[u8],
     ) -> Result<Run, WantOfMemory> {
-        let mut given = self.given(rt.alloc(), time)?;
+        let mut given = self.replay_input(rt.alloc(), time)?;
         given.add_words("--from s")?;
         given.add_file("s", snapshot)?;
         given.run(rt, NONE)
@@ -103,6 +103,6 @@ impl<'a> Session<'a> {
         rt: &R,
         time: &str,
     ) -> Result<Blob, CaseFault> {
-        written(rt.alloc(), &self.replay(rt, time)?, "f")
+        file_bytes(rt.alloc(), &self.replay(rt, time)?, "f")
     }
 }

@@ -15,13 +15,13 @@ use Rattle.drill.specs.declared.trust.TrustReplay.{TrustReplay}
 use Rattle.drill.specs.declared.size.Size.{Size}
 use Rattle.drill.specs.declared.worker.Worker.{Worker}
 use Rattle.drill.specs.Asking.{IsAskedBy, IsAskedInDrill, IsDrillHistory}
-use Rattle.drill.specs.Workers.{GoesOn, HasAsked, IsTrustedReplay, IsWorker}
+use Rattle.drill.specs.Workers.{HistoryGoesOn, HasAsked, IsTrustedReplay, IsWorker}
 use Rattle.drill.proofs.Histories.{apart, history_first, kept_on}
 
 -- a history that goes on without the view's caller
-pub saw_goes_on : (gives : ℕ → Type 0) (views view : ℕ) (seen history : List Item) → Saw (view ∷ []) seen history → GoesOn gives views view seen history
+pub saw_goes_on : (gives : ℕ → Type 0) (views view : ℕ) (seen history : List Item) → Saw (view ∷ []) seen history → HistoryGoesOn gives views view seen history
 saw_goes_on gives views view seen history saw =
-    subst (GoesOn gives views view seen) saw.1
+    subst (HistoryGoesOn gives views view seen) saw.1
     (record {
       grows = history_grows seen saw.0;
       kept = λ time. kept_on time seen saw.0;

@@ -9,13 +9,14 @@ use Rattle.session_lock.specs.declared.knowledge.Item.{Item}
 use Rattle.session_lock.specs.declared.knowledge.Item.TheVariants.{Did, Void}
 use Rattle.session_lock.specs.History.{caller_of, has, calls_of}
 use Rattle.session_lock.proofs.Histories.{has_own}
+use Rattle.run_steps.specs.Limits.{most_drill_events, most_drill_views}
 use Rattle.drill.specs.Drilled.{IsOfDrill}
-use Rattle.drill.specs.Asking.{IsAskedInDrill, IsDrillHistory, entries_asked, most_asked, most_asked_by_all}
+use Rattle.drill.specs.Asking.{IsAskedInDrill, IsDrillHistory, entries_used_by, most_asked, most_asked_by_all}
 
 -- each view of the drill asks as a view may, and for few entries; nobody else calls
 pub record EachAsks (gives : ℕ → Type 0) (views events : ℕ) (history : List Item) : Type 0 where
   pub each : (view : ℕ) → IsOfDrill views view → AllByRecursion (IsAskedInDrill gives views) (calls_of (view ∷ []) history)
-  pub few : (view : ℕ) → IsOfDrill views view → entries_asked (calls_of (view ∷ []) history) ≤ most_asked events
+  pub few : (view : ℕ) → IsOfDrill views view → entries_used_by (calls_of (view ∷ []) history) ≤ most_asked events
   pub others : (caller : ℕ) → (IsOfDrill views caller → ⊥) → calls_of (caller ∷ []) history ≡ []
 
 -- a caller's items, where the first item is its own, or another's
@@ -53,14 +54,14 @@ abbrev entries_of_item : Item → ℕ
 entries_of_item (Did caller request) = entries_used request
 entries_of_item (Void caller) = 0
 
-entries_asked-cons : (x : Item) (xs : List Item) → entries_asked (x ∷ xs) ≡ entries_of_item x + entries_asked xs
-entries_asked-cons (Did caller request) xs = omega arith
-entries_asked-cons (Void caller) xs = omega arith
+entries_used_by-cons : (x : Item) (xs : List Item) → entries_used_by (x ∷ xs) ≡ entries_of_item x + entries_used_by xs
+entries_used_by-cons (Did caller request) xs = omega arith
+entries_used_by-cons (Void caller) xs = omega arith
 
 -- how many entries so many callers ask for, from caller 1 on
 abbrev asked_by : ℕ → List Item → ℕ
 asked_by zero history = 0
-asked_by (suc count) history = entries_asked (calls_of (suc count ∷ []) history) + asked_by count history
+asked_by (suc count) history = entries_used_by (calls_of (suc count ∷ []) history) + asked_by count history
 
 asked_by-none : (count : ℕ) → asked_by count [] ≡ 0
 asked_by-none zero = refl
@@ -71,24 +72,24 @@ asked_by-other : (count : ℕ) (x : Item) (xs : List Item) → count < caller_of
 asked_by-other zero x xs above = refl
 asked_by-other (suc count) x xs above =
     let rest : asked_by count (x ∷ xs) ≡ asked_by count xs = asked_by-other count x xs (omega (arith, above)) in
-    omega (arith, ap entries_asked (other_first (suc count) x xs (λ same. omega (arith, same, above))), rest)
+    omega (arith, ap entries_used_by (other_first (suc count) x xs (λ same. omega (arith, same, above))), rest)
 
 asked_by-own : (count : ℕ) (x : Item) (xs : List Item) → 1 ≤ caller_of x → caller_of x ≤ count → asked_by count (x ∷ xs) ≡ entries_of_item x + asked_by count xs
 asked_by-own zero x xs low high = absurd (omega (arith, low, high))
 asked_by-own (suc count) x xs low high =
     dite (ℕ_discrete (caller_of x) (suc count))
     (λ same. let first : calls_of (suc count ∷ []) (x ∷ xs) ≡ x ∷ calls_of (suc count ∷ []) xs = subst (λ (n : ℕ). calls_of (n ∷ []) (x ∷ xs) ≡ x ∷ calls_of (n ∷ []) xs) same (own_first x xs) in
-    omega (arith, ap entries_asked first, entries_asked-cons x (calls_of (suc count ∷ []) xs), asked_by-other count x xs (omega (arith, same))))
-    (λ other. omega (arith, ap entries_asked (other_first (suc count) x xs other), asked_by-own count x xs low (omega (arith, high, other))))
+    omega (arith, ap entries_used_by first, entries_used_by-cons x (calls_of (suc count ∷ []) xs), asked_by-other count x xs (omega (arith, same))))
+    (λ other. omega (arith, ap entries_used_by (other_first (suc count) x xs other), asked_by-own count x xs low (omega (arith, high, other))))
 
 -- where all items are of these callers, they ask for all entries
-all_asked : (count : ℕ) (history : List Item) → AllByRecursion (λ x. IsOfDrill count (caller_of x)) history → entries_asked history ≡ asked_by count history
+all_asked : (count : ℕ) (history : List Item) → AllByRecursion (λ x. IsOfDrill count (caller_of x)) history → entries_used_by history ≡ asked_by count history
 all_asked count [] of_drill = sym (asked_by-none count)
 all_asked count (x ∷ xs) of_drill =
-    omega (arith, entries_asked-cons x xs, asked_by-own count x xs of_drill.0.0 of_drill.0.1, all_asked count xs of_drill.1)
+    omega (arith, entries_used_by-cons x xs, asked_by-own count x xs of_drill.0.0 of_drill.0.1, all_asked count xs of_drill.1)
 
 -- each of these callers asks for few entries, and so do all
-all_few : (count most : ℕ) (history : List Item) → ((view : ℕ) → IsOfDrill count view → entries_asked (calls_of (view ∷ []) history) ≤ most) → asked_by count history ≤ count * most
+all_few : (count most : ℕ) (history : List Item) → ((view : ℕ) → IsOfDrill count view → entries_used_by (calls_of (view ∷ []) history) ≤ most) → asked_by count history ≤ count * most
 all_few zero most history each = omega arith
 all_few (suc count) most history each =
     let rest : asked_by count history ≤ count * most = all_few count most history (λ view of. each view (of.0, omega (arith, of.1))) in
@@ -119,13 +120,13 @@ module _ (gives : ℕ → Type 0) (views events : ℕ) (history : List Item) (as
   named = all_of_views (λ x. IsOfDrill views (caller_of x)) (λ view of.
       weaker (λ x. caller_of x ≡ view) (λ x. IsOfDrill views (caller_of x)) (λ x same. subst (IsOfDrill views) (sym same) of) (calls_of (view ∷ []) history) (own_items view history))
 
-  few_asked : views ≤ 8 → events ≤ 10000 → entries_asked history ≤ most_asked_by_all
+  few_asked : views ≤ most_drill_views → events ≤ most_drill_events → entries_used_by history ≤ most_asked_by_all
   few_asked few_views few_events =
-      let product : views * most_asked events ≤ 8 * 30002 = mul-le-mul few_views (let each : most_asked events ≤ 30002 = omega (arith, few_events) in each) in
+      let product : views * most_asked events ≤ most_drill_views * 30002 = mul-le-mul few_views (let each : most_asked events ≤ 30002 = omega (arith, few_events) in each) in
       omega (arith, all_asked views history named, all_few views (most_asked events) history asks.few, product)
 
 -- so the whole history is that of a drill
-pub drill_history : (gives : ℕ → Type 0) (views events : ℕ) (history : List Item) → views ≤ 8 → events ≤ 10000 → EachAsks gives views events history → IsDrillHistory gives views history
+pub drill_history : (gives : ℕ → Type 0) (views events : ℕ) (history : List Item) → views ≤ most_drill_views → events ≤ most_drill_events → EachAsks gives views events history → IsDrillHistory gives views history
 drill_history gives views events history few_views few_events asks =
     record {
       asked = all_of_views gives views events history asks (IsAskedInDrill gives views) asks.each;

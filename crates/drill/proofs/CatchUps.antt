@@ -5,6 +5,7 @@ use Rattle.reflector_core.specs.Play.{first_session}
 use Rattle.reflector_core.specs.declared.request.Request.TheVariants as request
 use Rattle.reflector_core.specs.declared.request.Reply.{Reply}
 use Rattle.join_sync.specs.declared.cursor.Cursor.{Cursor}
+use Rattle.join_sync.specs.Batches.{most_pulled}
 use Rattle.session_lock.specs.History.{play}
 use Rattle.session_lock.specs.Passes.{PassState, SharedState}
 use Rattle.session_lock.proofs.Histories.{sound_end}
@@ -15,7 +16,7 @@ use Rattle.drill.specs.declared.trust.TrustReplay.{TrustReplay}
 use Rattle.drill.specs.declared.worker.Worker.{Worker}
 use Rattle.drill.specs.Turns.{HasCome, HasTakenMore, KeepsEvents}
 use Rattle.drill.specs.Workers.{HasAsked, HasPassed, IsWorker, KeepsSource}
-use Rattle.drill.specs.Working.{Works}
+use Rattle.drill.specs.Working.{ReplicaWorks}
 use Rattle.drill.proofs.Passing.{has_passed, passes_on}
 use Rattle.drill.proofs.Requests.{tick_log}
 use Rattle.drill.proofs.Workers.{works_grow}
@@ -25,7 +26,7 @@ pub record TakesBatches (gives : ℕ → Type 0) (size : Size) (shared : SharedS
   pub worker : IsWorker gives size shared now
   pub more : HasTakenMore gives size.views first now start cursor
   pub kept : KeepsSource first now
-  pub come : 256 * count ≤ cursor.after
+  pub come : most_pulled * count ≤ cursor.after
   pub left : (count ≡ 0) ⊎ (cursor.after < length (play now.pass.seen).log)
 
 module _ (gives : ℕ → Type 0) (size : Size) (shared : SharedState TrustReplay) where
@@ -36,7 +37,7 @@ module _ (gives : ℕ → Type 0) (size : Size) (shared : SharedState TrustRepla
   tick_passes w after now given asked = has_passed gives size.views w.view shared w.pass after (request.Tick now) given asked (λ s. tick_log s now) (λ s. refl) refl
 
   -- a tick begins
-  pub begins : (w new : Worker) (cursor : Cursor) (now : ℕ) (given : Reply) → Works (play w.pass.seen) w.replica cursor → new ≡ record w { pass = new.pass } → IsWorker gives size shared new
+  pub begins : (w new : Worker) (cursor : Cursor) (now : ℕ) (given : Reply) → ReplicaWorks (play w.pass.seen) w.replica cursor → new ≡ record w { pass = new.pass } → IsWorker gives size shared new
       → HasAsked gives size.views shared w.view w.pass new.pass (request.Tick now) given → TakesBatches gives size shared w new cursor cursor 0
   begins w new cursor now given works same worker asked =
       let passed = tick_passes w new.pass now given asked in
@@ -45,7 +46,7 @@ module _ (gives : ℕ → Type 0) (size : Size) (shared : SharedState TrustRepla
       record {
         worker = worker;
         more = record {
-          works = subst (λ (r : ReplicaView). Works (play new.pass.seen) r cursor) replica
+          works = subst (λ (r : ReplicaView). ReplicaWorks (play new.pass.seen) r cursor) replica
               (works_grow (play w.pass.seen) (play new.pass.seen) w.replica cursor (Grows-legal (play w.pass.seen) (play new.pass.seen) passed.on.grows sound.legal) sound works);
           passed = passed;
           events = subst (KeepsEvents w.replica) replica (record { program = refl; id = refl; view = refl; outbox = refl; acknowledged = refl });

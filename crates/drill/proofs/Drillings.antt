@@ -14,10 +14,10 @@ use Rattle.session_lock.proofs.Histories.{saw_own}
 use Rattle.drill.specs.declared.finished.Finished.{Finished}
 use Rattle.drill.specs.declared.size.Size.{Size}
 use Rattle.drill.specs.declared.trust.TrustReplay.{TrustReplay}
-use Rattle.drill.specs.Asking.{IsAskedInDrill, IsDrillHistory, entries_asked, most_asked}
+use Rattle.drill.specs.Asking.{IsAskedInDrill, IsDrillHistory, entries_used_by, most_asked}
 use Rattle.drill.specs.Doing.{HasFinished}
 use Rattle.drill.specs.Drilled.{Drilled, IsOfDrill, own}
-use Rattle.drill.specs.Drilling.{Gathers, numbers_from, views_of}
+use Rattle.drill.specs.Drilling.{GathersWorkers, numbers_from, views_of}
 use Rattle.drill.specs.Sizes.{IsOfSize}
 use Rattle.drill.specs.Turns.{HasEnded}
 use Rattle.drill.proofs.Callers.{EachAsks, drill_history}
@@ -90,7 +90,7 @@ pub record IsClosed (gives : ℕ → Type 0) (size : Size) (shared : SharedState
   pub fits : IsOfSize size
   pub each : All (HasEnded gives size shared) ended
   pub views : views_of ended ≡ numbers_from 1 size.views
-  pub gathers : Gathers shared ended keeper
+  pub gathers : GathersWorkers shared ended keeper
   pub plays : s ≡ play keeper.seen
   pub calls : own_calls keeper ≡ keeper.seen
   pub sound : IsSoundThrough first_session keeper.seen
@@ -127,7 +127,7 @@ module _ (gives : ℕ → Type 0) (size : Size) (shared : SharedState TrustRepla
   asks : EachAsks gives size.views size.events keeper.seen
   asks = record {
     each = λ view of. let one = found view of in subst (AllByRecursion (IsAskedInDrill gives size.views)) (sym (own_of view one.0 one.1 one.2)) one.2.0.worker.asked;
-    few = λ view of. let one = found view of in subst (λ (xs : List Item). entries_asked xs ≤ most_asked size.events) (sym (own_of view one.0 one.1 one.2)) one.2.0.few;
+    few = λ view of. let one = found view of in subst (λ (xs : List Item). entries_used_by xs ≤ most_asked size.events) (sym (own_of view one.0 one.1 one.2)) one.2.0.few;
     others = nobody_else;
   }
 

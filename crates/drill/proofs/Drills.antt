@@ -34,18 +34,18 @@ pull_along : (P : PlainSession → Type 0) (s : PlainSession) (after limit : ℕ
 pull_along P s after limit same = grind arith
 
 -- each entry is of a view of the drill, and the horizon is not far beyond a value of the clock
-record IsWithin (gives : ℕ → Type 0) (views : ℕ) (s : PlainSession) : Type 0 where
+record HasDrillEntries (gives : ℕ → Type 0) (views : ℕ) (s : PlainSession) : Type 0 where
   named : All (λ (entry : Entry). IsOfDrill views entry.view) s.log
   given : ℕ
   is_given : (given ≡ 0) ⊎ gives given
   bounded : s.horizon ≤ given + length s.log
 
-first_within : (gives : ℕ → Type 0) (views : ℕ) → IsWithin gives views first_session
+first_within : (gives : ℕ → Type 0) (views : ℕ) → HasDrillEntries gives views first_session
 first_within gives views = record { named = All-nil (λ (entry : Entry). IsOfDrill views entry.view); given = 0; is_given = inl refl; bounded = omega arith }
 
-module _ (gives : ℕ → Type 0) (views : ℕ) (s : PlainSession) (within : IsWithin gives views s) where
+module _ (gives : ℕ → Type 0) (views : ℕ) (s : PlainSession) (within : HasDrillEntries gives views s) where
   -- one more entry of a view of the drill
-  appended : (view now : ℕ) (done : What) → IsOfDrill views view → gives now → IsWithin gives views (append_entry s (stamp s.horizon now) view done)
+  appended : (view now : ℕ) (done : What) → IsOfDrill views view → gives now → HasDrillEntries gives views (append_entry s (stamp s.horizon now) view done)
   appended view now done of given_now =
       let entry : Entry = next_entry s.log (stamp s.horizon now) view done in
       let longer : length (s.log ++ entry ∷ []) ≡ length s.log + 1 = omega (arith, length-append s.log (entry ∷ [])) in
@@ -55,30 +55,30 @@ module _ (gives : ℕ → Type 0) (views : ℕ) (s : PlainSession) (within : IsW
       (λ late. record { named = named; given = now; is_given = inr given_now; bounded = omega (arith, longer, late) })
       (cases_lt (min now end_of_time) (s.horizon + 1))
 
-  ticked : (now : ℕ) → gives now → IsWithin gives views (answer s (Tick now)).session
+  ticked : (now : ℕ) → gives now → HasDrillEntries gives views (answer s (Tick now)).session
   ticked now given_now =
       ⊎_elim
       (λ early. record { named = within.named; given = within.given; is_given = within.is_given; bounded = omega (arith, within.bounded, early) })
       (λ late. record { named = within.named; given = now; is_given = inr given_now; bounded = omega (arith, late) })
       (cases_lt (min now end_of_time) s.horizon)
 
-  answered : (view : ℕ) (request : Request) → IsOfDrill views view → IsAskedBy gives view request → IsWithin gives views (answer s request).session
+  answered : (view : ℕ) (request : Request) → IsOfDrill views view → IsAskedBy gives view request → HasDrillEntries gives views (answer s request).session
   answered view (Join asker now want) of asked =
-      join_along (IsWithin gives views) s asker now want within (appended asker now what.Join (subst (IsOfDrill views) (sym asked.0) of) asked.1)
+      join_along (HasDrillEntries gives views) s asker now want within (appended asker now what.Join (subst (IsOfDrill views) (sym asked.0) of) asked.1)
   answered view (Send asker joined number payload now) of asked =
-      send_along (IsWithin gives views) s asker joined number payload now within (λ _ _ _ _ _ _. appended asker now (what.Event number payload) (subst (IsOfDrill views) (sym asked.0) of) asked.1)
+      send_along (HasDrillEntries gives views) s asker joined number payload now within (λ _ _ _ _ _ _. appended asker now (what.Event number payload) (subst (IsOfDrill views) (sym asked.0) of) asked.1)
   answered view (Tick now) of asked = ticked now asked
   answered view (Leave asker joined now) of asked =
-      leave_along (IsWithin gives views) s asker joined now within (appended asker now what.Exit (subst (IsOfDrill views) (sym asked.0) of) asked.1)
+      leave_along (HasDrillEntries gives views) s asker joined now within (appended asker now what.Exit (subst (IsOfDrill views) (sym asked.0) of) asked.1)
   answered view (Offer asker joined time bytes) of asked =
-      offer_along (IsWithin gives views) s asker joined time bytes within (λ _ _. record { named = within.named; given = within.given; is_given = within.is_given; bounded = within.bounded })
-  answered view (Pull after limit) of asked = pull_along (IsWithin gives views) s after limit within
+      offer_along (HasDrillEntries gives views) s asker joined time bytes within (λ _ _. record { named = within.named; given = within.given; is_given = within.is_given; bounded = within.bounded })
+  answered view (Pull after limit) of asked = pull_along (HasDrillEntries gives views) s after limit within
 
-  item_within : (x : Item) → IsAskedInDrill gives views x → IsWithin gives views (after_item s x)
+  item_within : (x : Item) → IsAskedInDrill gives views x → HasDrillEntries gives views (after_item s x)
   item_within (Did caller request) asked = answered caller request (asked.0, asked.1) asked.2
   item_within (Void caller) asked = within
 
-play_within : (gives : ℕ → Type 0) (views : ℕ) (s : PlainSession) (history : List Item) → IsWithin gives views s → AllByRecursion (IsAskedInDrill gives views) history → IsWithin gives views (play_from s history)
+play_within : (gives : ℕ → Type 0) (views : ℕ) (s : PlainSession) (history : List Item) → HasDrillEntries gives views s → AllByRecursion (IsAskedInDrill gives views) history → HasDrillEntries gives views (play_from s history)
 play_within gives views s [] within asked = within
 play_within gives views s (x ∷ xs) within asked = play_within gives views (after_item s x) xs (item_within gives views s within x asked.0) asked.1
 
@@ -96,7 +96,7 @@ pub drilled : (seed views events : ℕ) (gives : ℕ → Type 0) (history : List
     → ((view : ℕ) → IsOfDrill views view → HasFinished (play history) view (own seed view events))
     → Drilled seed views events gives (play history).log (play history).horizon
 drilled seed views events gives history sound asked finished =
-    let within : IsWithin gives views (play history) = play_within gives views first_session history (first_within gives views) asked.asked in
+    let within : HasDrillEntries gives views (play history) = play_within gives views first_session history (first_within gives views) asked.asked in
     record {
       legal = (sound_end first_session history sound).legal;
       named = within.named;

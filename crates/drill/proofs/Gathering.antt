@@ -10,7 +10,7 @@ use Rattle.session_lock.specs.Passes.{Merged, PassState, SharedState}
 use Rattle.session_lock.proofs.Histories.{has_own, none_behind, saw_trans}
 use Rattle.drill.specs.declared.finished.Finished.{Finished}
 use Rattle.drill.specs.declared.trust.TrustReplay.{TrustReplay}
-use Rattle.drill.specs.Drilling.{Gathers, HasPass, keeper_after, views_of}
+use Rattle.drill.specs.Drilling.{GathersWorkers, HasPass, keeper_after, views_of}
 
 -- ---- callers
 
@@ -55,12 +55,12 @@ saw_on callers old new (one ∷ rest) saw among all =
 -- ---- merges
 
 module _ (shared : SharedState TrustReplay) where
-  pub gathers_none : (made : ℕ) (keeper : PassState) → keeper ≡ keeper_after shared made → Gathers shared [] keeper
+  pub gathers_none : (made : ℕ) (keeper : PassState) → keeper ≡ keeper_after shared made → GathersWorkers shared [] keeper
   gathers_none made keeper is =
-      subst (Gathers shared []) (sym is) (record { same = refl; callers = refl; idle = refl; saw = tt })
+      subst (GathersWorkers shared []) (sym is) (record { same = refl; callers = refl; idle = refl; saw = tt })
 
-  pub gathers_more : (ended : List Finished) (one : Finished) (old new : PassState) → Gathers shared ended old → HasPass shared one → Merged old one.worker.pass new
-      → Gathers shared (ended ++ one ∷ []) new
+  pub gathers_more : (ended : List Finished) (one : Finished) (old new : PassState) → GathersWorkers shared ended old → HasPass shared one → Merged old one.worker.pass new
+      → GathersWorkers shared (ended ++ one ∷ []) new
   gathers_more ended one old new gathers has_pass merged =
       let callers : old.callers ≡ 0 ∷ views_of ended = gathers.callers in
       let first : has 0 old.callers ≡ true = ap (has 0) callers ∙ has_own 0 (views_of ended) in

@@ -20,12 +20,13 @@ use Rattle.world_plain.specs.World.{WorldRecord}
 use Rattle.replica_plain.specs.PlainReplica.{PlainReplica}
 use Rattle.replica.specs.View.{ReplicaView, with_plain}
 use Rattle.system_plain.proofs.Sessions.{Grows-answer, Grows-legal}
+use Rattle.run_steps.specs.Limits.{most_drill_views}
 use Rattle.drill.specs.declared.trust.TrustReplay.{TrustReplay}
-use Rattle.drill.specs.Asking.{IsDrillHistory, entries_asked}
-use Rattle.drill.specs.Doing.{HasBase, HasSent, KeepsFrom, WasSentBy}
-use Rattle.drill.specs.Drilled.{entries_of}
+use Rattle.drill.specs.Asking.{IsDrillHistory, entries_used_by}
+use Rattle.drill.specs.Doing.{HasBase, HasSent, KeepsFrom, WasSentBy, loss_interval}
+use Rattle.drill.specs.Drilled.{entries_by}
 use Rattle.drill.specs.Workers.{HasAsked}
-use Rattle.drill.specs.Working.{IsCaughtUp, Works}
+use Rattle.drill.specs.Working.{IsCaughtUp, ReplicaWorks}
 use Rattle.drill.proofs.Histories.{HasRoom, by_grown, has_room, kept_on, sent_grown}
 use Rattle.drill.proofs.Passing.{asked_more}
 use Rattle.drill.proofs.Workers.{works_grow}
@@ -49,7 +50,7 @@ module _ (s new : PlainSession) (view : ℕ) (grows : GrowsTo s new) where
   base_later number base kept has = record {
     time = has.time;
     is = has.is;
-    late = by_later (number - number % 256 - 1) has.time has.time (omega arith) has.late;
+    late = by_later (number - number % loss_interval - 1) has.time has.time (omega arith) has.late;
     kept = kept has.time has.kept;
   }
 
@@ -58,7 +59,7 @@ module _ (s new : PlainSession) (view : ℕ) (grows : GrowsTo s new) where
 -- a call that leaves the world, and how much of the log it has seen
 pub works_same
     : (s : PlainSession) (r : ReplicaView) (plain : PlainReplica WorldRecord PlainOutgoing) (cursor : Cursor) → plain.broken ≡ r.plain.broken → plain.world ≡ r.plain.world → plain.seen ≡ r.plain.seen
-    → plain.synced ≡ r.plain.synced → Works s r cursor → Works s (with_plain r plain) cursor
+    → plain.synced ≡ r.plain.synced → ReplicaWorks s r cursor → ReplicaWorks s (with_plain r plain) cursor
 works_same s r plain cursor broken world seen synced works = record {
   program = works.program;
   follows = record {
@@ -85,14 +86,14 @@ works_same s r plain cursor broken world seen synced works = record {
 
 -- from the session that its pass had seen, to the one that answered at the end of this history, to the one behind it
 pub record HasCalled (gives : ℕ → Type 0) (views view : ℕ) (before after : PassState) (request : Request) (history : List Item) : Type 0 where
-  pub few : entries_asked (own_calls after) ≡ entries_asked (own_calls before) + entries_used request
+  pub few : entries_used_by (own_calls after) ≡ entries_used_by (own_calls before) + entries_used request
   pub grows : GrowsTo (play before.seen) (play after.seen)
   pub keeps_behind : (time : ℕ) → KeepsFrom time (play history).kept → KeepsFrom time (play after.seen).kept
   pub keeps : (time : ℕ) → KeepsFrom time (play before.seen).kept → KeepsFrom time (play after.seen).kept
-  pub works : (r : ReplicaView) (cursor : Cursor) → IsSoundThrough first_session after.seen → Works (play before.seen) r cursor → Works (play after.seen) r cursor
+  pub works : (r : ReplicaView) (cursor : Cursor) → IsSoundThrough first_session after.seen → ReplicaWorks (play before.seen) r cursor → ReplicaWorks (play after.seen) r cursor
   pub first : IsDrillHistory gives views after.seen → IsDrillHistory gives views before.seen
-  pub same : IsDrillHistory gives views after.seen → entries_of view (play history).log ≡ entries_of view (play before.seen).log
-  pub room : views ≤ 8 → IsDrillHistory gives views after.seen → HasRoom (play history)
+  pub same : IsDrillHistory gives views after.seen → entries_by view (play history).log ≡ entries_by view (play before.seen).log
+  pub room : views ≤ most_drill_views → IsDrillHistory gives views after.seen → HasRoom (play history)
 
 module _ (gives : ℕ → Type 0) (views : ℕ) (shared : SharedState TrustReplay) (view : ℕ) (before after : PassState) (request : Request) (reply : Reply)
     (asked : HasAsked gives views shared view before after request reply) where
@@ -107,20 +108,20 @@ module _ (gives : ℕ → Type 0) (views : ℕ) (shared : SharedState TrustRepla
   asked_keeps : (time : ℕ) → KeepsFrom time (play before.seen).kept → KeepsFrom time (play after.seen).kept
   asked_keeps time keeps = asked_keeps_behind time (asked.on.kept time keeps)
 
-  asked_few : entries_asked (own_calls after) ≡ entries_asked (own_calls before) + entries_used request
-  asked_few = ap entries_asked asked.own ∙ asked_more (own_calls before) view request
+  asked_few : entries_used_by (own_calls after) ≡ entries_used_by (own_calls before) + entries_used request
+  asked_few = ap entries_used_by asked.own ∙ asked_more (own_calls before) view request
 
-  asked_works : (r : ReplicaView) (cursor : Cursor) → IsSoundThrough first_session after.seen → Works (play before.seen) r cursor → Works (play after.seen) r cursor
+  asked_works : (r : ReplicaView) (cursor : Cursor) → IsSoundThrough first_session after.seen → ReplicaWorks (play before.seen) r cursor → ReplicaWorks (play after.seen) r cursor
   asked_works r cursor through works =
       let s = play asked.history in
       let sound : IsSoundSession (answer s request).session = subst IsSoundSession asked.session (sound_end first_session after.seen through) in
-      let here : Works s r cursor = works_grow (play before.seen) s r cursor (Grows-legal (play before.seen) s asked.on.grows asked.sound.legal) asked.sound works in
-      subst (λ (new : PlainSession). Works new r cursor) (sym asked.session) (works_grow s (answer s request).session r cursor (Grows-answer s request sound) sound here)
+      let here : ReplicaWorks s r cursor = works_grow (play before.seen) s r cursor (Grows-legal (play before.seen) s asked.on.grows asked.sound.legal) asked.sound works in
+      subst (λ (new : PlainSession). ReplicaWorks new r cursor) (sym asked.session) (works_grow s (answer s request).session r cursor (Grows-answer s request sound) sound here)
 
-  asked_room : views ≤ 8 → IsDrillHistory gives views after.seen → HasRoom (play asked.history)
+  asked_room : views ≤ most_drill_views → IsDrillHistory gives views after.seen → HasRoom (play asked.history)
   asked_room few whole = has_room gives views asked.history few (asked.first whole)
 
-  asked_same : IsDrillHistory gives views after.seen → entries_of view (play asked.history).log ≡ entries_of view (play before.seen).log
+  asked_same : IsDrillHistory gives views after.seen → entries_by view (play asked.history).log ≡ entries_by view (play before.seen).log
   asked_same whole = asked.on.apart (asked.first whole)
 
   asked_first : IsDrillHistory gives views after.seen → IsDrillHistory gives views before.seen

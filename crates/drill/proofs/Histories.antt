@@ -19,9 +19,10 @@ use Rattle.session_lock.specs.declared.knowledge.Item.{Item}
 use Rattle.session_lock.specs.declared.knowledge.Item.TheVariants.{Did, Void}
 use Rattle.session_lock.specs.History.{after_item, calls_of, caller_of, has, play, play_from}
 use Rattle.session_lock.proofs.Histories.{none_behind, play_from_append}
-use Rattle.drill.specs.Asking.{IsAskedBy, IsAskedInDrill, IsDrillHistory, entries_asked, most_asked_by_all, most_short}
+use Rattle.run_steps.specs.Limits.{most_drill_views}
+use Rattle.drill.specs.Asking.{IsAskedBy, IsAskedInDrill, IsDrillHistory, entries_used_by, most_asked_by_all, most_short}
 use Rattle.drill.specs.Doing.{HasDone, HasSent, IsHereBy, KeepsFrom, WasSentBy}
-use Rattle.drill.specs.Drilled.{entries_of}
+use Rattle.drill.specs.Drilled.{entries_by}
 use Rattle.drill.proofs.Outcomes.{OnAdded, if_is, log_after}
 use Rattle.drill.proofs.Readings.{entries_push_other, events_same, presence_same, view_event_same, view_event_grown}
 use Rattle.drill.proofs.Rooms.{here_few, small_from}
@@ -36,7 +37,7 @@ pub all_rest : {A : Type 0} (P : A → Type 0) (xs ys : List A) → AllByRecursi
 all_rest P [] ys all = all
 all_rest P (x ∷ xs) ys all = all_rest P xs ys all.1
 
-asked_grows : (beginning rest : List Item) → entries_asked beginning ≤ entries_asked (beginning ++ rest)
+asked_grows : (beginning rest : List Item) → entries_used_by beginning ≤ entries_used_by (beginning ++ rest)
 asked_grows [] rest = omega arith
 asked_grows (Did caller request ∷ xs) rest = omega (arith, asked_grows xs rest)
 asked_grows (Void caller ∷ xs) rest = asked_grows xs rest
@@ -50,13 +51,13 @@ history_first gives views beginning rest whole = record {
 -- ---- a view's own caller
 
 apart_request : (gives : ℕ → Type 0) (view caller : ℕ) (s : PlainSession) (request : Request) → IsAskedBy gives caller request → eqb caller view ≡ false
-    → entries_of view (answer s request).session.log ≡ entries_of view s.log
-apart_request gives view caller s request asked other = log_after (λ log. entries_of view log ≡ entries_of view s.log) s request refl (by request asked)
+    → entries_by view (answer s request).session.log ≡ entries_by view s.log
+apart_request gives view caller s request asked other = log_after (λ log. entries_by view log ≡ entries_by view s.log) s request refl (by request asked)
   where
-    another : (own : ℕ) (added : What) → own ≡ caller → (time : ℕ) → entries_of view (with_next s.log time own added) ≡ entries_of view s.log
+    another : (own : ℕ) (added : What) → own ≡ caller → (time : ℕ) → entries_by view (with_next s.log time own added) ≡ entries_by view s.log
     another own added same time = entries_push_other s.log (next_entry s.log time own added) view (ap (λ (n : ℕ). eqb n view) same ∙ other)
 
-    by : (asking : Request) → IsAskedBy gives caller asking → OnAdded (λ own added. (time : ℕ) → entries_of view (with_next s.log time own added) ≡ entries_of view s.log) asking
+    by : (asking : Request) → IsAskedBy gives caller asking → OnAdded (λ own added. (time : ℕ) → entries_by view (with_next s.log time own added) ≡ entries_by view s.log) asking
     by (Join own now want) asks = another own what.Join asks.0
     by (Send own joined number payload now) asks = another own (what.Event number payload) asks.0
     by (Tick now) asks = tt
@@ -69,12 +70,12 @@ is_another true x xs none = absurd cc
 is_another false x xs none = refl
 
 apart_item : (gives : ℕ → Type 0) (views view : ℕ) (s : PlainSession) (x : Item) → IsAskedInDrill gives views x → eqb (caller_of x) view ≡ false
-    → entries_of view (after_item s x).log ≡ entries_of view s.log
+    → entries_by view (after_item s x).log ≡ entries_by view s.log
 apart_item gives views view s (Did caller request) asked other = apart_request gives view caller s request asked.2 other
 apart_item gives views view s (Void caller) asked other = refl
 
 apart_from : (gives : ℕ → Type 0) (views view : ℕ) (s : PlainSession) (rest : List Item) → AllByRecursion (IsAskedInDrill gives views) rest → calls_of (view ∷ []) rest ≡ []
-    → entries_of view (play_from s rest).log ≡ entries_of view s.log
+    → entries_by view (play_from s rest).log ≡ entries_by view s.log
 apart_from gives views view s [] asked none = refl
 apart_from gives views view s (x ∷ xs) asked none =
     apart_from gives views view (after_item s x) xs asked.1 (none_behind (has (caller_of x) (view ∷ [])) x (calls_of (view ∷ []) xs) none)
@@ -82,9 +83,9 @@ apart_from gives views view s (x ∷ xs) asked none =
 
 -- nobody but the view's own caller does anything of the view
 pub apart : (gives : ℕ → Type 0) (views view : ℕ) (beginning rest : List Item) → IsDrillHistory gives views (beginning ++ rest) → calls_of (view ∷ []) rest ≡ []
-    → entries_of view (play (beginning ++ rest)).log ≡ entries_of view (play beginning).log
+    → entries_by view (play (beginning ++ rest)).log ≡ entries_by view (play beginning).log
 apart gives views view beginning rest whole none =
-    ap (λ (s : PlainSession). entries_of view s.log) (play_from_append first_session beginning rest)
+    ap (λ (s : PlainSession). entries_by view s.log) (play_from_append first_session beginning rest)
     ∙ apart_from gives views view (play beginning) rest (all_rest (IsAskedInDrill gives views) beginning rest whole.asked) none
 
 -- ---- what is kept
@@ -123,7 +124,7 @@ pub record HasRoom (s : PlainSession) : Type 0 where
   pub entries : length s.log < most_open_entries
   pub bytes : payload_bytes s.log + most_short ≤ most_bytes
 
-pub has_room : (gives : ℕ → Type 0) (views : ℕ) (history : List Item) → views ≤ 8 → IsDrillHistory gives views history → HasRoom (play history)
+pub has_room : (gives : ℕ → Type 0) (views : ℕ) (history : List Item) → views ≤ most_drill_views → IsDrillHistory gives views history → HasRoom (play history)
 has_room gives views history le whole =
     let small = small_from gives views 0 most_asked_by_all first_session history whole.asked (omega (arith, whole.few)) (record { named = tt; few = omega arith; short = omega arith }) in
     record {
@@ -134,28 +135,28 @@ has_room gives views history le whole =
 
 -- ---- what is read of the entries of a view alone
 
-pub done_same : (log new : List Entry) (view number : ℕ) (left whole : List What) → entries_of view new ≡ entries_of view log → HasDone log view number left whole
+pub done_same : (log new : List Entry) (view number : ℕ) (left whole : List What) → entries_by view new ≡ entries_by view log → HasDone log view number left whole
     → HasDone new view number left whole
 done_same log new view number left whole same done = record {
   sent = ap length (events_same log new view same) ∙ done.sent;
   done = ap (λ (es : List Entry). map (λ (e : Entry). e.what) es ++ left) same ∙ done.done;
 }
 
-pub here_same : (log new : List Entry) (view joined : ℕ) → entries_of view new ≡ entries_of view log → IsHereBy log view joined → IsHereBy new view joined
+pub here_same : (log new : List Entry) (view joined : ℕ) → entries_by view new ≡ entries_by view log → IsHereBy log view joined → IsHereBy new view joined
 here_same log new view joined same by = record {
   here = ap (λ (es : List Entry). is_some_join (last_entry es)) (presence_same log new view same) ∙ by.here;
   current = ap (λ (es : List Entry). seq_or_zero (last_entry es)) (presence_same log new view same) ∙ by.current;
 }
 
-pub sent_same : (log new : List Entry) (view number : ℕ) (payload : List ℕ) → entries_of view new ≡ entries_of view log → HasSent log view number payload
+pub sent_same : (log new : List Entry) (view number : ℕ) (payload : List ℕ) → entries_by view new ≡ entries_by view log → HasSent log view number payload
     → HasSent new view number payload
 sent_same log new view number payload same sent = record { entry = sent.entry; at = view_event_same log new view same number ∙ sent.at; carries = sent.carries }
 
-pub by_same : (log new : List Entry) (view number time : ℕ) → entries_of view new ≡ entries_of view log → WasSentBy log view number time → WasSentBy new view number time
+pub by_same : (log new : List Entry) (view number time : ℕ) → entries_by view new ≡ entries_by view log → WasSentBy log view number time → WasSentBy new view number time
 by_same log new view number time same sent = record { entry = sent.entry; at = view_event_same log new view same number ∙ sent.at; early = sent.early }
 
 -- a view's entries are those of what it has done: nothing done yet
-pub nothing_done : (log : List Entry) (view : ℕ) (whole : List What) → entries_of view log ≡ [] → HasDone log view 0 whole whole
+pub nothing_done : (log : List Entry) (view : ℕ) (whole : List What) → entries_by view log ≡ [] → HasDone log view 0 whole whole
 nothing_done log view whole none = done_same [] log view 0 whole whole none (record { sent = refl; done = refl })
 
 -- an event that stands in the log stays

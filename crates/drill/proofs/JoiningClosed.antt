@@ -14,7 +14,7 @@ use Rattle.replica_plain.specs.Calls.{joining}
 use Rattle.replica_plain.proofs.SyncSteps.{sync_begins}
 use Rattle.replica.specs.View.{ReplicaView, with_plain, worlds_of}
 use Rattle.drill.specs.Ending.{Catches, IsCountedBy, IsOfView}
-use Rattle.drill.specs.Taking.{HasTaken, IsFine, after}
+use Rattle.drill.specs.Taking.{HasTaken, IsFine, after_frame}
 use Rattle.drill.proofs.ViewsKept.{either}
 
 -- it awaits the Sync
@@ -31,7 +31,7 @@ joins_view m r last =
 
 pub record JoinsClosed (s : PlainSession) (r : ReplicaView) (last : ℕ) : Type 0 where
   pub fine : IsFine (joined_closed r) (Sync 0 last 0 None)
-  pub catches : Catches s (after (joined_closed r) (Sync 0 last 0 None))
+  pub catches : Catches s (after_frame (joined_closed r) (Sync 0 last 0 None))
 
 -- `last` is what the log tells of the view that the join named
 pub joins_closed : (s : PlainSession) (r : ReplicaView) (log : List Entry) (view last : ℕ) → AreWorlds (worlds_of r) → IsSoundSession s → IsCountedBy s r → log ≡ s.log → view ≡ r.plain.view → last ≡ last_number log view → JoinsClosed s r last

@@ -40,11 +40,11 @@ use Rattle.system_plain.proofs.FactsGrow.{base_grows, follows_log_grows}
 use Rattle.system_plain.proofs.Openings.{based_on, begins_for, begins_later}
 use Rattle.system_plain.proofs.Sessions.{Grows, Grows-answer, IsBasedBy, kept_is_based}
 use Rattle.drill.specs.declared.trust.TrustReplay.{TrustReplay}
-use Rattle.drill.specs.Taking.{IsFine, after}
+use Rattle.drill.specs.Taking.{IsFine, after_frame}
 use Rattle.drill.specs.Trust.{AllowsReplay}
 use Rattle.drill.specs.Turns.{MayJoinBy}
 use Rattle.drill.specs.Workers.{IsTrustedReplay}
-use Rattle.drill.specs.Working.{Works}
+use Rattle.drill.specs.Working.{ReplicaWorks}
 use Rattle.drill.proofs.Catching.{count_until-few}
 
 -- ---- what the session replies
@@ -195,7 +195,7 @@ module _ (s : PlainSession) (r : ReplicaView) (how : How) (view now seq time las
       (begins_later s after_join (join_want (worlds_of r) r.plain how) time from base grows within said.here said.begins))
       counted.0 counted.1 (base_grows (worlds_of r) s after_join base grows within honest) (may_join s after_join r how grows may)
 
-  pub joined_works : IsProgram (program_tree r.program) → Works after_join (after (with_plain r (joining r.plain how)) (Sync seq last from base)) cursor
+  pub joined_works : IsProgram (program_tree r.program) → ReplicaWorks after_join (after_frame (with_plain r (joining r.plain how)) (Sync seq last from base)) cursor
   joined_works program =
       let stands = began.stands in
       let same : cursor ≡ record { view = view; joined = seq; after = from; last_tick = 0 } = cc first in

@@ -34,7 +34,7 @@ use Rattle.system_plain.proofs.Sessions.{Grows, Grows-legal}
 use Rattle.drill.specs.declared.size.Size.{Size}
 use Rattle.drill.specs.declared.trust.TrustReplay.{TrustReplay}
 use Rattle.drill.specs.declared.worker.Worker.{Worker}
-use Rattle.drill.specs.Taking.{HasTaken, IsFine, after}
+use Rattle.drill.specs.Taking.{HasTaken, IsFine, after_frame}
 use Rattle.drill.specs.Turns.{HasJoined, MayJoinBy, TakesSync}
 use Rattle.drill.specs.Workers.{HasAsked, IsWorker}
 use Rattle.drill.proofs.Asks.{worker_with}
@@ -85,7 +85,7 @@ module _ (stands : AllStand) (replays : AllReplay) (gives : ℕ → Type 0) (siz
   synced
       : (seq time last from : ℕ) (base : Option Base) (cursor : Cursor) (asked : HasAsked gives size.views shared w.view w.pass after_ask (request.Join w.view now wanted) (Joined seq time last from base))
       → first_cursor w.view (Joined seq time last from base) ≡ Some cursor → IsFine (with_plain w.replica (joining w.replica.plain how)) (Sync seq last from base)
-      → TakesSync (answer (play asked.history) (request.Join w.view now wanted)).session w.replica (after (with_plain w.replica (joining w.replica.plain how)) (Sync seq last from base)) how
+      → TakesSync (answer (play asked.history) (request.Join w.view now wanted)).session w.replica (after_frame (with_plain w.replica (joining w.replica.plain how)) (Sync seq last from base)) how
       (Joined seq time last from base) cursor
   synced seq time last from base cursor asked first fine =
       let s = play asked.history in
@@ -106,11 +106,11 @@ module _ (stands : AllStand) (replays : AllReplay) (gives : ℕ → Type 0) (siz
   takes
       : (reply : Reply) (frame : ServerFrame) (cursor : Cursor) (asked : HasAsked gives size.views shared w.view w.pass after_ask (request.Join w.view now wanted) reply)
       → first_cursor w.view reply ≡ Some cursor → join_answer reply ≡ Some frame → IsFine (with_plain w.replica (joining w.replica.plain how)) frame
-      → TakesSync (answer (play asked.history) (request.Join w.view now wanted)).session w.replica (after (with_plain w.replica (joining w.replica.plain how)) frame) how reply cursor
+      → TakesSync (answer (play asked.history) (request.Join w.view now wanted)).session w.replica (after_frame (with_plain w.replica (joining w.replica.plain how)) frame) how reply cursor
   takes (Joined seq time last from base) frame cursor asked first answers fine =
       let is : Sync seq last from base ≡ frame = cc answers in
       subst
-      (λ (frame : ServerFrame). TakesSync (answer (play asked.history) (request.Join w.view now wanted)).session w.replica (after (with_plain w.replica (joining w.replica.plain how)) frame) how
+      (λ (frame : ServerFrame). TakesSync (answer (play asked.history) (request.Join w.view now wanted)).session w.replica (after_frame (with_plain w.replica (joining w.replica.plain how)) frame) how
       (Joined seq time last from base) cursor)
       is (synced seq time last from base cursor asked first (subst (IsFine (with_plain w.replica (joining w.replica.plain how))) (sym is) fine))
   takes (Stamped seq time) frame cursor asked first answers fine = absurd cc
@@ -143,7 +143,7 @@ module _ (gives : ℕ → Type 0) (size : Size) (shared : SharedState TrustRepla
       let opens : Some cursor ≡ first_cursor w.view reply = opened ∙ ap (λ (view : ℕ). first_cursor view reply) asks.view in
       let sound : IsSoundSession (play asking.pass.seen) = sound_end first_session asking.pass.seen worker_then.sound in
       let fine_then : IsFine (with_plain w.replica (joining w.replica.plain how)) frame = subst (λ (r : ReplicaView). IsFine r frame) asks.replica fine in
-      let is : new ≡ after (with_plain w.replica (joining w.replica.plain how)) frame = took.is ∙ ap (λ (r : ReplicaView). after r frame) asks.replica in
+      let is : new ≡ after_frame (with_plain w.replica (joining w.replica.plain how)) frame = took.is ∙ ap (λ (r : ReplicaView). after_frame r frame) asks.replica in
       let there = takes stands replays gives size shared w asking.pass how now worker sound may reply frame cursor asked (sym opens) (sym answers) fine_then in
       let taken : TakesSync (play asking.pass.seen) w.replica new how reply cursor =
       subst (λ (s : PlainSession). TakesSync s w.replica new how reply cursor) (sym asked.session)

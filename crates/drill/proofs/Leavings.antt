@@ -20,10 +20,10 @@ use Rattle.drill.specs.declared.size.Size.{Size}
 use Rattle.drill.specs.declared.worker.Worker.{Worker}
 use Rattle.drill.specs.declared.finished.Course.{Course}
 use Rattle.drill.specs.declared.finished.Course.TheVariants as course
-use Rattle.drill.specs.Asking.{IsDrillHistory, entries_asked, most_asked}
+use Rattle.drill.specs.Asking.{IsDrillHistory, entries_used_by, most_asked}
 use Rattle.drill.specs.Doing.{HasDone, HasFinished, IsHereBy}
 use Rattle.drill.specs.Drilled.{drawn_numbers, own, own_turns}
-use Rattle.drill.specs.Turns.{Ends, HasEnded, HasMade, HasStopped, IsReady, MayCatchUp, Stops}
+use Rattle.drill.specs.Turns.{Ends, HasEnded, HasMade, HasStopped, IsWorkerReady, MayCatchUp, Stops}
 use Rattle.drill.specs.Workers.{ChangesPass, HasAsked, IsWorker}
 use Rattle.drill.proofs.Grown.{HasCalled, base_later, has_called}
 use Rattle.drill.proofs.Histories.{done_same, here_same}
@@ -40,7 +40,7 @@ module _ (gives : ℕ → Type 0) (size : Size) (shared : SharedState TrustRepla
   call : HasCalled gives size.views w.view w.pass p (Leave w.view cursor.joined now) asked.history
   call = has_called gives size.views shared w.view w.pass p (Leave w.view cursor.joined now) reply asked
 
-  few_asked : entries_asked (own_calls w.pass) ≤ 1 + 3 * size.events → entries_asked (own_calls p) ≤ most_asked size.events
+  few_asked : entries_used_by (own_calls w.pass) ≤ 1 + 3 * size.events → entries_used_by (own_calls p) ≤ most_asked size.events
   few_asked few = omega (arith, few, call.few)
 
   leaves : IsDrillHistory gives size.views p.seen → IsHereBy (play w.pass.seen).log w.view cursor.joined
@@ -60,7 +60,7 @@ module _ (gives : ℕ → Type 0) (size : Size) (shared : SharedState TrustRepla
       ∙ (leaves whole here).sent ∙ there.sent
 
   -- it has made all its turns
-  ends_whole : IsReady gives size shared w cursor size.events → IsDrillHistory gives size.views p.seen → Ends size (play p.seen) (record w { pass = p })
+  ends_whole : IsWorkerReady gives size shared w cursor size.events → IsDrillHistory gives size.views p.seen → Ends size (play p.seen) (record w { pass = p })
   ends_whole ready whole =
       let asking = Leave w.view cursor.joined now in
       let s = play asked.history in
@@ -79,7 +79,7 @@ module _ (gives : ℕ → Type 0) (size : Size) (shared : SharedState TrustRepla
             call.keeps (does.based many);
       }
 
-  left_whole : IsReady gives size shared w cursor size.events → HasEnded gives size shared (record { worker = record w { pass = p }; is_synced = true })
+  left_whole : IsWorkerReady gives size shared w cursor size.events → HasEnded gives size shared (record { worker = record w { pass = p }; is_synced = true })
   left_whole ready =
       let works = call.works w.replica cursor worker.sound ready.works in
       record {

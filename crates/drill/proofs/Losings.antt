@@ -16,8 +16,8 @@ use Rattle.drill.specs.declared.trust.TrustReplay.{TrustReplay}
 use Rattle.drill.specs.declared.size.Size.{Size}
 use Rattle.drill.specs.declared.worker.Worker.{Worker}
 use Rattle.drill.specs.Asking.{IsDrillHistory}
-use Rattle.drill.specs.Doing.{HasDone, KeepsFrom, WasSentBy}
-use Rattle.drill.specs.Drilled.{entries_of, own}
+use Rattle.drill.specs.Doing.{HasDone, KeepsFrom, WasSentBy, loss_interval}
+use Rattle.drill.specs.Drilled.{entries_by, own}
 use Rattle.drill.specs.Turns.{HasOffered, IsLost, IsOwed, Loses, left_behind}
 use Rattle.drill.specs.Workers.{ChangesPass, HasAsked, IsWorker}
 use Rattle.drill.proofs.Grown.{HasCalled, by_horizon, by_later, has_called, sent_later}
@@ -36,7 +36,7 @@ module _ (gives : ℕ → Type 0) (size : Size) (shared : SharedState TrustRepla
       subst (λ (joins : List What). HasDone (play w.pass.seen).log w.view number (joins ++ left_behind size w number) (own size.seed w.view size.events)) (joins_once number multiple) (owed.does whole).done
 
   -- its world stays
-  pub dropped : number % 64 ≡ 0 → (number % 256 ≡ 0 → ⊥) → IsLost gives size shared w cursor number payload Resume
+  pub dropped : number % 64 ≡ 0 → (number % loss_interval ≡ 0 → ⊥) → IsLost gives size shared w cursor number payload Resume
   dropped multiple other = record {
     waiting = owed.waiting;
     few = owed.few;
@@ -53,7 +53,7 @@ module _ (gives : ℕ → Type 0) (size : Size) (shared : SharedState TrustRepla
   }
 
   -- its world is lost, and its snapshot was offered
-  module _ (p : PassState) (bytes : List ℕ) (reply : Reply) (small : length bytes ≤ most_snapshot) (multiple : number % 256 ≡ 0) (worker : IsWorker gives size shared (record w { pass = p }))
+  module _ (p : PassState) (bytes : List ℕ) (reply : Reply) (small : length bytes ≤ most_snapshot) (multiple : number % loss_interval ≡ 0) (worker : IsWorker gives size shared (record w { pass = p }))
       (asked : HasAsked gives size.views shared w.view w.pass p (Offer w.view cursor.joined w.replica.plain.world.time bytes) reply) where
     abbrev loser : Worker
     loser = record w { pass = p; replica = with_plain w.replica (loses (worlds_of w.replica) w.replica.plain) }
@@ -61,10 +61,10 @@ module _ (gives : ℕ → Type 0) (size : Size) (shared : SharedState TrustRepla
     call : HasCalled gives size.views w.view w.pass p (Offer w.view cursor.joined w.replica.plain.world.time bytes) asked.history
     call = has_called gives size.views shared w.view w.pass p (Offer w.view cursor.joined w.replica.plain.world.time bytes) reply asked
 
-    same_log : IsDrillHistory gives size.views p.seen → entries_of w.view (play p.seen).log ≡ entries_of w.view (play w.pass.seen).log
+    same_log : IsDrillHistory gives size.views p.seen → entries_by w.view (play p.seen).log ≡ entries_by w.view (play w.pass.seen).log
     same_log whole =
-        ap (λ (s : PlainSession). entries_of w.view s.log) asked.session
-        ∙ ap (entries_of w.view) (offer_log (play asked.history) w.view cursor.joined w.replica.plain.world.time bytes)
+        ap (λ (s : PlainSession). entries_by w.view s.log) asked.session
+        ∙ ap (entries_by w.view) (offer_log (play asked.history) w.view cursor.joined w.replica.plain.world.time bytes)
         ∙ call.same whole
 
     keeps_snapshot : IsDrillHistory gives size.views p.seen → KeepsFrom w.replica.plain.world.time (play p.seen).kept
@@ -113,7 +113,7 @@ module _ (gives : ℕ → Type 0) (size : Size) (shared : SharedState TrustRepla
 
 pub offered
     : (gives : ℕ → Type 0) (size : Size) (shared : SharedState TrustReplay) (w new : Worker) (cursor : Cursor) (number : ℕ) (payload : List ℕ) (r : ReplicaView)
-    → IsOwed gives size shared w cursor number payload → number % 256 ≡ 0 → ChangesPass w new → IsWorker gives size shared new → HasOffered gives size.views shared w new cursor
+    → IsOwed gives size shared w cursor number payload → number % loss_interval ≡ 0 → ChangesPass w new → IsWorker gives size shared new → HasOffered gives size.views shared w new cursor
     → r ≡ with_plain new.replica (loses (worlds_of new.replica) new.replica.plain) → IsLost gives size shared (record new { replica = r }) cursor number payload Fresh
 offered gives size shared w new cursor number payload r owed multiple same worker has is =
     let lost = is_lost gives size shared w cursor number payload owed new.pass has.bytes has.reply has.small multiple (subst (IsWorker gives size shared) same worker) has.asked in

@@ -15,13 +15,14 @@ use Rattle.session_lock.specs.History.{IsSoundThrough, play}
 use Rattle.session_lock.specs.Numbers.{drop_numbers, first_of_ranges, take_numbers}
 use Rattle.session_lock.specs.Passes.{Given, PassState, SharedState, numbers_held}
 use Rattle.replica.specs.View.{ReplicaView, founded_replica}
-use Rattle.drill.specs.declared.drilling.Prepared.{Prepared}
+use Rattle.run_steps.specs.Limits.{most_drill_views}
+use Rattle.drill.specs.declared.drilling.DrillSession.{DrillSession}
 use Rattle.drill.specs.declared.finished.Finished.{Finished}
 use Rattle.drill.specs.declared.size.Size.{Size}
 use Rattle.drill.specs.declared.trust.TrustReplay.{TrustReplay}
 use Rattle.drill.specs.declared.worker.Worker.{Worker}
 use Rattle.drill.specs.Asking.{IsAskedInDrill}
-use Rattle.drill.specs.Drilling.{IsPrepared, keeper_after, numbers_from, views_of, views_of_workers}
+use Rattle.drill.specs.Drilling.{IsDrillSession, keeper_after, numbers_from, views_of, views_of_workers}
 use Rattle.drill.specs.Program.{IsDrillProgram, drill_name, drill_text}
 use Rattle.drill.specs.Sizes.{IsOfSize}
 use Rattle.drill.specs.Workers.{IsFirst, IsTrustedReplay, IsWorker}
@@ -80,8 +81,8 @@ keeper_next shared made old new few is cut =
 -- ---- a worker
 
 -- how one more worker is made
-pub record IsMade (size : Size) (prepared : Prepared) (made : ℕ) (keeper : PassState) (w : Worker) : Type 0 where
-  pub prepares : IsPrepared prepared
+pub record IsMade (size : Size) (prepared : DrillSession) (made : ℕ) (keeper : PassState) (w : Worker) : Type 0 where
+  pub prepares : IsDrillSession prepared
   pub fits : IsOfSize size
   pub kept : keeper ≡ keeper_after prepared.shared made
   pub next : made < size.views
@@ -89,9 +90,9 @@ pub record IsMade (size : Size) (prepared : Prepared) (made : ℕ) (keeper : Pas
   pub numbers : numbers_held w.pass ≡ 1
   pub view : w.view ≡ made + 1
   pub replica : w.replica ≡ founded_replica (arc_value prepared.program) prepared.id.0 (made + 1)
-  pub source : w.source ≡ size.seed * 8 + made
+  pub source : w.source ≡ size.seed * most_drill_views + made
 
-module _ (gives : ℕ → Type 0) (size : Size) (prepared : Prepared) (made : ℕ) (keeper : PassState) (w : Worker) (is : IsMade size prepared made keeper w) where
+module _ (gives : ℕ → Type 0) (size : Size) (prepared : DrillSession) (made : ℕ) (keeper : PassState) (w : Worker) (is : IsMade size prepared made keeper w) where
   seen_none : w.pass.seen ≡ []
   seen_none = ap (λ (p : PassState). p.seen) is.pass.same ∙ ap (λ (p : PassState). p.seen) is.kept
 
@@ -142,7 +143,7 @@ count_views [] = refl
 count_views (one ∷ rest) = omega (arith, count_views rest)
 
 -- with those of the views the kept pass has all
-pub all_held : (shared : SharedState TrustReplay) (views held : ℕ) (ended : List Finished) (keeper : PassState) → views ≤ 8 → keeper ≡ keeper_after shared views → views_of ended ≡ numbers_from 1 views
+pub all_held : (shared : SharedState TrustReplay) (views held : ℕ) (ended : List Finished) (keeper : PassState) → views ≤ most_drill_views → keeper ≡ keeper_after shared views → views_of ended ≡ numbers_from 1 views
     → held ≡ numbers_held keeper + length ended → held ≡ 4294967296
 all_held shared views held ended keeper few is numbered grown =
     let kept : numbers_held keeper ≡ numbers_held (keeper_after shared views) = ap numbers_held is in

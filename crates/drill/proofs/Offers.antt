@@ -22,13 +22,13 @@ use Rattle.drill.specs.declared.worker.Worker.{Worker}
 use Rattle.drill.specs.Trust.{AllowsReplay}
 use Rattle.drill.specs.Turns.{HasOffered}
 use Rattle.drill.specs.Workers.{HasAsked, IsTrustedReplay, IsWorker}
-use Rattle.drill.specs.Working.{Works}
+use Rattle.drill.specs.Working.{ReplicaWorks}
 use Rattle.drill.proofs.Asks.{has_asked}
 
 -- the snapshot of a replica that follows the log, and is at rest, is that of the replay to its time
 pub may_offer
     : (shared : SharedState TrustReplay) (s : PlainSession) (r : ReplicaView) (cursor : Cursor) (time : ℕ) (bytes : List ℕ) → r.program ≡ arc_value shared.trust.program → r.id ≡ shared.id.0
-    → Works s r cursor → r.plain.world ≡ (replay (program_tree r.program) r.id s.log r.plain.world.time).world → is_at_rest r.plain.world ≡ true → (worlds_of r).unsnap bytes ≡ Some r.plain.world
+    → ReplicaWorks s r cursor → r.plain.world ≡ (replay (program_tree r.program) r.id s.log r.plain.world.time).world → is_at_rest r.plain.world ≡ true → (worlds_of r).unsnap bytes ≡ Some r.plain.world
     → time ≡ r.plain.world.time → AllowsReplay (program_tree (arc_value shared.trust.program)) shared.id.0 s.log s.horizon time bytes
 may_offer shared s r cursor time bytes program id works same rests read is =
     rw (sym program, sym id, is)

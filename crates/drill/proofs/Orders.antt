@@ -7,7 +7,7 @@ use Rattle.drill.specs.declared.finished.Finished.{Finished}
 use Rattle.drill.specs.declared.size.Size.{Size}
 use Rattle.drill.specs.declared.trust.TrustReplay.{TrustReplay}
 use Rattle.drill.specs.declared.worker.Worker.{Worker}
-use Rattle.drill.specs.Drilling.{AllAnswer, Answers, HaveEnded, views_of, views_of_workers}
+use Rattle.drill.specs.Drilling.{AllAnswer, WorkerAnswers, HaveEnded, views_of, views_of_workers}
 use Rattle.drill.specs.Turns.{HasEnded}
 
 pub views_with_last : (workers former : List Worker) (w : Worker) (ended all : List Finished) (one : Finished) → workers ≡ former ++ w ∷ [] → all ≡ ended ++ one ∷ []
@@ -25,7 +25,7 @@ if_ok_weaker P Q (Err e) so told = tt
 
 module _ (gives : ℕ → Type 0) (size : Size) (shared : SharedState TrustReplay) where
   pub all_answered : {Z E : Type 0} (workers former : List Worker) (w : Worker) (last : Result Finished E) (ended all : Result (Vec Finished Z) E) → workers ≡ former ++ w ∷ []
-      → Answers gives size shared w last → AllAnswer gives size shared former ended → IfOk all (λ v. IsOkAnd ended (λ before. IsOkAnd last (λ one. v.items ≡ before.items ++ one ∷ [])))
+      → WorkerAnswers gives size shared w last → AllAnswer gives size shared former ended → IfOk all (λ v. IsOkAnd ended (λ before. IsOkAnd last (λ one. v.items ≡ before.items ++ one ∷ [])))
       → IfOk all (λ v. HaveEnded gives size shared workers v.items)
   all_answered workers former w (Ok one) (Ok before) (Ok v) is told told_before is_all = record {
     each = subst (All (HasEnded gives size shared)) (sym is_all) (All-push (HasEnded gives size shared) before.items one told_before.told.each told.told.0);

@@ -12,21 +12,21 @@ use Rattle.session_lock.specs.declared.knowledge.Item.TheVariants.{Did, Void}
 use Rattle.session_lock.specs.History.{play}
 use Rattle.session_lock.specs.Passes.{PassState, SharedState, own_calls}
 use Rattle.drill.specs.declared.trust.TrustReplay.{TrustReplay}
-use Rattle.drill.specs.Asking.{entries_asked}
+use Rattle.drill.specs.Asking.{entries_used_by}
 use Rattle.drill.specs.Doing.{KeepsFrom}
-use Rattle.drill.specs.Drilled.{entries_of}
-use Rattle.drill.specs.Workers.{GoesOn, HasAsked, HasPassed}
+use Rattle.drill.specs.Drilled.{entries_by}
+use Rattle.drill.specs.Workers.{HistoryGoesOn, HasAsked, HasPassed}
 
-pub asked_more : (items : List Item) (view : ℕ) (request : Request) → entries_asked (items ++ Did view request ∷ []) ≡ entries_asked items + entries_used request
+pub asked_more : (items : List Item) (view : ℕ) (request : Request) → entries_used_by (items ++ Did view request ∷ []) ≡ entries_used_by items + entries_used request
 asked_more [] view request = omega arith
 asked_more (Did caller first ∷ rest) view request = omega (arith, asked_more rest view request)
 asked_more (Void caller ∷ rest) view request = asked_more rest view request
 
 module _ (gives : ℕ → Type 0) (views view : ℕ) where
-  pub stays : (seen : List Item) → GoesOn gives views view seen seen
+  pub stays : (seen : List Item) → HistoryGoesOn gives views view seen seen
   stays seen = record { grows = GrowsTo-same (play seen); kept = λ time keeps. keeps; first = λ whole. whole; apart = λ whole. refl }
 
-  pub then : (a b c : List Item) → GoesOn gives views view a b → GoesOn gives views view b c → GoesOn gives views view a c
+  pub then : (a b c : List Item) → HistoryGoesOn gives views view a b → HistoryGoesOn gives views view b c → HistoryGoesOn gives views view a c
   then a b c one two = record {
     grows = GrowsTo-then (play a) (play b) (play c) one.grows two.grows;
     kept = λ time keeps. two.kept time (one.kept time keeps);
@@ -48,7 +48,7 @@ module _ (gives : ℕ → Type 0) (views view : ℕ) where
           grows = GrowsTo-then (play before.seen) s (play after.seen) asked.on.grows (subst (GrowsTo s) (sym asked.session) (GrowsTo-answer s request));
           kept = λ time keeps. subst (KeepsFrom time) (sym (ap (λ (s : PlainSession). s.kept) asked.session ∙ kept s)) (asked.on.kept time keeps);
           first = λ whole. asked.on.first (asked.first whole);
-          apart = λ whole. ap (λ (s : PlainSession). entries_of view s.log) asked.session ∙ ap (entries_of view) (log s) ∙ asked.on.apart (asked.first whole);
+          apart = λ whole. ap (λ (s : PlainSession). entries_by view s.log) asked.session ∙ ap (entries_by view) (log s) ∙ asked.on.apart (asked.first whole);
         };
-        asked = ap entries_asked asked.own ∙ asked_more (own_calls before) view request ∙ omega (arith, none);
+        asked = ap entries_used_by asked.own ∙ asked_more (own_calls before) view request ∙ omega (arith, none);
       }

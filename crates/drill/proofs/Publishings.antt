@@ -13,12 +13,12 @@ use Rattle.replica.specs.View.{ReplicaView, with_plain}
 use Rattle.drill.specs.declared.trust.TrustReplay.{TrustReplay}
 use Rattle.drill.specs.declared.size.Size.{Size}
 use Rattle.drill.specs.declared.worker.Worker.{Worker}
-use Rattle.drill.specs.Asking.{IsDrillHistory, entries_asked, most_short}
-use Rattle.drill.specs.Doing.{HasBase, HasDone, IsHereBy, WasSentBy}
+use Rattle.drill.specs.Asking.{IsDrillHistory, entries_used_by, most_short}
+use Rattle.drill.specs.Doing.{HasBase, HasDone, IsHereBy, WasSentBy, loss_interval}
 use Rattle.drill.specs.Drilled.{add_payload, drawn_numbers, joins_behind, own, own_turns}
-use Rattle.drill.specs.Turns.{HasPublished, HasUnsent, IsReady, left_behind}
+use Rattle.drill.specs.Turns.{HasPublished, HasUnsent, IsWorkerReady, left_behind}
 use Rattle.drill.specs.Workers.{IsWorker}
-use Rattle.drill.specs.Working.{Works}
+use Rattle.drill.specs.Working.{ReplicaWorks}
 use Rattle.drill.proofs.Asks.{worker_with}
 use Rattle.drill.proofs.Grown.{works_same}
 use Rattle.drill.proofs.Payloads.{short_payload}
@@ -29,13 +29,13 @@ pub record Publishes (size : Size) (s : PlainSession) (w : Worker) (cursor : Cur
   pub done : HasDone s.log w.view number (what.Event (number + 1) payload ∷ joins_behind (number + 1) ++ left_behind size w (number + 1)) (own size.seed w.view size.events)
   pub here : IsHereBy s.log w.view cursor.joined
   pub late : (number ≡ 0) ⊎ WasSentBy s.log w.view number w.replica.plain.world.time
-  pub based : 256 ≤ number → HasBase s w.view number w.replica.plain.base
+  pub based : loss_interval ≤ number → HasBase s w.view number w.replica.plain.base
 
 pub record IsPublished (gives : ℕ → Type 0) (size : Size) (shared : SharedState TrustReplay) (w : Worker) (cursor : Cursor) (number : ℕ) (payload : List ℕ) : Type 0 where
   pub worker : IsWorker gives size shared w
   pub turn : number + 1 ≤ size.events
-  pub few : entries_asked (own_calls w.pass) ≤ 1 + 3 * number
-  pub works : Works (play w.pass.seen) w.replica cursor
+  pub few : entries_used_by (own_calls w.pass) ≤ 1 + 3 * number
+  pub works : ReplicaWorks (play w.pass.seen) w.replica cursor
   pub connection : cursor.view ≡ w.view
   pub outbox : w.replica.plain.outbox ≡ payload ∷ []
   pub short : length payload ≤ most_short
@@ -62,7 +62,7 @@ module _ (gives : ℕ → Type 0) (size : Size) (shared : SharedState TrustRepla
       ∙ turn_begins number count w.source
       ∙ ap (λ (n : ℕ). what.Event (number + 1) (add_payload (number_below 100 (word_of w.source))) ∷ joins_behind (number + 1) ++ own_turns n (drawn_numbers (state_after w.source) count)) next
 
-  publishes_here : (w : Worker) (cursor : Cursor) (number : ℕ) → number + 1 ≤ size.events → number_below 100 (word_of w.source) < 100 → IsReady gives size shared w cursor number
+  publishes_here : (w : Worker) (cursor : Cursor) (number : ℕ) → number + 1 ≤ size.events → number_below 100 (word_of w.source) < 100 → IsWorkerReady gives size shared w cursor number
       → IsPublished gives size shared (publisher w) cursor number (add_payload (drawn w))
   publishes_here w cursor number turn low ready = record {
     worker = worker_with gives size shared w (state_after w.source) (publisher w).replica refl refl refl ready.worker;
@@ -89,13 +89,13 @@ module _ (gives : ℕ → Type 0) (size : Size) (shared : SharedState TrustRepla
       ∙ ap (λ (source : ℕ). record w { source = source; replica = new.replica }) has.source
       ∙ ap (λ (r : ReplicaView). record w { source = state_after w.source; replica = r }) has.replica
 
-  pub is_published : (w new : Worker) (cursor : Cursor) (number : ℕ) → number + 1 ≤ size.events → HasPublished w new → IsReady gives size shared w cursor number
+  pub is_published : (w new : Worker) (cursor : Cursor) (number : ℕ) → number + 1 ≤ size.events → HasPublished w new → IsWorkerReady gives size shared w cursor number
       → IsPublished gives size shared new cursor number (add_payload (drawn w))
   is_published w new cursor number turn has ready =
       subst (λ (one : Worker). IsPublished gives size shared one cursor number (add_payload (drawn w))) (sym (is_publisher w new has)) (publishes_here w cursor number turn has.low ready)
 
   -- what was published waits
-  pub published : (w new : Worker) (cursor : Cursor) (number : ℕ) → IsReady gives size shared w cursor number → number + 1 ≤ size.events → HasPublished w new
+  pub published : (w new : Worker) (cursor : Cursor) (number : ℕ) → IsWorkerReady gives size shared w cursor number → number + 1 ≤ size.events → HasPublished w new
       → IsWorker gives size shared new × HasUnsent new.replica
   published w new cursor number ready turn has =
       let is = is_published w new cursor number turn has ready in

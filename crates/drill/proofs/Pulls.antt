@@ -5,7 +5,7 @@ use Rattle.reflector_core.specs.PlainSession.{PlainSession}
 use Rattle.reflector_core.specs.declared.request.Request.TheVariants as request
 use Rattle.reflector_core.specs.declared.request.Reply.{Reply}
 use Rattle.reflector_core.specs.declared.request.Reply.TheVariants.{Again, Batch, Joined, Kept, Left, Refused, Stamped, Ticked}
-use Rattle.join_sync.specs.Batches.{IsBatchAfter, next_cursor, next_frames}
+use Rattle.join_sync.specs.Batches.{IsBatchAfter, most_pulled, next_cursor, next_frames}
 use Rattle.join_sync.specs.declared.cursor.Cursor.{Cursor}
 use Rattle.join_sync.proofs.Pulls.{batch_comes_after}
 use Rattle.session_lock.specs.History.{play}
@@ -16,10 +16,10 @@ use Rattle.system_plain.proofs.Sessions.{Grows-legal}
 use Rattle.drill.specs.declared.size.Size.{Size}
 use Rattle.drill.specs.declared.trust.TrustReplay.{TrustReplay}
 use Rattle.drill.specs.declared.worker.Worker.{Worker}
-use Rattle.drill.specs.Taking.{AreFine, HasTakenAll, after_all}
+use Rattle.drill.specs.Taking.{AreFine, HasTakenAll, after_frames}
 use Rattle.drill.specs.Turns.{HasCome, HasTakenMore, KeepsConnection, KeepsEvents}
 use Rattle.drill.specs.Workers.{HasAsked, HasPassed}
-use Rattle.drill.specs.Working.{Works}
+use Rattle.drill.specs.Working.{ReplicaWorks}
 use Rattle.drill.proofs.Passing.{has_passed}
 use Rattle.drill.proofs.Requests.{pull_session}
 use Rattle.drill.proofs.ViewsKept.{SameView}
@@ -27,47 +27,47 @@ use Rattle.drill.proofs.Workers.{Pulls, has_tick, pulled, works_grow}
 
 -- the seq that is asked for is the cursor's
 pub asked_behind : (gives : ℕ → Type 0) (views : ℕ) (shared : SharedState TrustReplay) (view : ℕ) (before after : PassState) (from : ℕ) (cursor : Cursor) (given : Reply)
-    → HasAsked gives views shared view before after (request.Pull from 256) given → from ≡ cursor.after → HasAsked gives views shared view before after (request.Pull cursor.after 256) given
-asked_behind gives views shared view before after from cursor given asked is = subst (λ (from : ℕ). HasAsked gives views shared view before after (request.Pull from 256) given) is asked
+    → HasAsked gives views shared view before after (request.Pull from most_pulled) given → from ≡ cursor.after → HasAsked gives views shared view before after (request.Pull cursor.after most_pulled) given
+asked_behind gives views shared view before after from cursor given asked is = subst (λ (from : ℕ). HasAsked gives views shared view before after (request.Pull from most_pulled) given) is asked
 
 module _ (gives : ℕ → Type 0) (views : ℕ) (shared : SharedState TrustReplay) (view : ℕ) (before after : PassState) (r : ReplicaView) (cursor : Cursor) (given : Reply)
-    (asked : HasAsked gives views shared view before after (request.Pull cursor.after 256) given) (works : Works (play before.seen) r cursor) (laws : AreWorlds (worlds_of r)) where
+    (asked : HasAsked gives views shared view before after (request.Pull cursor.after most_pulled) given) (works : ReplicaWorks (play before.seen) r cursor) (laws : AreWorlds (worlds_of r)) where
   -- the session that answered
-  there : Works (play asked.history) r cursor
+  there : ReplicaWorks (play asked.history) r cursor
   there = works_grow (play before.seen) (play asked.history) r cursor (Grows-legal (play before.seen) (play asked.history) asked.on.grows asked.sound.legal) asked.sound works
 
   comes : Pulls (play asked.history) r cursor given
   comes = subst (Pulls (play asked.history) r cursor) (sym asked.replies) (pulled (play asked.history) r cursor laws asked.sound there)
 
   same : play asked.history ≡ play after.seen
-  same = sym (asked.session ∙ pull_session (play asked.history) cursor.after 256)
+  same = sym (asked.session ∙ pull_session (play asked.history) cursor.after most_pulled)
 
   pub batch_follows : IsBatchAfter cursor.after given
-  batch_follows = subst (IsBatchAfter cursor.after) (sym asked.replies) (batch_comes_after (play asked.history) cursor.after 256 asked.sound.legal there.sent.within)
+  batch_follows = subst (IsBatchAfter cursor.after) (sym asked.replies) (batch_comes_after (play asked.history) cursor.after most_pulled asked.sound.legal there.sent.within)
 
   pub pull_fine : (frames : List ServerFrame) → frames ≡ next_frames cursor given → AreFine r frames
   pull_fine frames is = subst (AreFine r) (sym is) comes.fine
 
-  pub pull_works : (new : ReplicaView) (next : Cursor) (frames : List ServerFrame) → frames ≡ next_frames cursor given → next ≡ next_cursor cursor given → HasTakenAll r frames new → Works (play after.seen) new next
+  pub pull_works : (new : ReplicaView) (next : Cursor) (frames : List ServerFrame) → frames ≡ next_frames cursor given → next ≡ next_cursor cursor given → HasTakenAll r frames new → ReplicaWorks (play after.seen) new next
   pull_works new next frames frames_are next_is taken =
-      subst (λ (next : Cursor). Works (play after.seen) new next) (sym next_is)
-      (subst (λ (s : PlainSession). Works s new (next_cursor cursor given)) same
-      (subst (λ (r : ReplicaView). Works (play asked.history) r (next_cursor cursor given)) (sym (taken.all ∙ ap (after_all r) frames_are)) comes.works))
+      subst (λ (next : Cursor). ReplicaWorks (play after.seen) new next) (sym next_is)
+      (subst (λ (s : PlainSession). ReplicaWorks s new (next_cursor cursor given)) same
+      (subst (λ (r : ReplicaView). ReplicaWorks (play asked.history) r (next_cursor cursor given)) (sym (taken.all ∙ ap (after_frames r) frames_are)) comes.works))
 
   pub pull_comes : (new : ReplicaView) (next : Cursor) (frames : List ServerFrame) → frames ≡ next_frames cursor given → next ≡ next_cursor cursor given → HasTakenAll r frames new
       → HasCome (play after.seen) new cursor next (has_tick given)
   pull_comes new next frames frames_are next_is taken =
       subst (λ (next : Cursor). HasCome (play after.seen) new cursor next (has_tick given)) (sym next_is)
       (subst (λ (s : PlainSession). HasCome s new cursor (next_cursor cursor given) (has_tick given)) same
-      (subst (λ (r : ReplicaView). HasCome (play asked.history) r cursor (next_cursor cursor given) (has_tick given)) (sym (taken.all ∙ ap (after_all r) frames_are)) comes.come))
+      (subst (λ (r : ReplicaView). HasCome (play asked.history) r cursor (next_cursor cursor given) (has_tick given)) (sym (taken.all ∙ ap (after_frames r) frames_are)) comes.come))
 
   pub pull_passes : HasPassed gives views view before after
-  pull_passes = has_passed gives views view shared before after (request.Pull cursor.after 256) given asked
-      (λ s. ap (λ (s : PlainSession). s.log) (pull_session s cursor.after 256)) (λ s. ap (λ (s : PlainSession). s.kept) (pull_session s cursor.after 256)) refl
+  pull_passes = has_passed gives views view shared before after (request.Pull cursor.after most_pulled) given asked
+      (λ s. ap (λ (s : PlainSession). s.log) (pull_session s cursor.after most_pulled)) (λ s. ap (λ (s : PlainSession). s.kept) (pull_session s cursor.after most_pulled)) refl
 
   pub pull_keeps : (new : ReplicaView) (frames : List ServerFrame) → frames ≡ next_frames cursor given → HasTakenAll r frames new → new ≡ with_plain r new.plain × SameView r.plain new.plain
   pull_keeps new frames frames_are taken =
-      subst (λ (new : ReplicaView). new ≡ with_plain r new.plain × SameView r.plain new.plain) (sym (taken.all ∙ ap (after_all r) frames_are)) (comes.kept, comes.same)
+      subst (λ (new : ReplicaView). new ≡ with_plain r new.plain × SameView r.plain new.plain) (sym (taken.all ∙ ap (after_frames r) frames_are)) (comes.kept, comes.same)
 
 -- the cursor is of the same Join
 pub same_connection : (cursor : Cursor) (given : Reply) → KeepsConnection cursor (next_cursor cursor given)
@@ -91,7 +91,7 @@ events_kept r new kept same = record {
 
 -- the worker has taken more
 pub has_taken_more : (gives : ℕ → Type 0) (size : Size) (shared : SharedState TrustReplay) (w new : Worker) (old next : Cursor) (given : Reply)
-    → HasPassed gives size.views w.view w.pass new.pass → Works (play new.pass.seen) new.replica next → new.replica ≡ with_plain w.replica new.replica.plain × SameView w.replica.plain new.replica.plain
+    → HasPassed gives size.views w.view w.pass new.pass → ReplicaWorks (play new.pass.seen) new.replica next → new.replica ≡ with_plain w.replica new.replica.plain × SameView w.replica.plain new.replica.plain
     → next ≡ next_cursor old given → HasTakenMore gives size.views w new old next
 has_taken_more gives size shared w new old next given passed works keeps is = record {
   works = works;

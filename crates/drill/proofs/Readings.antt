@@ -5,7 +5,7 @@ use Rattle.std.proofs.lemmas.List.Elements.{filter-append}
 use Rattle.tea_base.specs.declared.entry.Entry.{Entry}
 use Rattle.tea_base.specs.Readings.{is_join, is_exit, is_event, is_event_of, is_presence_of, last_entry, last_number, presence, view_event, view_events}
 use Rattle.tea_base.proofs.LogLaws.{last_presence-push, sent-push}
-use Rattle.drill.specs.Drilled.{done_by, entries_of}
+use Rattle.drill.specs.Drilled.{done_by, entries_by}
 
 -- one filter behind the other
 pass_if : (first second : Bool) (entry : Entry) (rest inner : List Entry) (p : Entry → Bool) → p entry ≡ second → filter p inner ≡ rest
@@ -13,18 +13,18 @@ pass_if : (first second : Bool) (entry : Entry) (rest inner : List Entry) (p : E
 pass_if true second entry rest inner p is more = ap (λ (b : Bool). cond b (entry ∷ rest) rest) (sym is) ∙ ap (λ (l : List Entry). cond (p entry) (entry ∷ l) l) (sym more)
 pass_if false second entry rest inner p is more = sym more
 
-pub events_of_entries : (log : List Entry) (view : ℕ) → view_events log view ≡ filter (λ entry. is_event entry.what) (entries_of view log)
+pub events_of_entries : (log : List Entry) (view : ℕ) → view_events log view ≡ filter (λ entry. is_event entry.what) (entries_by view log)
 events_of_entries [] view = refl
 events_of_entries (first ∷ rest) view =
-    pass_if (first.view == view) (is_event first.what) first (view_events rest view) (entries_of view rest) (λ entry. is_event entry.what) refl (sym (events_of_entries rest view))
+    pass_if (first.view == view) (is_event first.what) first (view_events rest view) (entries_by view rest) (λ entry. is_event entry.what) refl (sym (events_of_entries rest view))
 
-pub presence_of_entries : (log : List Entry) (view : ℕ) → presence log view ≡ filter (λ entry. is_join entry.what || is_exit entry.what) (entries_of view log)
+pub presence_of_entries : (log : List Entry) (view : ℕ) → presence log view ≡ filter (λ entry. is_join entry.what || is_exit entry.what) (entries_by view log)
 presence_of_entries [] view = refl
 presence_of_entries (first ∷ rest) view =
-    pass_if (first.view == view) (is_join first.what || is_exit first.what) first (presence rest view) (entries_of view rest) (λ entry. is_join entry.what || is_exit entry.what) refl
+    pass_if (first.view == view) (is_join first.what || is_exit first.what) first (presence rest view) (entries_by view rest) (λ entry. is_join entry.what || is_exit entry.what) refl
     (sym (presence_of_entries rest view))
 
-module _ (log new : List Entry) (view : ℕ) (same : entries_of view new ≡ entries_of view log) where
+module _ (log new : List Entry) (view : ℕ) (same : entries_by view new ≡ entries_by view log) where
   pub events_same : view_events new view ≡ view_events log view
   events_same = events_of_entries new view ∙ ap (filter (λ (entry : Entry). is_event entry.what)) same ∙ sym (events_of_entries log view)
 
@@ -36,19 +36,19 @@ module _ (log new : List Entry) (view : ℕ) (same : entries_of view new ≡ ent
 
 -- ---- one more entry
 
-pub entries_push : (log : List Entry) (entry : Entry) (view : ℕ) → entries_of view (log ++ entry ∷ []) ≡ entries_of view log ++ cond (entry.view == view) (entry ∷ []) []
+pub entries_push : (log : List Entry) (entry : Entry) (view : ℕ) → entries_by view (log ++ entry ∷ []) ≡ entries_by view log ++ cond (entry.view == view) (entry ∷ []) []
 entries_push log entry view = filter-append (λ (e : Entry). e.view == view) log (entry ∷ [])
 
 -- of another view
-pub entries_push_other : (log : List Entry) (entry : Entry) (view : ℕ) → (entry.view == view) ≡ false → entries_of view (log ++ entry ∷ []) ≡ entries_of view log
+pub entries_push_other : (log : List Entry) (entry : Entry) (view : ℕ) → (entry.view == view) ≡ false → entries_by view (log ++ entry ∷ []) ≡ entries_by view log
 entries_push_other log entry view other =
-    entries_push log entry view ∙ ap (λ (b : Bool). entries_of view log ++ cond b (entry ∷ []) []) other ∙ append-nil (entries_of view log)
+    entries_push log entry view ∙ ap (λ (b : Bool). entries_by view log ++ cond b (entry ∷ []) []) other ∙ append-nil (entries_by view log)
 
 -- of the view itself
 pub done_push_own : (log : List Entry) (entry : Entry) (view : ℕ) → (entry.view == view) ≡ true → done_by view (log ++ entry ∷ []) ≡ done_by view log ++ entry.what ∷ []
 done_push_own log entry view own =
-    ap (map (λ (e : Entry). e.what)) (entries_push log entry view ∙ ap (λ (b : Bool). entries_of view log ++ cond b (entry ∷ []) []) own)
-    ∙ map-append (λ (e : Entry). e.what) (entries_of view log) (entry ∷ [])
+    ap (map (λ (e : Entry). e.what)) (entries_push log entry view ∙ ap (λ (b : Bool). entries_by view log ++ cond b (entry ∷ []) []) own)
+    ∙ map-append (λ (e : Entry). e.what) (entries_by view log) (entry ∷ [])
 
 -- no Event leaves the number of the last one, and an Event stands behind those before it
 pub number_push_none : (log : List Entry) (entry : Entry) (view : ℕ) → is_event_of view entry ≡ false → last_number (log ++ entry ∷ []) view ≡ last_number log view

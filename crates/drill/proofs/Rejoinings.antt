@@ -22,8 +22,8 @@ use Rattle.replica.specs.View.{ReplicaView, worlds_of}
 use Rattle.drill.specs.declared.trust.TrustReplay.{TrustReplay}
 use Rattle.drill.specs.declared.size.Size.{Size}
 use Rattle.drill.specs.declared.worker.Worker.{Worker}
-use Rattle.drill.specs.Asking.{IsDrillHistory, entries_asked}
-use Rattle.drill.specs.Doing.{HasBase, HasDone, IsHereBy, KeepsFrom, WasSentBy}
+use Rattle.drill.specs.Asking.{IsDrillHistory, entries_used_by}
+use Rattle.drill.specs.Doing.{HasBase, HasDone, IsHereBy, KeepsFrom, WasSentBy, loss_interval}
 use Rattle.drill.specs.Drilled.{own}
 use Rattle.drill.specs.Sizes.{IsOfSize}
 use Rattle.drill.specs.Turns.{HasJoined, HasStopped, IsBack, IsLost, KeepsForJoin, MayJoinBy, Returns, Stops, base_after, base_time, left_behind}
@@ -55,10 +55,10 @@ base_back
     : (before s after : PlainSession) (w : Worker) (number : ℕ) (how : How) (based : Option ℕ) (base : Option Base) (seq time from : ℕ) → GrowsTo before after
     → ((t : ℕ) → KeepsFrom t before.kept → KeepsFrom t s.kept) → ((t : ℕ) → KeepsFrom t s.kept → KeepsFrom t after.kept) → KeepsForJoin before w number how
     → base ≡ base_for (join_want (worlds_of w.replica) w.replica.plain how) s.kept → based ≡ base_after how w.replica.plain.base (Joined seq time number from base)
-    → 256 ≤ number → HasBase after w.view number based
+    → loss_interval ≤ number → HasBase after w.view number based
 base_back before s after w number Fresh based base seq time from grows there behind keeps given is many =
     let on = based_on s.kept keeps.1 (there keeps.1 keeps.3) in
-    let place : number - 1 ≡ number - number % 256 - 1 = omega (arith, keeps.0) in
+    let place : number - 1 ≡ number - number % loss_interval - 1 = omega (arith, keeps.0) in
     record {
       time = on.based;
       is = is ∙ ap (option_map base_time) given ∙ on.is;
@@ -85,7 +85,7 @@ module _ (gives : ℕ → Type 0) (size : Size) (shared : SharedState TrustRepla
       → HasCalled gives size.views w.view w.pass new.pass (Join w.view has.now (join_want (worlds_of w.replica) w.replica.plain how)) has.asked.history
   call next has = has_called gives size.views shared w.view w.pass new.pass (Join w.view has.now (join_want (worlds_of w.replica) w.replica.plain how)) has.reply has.asked
 
-  few_asked : (next : Option Cursor) → HasJoined gives size.views shared w new how next → entries_asked (own_calls new.pass) ≤ 3 * number
+  few_asked : (next : Option Cursor) → HasJoined gives size.views shared w new how next → entries_used_by (own_calls new.pass) ≤ 3 * number
   few_asked next has =
       omega (arith, lost.few, (call next has).few)
 

@@ -12,11 +12,12 @@ use Rattle.reflector_core.specs.PlainSession.{PlainSession}
 use Rattle.reflector_core.specs.SessionState.{SessionState}
 use Rattle.session_lock.specs.Passes.{PassState, SharedState}
 use Rattle.replica.specs.View.{ReplicaView}
+use Rattle.run_steps.specs.Limits.{most_drill_views}
 use Rattle.drill.specs.declared.finished.Finished.{Finished}
 use Rattle.drill.specs.declared.report.DrillReport.{DrillReport}
 use Rattle.drill.specs.declared.size.Size.{Size}
 use Rattle.drill.specs.declared.trust.TrustReplay.{TrustReplay}
-use Rattle.drill.specs.Doing.{HasBase}
+use Rattle.drill.specs.Doing.{HasBase, loss_interval}
 use Rattle.drill.specs.Drill.{AreBased, AreReplays, HasDrilled, IsReplayOf, drill_id}
 use Rattle.drill.specs.Drilled.{Drilled}
 use Rattle.drill.specs.Drilling.{ComesToEnd, MayRest, numbers_from, rested_of, views_of}
@@ -60,7 +61,7 @@ module _ (gives : ℕ → Type 0) (size : Size) (shared : SharedState TrustRepla
   was_synced true late below = refl
   was_synced false late below = absurd (omega (arith, late refl, below))
 
-  is_based : (one : Finished) (r : ReplicaView) (view : ℕ) → one.worker.view ≡ view → HasLeft gives size shared s one → ComesToEnd s (rested_of one) r → 256 ≤ size.events → s.horizon < end_of_time
+  is_based : (one : Finished) (r : ReplicaView) (view : ℕ) → one.worker.view ≡ view → HasLeft gives size shared s one → ComesToEnd s (rested_of one) r → loss_interval ≤ size.events → s.horizon < end_of_time
       → HasBase s view size.events r.plain.base
   is_based one r view is left comes enough below =
       let synced = was_synced one.is_synced left.done.late below in
@@ -84,7 +85,7 @@ module _ (gives : ℕ → Type 0) (size : Size) (shared : SharedState TrustRepla
       (is_replay one r first (first_view one rest first count views) left.0 come.0, are_replays rest rs (first + 1) count (rest_views one rest first count views) left.1 come.1)
 
   are_based : (ended : List Finished) (replicas : List ReplicaView) (first count : ℕ) → views_of ended ≡ numbers_from first count → AllByRecursion (HasLeft gives size shared s) ended
-      → AllZip (ComesToEnd s) (map rested_of ended) replicas → 256 ≤ size.events → s.horizon < end_of_time → AreBased s size.events first replicas
+      → AllZip (ComesToEnd s) (map rested_of ended) replicas → loss_interval ≤ size.events → s.horizon < end_of_time → AreBased s size.events first replicas
   are_based [] [] first count views left come enough below = tt
   are_based [] (r ∷ rs) first count views left come enough below = absurd come
   are_based (one ∷ rest) [] first count views left come enough below = tt
@@ -113,7 +114,7 @@ module _ (gives : ℕ → Type 0) (size : Size) (shared : SharedState TrustRepla
     pub some_replica : 0 < length replicas
     some_replica = omega (arith, closed.fits.some, as_many gives size shared s ended replicas 1 size.views closed.views come)
 
-    pub few_replicas : length replicas ≤ 8
+    pub few_replicas : length replicas ≤ most_drill_views
     few_replicas = omega (arith, closed.fits.views, as_many gives size shared s ended replicas 1 size.views closed.views come)
 
     pub all_reported : All (reports.IsAtEnd s (arc_value shared.trust.program) shared.id.0) replicas

@@ -18,7 +18,7 @@ use Rattle.replica.specs.RealWorlds.{worlds}
 use Rattle.replica.specs.View.{ReplicaView, world_part}
 use Rattle.snapshot_codec.specs.Spelling.{world_spelling}
 use Rattle.drill.specs.Ending.{root_total}
-use Rattle.drill.specs.Reports.{IsAtEnd, IsSnapshotOf, Reports, SpellsWorld}
+use Rattle.drill.specs.Reports.{IsAtEnd, IsSnapshotOf, Reports, IsWorldSnapshot}
 
 abbrev replayed : PlainSession → List Class → List ℕ → WorldRecord
 replayed s program id = (replay (program_tree program) id s.log s.horizon).world
@@ -99,7 +99,7 @@ pub first_of_replay
 first_of_replay s program id replicas snapshots first snaps ended =
     first_has (IsSnapshotOfReplay s program id) snapshots first (snapshots_of_replay s program id replicas snapshots (recursion_from_All (IsAtEnd s program id) replicas ended) snaps)
 
-pub spells_world : (s : PlainSession) (program : List Class) (id bytes : List ℕ) → IsSnapshotOfReplay s program id bytes → SpellsWorld (program_tree program) id bytes
+pub spells_world : (s : PlainSession) (program : List Class) (id bytes : List ℕ) → IsSnapshotOfReplay s program id bytes → IsWorldSnapshot (program_tree program) id bytes
 spells_world s program id bytes is = record { world = replayed s program id; snapshot = is.snapshot }
 
 all_agree : (s : PlainSession) (program : List Class) (id first : List ℕ) (snapshots : List (List ℕ)) → first ≡ world_spelling (replayed s program id) → AllByRecursion (IsSnapshotOfReplay s program id) snapshots

@@ -20,7 +20,7 @@ use Rattle.reflector_core.specs.declared.request.Reply.TheVariants.{Joined, Stam
 use Rattle.reflector_core.specs.declared.request.Refusal.TheVariants.{Differs, Gap, TimeEnd}
 use Rattle.drill.specs.Asking.{most_short}
 use Rattle.drill.specs.Doing.{HasDone, HasFinished, HasSent, IsHereBy, KeepsFrom, WasSentBy}
-use Rattle.drill.specs.Drilled.{done_by, entries_of}
+use Rattle.drill.specs.Drilled.{done_by, entries_by}
 use Rattle.drill.proofs.Histories.{HasRoom}
 use Rattle.drill.proofs.Outcomes.{if_is, log_after}
 use Rattle.drill.proofs.Readings.{done_push_own, events_push_own, last_push_none, last_push_own, number_push_none, number_push_own, presence_same, slice_get_push}
@@ -208,7 +208,7 @@ none_before f (x ∷ xs) none = absurd cc
 -- who is here has done something
 here_done : (log : List Entry) (view : ℕ) → is_here log view ≡ true → done_by view log ≢ []
 here_done log view here none =
-    let entries : entries_of view log ≡ [] = none_before (λ (e : Entry). e.what) (entries_of view log) none in
+    let entries : entries_by view log ≡ [] = none_before (λ (e : Entry). e.what) (entries_by view log) none in
     let away : is_here log view ≡ is_here [] view = ap (λ (es : List Entry). is_some_join (last_entry es)) (presence_same [] log view entries) in
     cc (here, away)
 

@@ -17,14 +17,14 @@ use Rattle.replica.specs.View.{IsTimely, ReplicaView, with_plain, worlds_of}
 use Rattle.drill.specs.declared.trust.TrustReplay.{TrustReplay}
 use Rattle.drill.specs.declared.size.Size.{Size}
 use Rattle.drill.specs.declared.worker.Worker.{Worker}
-use Rattle.drill.specs.Asking.{IsDrillHistory, entries_asked}
+use Rattle.drill.specs.Asking.{IsDrillHistory, entries_used_by}
 use Rattle.drill.specs.Doing.{HasDone, IsHereBy}
 use Rattle.drill.specs.Drilled.{own}
 use Rattle.drill.specs.Sizes.{IsOfSize}
 use Rattle.drill.specs.Taking.{HasTaken, IsFine}
-use Rattle.drill.specs.Turns.{HasSentIt, HasStopped, IsBack, IsSettled, Settles, done_of, left_behind}
+use Rattle.drill.specs.Turns.{HasSentIt, HasStopped, IsBack, IsSettled, IsSettling, done_of, left_behind}
 use Rattle.drill.specs.Workers.{HasAsked, IsWorker, KeepsSource}
-use Rattle.drill.specs.Working.{Works}
+use Rattle.drill.specs.Working.{ReplicaWorks}
 use Rattle.drill.proofs.Grown.{HasCalled, base_later, by_horizon, has_called, works_same}
 use Rattle.drill.proofs.Asks.{worker_with}
 use Rattle.drill.proofs.Histories.{done_same, here_same, sent_same}
@@ -56,10 +56,10 @@ module _ (gives : ℕ → Type 0) (size : Size) (shared : SharedState TrustRepla
       (done_same before.log s.log w.view number (left_behind size w number) (own size.seed w.view size.events) same does.done) back.waiting.turn.0
       (sent_same before.log s.log w.view number payload same does.sent) back.waiting.short
 
-  resent_works : Works (play p.seen) w.replica cursor
+  resent_works : ReplicaWorks (play p.seen) w.replica cursor
   resent_works = call.works w.replica cursor worker.sound back.works
 
-  resent_few : entries_asked (own_calls p) ≤ 1 + 3 * number
+  resent_few : entries_used_by (own_calls p) ≤ 1 + 3 * number
   resent_few = omega (arith, call.few, back.few)
 
   all_given : (calls.gives w.replica.plain).given ≡ number
@@ -69,7 +69,7 @@ module _ (gives : ℕ → Type 0) (size : Size) (shared : SharedState TrustRepla
 
   -- ---- a Done came
 
-  settles : IsDrillHistory gives size.views p.seen → Settles size (play p.seen) (taker w p) cursor number
+  settles : IsDrillHistory gives size.views p.seen → IsSettling size (play p.seen) (taker w p) cursor number
   settles whole =
       let before = play w.pass.seen in
       let s = play asked.history in

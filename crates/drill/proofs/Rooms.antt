@@ -17,7 +17,7 @@ use Rattle.reflector_core.specs.declared.request.Request.TheVariants.{Join, Send
 use Rattle.session_lock.specs.declared.knowledge.Item.{Item}
 use Rattle.session_lock.specs.declared.knowledge.Item.TheVariants.{Did, Void}
 use Rattle.session_lock.specs.History.{play_from}
-use Rattle.drill.specs.Asking.{IsAskedBy, IsAskedInDrill, entries_asked, most_short}
+use Rattle.drill.specs.Asking.{IsAskedBy, IsAskedInDrill, entries_used_by, most_short}
 use Rattle.drill.specs.Drilled.{IsOfDrill}
 use Rattle.drill.proofs.Outcomes.{OnAdded, log_after}
 
@@ -97,7 +97,7 @@ small_request gives views caller entries s request own asked small =
     by (Pull after limit) asked = tt
 
 pub small_from : (gives : ℕ → Type 0) (views entries most : ℕ) (s : PlainSession) (items : List Item) → AllByRecursion (IsAskedInDrill gives views) items
-    → entries + entries_asked items ≤ most → IsSmall views entries s.log → IsSmall views most (play_from s items).log
+    → entries + entries_used_by items ≤ most → IsSmall views entries s.log → IsSmall views most (play_from s items).log
 small_from gives views entries most s [] asked le small = small_more views entries most s.log (omega arith) small
 small_from gives views entries most s (Did caller request ∷ xs) asked le small =
     small_from gives views (entries_used request + entries) most (answer s request).session xs asked.1 (omega arith)

@@ -21,13 +21,13 @@ use Rattle.replica.specs.View.{ReplicaView, with_plain}
 use Rattle.drill.specs.declared.trust.TrustReplay.{TrustReplay}
 use Rattle.drill.specs.declared.size.Size.{Size}
 use Rattle.drill.specs.declared.worker.Worker.{Worker}
-use Rattle.drill.specs.Asking.{IsDrillHistory, entries_asked}
-use Rattle.drill.specs.Doing.{HasBase, HasDone, HasSent, IsHereBy, WasSentBy}
+use Rattle.drill.specs.Asking.{IsDrillHistory, entries_used_by}
+use Rattle.drill.specs.Doing.{HasBase, HasDone, HasSent, IsHereBy, WasSentBy, loss_interval}
 use Rattle.drill.specs.Drilled.{add_payload, joins_behind, own}
 use Rattle.drill.specs.Sizes.{IsOfSize}
-use Rattle.drill.specs.Turns.{HasPublished, HasSentIt, HasStopped, IsOwed, IsReady, Owes, Stops, done_of, left_behind}
+use Rattle.drill.specs.Turns.{HasPublished, HasSentIt, HasStopped, IsOwed, IsWorkerReady, Owes, Stops, done_of, left_behind}
 use Rattle.drill.specs.Workers.{HasAsked, IsWorker, KeepsSource}
-use Rattle.drill.specs.Working.{Works}
+use Rattle.drill.specs.Working.{ReplicaWorks}
 use Rattle.drill.proofs.Grown.{HasCalled, base_later, by_later, has_called, works_same}
 use Rattle.drill.proofs.Histories.{done_same, here_same}
 use Rattle.drill.proofs.Requests.{IsStamped, send_row}
@@ -61,11 +61,11 @@ module _ (gives : ℕ → Type 0) (size : Size) (shared : SharedState TrustRepla
   call : HasCalled gives size.views w.view w.pass p (Send w.view cursor.joined (number + 1) payload now) asked.history
   call = has_called gives size.views shared w.view w.pass p (Send w.view cursor.joined (number + 1) payload now) reply asked
 
-  sent_works : Works (play p.seen) (sender w p).replica cursor
+  sent_works : ReplicaWorks (play p.seen) (sender w p).replica cursor
   sent_works =
       works_same (play p.seen) w.replica (sender w p).replica.plain cursor refl refl refl refl (call.works w.replica cursor worker.sound published.works)
 
-  sent_few : entries_asked (own_calls p) ≤ 2 + 3 * number
+  sent_few : entries_used_by (own_calls p) ≤ 2 + 3 * number
   sent_few = omega (arith, call.few, published.few)
 
   counted : published_count w.replica.plain ≡ number + 1
@@ -105,7 +105,7 @@ module _ (gives : ℕ → Type 0) (size : Size) (shared : SharedState TrustRepla
         sent = subst (λ (s : PlainSession). HasSent s.log w.view (number + 1) payload) (sym asked.session) stamped.sent;
         early = subst (λ (s : PlainSession). WasSentBy s.log w.view (number + 1) s.horizon) (sym asked.session) stamped.early;
         late = subst (λ (n : ℕ). (number + 1 ≡ 1) ⊎ WasSentBy (play p.seen).log w.view n w.replica.plain.world.time) (sym place) (late does.late);
-        based = subst (λ (n : ℕ). 256 ≤ n → HasBase (play p.seen) w.view n w.replica.plain.base) (sym place)
+        based = subst (λ (n : ℕ). loss_interval ≤ n → HasBase (play p.seen) w.view n w.replica.plain.base) (sym place)
             (λ many. base_later (play w.pass.seen) (play p.seen) w.view grows number w.replica.plain.base call.keeps (does.based many));
       }
     where
@@ -181,7 +181,7 @@ pub one_payload : (outbox : List (List ℕ)) (a b : List ℕ) → outbox ≡ a �
 one_payload outbox a b one two = cc (one, two)
 
 module _ (gives : ℕ → Type 0) (size : Size) (shared : SharedState TrustReplay) (w mid new : Worker) (cursor : Cursor) (number : ℕ)
-    (few : IsOfSize size) (ready : IsReady gives size shared w cursor number) (turn : number + 1 ≤ size.events) (has : HasPublished w mid) (source : KeepsSource mid new)
+    (few : IsOfSize size) (ready : IsWorkerReady gives size shared w cursor number) (turn : number + 1 ≤ size.events) (has : HasPublished w mid) (source : KeepsSource mid new)
     (worker : IsWorker gives size shared new) where
   -- what is sent was published
   waits : (done : Option ServerFrame) → (sent : HasSentIt gives size.views shared mid new cursor done) → IsPublished gives size shared mid cursor number sent.unsent.payload

@@ -15,11 +15,11 @@ use Rattle.drill.specs.declared.trust.TrustReplay.{TrustReplay}
 use Rattle.drill.specs.declared.size.Size.{Size}
 use Rattle.drill.specs.declared.worker.Worker.{Worker}
 use Rattle.drill.specs.Asking.{IsDrillHistory}
-use Rattle.drill.specs.Doing.{HasBase, HasDone, IsHereBy, WasSentBy}
+use Rattle.drill.specs.Doing.{HasBase, HasDone, IsHereBy, WasSentBy, loss_interval}
 use Rattle.drill.specs.Drilled.{own}
 use Rattle.drill.specs.Sizes.{IsOfSize}
 use Rattle.drill.specs.Taking.{HasTaken, IsFine}
-use Rattle.drill.specs.Turns.{Does, HasTakenMore, IsOwed, IsReady, IsSettled, Settles, left_behind}
+use Rattle.drill.specs.Turns.{Does, HasTakenMore, IsOwed, IsWorkerReady, IsSettled, IsSettling, left_behind}
 use Rattle.drill.specs.Workers.{IsWorker, KeepsSource}
 use Rattle.drill.specs.Working.{IsCaughtUp}
 use Rattle.drill.proofs.Grown.{base_later, by_later, works_same}
@@ -45,9 +45,9 @@ done_taken m r payload number seq time synced outbox next =
     ∙ acknowledged_if r r.synced (number == r.acknowledged + 1) (r.acknowledged + 1) number (faults r cause.Unasked) synced (eq-eqb number (r.acknowledged + 1) (sym next))
 
 -- where no world is lost, the base stays
-pub base_next : (s : PlainSession) (view number : ℕ) (base : Option ℕ) → 1 ≤ number → (number % 256 ≡ 0 → ⊥) → HasBase s view (number - 1) base → HasBase s view number base
+pub base_next : (s : PlainSession) (view number : ℕ) (base : Option ℕ) → 1 ≤ number → (number % loss_interval ≡ 0 → ⊥) → HasBase s view (number - 1) base → HasBase s view number base
 base_next s view number base some other has =
-    let mark : number - 1 - (number - 1) % 256 ≡ number - number % 256 = omega (arith, other, some) in
+    let mark : number - 1 - (number - 1) % loss_interval ≡ number - number % loss_interval = omega (arith, other, some) in
     record { time = has.time; is = has.is; late = subst (λ (n : ℕ). WasSentBy s.log view (n - 1) has.time) mark has.late; kept = has.kept }
 
 module _ (gives : ℕ → Type 0) (size : Size) (shared : SharedState TrustReplay) where
@@ -89,7 +89,7 @@ module _ (gives : ℕ → Type 0) (size : Size) (shared : SharedState TrustRepla
 
   caught_does
       : (w new : Worker) (cursor next : Cursor) (number : ℕ) → new.view ≡ w.view → new.source ≡ w.source → HasTakenMore gives size.views w new cursor next → IsCaughtUp (play new.pass.seen) new.replica
-      → IsDrillHistory gives size.views new.pass.seen → Settles size (play w.pass.seen) w cursor number → Does size (play new.pass.seen) new next number
+      → IsDrillHistory gives size.views new.pass.seen → IsSettling size (play w.pass.seen) w cursor number → Does size (play new.pass.seen) new next number
   caught_does w new cursor next number view source more caught whole settles =
       let s = play w.pass.seen in
       let after = play new.pass.seen in
@@ -104,7 +104,7 @@ module _ (gives : ℕ → Type 0) (size : Size) (shared : SharedState TrustRepla
 
   pub caught_up
       : (w new : Worker) (cursor next : Cursor) (number : ℕ) → IsOfSize size → IsSettled gives size shared w cursor number → KeepsSource w new → IsWorker gives size shared new
-      → HasTakenMore gives size.views w new cursor next → IsCaughtUp (play new.pass.seen) new.replica → IsReady gives size shared new next number
+      → HasTakenMore gives size.views w new cursor next → IsCaughtUp (play new.pass.seen) new.replica → IsWorkerReady gives size shared new next number
   caught_up w new cursor next number few settled source worker more caught =
       let view : new.view ≡ w.view = ap (λ (one : Worker). one.view) source in
       record {

@@ -1,9 +1,10 @@
--- What a view does from one turn on, and the last multiple of 256.
+-- What a view does from one turn on, and at which events it loses its connection or its world.
 use Rattle.std.proofs.Common.{◌≡◌, if◌then◌else◌, ℕ, ◌+◌, ◌-◌, ◌%◌, Bool, List, [], ◌∷◌, ◌++◌, ap, ◌∙◌, arith, eq-eqb, ne_eqb, add-one}
 use Rattle.tea_base.specs.declared.entry.What.{What}
 use Rattle.tea_base.specs.declared.entry.What.TheVariants.{Join, Event}
 use Rattle.seeded_random.specs.Draw.{word_of, state_after, number_below}
 use Rattle.drill.specs.Drilled.{drawn_numbers, add_payload, joins_behind, own_turns}
+use Rattle.drill.specs.Doing.{loss_interval}
 
 -- what is left before turn `number + 1` of a drill with count + 1 more events begins with its event
 pub turn_begins : (number count state : ℕ) → own_turns (number + 1) (drawn_numbers state (count + 1)) ≡ Event (number + 1) (add_payload (number_below 100 (word_of state))) ∷ joins_behind (number + 1) ++ own_turns (number + 2) (drawn_numbers (state_after state) count)
@@ -19,5 +20,5 @@ joins_none number other = ap (λ (b : Bool). if b then Join ∷ [] else []) (ne_
 pub joins_once : (number : ℕ) → number % 64 ≡ 0 → joins_behind number ≡ Join ∷ []
 joins_once number multiple = ap (λ (b : Bool). if b then Join ∷ [] else []) (eq-eqb (number % 64) 0 multiple)
 
-pub multiple_of_64 : (number : ℕ) → number % 256 ≡ 0 → number % 64 ≡ 0
+pub multiple_of_64 : (number : ℕ) → number % loss_interval ≡ 0 → number % 64 ≡ 0
 multiple_of_64 number multiple = omega arith

@@ -19,8 +19,8 @@ use Rattle.drill.specs.declared.finished.Finished.{Finished}
 use Rattle.drill.specs.declared.size.Size.{Size}
 use Rattle.drill.specs.declared.trust.TrustReplay.{TrustReplay}
 use Rattle.drill.specs.Asking.{IsDrillHistory}
-use Rattle.drill.specs.Doing.{HasBase, HasFinished}
-use Rattle.drill.specs.Drilled.{IsCutShort, done_by, entries_of, own}
+use Rattle.drill.specs.Doing.{HasBase, HasFinished, loss_interval}
+use Rattle.drill.specs.Drilled.{IsCutShort, done_by, entries_by, own}
 use Rattle.drill.specs.Ending.{Catches, IsCountedBy}
 use Rattle.drill.specs.Turns.{Ends, HasEnded, MayCatchUp}
 use Rattle.drill.proofs.Histories.{apart, by_same, history_first, kept_on}
@@ -57,7 +57,7 @@ module _ (gives : ℕ → Type 0) (size : Size) (shared : SharedState TrustRepla
   first : IsDrillHistory gives size.views one.worker.pass.seen
   first = history_first gives size.views one.worker.pass.seen rest whole
 
-  same : entries_of view new.log ≡ entries_of view old.log
+  same : entries_by view new.log ≡ entries_by view old.log
   same = apart gives size.views view one.worker.pass.seen rest whole none
 
   grows : GrowsTo old new
@@ -82,7 +82,7 @@ module _ (gives : ℕ → Type 0) (size : Size) (shared : SharedState TrustRepla
   based_on number base has = record {
     time = has.time;
     is = has.is;
-    late = by_same old.log new.log view (number - number % 256 - 1) has.time same has.late;
+    late = by_same old.log new.log view (number - number % loss_interval - 1) has.time same has.late;
     kept = kept_on has.time one.worker.pass.seen rest has.kept;
   }
 

@@ -14,7 +14,7 @@ use Rattle.reflector_core.specs.PlainSession.{PlainSession, IsSoundSession}
 use Rattle.reflector_core.specs.Answer.{pull}
 use Rattle.reflector_core.specs.declared.request.Reply.{Reply}
 use Rattle.reflector_core.specs.declared.request.Reply.TheVariants.{Batch}
-use Rattle.join_sync.specs.Batches.{entry_frames, newer_tick, next_cursor, next_frames, tick_frames}
+use Rattle.join_sync.specs.Batches.{entry_frames, most_pulled, newer_tick, next_cursor, next_frames, tick_frames}
 use Rattle.join_sync.specs.declared.cursor.Cursor.{Cursor}
 use Rattle.join_sync.specs.Standing as at
 use Rattle.join_sync.proofs.Pulls.{batch_streams, batch_stands}
@@ -28,8 +28,8 @@ use Rattle.replica.specs.RealWorlds.{is_at_rest}
 use Rattle.replica.specs.View.{ReplicaView, IsTimely, with_plain, worlds_of}
 use Rattle.system_plain.proofs.FactsGrow.{count_stays, follows_log_grows}
 use Rattle.system_plain.proofs.Sessions.{Grows}
-use Rattle.drill.specs.Taking.{AreFine, IsFine, after, after_all}
-use Rattle.drill.specs.Working.{IsCaughtUp, Works}
+use Rattle.drill.specs.Taking.{AreFine, IsFine, after_frame, after_frames}
+use Rattle.drill.specs.Working.{IsCaughtUp, ReplicaWorks}
 use Rattle.drill.specs.Turns.{HasCome}
 use Rattle.drill.proofs.Catching.{takes_entry, tick_time}
 use Rattle.drill.proofs.ViewsKept.{SameView, same_at_entry, same_at_tick, same_first, same_then}
@@ -71,7 +71,7 @@ timely_frame s place Alive sound news comes = absurd news
 -- the replica does not come past the horizon
 within_frame
     : (s : PlainSession) (place : Place) (r : ReplicaView) (frame : ServerFrame) → IsProgram (program_tree r.program) → AreWorlds (worlds_of r) → IsSoundSession s → IsNews s frame → ComesAt s.log place frame
-    → StandsAt (worlds_of r) s.log place r.plain → r.plain.world.time ≤ s.horizon → IsFine r frame → (after r frame).plain.world.time ≤ s.horizon
+    → StandsAt (worlds_of r) s.log place r.plain → r.plain.world.time ≤ s.horizon → IsFine r frame → (after_frame r frame).plain.world.time ≤ s.horizon
 within_frame s place r (Sync joined last from base) program laws sound news comes stands within fine = absurd news
 within_frame s place r (Recv entry) program laws sound news comes stands within fine =
     let at : slice_get s.log r.plain.seen ≡ Some entry = subst (λ (k : ℕ). slice_get s.log k ≡ Some entry) stands.placed comes in
@@ -85,7 +85,7 @@ within_frame s place r (Snapped time) program laws sound news comes stands withi
 within_frame s place r (Refused about code kept more) program laws sound news comes stands within fine = absurd news
 within_frame s place r Alive program laws sound news comes stands within fine = absurd news
 
-same_frame : (s : PlainSession) (r : ReplicaView) (frame : ServerFrame) → IsNews s frame → SameView r.plain (after r frame).plain
+same_frame : (s : PlainSession) (r : ReplicaView) (frame : ServerFrame) → IsNews s frame → SameView r.plain (after_frame r frame).plain
 same_frame s r (Sync joined last from base) news = absurd news
 same_frame s r (Recv entry) news = same_at_entry (worlds_of r) r.plain entry
 same_frame s r (Tick time) news = same_at_tick (worlds_of r) r.plain time
@@ -96,10 +96,10 @@ same_frame s r Alive news = absurd news
 
 pub record TakesNews (s : PlainSession) (place : Place) (r : ReplicaView) (frames : List ServerFrame) : Type 0 where
   pub fine : AreFine r frames
-  pub stands : StandsAt (worlds_of r) s.log (place_after_all place frames) (after_all r frames).plain
-  pub within : (after_all r frames).plain.world.time ≤ s.horizon
-  pub kept : after_all r frames ≡ with_plain r (after_all r frames).plain
-  pub same : SameView r.plain (after_all r frames).plain
+  pub stands : StandsAt (worlds_of r) s.log (place_after_all place frames) (after_frames r frames).plain
+  pub within : (after_frames r frames).plain.world.time ≤ s.horizon
+  pub kept : after_frames r frames ≡ with_plain r (after_frames r frames).plain
+  pub same : SameView r.plain (after_frames r frames).plain
 
 -- what comes of the log is taken
 pub takes_news
@@ -109,11 +109,11 @@ takes_news s place r [] program laws sound news streams stands within = record {
 takes_news s place r (frame ∷ rest) program laws sound news streams stands within =
     let behind = behind_frame (worlds_of r) laws s.log place r.plain frame sound.legal stands streams.0 in
     let fine = fine_frame s r frame news.0 behind.read in
-    let more = takes_news s (place_after place frame) (after r frame) rest program laws sound news.1 streams.1 behind.stands (within_frame s place r frame program laws sound news.0 streams.0 stands within fine) in
-    record { fine = (fine, timely_frame s place frame sound news.0 streams.0, more.fine); stands = more.stands; within = more.within; kept = more.kept; same = same_then r.plain (after r frame).plain (after_all (after r frame) rest).plain (same_frame s r frame news.0) more.same }
+    let more = takes_news s (place_after place frame) (after_frame r frame) rest program laws sound news.1 streams.1 behind.stands (within_frame s place r frame program laws sound news.0 streams.0 stands within fine) in
+    record { fine = (fine, timely_frame s place frame sound news.0 streams.0, more.fine); stands = more.stands; within = more.within; kept = more.kept; same = same_then r.plain (after_frame r frame).plain (after_frames (after_frame r frame) rest).plain (same_frame s r frame news.0) more.same }
 
 -- the replica as the rows of a plain replica say where it stands
-pub stands_of : (s : PlainSession) (r : ReplicaView) (cursor : Cursor) → (works : Works s r cursor) → StandsAt (worlds_of r) s.log works.place r.plain
+pub stands_of : (s : PlainSession) (r : ReplicaView) (cursor : Cursor) → (works : ReplicaWorks s r cursor) → StandsAt (worlds_of r) s.log works.place r.plain
 stands_of s r cursor works = record { follows = works.follows; placed = works.placed; ahead = works.ahead; synced = works.synced }
 
 -- ---- a pull
@@ -134,10 +134,6 @@ is_batch : (s : PlainSession) (after limit : ℕ) → after ≤ length s.log →
 is_batch s after limit within =
     let there : nat_lt (length s.log) after ≡ false = grind (arith, nat_tests) in
     rw there refl
-
--- how many entries a batch has at most
-abbrev most_in_batch : ℕ
-most_in_batch = 256
 
 abbrev pub has_tick : Reply → Bool
 has_tick (Batch entries tick) = is_some tick
@@ -163,43 +159,43 @@ pub record TicksOn (r : ReplicaView) (t : ℕ) : Type 0 where
 -- the last of the frames is a tick
 tick_last
     : (s : PlainSession) (place : Place) (r : ReplicaView) (front : List ServerFrame) (t : ℕ) → AreWorlds (worlds_of r) → IsSoundSession s → Streams s.log place (front ++ Tick t ∷ [])
-    → StandsAt (worlds_of r) s.log place r.plain → AreFine r (front ++ Tick t ∷ []) → TicksOn (after_all r (front ++ Tick t ∷ [])) t
+    → StandsAt (worlds_of r) s.log place r.plain → AreFine r (front ++ Tick t ∷ []) → TicksOn (after_frames r (front ++ Tick t ∷ [])) t
 tick_last s place r [] t laws sound streams stands fine = record {
   rests = tick_rests (worlds_of r) laws r.plain t stands.follows.valid streams.0.1 stands.synced fine.0.none;
   time = tick_time (worlds_of r) laws r.plain t stands.follows.valid stands.synced fine.0.none;
 }
 tick_last s place r (frame ∷ front) t laws sound streams stands fine =
     let behind = behind_frame (worlds_of r) laws s.log place r.plain frame sound.legal stands streams.0 in
-    tick_last s (place_after place frame) (after r frame) front t laws sound streams.1 behind.stands fine.2
+    tick_last s (place_after place frame) (after_frame r frame) front t laws sound streams.1 behind.stands fine.2
 
 -- where the replica stands behind a batch
 pub record Comes (s : PlainSession) (r : ReplicaView) (cursor : Cursor) (entries : List Entry) (tick : Option ℕ) : Type 0 where
   pub ticked : (next_cursor cursor (Batch entries tick)).last_tick ≤ s.horizon
-  pub next : ((next_cursor cursor (Batch entries tick)).last_tick < s.horizon) ⊎ IsCaughtUp s (after_all r (next_frames cursor (Batch entries tick)))
-  pub come : HasCome s (after_all r (next_frames cursor (Batch entries tick))) cursor (next_cursor cursor (Batch entries tick)) (is_some tick)
+  pub next : ((next_cursor cursor (Batch entries tick)).last_tick < s.horizon) ⊎ IsCaughtUp s (after_frames r (next_frames cursor (Batch entries tick)))
+  pub come : HasCome s (after_frames r (next_frames cursor (Batch entries tick))) cursor (next_cursor cursor (Batch entries tick)) (is_some tick)
 
-pulled_long : (s : PlainSession) (after : ℕ) → after ≤ length s.log → nat_le (length s.log) (after + most_in_batch) ≡ true → after + length (take most_in_batch (drop after s.log)) ≡ length s.log
+pulled_long : (s : PlainSession) (after : ℕ) → after ≤ length s.log → nat_le (length s.log) (after + most_pulled) ≡ true → after + length (take most_pulled (drop after s.log)) ≡ length s.log
 pulled_long s after within whole =
-    let few : length s.log ≤ after + most_in_batch = grind (arith, nat_tests) in
-    let taken = length-take most_in_batch (drop after s.log) in
+    let few : length s.log ≤ after + most_pulled = grind (arith, nat_tests) in
+    let taken = length-take most_pulled (drop after s.log) in
     let left = length-drop after s.log in
     omega (arith, within)
 
-pulled_short : (s : PlainSession) (after : ℕ) → nat_le (length s.log) (after + most_in_batch) ≡ false → (after + most_in_batch < length s.log) × (length (take most_in_batch (drop after s.log)) ≡ most_in_batch)
+pulled_short : (s : PlainSession) (after : ℕ) → nat_le (length s.log) (after + most_pulled) ≡ false → (after + most_pulled < length s.log) × (length (take most_pulled (drop after s.log)) ≡ most_pulled)
 pulled_short s after whole =
-    let more : after + most_in_batch < length s.log = grind (arith, nat_tests) in
-    let taken = length-take most_in_batch (drop after s.log) in
+    let more : after + most_pulled < length s.log = grind (arith, nat_tests) in
+    let taken = length-take most_pulled (drop after s.log) in
     let left = length-drop after s.log in
     (more, omega arith)
 
-module _ (s : PlainSession) (r : ReplicaView) (cursor : Cursor) (laws : AreWorlds (worlds_of r)) (sound : IsSoundSession s) (works : Works s r cursor) where
+module _ (s : PlainSession) (r : ReplicaView) (cursor : Cursor) (laws : AreWorlds (worlds_of r)) (sound : IsSoundSession s) (works : ReplicaWorks s r cursor) where
   caught_is_whole : IsCaughtUp s r → cursor.after ≡ length s.log
   caught_is_whole caught = sym works.sent.seen ∙ works.placed ∙ caught.seen
 
   abbrev pub entries : List Entry
-  entries = take most_in_batch (drop cursor.after s.log)
+  entries = take most_pulled (drop cursor.after s.log)
 
-  comes_more : nat_le (length s.log) (cursor.after + most_in_batch) ≡ false → Comes s r cursor entries None
+  comes_more : nat_le (length s.log) (cursor.after + most_pulled) ≡ false → Comes s r cursor entries None
   comes_more whole =
       let more = pulled_short s cursor.after whole in
       record {
@@ -208,80 +204,80 @@ module _ (s : PlainSession) (r : ReplicaView) (cursor : Cursor) (laws : AreWorld
         come = (more.0, ap (λ (n : ℕ). cursor.after + n) more.1);
       }
     where
-      still : (cursor.last_tick < s.horizon) ⊎ IsCaughtUp s r → (cursor.last_tick < s.horizon) ⊎ IsCaughtUp s (after_all r (next_frames cursor (Batch entries None)))
+      still : (cursor.last_tick < s.horizon) ⊎ IsCaughtUp s r → (cursor.last_tick < s.horizon) ⊎ IsCaughtUp s (after_frames r (next_frames cursor (Batch entries None)))
       still (inl later) = inl later
       still (inr caught) = absurd (let all = caught_is_whole caught in let more = pulled_short s cursor.after whole in omega arith)
 
   comes_ticked
-      : nat_le (length s.log) (cursor.after + most_in_batch) ≡ true → (newer : Bool) → nat_lt cursor.last_tick s.horizon ≡ newer
+      : nat_le (length s.log) (cursor.after + most_pulled) ≡ true → (newer : Bool) → nat_lt cursor.last_tick s.horizon ≡ newer
       → Streams s.log works.place (entry_frames entries ++ tick_frames (if newer then Some s.horizon else None)) → AreFine r (entry_frames entries ++ tick_frames (if newer then Some s.horizon else None))
-      → (after_all r (entry_frames entries ++ tick_frames (if newer then Some s.horizon else None))).plain.seen ≡ cursor.after + length entries
-      → (unwrap_or (if newer then Some s.horizon else None) cursor.last_tick ≤ s.horizon) × IsCaughtUp s (after_all r (entry_frames entries ++ tick_frames (if newer then Some s.horizon else None)))
+      → (after_frames r (entry_frames entries ++ tick_frames (if newer then Some s.horizon else None))).plain.seen ≡ cursor.after + length entries
+      → (unwrap_or (if newer then Some s.horizon else None) cursor.last_tick ≤ s.horizon) × IsCaughtUp s (after_frames r (entry_frames entries ++ tick_frames (if newer then Some s.horizon else None)))
   comes_ticked whole true newer streams fine seen =
       let ticks = tick_last s works.place r (entry_frames entries) s.horizon laws sound streams (record { follows = works.follows; placed = works.placed; ahead = works.ahead; synced = works.synced }) fine in
       (omega arith, record { rests = ticks.rests; seen = seen ∙ pulled_long s cursor.after works.sent.within whole; time = ticks.time })
   comes_ticked whole false newer streams fine seen = (works.ticked, stays works.next)
     where
-      stays : (cursor.last_tick < s.horizon) ⊎ IsCaughtUp s r → IsCaughtUp s (after_all r (entry_frames entries ++ []))
+      stays : (cursor.last_tick < s.horizon) ⊎ IsCaughtUp s r → IsCaughtUp s (after_frames r (entry_frames entries ++ []))
       stays (inl later) = absurd (not_newer cursor.last_tick s.horizon newer later)
       stays (inr caught) =
           let none : entries ≡ [] = no_length entries (let long = pulled_long s cursor.after works.sent.within whole in let all = caught_is_whole caught in omega arith) in
-          subst (λ (es : List Entry). IsCaughtUp s (after_all r (entry_frames es ++ []))) (sym none) caught
+          subst (λ (es : List Entry). IsCaughtUp s (after_frames r (entry_frames es ++ []))) (sym none) caught
 
-  comes_whole : nat_le (length s.log) (cursor.after + most_in_batch) ≡ true → (newer : Bool) → nat_lt cursor.last_tick s.horizon ≡ newer
+  comes_whole : nat_le (length s.log) (cursor.after + most_pulled) ≡ true → (newer : Bool) → nat_lt cursor.last_tick s.horizon ≡ newer
       → Streams s.log works.place (next_frames cursor (Batch entries (Some s.horizon))) → AreFine r (next_frames cursor (Batch entries (Some s.horizon)))
-      → (after_all r (next_frames cursor (Batch entries (Some s.horizon)))).plain.seen ≡ cursor.after + length entries
+      → (after_frames r (next_frames cursor (Batch entries (Some s.horizon)))).plain.seen ≡ cursor.after + length entries
       → Comes s r cursor entries (Some s.horizon)
   comes_whole whole newer is streams fine seen =
       let ends = comes_ticked whole (nat_lt cursor.last_tick s.horizon) refl streams fine seen in
       record { ticked = ends.0; next = inr ends.1; come = ends.1 }
 
-  comes_if : (whole : Bool) → nat_le (length s.log) (cursor.after + most_in_batch) ≡ whole
+  comes_if : (whole : Bool) → nat_le (length s.log) (cursor.after + most_pulled) ≡ whole
       → Streams s.log works.place (next_frames cursor (Batch entries (if whole then Some s.horizon else None))) → AreFine r (next_frames cursor (Batch entries (if whole then Some s.horizon else None)))
-      → (after_all r (next_frames cursor (Batch entries (if whole then Some s.horizon else None)))).plain.seen ≡ cursor.after + length entries
+      → (after_frames r (next_frames cursor (Batch entries (if whole then Some s.horizon else None)))).plain.seen ≡ cursor.after + length entries
       → Comes s r cursor entries (if whole then Some s.horizon else None)
   comes_if true is streams fine seen = comes_whole is (nat_lt cursor.last_tick s.horizon) refl streams fine seen
   comes_if false is streams fine seen = comes_more is
 
   -- the batch of the session
   abbrev pub batch : Reply
-  batch = Batch entries (if nat_le (length s.log) (cursor.after + most_in_batch) then Some s.horizon else None)
+  batch = Batch entries (if nat_le (length s.log) (cursor.after + most_pulled) then Some s.horizon else None)
 
   takes : TakesNews s works.place r (next_frames cursor batch)
   takes =
       takes_news s works.place r (next_frames cursor batch) works.program laws sound
-      (entries_news s entries _ (tick_news s cursor.last_tick (nat_le (length s.log) (cursor.after + most_in_batch))))
-      (subst (λ (reply : Reply). Streams s.log works.place (next_frames cursor reply)) (sym (is_batch s cursor.after most_in_batch works.sent.within)) (batch_streams s works.place cursor most_in_batch sound works.sent))
+      (entries_news s entries _ (tick_news s cursor.last_tick (nat_le (length s.log) (cursor.after + most_pulled))))
+      (subst (λ (reply : Reply). Streams s.log works.place (next_frames cursor reply)) (sym (is_batch s cursor.after most_pulled works.sent.within)) (batch_streams s works.place cursor most_pulled sound works.sent))
       (stands_of s r cursor works) works.within
 
   stands : at.StandsAt s (place_after_all works.place (next_frames cursor batch)) (next_cursor cursor batch)
   stands =
-      subst (λ (reply : Reply). at.StandsAt s (place_after_all works.place (next_frames cursor reply)) (next_cursor cursor reply)) (sym (is_batch s cursor.after most_in_batch works.sent.within))
-      (batch_stands s works.place cursor most_in_batch sound works.sent)
+      subst (λ (reply : Reply). at.StandsAt s (place_after_all works.place (next_frames cursor reply)) (next_cursor cursor reply)) (sym (is_batch s cursor.after most_pulled works.sent.within))
+      (batch_stands s works.place cursor most_pulled sound works.sent)
 
-  comes : Comes s r cursor entries (if nat_le (length s.log) (cursor.after + most_in_batch) then Some s.horizon else None)
+  comes : Comes s r cursor entries (if nat_le (length s.log) (cursor.after + most_pulled) then Some s.horizon else None)
   comes =
-      comes_if (nat_le (length s.log) (cursor.after + most_in_batch)) refl
-      (subst (λ (reply : Reply). Streams s.log works.place (next_frames cursor reply)) (sym (is_batch s cursor.after most_in_batch works.sent.within)) (batch_streams s works.place cursor most_in_batch sound works.sent))
+      comes_if (nat_le (length s.log) (cursor.after + most_pulled)) refl
+      (subst (λ (reply : Reply). Streams s.log works.place (next_frames cursor reply)) (sym (is_batch s cursor.after most_pulled works.sent.within)) (batch_streams s works.place cursor most_pulled sound works.sent))
       takes.fine (sym takes.stands.placed ∙ stands.seen)
 
 -- what a pull comes to
 pub record Pulls (s : PlainSession) (r : ReplicaView) (cursor : Cursor) (reply : Reply) : Type 0 where
   pub fine : AreFine r (next_frames cursor reply)
-  pub works : Works s (after_all r (next_frames cursor reply)) (next_cursor cursor reply)
-  pub come : HasCome s (after_all r (next_frames cursor reply)) cursor (next_cursor cursor reply) (has_tick reply)
-  pub kept : after_all r (next_frames cursor reply) ≡ with_plain r (after_all r (next_frames cursor reply)).plain
-  pub same : SameView r.plain (after_all r (next_frames cursor reply)).plain
+  pub works : ReplicaWorks s (after_frames r (next_frames cursor reply)) (next_cursor cursor reply)
+  pub come : HasCome s (after_frames r (next_frames cursor reply)) cursor (next_cursor cursor reply) (has_tick reply)
+  pub kept : after_frames r (next_frames cursor reply) ≡ with_plain r (after_frames r (next_frames cursor reply)).plain
+  pub same : SameView r.plain (after_frames r (next_frames cursor reply)).plain
 
-pub pulled : (s : PlainSession) (r : ReplicaView) (cursor : Cursor) → AreWorlds (worlds_of r) → IsSoundSession s → Works s r cursor → Pulls s r cursor (pull s cursor.after most_in_batch).reply
+pub pulled : (s : PlainSession) (r : ReplicaView) (cursor : Cursor) → AreWorlds (worlds_of r) → IsSoundSession s → ReplicaWorks s r cursor → Pulls s r cursor (pull s cursor.after most_pulled).reply
 pulled s r cursor laws sound works =
     let taken = takes s r cursor laws sound works in
     let stood = stands s r cursor laws sound works in
     let come = comes s r cursor laws sound works in
-    subst (Pulls s r cursor) (is_batch s cursor.after most_in_batch works.sent.within)
+    subst (Pulls s r cursor) (is_batch s cursor.after most_pulled works.sent.within)
     (record {
       fine = taken.fine;
-      works = subst (λ (new : ReplicaView). Works s new (next_cursor cursor (batch s r cursor laws sound works))) (sym taken.kept) (record {
+      works = subst (λ (new : ReplicaView). ReplicaWorks s new (next_cursor cursor (batch s r cursor laws sound works))) (sym taken.kept) (record {
         program = works.program;
         follows = taken.stands.follows;
         synced = taken.stands.synced;
@@ -342,7 +338,7 @@ next_grows : (s new : PlainSession) (r : ReplicaView) (cursor : Cursor) → Grow
 next_grows s new r cursor grows sound ticked (inl later) = inl (omega (arith, grows.horizon))
 next_grows s new r cursor grows sound ticked (inr caught) = later_or_caught cursor.last_tick s new r ticked (caught_grows s new r grows sound caught (nat_le new.horizon s.horizon) refl)
 
-pub works_grow : (s new : PlainSession) (r : ReplicaView) (cursor : Cursor) → Grows s new → IsSoundSession new → Works s r cursor → Works new r cursor
+pub works_grow : (s new : PlainSession) (r : ReplicaView) (cursor : Cursor) → Grows s new → IsSoundSession new → ReplicaWorks s r cursor → ReplicaWorks new r cursor
 works_grow s new r cursor grows sound works = record {
   program = works.program;
   follows = follows_log_grows (worlds_of r) s new r.plain grows works.within works.follows;

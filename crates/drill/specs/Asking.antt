@@ -26,10 +26,10 @@ IsAskedInDrill gives views (Did caller request) = (1 ≤ caller) × (caller ≤ 
 IsAskedInDrill gives views (Void caller) = Unit {0}
 
 -- how many entries the items put into a log at most
-abbrev pub entries_asked : List Item → ℕ
-entries_asked [] = 0
-entries_asked (Did caller request ∷ rest) = entries_used request + entries_asked rest
-entries_asked (Void caller ∷ rest) = entries_asked rest
+abbrev pub entries_used_by : List Item → ℕ
+entries_used_by [] = 0
+entries_used_by (Did caller request ∷ rest) = entries_used request + entries_used_by rest
+entries_used_by (Void caller ∷ rest) = entries_used_by rest
 
 -- a view asks for its first Join, for up to three entries behind each event, and for its Exit
 abbrev pub most_asked : ℕ → ℕ
@@ -42,4 +42,4 @@ most_asked_by_all = 240016
 -- a history in which nobody asks but the views of a drill
 pub record IsDrillHistory (gives : ℕ → Type 0) (views : ℕ) (history : List Item) : Type 0 where
   pub asked : AllByRecursion (IsAskedInDrill gives views) history
-  pub few : entries_asked history ≤ most_asked_by_all
+  pub few : entries_used_by history ≤ most_asked_by_all

@@ -39,10 +39,14 @@ KeepsFrom time (Some base) = time ≤ base.time
 abbrev pub HasFinished : PlainSession → ℕ → List What → Type 0
 HasFinished s view whole = (done_by view s.log ≡ whole) ⊎ ((end_of_time ≤ s.horizon) × IsCutShort whole (done_by view s.log))
 
--- The replica's world was made from a base at the last event whose number is a multiple of 256: the base is not older than the event before,
+-- a view offers its snapshot and loses its world at each event whose number is a multiple of this
+abbrev pub loss_interval : ℕ
+loss_interval = 256
+
+-- The replica's world was made from a base at the last event at which it was lost: the base is not older than the event before,
 -- and a snapshot that is not older than the base is kept.
 pub record HasBase (s : PlainSession) (view number : ℕ) (base : Option ℕ) : Type 0 where
   pub time : ℕ
   pub is : base ≡ Some time
-  pub late : WasSentBy s.log view (number - number % 256 - 1) time
+  pub late : WasSentBy s.log view (number - number % loss_interval - 1) time
   pub kept : KeepsFrom time s.kept

@@ -10,7 +10,7 @@ use Rattle.replica.specs.View.{ReplicaView}
 use Rattle.world.specs.Worlds.{replay}
 use Rattle.drill.specs.declared.size.Size.{Size}
 use Rattle.drill.specs.declared.report.DrillReport.{DrillReport}
-use Rattle.drill.specs.Doing.{HasBase}
+use Rattle.drill.specs.Doing.{HasBase, loss_interval}
 use Rattle.drill.specs.Drilled.{Drilled}
 use Rattle.drill.specs.Ending.{root_total}
 use Rattle.drill.specs.Program.{IsDrillProgram, drill_name, drill_text}
@@ -34,7 +34,7 @@ abbrev pub AreReplays : PlainSession → ProgramTree → List ℕ → ℕ → Li
 AreReplays s tree id view [] = Unit {0}
 AreReplays s tree id view (r ∷ replicas) = IsReplayOf s tree id view r × AreReplays s tree id (view + 1) replicas
 
--- each was made from a base at its last event whose number is a multiple of 256
+-- each was made from a base at the last event at which it was lost
 abbrev pub AreBased : PlainSession → ℕ → ℕ → List ReplicaView → Type 0
 AreBased s number view [] = Unit {0}
 AreBased s number view (r ∷ replicas) = HasBase s view number r.plain.base × AreBased s number (view + 1) replicas
@@ -47,4 +47,4 @@ pub record HasDrilled (gives : ℕ → Type 0) (size : Size) (report : DrillRepo
   pub number : length report.replicas ≡ size.views
   pub total : report.total ≡ root_total (replay tree drill_id report.session.plain.log report.session.plain.horizon).world
   pub agree : report.agree ≡ size.views
-  pub based : 256 ≤ size.events → report.session.plain.horizon < end_of_time → AreBased report.session.plain size.events 1 report.replicas
+  pub based : loss_interval ≤ size.events → report.session.plain.horizon < end_of_time → AreBased report.session.plain size.events 1 report.replicas

@@ -8,6 +8,7 @@ use Rattle.tea_base.specs.Limits.{end_of_time}
 use Rattle.model_value.specs.Plain.{int}
 use Rattle.model_value.specs.Payload.{payload_spelling}
 use Rattle.seeded_random.specs.Draw.{word_of, state_after, number_below}
+use Rattle.run_steps.specs.Limits.{most_drill_views}
 
 -- so many numbers below 100, drawn from this state on
 abbrev pub drawn_numbers : ℕ → ℕ → List ℕ
@@ -29,15 +30,15 @@ own_turns number (drawn ∷ rest) = Event number (add_payload drawn) ∷ joins_b
 
 -- all that a view does
 abbrev pub own : ℕ → ℕ → ℕ → List What
-own seed view events = Join ∷ own_turns 1 (drawn_numbers (seed * 8 + view - 1) events)
+own seed view events = Join ∷ own_turns 1 (drawn_numbers (seed * most_drill_views + view - 1) events)
 
 -- the entries of a view
-abbrev pub entries_of : ℕ → List Entry → List Entry
-entries_of view log = filter (λ entry. entry.view == view) log
+abbrev pub entries_by : ℕ → List Entry → List Entry
+entries_by view log = filter (λ entry. entry.view == view) log
 
 -- what a log has of a view, without seq and time
 abbrev pub done_by : ℕ → List Entry → List What
-done_by view log = map (λ entry. entry.what) (entries_of view log)
+done_by view log = map (λ entry. entry.what) (entries_by view log)
 
 -- nothing of it is done, or a first part, and an Exit in place of the rest
 abbrev pub IsCutShort : List What → List What → Type 0

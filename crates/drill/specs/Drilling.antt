@@ -11,7 +11,7 @@ use Rattle.drill.specs.declared.size.Size.{Size}
 use Rattle.drill.specs.declared.trust.TrustReplay.{TrustReplay}
 use Rattle.drill.specs.declared.worker.Worker.{Worker}
 use Rattle.drill.specs.declared.finished.Finished.{Finished}
-use Rattle.drill.specs.declared.drilling.Prepared.{Prepared}
+use Rattle.drill.specs.declared.drilling.DrillSession.{DrillSession}
 use Rattle.drill.specs.declared.drilling.Rested.{Rested}
 use Rattle.drill.specs.Drill.{drill_id}
 use Rattle.drill.specs.Ending.{HasReplay, IsCountedBy, IsOfView}
@@ -19,7 +19,7 @@ use Rattle.drill.specs.Program.{IsDrillProgram}
 use Rattle.drill.specs.Turns.{HasEnded, MayCatchUp}
 
 -- The session trusts the replay of the one program of drills, under the one id.
-pub record IsPrepared (prepared : Prepared) : Type 0 where
+pub record IsDrillSession (prepared : DrillSession) : Type 0 where
   pub tree : IsDrillProgram (program_tree (arc_value prepared.program))
   pub trusts : arc_value prepared.shared.trust.program ≡ arc_value prepared.program
   pub same_id : prepared.shared.id ≡ prepared.id
@@ -42,7 +42,7 @@ pub record HaveEnded (gives : ℕ → Type 0) (size : Size) (shared : SharedStat
   pub views : views_of ended ≡ views_of_workers workers
 
 -- what a worker answers, and what all of them do: without memory nothing is told
-pub record Answers (gives : ℕ → Type 0) (size : Size) (shared : SharedState TrustReplay) (w : Worker) {E : Type 0} (answer : Result Finished E) : Type 0 where
+pub record WorkerAnswers (gives : ℕ → Type 0) (size : Size) (shared : SharedState TrustReplay) (w : Worker) {E : Type 0} (answer : Result Finished E) : Type 0 where
   pub told : IfOk answer (λ one. HasEnded gives size shared one × (one.worker.view ≡ w.view))
 
 pub record AllAnswer (gives : ℕ → Type 0) (size : Size) (shared : SharedState TrustReplay) (workers : List Worker) {Z E : Type 0} (answer : Result (Vec Finished Z) E) : Type 0 where
@@ -59,7 +59,7 @@ pub record HasPass (shared : SharedState TrustReplay) (one : Finished) : Type 0 
   pub numbers : numbers_held one.worker.pass ≡ 1
 
 -- Caller 0 has made no call. The other callers are the views of those that have ended, and their calls are those that each has made.
-pub record Gathers (shared : SharedState TrustReplay) (ended : List Finished) (pass : PassState) : Type 0 where
+pub record GathersWorkers (shared : SharedState TrustReplay) (ended : List Finished) (pass : PassState) : Type 0 where
   pub same : pass.session ≡ shared.session
   pub callers : pass.callers ≡ 0 ∷ views_of ended
   pub idle : calls_of (0 ∷ []) pass.seen ≡ []

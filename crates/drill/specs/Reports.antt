@@ -23,7 +23,7 @@ pub record IsSnapshotOf (r : ReplicaView) (bytes : List ℕ) : Type 0 where
   pub read : (worlds_of r).unsnap bytes ≡ Some r.plain.world
 
 -- the bytes are the snapshot of a world of the program and the session
-pub record SpellsWorld (program : ProgramTree) (id bytes : List ℕ) : Type 0 where
+pub record IsWorldSnapshot (program : ProgramTree) (id bytes : List ℕ) : Type 0 where
   pub world : WorldRecord
   pub snapshot : IsSnapshot (field_counts program) id bytes world
 

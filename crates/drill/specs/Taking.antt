@@ -13,18 +13,18 @@ pub record HasTaken (r : ReplicaView) (frame : ServerFrame) (new : ReplicaView) 
   pub is : new ≡ with_plain r (taken (worlds_of r) r.plain frame).replica
 
 -- what it is then
-abbrev pub after : ReplicaView → ServerFrame → ReplicaView
-after r frame = with_plain r (taken (worlds_of r) r.plain frame).replica
+abbrev pub after_frame : ReplicaView → ServerFrame → ReplicaView
+after_frame r frame = with_plain r (taken (worlds_of r) r.plain frame).replica
 
-abbrev pub after_all : ReplicaView → List ServerFrame → ReplicaView
-after_all r [] = r
-after_all r (frame ∷ rest) = after_all (after r frame) rest
+abbrev pub after_frames : ReplicaView → List ServerFrame → ReplicaView
+after_frames r [] = r
+after_frames r (frame ∷ rest) = after_frames (after_frame r frame) rest
 
 -- no frame of these has a fault for a replica that takes them in order, and each has a time of TeaTime
 abbrev pub AreFine : ReplicaView → List ServerFrame → Type 0
 AreFine r [] = Unit {0}
-AreFine r (frame ∷ rest) = IsFine r frame × IsTimely frame × AreFine (after r frame) rest
+AreFine r (frame ∷ rest) = IsFine r frame × IsTimely frame × AreFine (after_frame r frame) rest
 
 -- it has taken all of them
 pub record HasTakenAll (r : ReplicaView) (frames : List ServerFrame) (new : ReplicaView) : Type 0 where
-  pub all : new ≡ after_all r frames
+  pub all : new ≡ after_frames r frames

@@ -12,6 +12,7 @@ use Rattle.reflector_core.specs.declared.request.Reply.TheVariants.{Joined, Stam
 use Rattle.reflector_core.specs.PlainSession.{PlainSession}
 use Rattle.join_sync.specs.declared.cursor.Cursor.{Cursor}
 use Rattle.join_sync.specs.Answers.{first_cursor}
+use Rattle.join_sync.specs.Batches.{most_pulled}
 use Rattle.session_lock.specs.declared.knowledge.Item.{Item}
 use Rattle.session_lock.specs.declared.knowledge.Item.TheVariants.{Did}
 use Rattle.session_lock.specs.History.{play}
@@ -30,12 +31,12 @@ use Rattle.drill.specs.declared.worker.Worker.{Worker}
 use Rattle.drill.specs.declared.finished.Course.{Course}
 use Rattle.drill.specs.declared.finished.Course.TheVariants as course
 use Rattle.drill.specs.declared.finished.Finished.{Finished}
-use Rattle.drill.specs.Asking.{IsDrillHistory, entries_asked, most_asked, most_short}
-use Rattle.drill.specs.Doing.{HasBase, HasDone, HasFinished, HasSent, IsHereBy, KeepsFrom, WasSentBy}
+use Rattle.drill.specs.Asking.{IsDrillHistory, entries_used_by, most_asked, most_short}
+use Rattle.drill.specs.Doing.{HasBase, HasDone, HasFinished, HasSent, IsHereBy, KeepsFrom, WasSentBy, loss_interval}
 use Rattle.drill.specs.Drilled.{add_payload, drawn_numbers, joins_behind, own, own_turns}
 use Rattle.drill.specs.Ending.{Catches, IsCountedBy}
 use Rattle.drill.specs.Workers.{HasAsked, HasPassed, IsWorker}
-use Rattle.drill.specs.Working.{IsCaughtUp, Works}
+use Rattle.drill.specs.Working.{IsCaughtUp, ReplicaWorks}
 
 -- ---- calls
 
@@ -65,7 +66,7 @@ base_after how old reply = None
 
 -- the Sync of its Join is taken
 pub record TakesSync (s : PlainSession) (old new : ReplicaView) (how : How) (reply : Reply) (cursor : Cursor) : Type 0 where
-  pub works : Works s new cursor
+  pub works : ReplicaWorks s new cursor
   pub events : KeepsEvents old new
   pub given : new.plain.given ≡ new.plain.acknowledged
   pub base : new.plain.base ≡ base_after how old.plain.base reply
@@ -120,17 +121,17 @@ pub record KeepsConnection (old new : Cursor) : Type 0 where
 
 -- it has taken more of the log
 pub record HasTakenMore (gives : ℕ → Type 0) (views : ℕ) (before after : Worker) (old new : Cursor) : Type 0 where
-  pub works : Works (play after.pass.seen) after.replica new
+  pub works : ReplicaWorks (play after.pass.seen) after.replica new
   pub passed : HasPassed gives views before.view before.pass after.pass
   pub events : KeepsEvents before.replica after.replica
   pub given : after.replica.plain.given ≡ before.replica.plain.given
   pub base : after.replica.plain.base ≡ before.replica.plain.base
   pub connection : KeepsConnection old new
 
--- the whole log, or 256 entries of it
+-- the whole log, or as many entries of it as a Pull asks for
 abbrev pub HasCome : PlainSession → ReplicaView → Cursor → Cursor → Bool → Type 0
 HasCome s r old new true = IsCaughtUp s r
-HasCome s r old new false = (old.after + 256 < length s.log) × (new.after ≡ old.after + 256)
+HasCome s r old new false = (old.after + most_pulled < length s.log) × (new.after ≡ old.after + most_pulled)
 
 -- it has offered its snapshot
 pub record HasOffered (gives : ℕ → Type 0) (views : ℕ) (shared : SharedState TrustReplay) (before after : Worker) (cursor : Cursor) : Type 0 where
@@ -147,13 +148,13 @@ pub record Does (size : Size) (s : PlainSession) (w : Worker) (cursor : Cursor) 
   pub done : HasDone s.log w.view number (own_turns (number + 1) (drawn_numbers w.source (size.events - number))) (own size.seed w.view size.events)
   pub here : IsHereBy s.log w.view cursor.joined
   pub late : (number ≡ 0) ⊎ WasSentBy s.log w.view number w.replica.plain.world.time
-  pub based : 256 ≤ number → HasBase s w.view number w.replica.plain.base
+  pub based : loss_interval ≤ number → HasBase s w.view number w.replica.plain.base
 
 -- It has made so many turns: each event is acknowledged, and its replica is at rest.
-pub record IsReady (gives : ℕ → Type 0) (size : Size) (shared : SharedState TrustReplay) (w : Worker) (cursor : Cursor) (number : ℕ) : Type 0 where
+pub record IsWorkerReady (gives : ℕ → Type 0) (size : Size) (shared : SharedState TrustReplay) (w : Worker) (cursor : Cursor) (number : ℕ) : Type 0 where
   pub worker : IsWorker gives size shared w
-  pub few : entries_asked (own_calls w.pass) ≤ 1 + 3 * number
-  pub works : Works (play w.pass.seen) w.replica cursor
+  pub few : entries_used_by (own_calls w.pass) ≤ 1 + 3 * number
+  pub works : ReplicaWorks (play w.pass.seen) w.replica cursor
   pub connection : cursor.view ≡ w.view
   pub settled : w.replica.plain.outbox ≡ []
   pub acknowledged : w.replica.plain.acknowledged ≡ number
@@ -182,7 +183,7 @@ pub record Owes (size : Size) (s : PlainSession) (w : Worker) (cursor : Cursor) 
   pub sent : HasSent s.log w.view number payload
   pub early : WasSentBy s.log w.view number s.horizon
   pub late : (number ≡ 1) ⊎ WasSentBy s.log w.view (number - 1) w.replica.plain.world.time
-  pub based : 256 ≤ number - 1 → HasBase s w.view (number - 1) w.replica.plain.base
+  pub based : loss_interval ≤ number - 1 → HasBase s w.view (number - 1) w.replica.plain.base
 
 -- the last call of its pass is the Send of this event, by this connection
 pub record HasSentLast (w : Worker) (cursor : Cursor) (number : ℕ) : Type 0 where
@@ -193,8 +194,8 @@ pub record HasSentLast (w : Worker) (cursor : Cursor) (number : ℕ) : Type 0 wh
 
 pub record IsOwed (gives : ℕ → Type 0) (size : Size) (shared : SharedState TrustReplay) (w : Worker) (cursor : Cursor) (number : ℕ) (payload : List ℕ) : Type 0 where
   pub waiting : IsWaiting gives size shared w number payload
-  pub few : entries_asked (own_calls w.pass) + 1 ≤ 3 * number
-  pub works : Works (play w.pass.seen) w.replica cursor
+  pub few : entries_used_by (own_calls w.pass) + 1 ≤ 3 * number
+  pub works : ReplicaWorks (play w.pass.seen) w.replica cursor
   pub connection : cursor.view ≡ w.view
   pub given : w.replica.plain.given ≡ number
   pub rests : (number ≡ 1) ⊎ (is_at_rest w.replica.plain.world ≡ true)
@@ -203,9 +204,9 @@ pub record IsOwed (gives : ℕ → Type 0) (size : Size) (shared : SharedState T
 
 -- The connection is lost. A snapshot is kept that is not older than the event before, where the world is lost too.
 abbrev pub KeepsForJoin : PlainSession → Worker → ℕ → How → Type 0
-KeepsForJoin s w number Fresh = (number % 256 ≡ 0) × (time : ℕ) × WasSentBy s.log w.view (number - 1) time × KeepsFrom time s.kept
+KeepsForJoin s w number Fresh = (number % loss_interval ≡ 0) × (time : ℕ) × WasSentBy s.log w.view (number - 1) time × KeepsFrom time s.kept
 KeepsForJoin s w number Whole = ⊥
-KeepsForJoin s w number Resume = 256 ≤ number → HasBase s w.view number w.replica.plain.base
+KeepsForJoin s w number Resume = loss_interval ≤ number → HasBase s w.view number w.replica.plain.base
 
 -- a world that is lost is the first one again, and no entry is seen
 abbrev pub LosesWorld : ReplicaView → How → Type 0
@@ -221,7 +222,7 @@ pub record Loses (size : Size) (s : PlainSession) (w : Worker) (cursor : Cursor)
 
 pub record IsLost (gives : ℕ → Type 0) (size : Size) (shared : SharedState TrustReplay) (w : Worker) (cursor : Cursor) (number : ℕ) (payload : List ℕ) (how : How) : Type 0 where
   pub waiting : IsWaiting gives size shared w number payload
-  pub few : entries_asked (own_calls w.pass) + 1 ≤ 3 * number
+  pub few : entries_used_by (own_calls w.pass) + 1 ≤ 3 * number
   pub connection : cursor.view ≡ w.view
   pub may : MayJoinBy (play w.pass.seen) w.replica how
   pub lost : LosesWorld w.replica how
@@ -233,33 +234,33 @@ pub record Returns (size : Size) (s : PlainSession) (w : Worker) (cursor : Curso
   pub here : IsHereBy s.log w.view cursor.joined
   pub sent : HasSent s.log w.view number payload
   pub early : WasSentBy s.log w.view number s.horizon
-  pub based : 256 ≤ number → HasBase s w.view number w.replica.plain.base
+  pub based : loss_interval ≤ number → HasBase s w.view number w.replica.plain.base
 
 pub record IsBack (gives : ℕ → Type 0) (size : Size) (shared : SharedState TrustReplay) (w : Worker) (cursor : Cursor) (number : ℕ) (payload : List ℕ) : Type 0 where
   pub waiting : IsWaiting gives size shared w number payload
-  pub few : entries_asked (own_calls w.pass) ≤ 3 * number
-  pub works : Works (play w.pass.seen) w.replica cursor
+  pub few : entries_used_by (own_calls w.pass) ≤ 3 * number
+  pub works : ReplicaWorks (play w.pass.seen) w.replica cursor
   pub connection : cursor.view ≡ w.view
   pub given : w.replica.plain.given ≡ w.replica.plain.acknowledged
   pub does : IsDrillHistory gives size.views w.pass.seen → Returns size (play w.pass.seen) w cursor number payload
 
 -- its Done is taken, and more of the log is to be
-pub record Settles (size : Size) (s : PlainSession) (w : Worker) (cursor : Cursor) (number : ℕ) : Type 0 where
+pub record IsSettling (size : Size) (s : PlainSession) (w : Worker) (cursor : Cursor) (number : ℕ) : Type 0 where
   pub done : HasDone s.log w.view number (left_behind size w number) (own size.seed w.view size.events)
   pub here : IsHereBy s.log w.view cursor.joined
   pub early : WasSentBy s.log w.view number s.horizon
-  pub based : 256 ≤ number → HasBase s w.view number w.replica.plain.base
+  pub based : loss_interval ≤ number → HasBase s w.view number w.replica.plain.base
 
 pub record IsSettled (gives : ℕ → Type 0) (size : Size) (shared : SharedState TrustReplay) (w : Worker) (cursor : Cursor) (number : ℕ) : Type 0 where
   pub worker : IsWorker gives size shared w
-  pub few : entries_asked (own_calls w.pass) ≤ 1 + 3 * number
-  pub works : Works (play w.pass.seen) w.replica cursor
+  pub few : entries_used_by (own_calls w.pass) ≤ 1 + 3 * number
+  pub works : ReplicaWorks (play w.pass.seen) w.replica cursor
   pub connection : cursor.view ≡ w.view
   pub outbox : w.replica.plain.outbox ≡ []
   pub acknowledged : w.replica.plain.acknowledged ≡ number
   pub given : w.replica.plain.given ≡ number
   pub last : HasSentLast w cursor number
-  pub does : IsDrillHistory gives size.views w.pass.seen → Settles size (play w.pass.seen) w cursor number
+  pub does : IsDrillHistory gives size.views w.pass.seen → IsSettling size (play w.pass.seen) w cursor number
 
 -- ---- the end of the turns
 
@@ -281,7 +282,7 @@ MayCatchUp s r false = Unit {0}
 -- it was refused, and makes no further turn; its newest Join was not refused, or it was
 pub record HasStopped (gives : ℕ → Type 0) (size : Size) (shared : SharedState TrustReplay) (w : Worker) (cursor : Cursor) (synced : Bool) : Type 0 where
   pub worker : IsWorker gives size shared w
-  pub few : entries_asked (own_calls w.pass) ≤ 1 + 3 * size.events
+  pub few : entries_used_by (own_calls w.pass) ≤ 1 + 3 * size.events
   pub connection : cursor.view ≡ w.view
   pub catches : MayCatchUp (play w.pass.seen) w.replica synced
   pub stops : IsDrillHistory gives size.views w.pass.seen → Stops size (play w.pass.seen) w cursor.joined
@@ -294,7 +295,7 @@ HasResent gives size shared w cursor number course.JoinRefused = HasStopped give
 
 -- it has made so many turns, or was refused in one of them
 abbrev pub HasMade : (ℕ → Type 0) → Size → SharedState TrustReplay → Worker → Cursor → ℕ → Course → Type 0
-HasMade gives size shared w cursor number course.Whole = IsReady gives size shared w cursor number
+HasMade gives size shared w cursor number course.Whole = IsWorkerReady gives size shared w cursor number
 HasMade gives size shared w cursor number course.SendRefused = HasStopped gives size shared w cursor true
 HasMade gives size shared w cursor number course.JoinRefused = HasStopped gives size shared w cursor false
 
@@ -302,12 +303,12 @@ HasMade gives size shared w cursor number course.JoinRefused = HasStopped gives 
 pub record Ends (size : Size) (s : PlainSession) (w : Worker) : Type 0 where
   pub finished : HasFinished s w.view (own size.seed w.view size.events)
   pub counted : IsCountedBy s w.replica
-  pub based : 256 ≤ size.events → s.horizon < end_of_time → HasBase s w.view size.events w.replica.plain.base
+  pub based : loss_interval ≤ size.events → s.horizon < end_of_time → HasBase s w.view size.events w.replica.plain.base
 
 -- it has ended
 pub record HasEnded (gives : ℕ → Type 0) (size : Size) (shared : SharedState TrustReplay) (one : Finished) : Type 0 where
   pub worker : IsWorker gives size shared one.worker
-  pub few : entries_asked (own_calls one.worker.pass) ≤ most_asked size.events
+  pub few : entries_used_by (own_calls one.worker.pass) ≤ most_asked size.events
   pub catches : MayCatchUp (play one.worker.pass.seen) one.worker.replica one.is_synced
   pub ends : IsDrillHistory gives size.views one.worker.pass.seen → Ends size (play one.worker.pass.seen) one.worker
   -- its newest Join is refused at the end of time alone

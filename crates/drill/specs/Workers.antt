@@ -15,12 +15,13 @@ use Rattle.session_lock.specs.declared.knowledge.Item.TheVariants.{Did}
 use Rattle.session_lock.specs.History.{IsSoundThrough, play}
 use Rattle.session_lock.specs.Passes.{PassState, SharedState, numbers_held, own_calls}
 use Rattle.session_lock.specs.Trusts.{IsTrusted}
+use Rattle.run_steps.specs.Limits.{most_drill_views}
 use Rattle.drill.specs.declared.trust.TrustReplay.{TrustReplay}
 use Rattle.drill.specs.declared.size.Size.{Size}
 use Rattle.drill.specs.declared.worker.Worker.{Worker}
-use Rattle.drill.specs.Asking.{IsAskedInDrill, IsDrillHistory, entries_asked}
+use Rattle.drill.specs.Asking.{IsAskedInDrill, IsDrillHistory, entries_used_by}
 use Rattle.drill.specs.Doing.{KeepsFrom}
-use Rattle.drill.specs.Drilled.{IsOfDrill, entries_of}
+use Rattle.drill.specs.Drilled.{IsOfDrill, entries_by}
 use Rattle.drill.specs.Trust.{AllowsReplay}
 
 -- what the drill's session keeps is the snapshot of a replay
@@ -43,16 +44,16 @@ pub record IsWorker (gives : ℕ → Type 0) (size : Size) (shared : SharedState
 
 -- From one history to a longer one the session has grown, and what it keeps has not grown older. If the longer one is of the drill, so is
 -- the other, and the view has done nothing between.
-pub record GoesOn (gives : ℕ → Type 0) (views view : ℕ) (before now : List Item) : Type 0 where
+pub record HistoryGoesOn (gives : ℕ → Type 0) (views view : ℕ) (before now : List Item) : Type 0 where
   pub grows : GrowsTo (play before) (play now)
   pub kept : (time : ℕ) → KeepsFrom time (play before).kept → KeepsFrom time (play now).kept
   pub first : IsDrillHistory gives views now → IsDrillHistory gives views before
-  pub apart : IsDrillHistory gives views now → entries_of view (play now).log ≡ entries_of view (play before).log
+  pub apart : IsDrillHistory gives views now → entries_by view (play now).log ≡ entries_by view (play before).log
 
 -- The view's worker has asked this, and was replied this: the session had gone on to a history, and answered.
 pub record HasAsked (gives : ℕ → Type 0) (views : ℕ) (shared : SharedState TrustReplay) (view : ℕ) (before after : PassState) (request : Request) (reply : Reply) : Type 0 where
   pub history : List Item
-  pub on : GoesOn gives views view before.seen history
+  pub on : HistoryGoesOn gives views view before.seen history
   pub sound : IsSoundSession (play history)
   pub trusted : IsTrustedReplay shared (play history)
   pub seen : after.seen ≡ history ++ Did view request ∷ []
@@ -63,8 +64,8 @@ pub record HasAsked (gives : ℕ → Type 0) (views : ℕ) (shared : SharedState
 
 -- The view's worker has called, and put nothing into the log.
 pub record HasPassed (gives : ℕ → Type 0) (views view : ℕ) (before after : PassState) : Type 0 where
-  pub on : GoesOn gives views view before.seen after.seen
-  pub asked : entries_asked (own_calls after) ≡ entries_asked (own_calls before)
+  pub on : HistoryGoesOn gives views view before.seen after.seen
+  pub asked : entries_used_by (own_calls after) ≡ entries_used_by (own_calls before)
 
 -- nothing but its pass has changed
 abbrev pub ChangesPass : Worker → Worker → Type 0
@@ -80,4 +81,4 @@ pub record IsFirst (gives : ℕ → Type 0) (size : Size) (shared : SharedState 
   pub calls : own_calls w.pass ≡ []
   pub outbox : w.replica.plain.outbox ≡ []
   pub acknowledged : w.replica.plain.acknowledged ≡ 0
-  pub source : w.source ≡ size.seed * 8 + w.view - 1
+  pub source : w.source ≡ size.seed * most_drill_views + w.view - 1

@@ -19,7 +19,7 @@ pub record IsCaughtUp (s : PlainSession) (r : ReplicaView) : Type 0 where
 
 -- The replica follows the log, and has taken all that its connection was sent, up to one place of the log. Unless it is caught up, a tick
 -- of the horizon is still to be sent.
-pub record Works (s : PlainSession) (r : ReplicaView) (cursor : Cursor) : Type 0 where
+pub record ReplicaWorks (s : PlainSession) (r : ReplicaView) (cursor : Cursor) : Type 0 where
   pub program : IsProgram (program_tree r.program)
   pub follows : FollowsLog (worlds_of r) s.log r.plain
   pub synced : r.plain.synced ≡ true

@@ -5,11 +5,11 @@ ghost use Rattle.session_lock.specs.History.{play};
 ghost use Rattle.replica.specs.RealWorlds.{is_at_rest};
 ghost use Rattle.drill.specs.Turns.{HasCome, HasJoined, HasOffered, HasPublished, HasSentIt, HasTakenMore, HasUnsent, MayJoinBy};
 ghost use Rattle.drill.specs.Workers.{IsWorker, KeepsSource};
-ghost use Rattle.drill.specs.Working.{IsCaughtUp, Works};
+ghost use Rattle.drill.specs.Working.{IsCaughtUp, ReplicaWorks};
 
 use crate::taking::{take_all, take_sync};
 use crate::worker::{Hall, Worker};
-use join_sync::{Act, Cursor, replies_fit};
+use join_sync::{Act, Cursor, MOST_PULLED, replies_fit};
 use model_value::Value;
 use reflector_core::{Reply, Request};
 use replica::{equal_snapshots, worlds_replay, worlds_stand};
@@ -19,9 +19,6 @@ use tea_base::{Text, WantOfMemory};
 use tea_io::Clock;
 use wire_frames::{ClientFrame, ServerFrame};
 use world::WorldFault;
-
-/// How many entries a batch has at most.
-const MOST_PULLED: u32 = 256;
 
 /// So many batches have all entries that a log may have.
 const MOST_BATCHES: u32 = 4100;
@@ -116,7 +113,7 @@ impl Worker {
         cursor: &mut Cursor,
     ) -> Result<(), WantOfMemory>
         requires worker { IsWorker (C.gives hall.now.clock.now) hall.now.size hall.now.shared.now self.old }
-        requires works { Works (play self.old.pass.seen) self.old.replica cursor.old }
+        requires works { ReplicaWorks (play self.old.pass.seen) self.old.replica cursor.old }
         ensures source { KeepsSource self.old self.new }
         ensures worker { OnOk result (IsWorker (C.gives hall.now.clock.now) hall.now.size hall.now.shared.now self.new) }
         ensures more { OnOk result (HasTakenMore (C.gives hall.now.clock.now) hall.now.size.views self.old self.new cursor.old cursor.new) }
@@ -141,7 +138,7 @@ impl Worker {
         cursor: &mut Cursor,
     ) -> Result<bool, WantOfMemory>
         requires worker { IsWorker (C.gives hall.now.clock.now) hall.now.size hall.now.shared.now self.old }
-        requires works { Works (play self.old.pass.seen) self.old.replica cursor.old }
+        requires works { ReplicaWorks (play self.old.pass.seen) self.old.replica cursor.old }
         ensures source { KeepsSource self.old self.new }
         ensures worker { OnOk result (IsWorker (C.gives hall.now.clock.now) hall.now.size hall.now.shared.now self.new) }
         ensures more { OnOk result (HasTakenMore (C.gives hall.now.clock.now) hall.now.size.views self.old self.new cursor.old cursor.new) }
@@ -169,7 +166,7 @@ impl Worker {
         cursor: &Cursor,
     ) -> Result<(), WantOfMemory>
         requires worker { IsWorker (C.gives hall.now.clock.now) hall.now.size hall.now.shared.now self.old }
-        requires works { Works (play self.old.pass.seen) self.old.replica cursor.now }
+        requires works { ReplicaWorks (play self.old.pass.seen) self.old.replica cursor.now }
         requires rests { is_at_rest self.old.replica.plain.world ≡ true }
         ensures worker { OnOk result (IsWorker (C.gives hall.now.clock.now) hall.now.size hall.now.shared.now self.new) }
         ensures rest { self.new ≡ record self.old { pass = self.new.pass } }

@@ -3,8 +3,9 @@ ghost use Rattle.std.specs.Prelude.{◌≡◌, ◌+◌, ◌*◌, ◌≤◌, ◌+
 ghost use Rattle.std.specs.List.{AllZip};
 ghost use Rattle.std.specs.Thread.{IsSync};
 ghost use Rattle.session_lock.specs.Passes.{first_pass, numbers_held};
+ghost use Rattle.run_steps.specs.Limits.{most_drill_events, most_drill_views};
 ghost use Rattle.drill.specs.Drill.{HasDrilled};
-ghost use Rattle.drill.specs.Drilling.{AllAnswer, Answers, ComesToEnd, Gathers, HasPass, HaveEnded, IsPrepared, MayRest, keeper_after, numbers_from, rested_of, views_of_workers};
+ghost use Rattle.drill.specs.Drilling.{AllAnswer, WorkerAnswers, ComesToEnd, GathersWorkers, HasPass, HaveEnded, IsDrillSession, MayRest, keeper_after, numbers_from, rested_of, views_of_workers};
 ghost use Rattle.drill.specs.Sizes.{IsOfSize};
 ghost use Rattle.drill.specs.Workers.{IsFirst};
 
@@ -18,6 +19,7 @@ use crate::worker::{Hall, Worker};
 use model_check::{Checked, checked_crosses_threads};
 use reflector_core::Session;
 use replica::{Replica, replica_crosses_threads};
+use run_steps::MOST_DRILL_VIEWS;
 use seeded_random::Source64;
 use session_lock::{Pass, SharedSession};
 use snapshot_codec::session_id;
@@ -52,7 +54,7 @@ fn work_beside<C: Clock + Sync, G: Gate + Sync, R: Threads + Wait + Sync>(
     requires size { IsOfSize hall.now.size }
     requires worker { IsFirst (C.gives hall.now.clock.now) hall.now.size hall.now.shared.now worker }
     requires others { All (IsFirst (C.gives hall.now.clock.now) hall.now.size hall.now.shared.now) others.items }
-    ensures worker { Answers (C.gives hall.now.clock.now) hall.now.size hall.now.shared.now worker result.0 }
+    ensures worker { WorkerAnswers (C.gives hall.now.clock.now) hall.now.size hall.now.shared.now worker result.0 }
     ensures others { AllAnswer (C.gives hall.now.clock.now) hall.now.size hall.now.shared.now others.items result.1 }
 {
     checked_crosses_threads();
@@ -70,7 +72,7 @@ fn work_beside<C: Clock + Sync, G: Gate + Sync, R: Threads + Wait + Sync>(
         rt,
         || -> Result<Finished, WantOfMemory>
             requires { IsSync R.row × IsOfSize size × IsFirst (C.gives clock.now) size shared.now worker }
-            ensures { Answers (C.gives clock.entry.now) size shared.entry.now worker result }
+            ensures { WorkerAnswers (C.gives clock.entry.now) size shared.entry.now worker result }
         {
             worker.work(&Hall {
                 rt,
@@ -117,15 +119,15 @@ fn work_all<C: Clock + Sync, G: Gate + Sync, R: Threads + Wait + Sync>(
 
 /// The program of a drill, its session's id, and the session.
 #[derive(Drop)]
-struct Prepared {
+struct DrillSession {
     program: Arc<Checked, Global>,
     id: SessionId,
     shared: SharedSession<TrustReplay>,
 }
 
 /// All that is made before the workers, and the session's first pass.
-fn prepare(alloc: Global) -> Result<(Prepared, Pass), WantOfMemory>
-    ensures prepared { IfOk result (λ made. IsPrepared made.0) }
+fn prepare(alloc: Global) -> Result<(DrillSession, Pass), WantOfMemory>
+    ensures prepared { IfOk result (λ made. IsDrillSession made.0) }
     ensures keeper { IfOk result (λ made. made.1 ≡ first_pass made.0.shared.session) }
 {
     let name = Text::copy(alloc, NAME)?;
@@ -137,7 +139,7 @@ fn prepare(alloc: Global) -> Result<(Prepared, Pass), WantOfMemory>
     let Ok((shared, keeper)) = SharedSession::new(alloc, id, Session::new(alloc), trust) else {
         return Err(WantOfMemory);
     };
-    let prepared = Prepared {
+    let prepared = DrillSession {
         program,
         id,
         shared,
@@ -145,20 +147,20 @@ fn prepare(alloc: Global) -> Result<(Prepared, Pass), WantOfMemory>
     Ok((prepared, keeper))
 }
 
-/// The source of what a view publishes, by its place among the views.
+/// The source of what a view publishes, by its place among the views. Each seed has a source for each view that a drill may have.
 fn source_of(seed: u32, place: u32) -> Source64
-    ensures { result ≡ seed * 8 + place }
+    ensures { result ≡ seed * most_drill_views + place }
 {
-    Source64::from_state(u64::from(seed) * 8 + u64::from(place))
+    Source64::from_state(u64::from(seed) * u64::from(MOST_DRILL_VIEWS) + u64::from(place))
 }
 
 /// The workers, by their views. The pass of each is split off the one that is kept.
 fn make_workers<C: Clock, G, R: Wait>(
     hall: &Hall<'_, C, G, R>,
-    prepared: &Prepared,
+    prepared: &DrillSession,
     keeper: &mut Pass,
 ) -> Result<Vec<Worker>, WantOfMemory>
-    requires prepared { IsPrepared prepared.now }
+    requires prepared { IsDrillSession prepared.now }
     requires shared { hall.now.shared.now ≡ prepared.now.shared }
     requires size { IsOfSize hall.now.size }
     requires keeper { keeper.old ≡ first_pass hall.now.shared.now.session }
@@ -194,9 +196,9 @@ fn merge_all(
     keeper: &mut Pass,
     ended: Vec<Finished>,
 ) -> Result<Vec<Rested>, WantOfMemory>
-    requires keeper { Gathers shared.now [] keeper.old }
+    requires keeper { GathersWorkers shared.now [] keeper.old }
     requires passes { All (HasPass shared.now) ended.items }
-    ensures gathered { OnOk result (Gathers shared.now ended.items keeper.new) }
+    ensures gathered { OnOk result (GathersWorkers shared.now ended.items keeper.new) }
     ensures numbers { OnOk result (numbers_held keeper.new ≡ numbers_held keeper.old + vec_len ended) }
     ensures rested { IfOk result (λ rested. rested.items ≡ map rested_of ended.items) }
 {
@@ -250,7 +252,7 @@ pub fn drill<C: Clock + Sync, G: Gate + Sync, R: Threads + Wait + Sync>(
     clock: &C,
     gate: &G,
 ) -> Result<DrillReport, WantOfMemory>
-    requires { (1 ≤ size.views) × (size.views ≤ 8) × (size.events ≤ 10000) }
+    requires { (1 ≤ size.views) × (size.views ≤ most_drill_views) × (size.events ≤ most_drill_events) }
     ensures { IfOk result (λ report. HasDrilled (C.gives clock.now) size report) }
 {
     let (prepared, mut keeper) = prepare(alloc)?;
@@ -265,7 +267,7 @@ pub fn drill<C: Clock + Sync, G: Gate + Sync, R: Threads + Wait + Sync>(
     let workers = make_workers(&hall, &prepared, &mut keeper)?;
     let ended = work_all(&hall, workers)?;
     let rested = merge_all(alloc, &prepared.shared, &mut keeper, ended)?;
-    let Prepared {
+    let DrillSession {
         program,
         id,
         shared,

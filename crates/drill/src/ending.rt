@@ -4,8 +4,9 @@ ghost use Rattle.std.specs.List.{All, AllZip};
 ghost use Rattle.model_lang.specs.TreeView.{program_tree};
 ghost use Rattle.world_plain.specs.World.{WorldRecord, world_record};
 ghost use Rattle.replica.specs.RealWorlds.{worlds};
+ghost use Rattle.run_steps.specs.Limits.{most_drill_views};
 ghost use Rattle.drill.specs.Ending.{Catches, HasReplay, IsCountedBy, IsOfView, root_total};
-ghost use Rattle.drill.specs.Reports.{IsAtEnd, IsSnapshotOf, IsWhole, Reports, SpellsWorld};
+ghost use Rattle.drill.specs.Reports.{IsAtEnd, IsSnapshotOf, IsWhole, Reports, IsWorldSnapshot};
 
 use crate::report::{DrillReport, Replicas};
 use crate::taking::take_fine;
@@ -112,7 +113,7 @@ fn total_of(
     id: &SessionId,
     snapshot: &Blob,
 ) -> Result<i64, WantOfMemory>
-    requires { SpellsWorld (program_tree program.now) id.now.0 snapshot.now }
+    requires { IsWorldSnapshot (program_tree program.now) id.now.0 snapshot.now }
     ensures { IfOk result (λ total. (w : WorldRecord) → (worlds (program_tree program.now) id.now.0).unsnap snapshot.now ≡ Some w → total ≡ root_total w) }
 {
     match unsnap(alloc, program, id, snapshot.bytes()) {
@@ -145,7 +146,7 @@ pub fn report(
     replicas: Replicas,
 ) -> Result<DrillReport, WantOfMemory>
     requires some { 0 < length replicas }
-    requires few { length replicas ≤ 8 }
+    requires few { length replicas ≤ most_drill_views }
     requires ended { All (IsAtEnd session.plain program.now id.now.0) replicas }
     ensures { IfOk result (λ report. Reports session program.now id.now.0 replicas report) }
 {

@@ -15,7 +15,6 @@ mod turns;
 mod worker;
 
 pub use drilling::drill;
-pub use program::{NAME, PROGRAM, drill_program};
 pub use report::{DrillReport, Replicas};
 pub use size::Size;
 pub use trust::TrustReplay;

@@ -4,7 +4,7 @@ ghost use Rattle.wire_frames.specs.declared.frame.ServerFrame.TheVariants.{Done}
 ghost use Rattle.reflector_core.specs.declared.request.Reply.{Reply};
 ghost use Rattle.reflector_core.specs.declared.request.Request.TheVariants.{Leave};
 ghost use Rattle.drill.specs.Sizes.{IsOfSize};
-ghost use Rattle.drill.specs.Turns.{HasEnded, HasMade, HasResent, IsLost, IsOwed, IsReady};
+ghost use Rattle.drill.specs.Turns.{HasEnded, HasMade, HasResent, IsLost, IsOwed, IsWorkerReady};
 ghost use Rattle.drill.specs.Workers.{ChangesPass, HasAsked, IsFirst, IsWorker};
 
 use crate::finished::{Course, Finished};
@@ -17,6 +17,9 @@ use std::sync::Wait;
 use tea_base::WantOfMemory;
 use tea_io::{Clock, Gate};
 use wire_frames::ServerFrame;
+
+/// A worker offers a snapshot and loses its world at each event whose number is a multiple of this.
+const LOSS_INTERVAL: u32 = 256;
 
 impl Worker {
     /// Joins, makes all its turns, and leaves.
@@ -50,7 +53,7 @@ impl Worker {
         cursor: &mut Cursor,
     ) -> Result<Course, WantOfMemory>
         requires size { IsOfSize hall.now.size }
-        requires ready { IsReady (C.gives hall.now.clock.now) hall.now.size hall.now.shared.now self.old cursor.old 0 }
+        requires ready { IsWorkerReady (C.gives hall.now.clock.now) hall.now.size hall.now.shared.now self.old cursor.old 0 }
         ensures view { self.new.view ≡ self.old.view }
         ensures made { IfOk result (λ course. HasMade (C.gives hall.now.clock.now) hall.now.size hall.now.shared.now self.new cursor.new hall.now.size.events course) }
     {
@@ -73,7 +76,7 @@ impl Worker {
     ) -> Result<Course, WantOfMemory>
         requires size { IsOfSize hall.now.size }
         requires turn { (1 ≤ turn) × (turn ≤ hall.now.size.events) }
-        requires ready { IsReady (C.gives hall.now.clock.now) hall.now.size hall.now.shared.now self.old cursor.old (turn - 1) }
+        requires ready { IsWorkerReady (C.gives hall.now.clock.now) hall.now.size hall.now.shared.now self.old cursor.old (turn - 1) }
         ensures view { self.new.view ≡ self.old.view }
         ensures made { IfOk result (λ course. HasMade (C.gives hall.now.clock.now) hall.now.size hall.now.shared.now self.new cursor.new turn course) }
     {
@@ -135,7 +138,8 @@ impl Worker {
         Ok(Course::Whole)
     }
 
-    /// Loses its connection without the Done. At each 256th event it offers a snapshot, and loses its world too. Answers how to join again.
+    /// Loses its connection without the Done. At a multiple of `LOSS_INTERVAL` it offers a snapshot and loses its world too. Answers how to
+    /// join again.
     fn lose_connection<C: Clock, G, R: Wait>(
         &mut self,
         hall: &Hall<'_, C, G, R>,
@@ -147,7 +151,7 @@ impl Worker {
         ensures view { self.new.view ≡ self.old.view }
         ensures lost { IfOk result (λ how. (payload : List ℕ) × IsLost (C.gives hall.now.clock.now) hall.now.size hall.now.shared.now self.new cursor.now turn payload how) }
     {
-        if turn % 256 != 0 {
+        if turn % LOSS_INTERVAL != 0 {
             return Ok(How::Resume);
         }
         self.offer(hall, cursor)?;

@@ -4,7 +4,7 @@ use Rattle.std.specs.Prelude.{Vec}
 use Rattle.std.specs.List.{slice_range}
 use Rattle.std.specs.declared.alloc.Global.{Global}
 use Rattle.std.proofs.lemmas.List.{nil_from_length, take-append-le, drop-append-le, drop-drop, drop_at}
-use Rattle.event_region.specs.Chunks.{chunk_size, chunks_joined, AreFilled, AreKept}
+use Rattle.event_region.specs.Chunks.{chunk_size, chunks_joined, AreFilled, KeepsChunks}
 
 joined_none : (chunks : List (Vec ℕ Global)) → AreFilled 0 chunks → chunks_joined chunks ≡ []
 joined_none [] filled = refl
@@ -29,7 +29,7 @@ joined_more : (chunks : List (Vec ℕ Global)) (chunk : Vec ℕ Global) → chun
 joined_more [] chunk none = rw none refl
 joined_more (first ∷ rest) chunk none = ap (λ (bytes : List ℕ). first.items ++ bytes) (joined_more rest chunk none)
 
-pub kept_more : (before after : Vec (Vec ℕ Global) Global) (chunk : Vec ℕ Global) → after.items ≡ before.items ++ chunk ∷ [] → chunk.items ≡ [] → chunk_size ≤ vec_capacity chunk → AreKept before after
+pub kept_more : (before after : Vec (Vec ℕ Global) Global) (chunk : Vec ℕ Global) → after.items ≡ before.items ++ chunk ∷ [] → chunk.items ≡ [] → chunk_size ≤ vec_capacity chunk → KeepsChunks before after
 kept_more before after chunk push none room =
     let counts = before.ok.0 in
     let counts_after = after.ok.0 in

@@ -18,7 +18,7 @@ AreFilled len (chunk ∷ rest) =
     (length chunk.items ≡ min chunk_size len) × (chunk_size ≤ vec_capacity chunk) × AreFilled (len - chunk_size) rest
 
 -- no chunks are gone, and the bytes are the same
-pub record AreKept (before after : Vec (Vec ℕ Global) Global) : Type 0 where
+pub record KeepsChunks (before after : Vec (Vec ℕ Global) Global) : Type 0 where
   pub joined : chunks_joined after.items ≡ chunks_joined before.items
   pub filled : (len : ℕ) → len ≤ chunk_size * vec_len before → AreFilled len before.items → AreFilled len after.items
   pub more : vec_len before ≤ vec_len after

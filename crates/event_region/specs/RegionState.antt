@@ -8,8 +8,8 @@ pub record RegionState : Type 0 where
   pub spare : ℕ
 
 -- the place lies within the bytes
-abbrev pub IsWithin : List ℕ → Place → Type 0
-IsWithin bytes place = place.start + place.len ≤ length bytes
+abbrev pub IsPlaceWithin : List ℕ → Place → Type 0
+IsPlaceWithin bytes place = place.start + place.len ≤ length bytes
 
-abbrev pub bytes_at : List ℕ → Place → List ℕ
-bytes_at bytes place = slice_range bytes place.start (place.start + place.len)
+abbrev pub place_bytes : List ℕ → Place → List ℕ
+place_bytes bytes place = slice_range bytes place.start (place.start + place.len)

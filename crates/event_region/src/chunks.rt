@@ -1,6 +1,6 @@
 //! Chunks of bytes that are filled one after the other.
 ghost use Rattle.std.specs.Prelude.{◌≡◌, ◌≤◌, ◌+◌, ◌-◌, ◌*◌, ◌%◌, ◌++◌, length, vec_len, vec_capacity, slice_range, OnOk};
-ghost use Rattle.event_region.specs.Chunks.{chunk_size, chunks_joined, AreFilled, AreKept};
+ghost use Rattle.event_region.specs.Chunks.{chunk_size, chunks_joined, AreFilled, KeepsChunks};
 
 use tea_base::WantOfMemory;
 
@@ -16,7 +16,7 @@ pub fn rest_of_chunk(at: u64) -> usize
 
 /// Adds a chunk without bytes.
 fn add_chunk(chunks: &mut Vec<Vec<u8>>) -> Result<(), WantOfMemory>
-    ensures kept { AreKept chunks.old chunks.new }
+    ensures kept { KeepsChunks chunks.old chunks.new }
     ensures len { OnOk result (vec_len chunks.new ≡ vec_len chunks.old + 1) }
 {
     let chunk = Vec::with_capacity(*chunks.allocator(), CHUNK_SIZE)?;
@@ -26,7 +26,7 @@ fn add_chunk(chunks: &mut Vec<Vec<u8>>) -> Result<(), WantOfMemory>
 
 /// Adds chunks without bytes until there are so many.
 pub fn add_chunks(chunks: &mut Vec<Vec<u8>>, count: usize) -> Result<(), WantOfMemory>
-    ensures kept { AreKept chunks.old chunks.new }
+    ensures kept { KeepsChunks chunks.old chunks.new }
     ensures count { OnOk result (count ≤ vec_len chunks.new) }
 {
     for _ in chunks.len()..count {

@@ -6,4 +6,4 @@ mod laws;
 mod region;
 
 pub use laws::a_place_keeps_its_bytes;
-pub use region::{MOST_APPENDED, Place, Region};
+pub use region::{Place, Region};

@@ -1,15 +1,12 @@
 //! A region: bytes in chunks that never move.
 ghost use Rattle.std.specs.Prelude.{◌≡◌, ◌≤◌, ◌+◌, ◌^◌, ◌++◌, [], length, IsOk, OnOk, OnErr};
-ghost use Rattle.event_region.specs.RegionState.{IsWithin, bytes_at};
+ghost use Rattle.event_region.specs.RegionState.{IsPlaceWithin, place_bytes};
 ghost use Rattle.event_region.specs.Chunks.{chunk_size};
 
 use crate::chunks::{CHUNK_SIZE, add_chunks, fill, piece, rest_of_chunk};
 use std::alloc::Global;
 use std::marker::Model;
 use tea_base::WantOfMemory;
-
-/// The most bytes that one call appends.
-pub const MOST_APPENDED: usize = CHUNK_SIZE;
 
 /// Where bytes stand in a region.
 #[derive(Clone, Copy, Debug, PartialEq, Eq)]
@@ -113,9 +110,9 @@ impl Region {
     /// The bytes of a place, at most 65,536 of them: those up to the end of a chunk, and those
     /// behind it. Takes no memory.
     pub fn pieces(&self, at: Place) -> (&[u8], &[u8])
-        requires within { IsWithin self.now.bytes at }
+        requires within { IsPlaceWithin self.now.bytes at }
         requires short { at.len ≤ chunk_size }
-        ensures { result.0.now ++ result.1.now ≡ bytes_at self.now.bytes at }
+        ensures { result.0.now ++ result.1.now ≡ place_bytes self.now.bytes at }
     {
         let len = at.len as usize;
         let first = len.min(rest_of_chunk(at.start));

@@ -7,6 +7,10 @@ use Rattle.wire_frames.specs.declared.frame.ServerFrame.{ServerFrame}
 use Rattle.wire_frames.specs.declared.frame.ServerFrame.TheVariants.{Recv, Tick}
 use Rattle.join_sync.specs.declared.cursor.Cursor.{Cursor}
 
+-- a Pull of a connection asks for so many entries at most
+abbrev pub most_pulled : ℕ
+most_pulled = 256
+
 -- the tick of a batch, where it is above the last one that was sent
 abbrev pub newer_tick : ℕ → Option ℕ → Option ℕ
 newer_tick last None = None

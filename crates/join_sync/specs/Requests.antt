@@ -21,6 +21,11 @@ first_request (Snap time bytes) id now = Err NotJoined
 first_request Leave id now = Err NotJoined
 first_request Alive id now = Err NotJoined
 
+-- a request to join, as that of a first frame is
+abbrev pub IsJoin : Request → Type 0
+IsJoin (request.Join view now want) = Unit {0}
+IsJoin other = ⊥
+
 -- what a later frame comes to: a request of the view by this connection, or an answer for which nothing is asked; a second JOIN is refused
 abbrev pub act_on : Cursor → ClientFrame → ℕ → Act
 act_on cursor (Join session view want) now = Answer (server.Refused 1 15 0 0)

@@ -1,12 +1,15 @@
 //! The cursor of a connection.
 use crate::act::Act;
 use crate::frames::{
-    JOIN, batch_frames, last_seq, leave_answer, newer_tick, refused, send_answer, snap_answer,
+    batch_frames, last_seq, leave_answer, newer_tick, refused_frame, send_answer, snap_answer,
 };
 use reflector_core::{Reply, Request};
 use std::alloc::Global;
 use tea_base::WantOfMemory;
-use wire_frames::{ClientFrame, ServerFrame, ServerFrames};
+use wire_frames::{ClientFrame, JOIN_TAG, ServerFrame, ServerFrames};
+
+/// A Pull of a connection asks for so many entries at most.
+pub const MOST_PULLED: u32 = 256;
 
 /// The number by which a frame tells that the view has joined already.
 const ALREADY_JOINED: u8 = 15;
@@ -59,7 +62,7 @@ impl Cursor {
                 };
                 (Some(cursor), sync)
             }
-            Reply::Refused(refusal) => (None, refused(JOIN, refusal)),
+            Reply::Refused(refusal) => (None, refused_frame(JOIN_TAG, refusal)),
             _ => unreachable!(),
         }
     }
@@ -77,7 +80,7 @@ impl Cursor {
     {
         match frame {
             ClientFrame::Join { .. } => Act::Answer(ServerFrame::Refused {
-                about: JOIN,
+                about: JOIN_TAG,
                 code: ALREADY_JOINED,
                 kept: 0,
                 more: 0,

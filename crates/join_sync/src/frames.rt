@@ -8,36 +8,27 @@ ghost use Rattle.join_sync.specs.Refusals.{refused_frame};
 use reflector_core::{Refusal, Reply};
 use std::alloc::Global;
 use tea_base::{Entries, WantOfMemory};
-use wire_frames::{ClientFrame, ServerFrame, ServerFrames};
+use wire_frames::{
+    ALIVE_TAG, ClientFrame, JOIN_TAG, LEAVE_TAG, SEND_TAG, SNAP_TAG, ServerFrame, ServerFrames,
+};
 
 // ---- answers
-
-// The tags of a view's frames, by which a refusal names them.
-pub const JOIN: u8 = 1;
-
-const SEND: u8 = 2;
-
-const SNAP: u8 = 3;
-
-const LEAVE: u8 = 4;
-
-const ALIVE: u8 = 5;
 
 /// The tag of a frame.
 pub fn tag(frame: &ClientFrame) -> u8
     ensures { result ≡ client_tag frame.now }
 {
     match frame {
-        ClientFrame::Join { .. } => JOIN,
-        ClientFrame::Send { .. } => SEND,
-        ClientFrame::Snap { .. } => SNAP,
-        ClientFrame::Leave => LEAVE,
-        ClientFrame::Alive => ALIVE,
+        ClientFrame::Join { .. } => JOIN_TAG,
+        ClientFrame::Send { .. } => SEND_TAG,
+        ClientFrame::Snap { .. } => SNAP_TAG,
+        ClientFrame::Leave => LEAVE_TAG,
+        ClientFrame::Alive => ALIVE_TAG,
     }
 }
 
 /// The session refused the request of a frame with this tag.
-pub fn refused(about: u8, refusal: Refusal) -> ServerFrame
+pub fn refused_frame(about: u8, refusal: Refusal) -> ServerFrame
     ensures { result ≡ refused_frame about refusal }
 {
     let (code, kept, more) = match refusal {
@@ -72,7 +63,7 @@ pub fn send_answer(number: u32, reply: &Reply) -> Option<ServerFrame>
             seq: *seq,
             time: *time,
         }),
-        Reply::Refused(refusal) => Some(refused(SEND, *refusal)),
+        Reply::Refused(refusal) => Some(refused_frame(SEND_TAG, *refusal)),
         _ => unreachable!(),
     }
 }
@@ -84,7 +75,7 @@ pub fn snap_answer(time: u64, reply: &Reply) -> Option<ServerFrame>
 {
     match reply {
         Reply::Kept => Some(ServerFrame::Snapped { time }),
-        Reply::Refused(refusal) => Some(refused(SNAP, *refusal)),
+        Reply::Refused(refusal) => Some(refused_frame(SNAP_TAG, *refusal)),
         _ => unreachable!(),
     }
 }
@@ -96,7 +87,7 @@ pub fn leave_answer(reply: &Reply) -> Option<ServerFrame>
 {
     match reply {
         Reply::Left { .. } => None,
-        Reply::Refused(refusal) => Some(refused(LEAVE, *refusal)),
+        Reply::Refused(refusal) => Some(refused_frame(LEAVE_TAG, *refusal)),
         _ => unreachable!(),
     }
 }

@@ -8,6 +8,6 @@ mod frames;
 mod laws;
 
 pub use act::Act;
-pub use cursor::Cursor;
+pub use cursor::{Cursor, MOST_PULLED};
 pub use early::{Early, open};
 pub use laws::{batches_stream, replies_fit};

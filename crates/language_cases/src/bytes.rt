@@ -3,7 +3,7 @@ ghost use Rattle.std.specs.Prelude.{◌↔◌, ◌<◌, ◌^◌, IsTrue, length,
 ghost use Rattle.model_value.specs.Plain.{InBounds};
 ghost use Rattle.model_value.specs.View.{plain};
 
-use crate::spelling::{spelled, write_text, write_value};
+use crate::spelling::{spell_value, write_text, write_value};
 use hex::FromHexError;
 use model_value::{Value, ValueFault, decode, depth, encode, payload, read_payload, weight};
 use std::alloc::Global;
@@ -43,7 +43,7 @@ fn value_text(alloc: Global, digits: &[u8]) -> Result<String, ValueFault> {
 fn value_line(alloc: Global, value: &Value, bytes: &[u8]) -> Result<String, WantOfMemory>
     requires { InBounds (plain value.now) }
 {
-    let mut out = spelled(alloc, value)?;
+    let mut out = spell_value(alloc, value)?;
     write!(out, " weight {} depth {}", weight(value), depth(value))?;
     tell_spelling(alloc, &mut out, bytes, encode(alloc, value)?.bytes())?;
     Ok(out)
@@ -57,7 +57,12 @@ fn fits(text: &Text) -> bool
 }
 
 /// The bytes of a payload.
-fn written(alloc: Global, scope: &Text, event: &Text, value: &Value) -> Result<Blob, ValueFault>
+fn spell_payload(
+    alloc: Global,
+    scope: &Text,
+    event: &Text,
+    value: &Value,
+) -> Result<Blob, ValueFault>
     requires { InBounds (plain value.now) }
 {
     if !fits(scope) || !fits(event) {
@@ -87,7 +92,7 @@ fn payload_text(alloc: Global, digits: &[u8]) -> Result<String, ValueFault> {
     let bytes = bytes_of(alloc, digits)?;
     let (scope, event, value) = read_payload(alloc, bytes.bytes())?;
     let mut out = payload_line(alloc, &scope, &event, &value)?;
-    let written = written(alloc, &scope, &event, &value)?;
+    let written = spell_payload(alloc, &scope, &event, &value)?;
     tell_spelling(alloc, &mut out, bytes.bytes(), written.bytes())?;
     Ok(out)
 }
@@ -105,7 +110,7 @@ pub(crate) fn read_or_bad(
 }
 
 /// The value that bytes spell, its weight and its depth.
-pub(crate) fn decoded(alloc: Global, digits: &[u8]) -> Result<String, WantOfMemory> {
+pub(crate) fn decode_value(alloc: Global, digits: &[u8]) -> Result<String, WantOfMemory> {
     read_or_bad(alloc, value_text(alloc, digits))
 }
 

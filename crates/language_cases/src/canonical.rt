@@ -5,7 +5,7 @@ use std::alloc::Global;
 use tea_base::{Blob, WantOfMemory};
 
 /// The canonical text of a program, as bytes.
-fn printed(alloc: Global, text: &[u8]) -> Result<Blob, LangFault> {
+fn print_canonical(alloc: Global, text: &[u8]) -> Result<Blob, LangFault> {
     let program = parse(alloc, text)?;
     Ok(print(alloc, &program)?)
 }
@@ -25,7 +25,7 @@ fn word_of(bound: Bound) -> &'static str {
 
 /// The canonical text of a program, or why the text is none.
 pub(crate) fn canonical(alloc: Global, text: &[u8]) -> Result<String, WantOfMemory> {
-    match printed(alloc, text) {
+    match print_canonical(alloc, text) {
         Ok(printed) => Ok(String::from_utf8_lossy(alloc, printed.bytes())?),
         Err(LangFault::Syntax { at }) => Ok(format!(in alloc; "syntax {at}")?),
         Err(LangFault::TooLarge { what, count }) => {

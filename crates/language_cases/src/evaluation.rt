@@ -1,6 +1,6 @@
 //! Programs, run in a world of one object.
-use crate::opening::opened;
-use crate::spelling::spelled;
+use crate::opening::open_world;
+use crate::spelling::spell_value;
 use crate::stopped::Stopped;
 use crate::world_text::write_world;
 use byte_fields::Writer;
@@ -18,7 +18,7 @@ const BEFORE: &[u8] = b"class Root{field f;m(){return ";
 const BEHIND: &[u8] = b";}none(){}pair(a,b){return [a,b];}}";
 
 /// A program that was read and checked.
-fn checked(alloc: Global, text: &[u8]) -> Result<Checked, Stopped> {
+fn check_program(alloc: Global, text: &[u8]) -> Result<Checked, Stopped> {
     let program = parse(alloc, text)?;
     Ok(check(alloc, program)?)
 }
@@ -46,7 +46,7 @@ fn outcome_text(
     refused: &str,
 ) -> Result<String, WantOfMemory> {
     match outcome {
-        Ok(value) => spelled(alloc, &value),
+        Ok(value) => spell_value(alloc, &value),
         Err(Stopped::Fault(fault)) => Ok(format!(in alloc; "{fault:?}")?),
         Err(Stopped::NoProgram) => Ok(String::from_str(alloc, refused)?),
         Err(Stopped::WantOfMemory) => Err(WantOfMemory),
@@ -65,20 +65,23 @@ fn program_of(alloc: Global, expression: &[u8]) -> Result<Blob, WantOfMemory> {
 /// What an expression gives in a method of object 1.
 fn value_of(alloc: Global, expression: &[u8]) -> Result<Value, Stopped> {
     let text = program_of(alloc, expression)?;
-    let program = checked(alloc, text.bytes())?;
-    let mut state = opened(alloc, &program)?;
+    let program = check_program(alloc, text.bytes())?;
+    let mut state = open_world(alloc, &program)?;
     run(alloc, &program, &mut state, &mut Budget::new())
 }
 
 /// What an expression gives in a method of object 1, or the name of the fault.
-pub(crate) fn evaluated(alloc: Global, expression: &[u8]) -> Result<String, WantOfMemory> {
+pub(crate) fn evaluate_expression(
+    alloc: Global,
+    expression: &[u8],
+) -> Result<String, WantOfMemory> {
     outcome_text(alloc, value_of(alloc, expression), "no expression")
 }
 
 /// What the method `m` of object 1 gives, the fuel that is left, and the world behind it.
 fn run_text(alloc: Global, text: &[u8]) -> Result<String, Stopped> {
-    let program = checked(alloc, text)?;
-    let mut state = opened(alloc, &program)?;
+    let program = check_program(alloc, text)?;
+    let mut state = open_world(alloc, &program)?;
     let mut budget = Budget::new();
     let outcome = run(alloc, &program, &mut state, &mut budget);
     let mut out = outcome_text(alloc, outcome, "no program")?;
@@ -88,7 +91,7 @@ fn run_text(alloc: Global, text: &[u8]) -> Result<String, Stopped> {
 }
 
 /// What a program's method `m` of object 1 gives, the fuel that is left of a whole message, and the world behind it.
-pub(crate) fn played(alloc: Global, text: &[u8]) -> Result<String, WantOfMemory> {
+pub(crate) fn run_program(alloc: Global, text: &[u8]) -> Result<String, WantOfMemory> {
     match run_text(alloc, text) {
         Ok(out) => Ok(out),
         Err(Stopped::WantOfMemory) => Err(WantOfMemory),

@@ -52,10 +52,10 @@ impl CaseKind for LanguageCases {
 
     fn outcome(&self, alloc: Global, case: &[u8]) -> Result<String, CaseFault> {
         let outcome = match self {
-            LanguageCases::Evaluate => evaluation::evaluated(alloc, case),
-            LanguageCases::Run => evaluation::played(alloc, case),
+            LanguageCases::Evaluate => evaluation::evaluate_expression(alloc, case),
+            LanguageCases::Run => evaluation::run_program(alloc, case),
             LanguageCases::Canonical => canonical::canonical(alloc, case),
-            LanguageCases::Decode => bytes::decoded(alloc, case),
+            LanguageCases::Decode => bytes::decode_value(alloc, case),
             LanguageCases::Payload => bytes::payload_read(alloc, case),
             LanguageCases::Text => texts::text_read(alloc, case),
         };

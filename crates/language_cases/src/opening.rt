@@ -46,7 +46,7 @@ fn world(alloc: Global, objects: Store) -> State {
 }
 
 /// The world of a program, with the one object 1, of the class Root, with nil in each field.
-pub(crate) fn opened(alloc: Global, program: &Checked) -> Result<State, Stopped> {
+pub(crate) fn open_world(alloc: Global, program: &Checked) -> Result<State, Stopped> {
     let root = program.root();
     let fields = nils(alloc, program.fields(root).unwrap_or(0) as usize)?;
     Ok(world(alloc, one_object(alloc, root, fields)?))

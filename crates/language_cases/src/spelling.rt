@@ -4,7 +4,7 @@ use std::alloc::Global;
 use tea_base::WantOfMemory;
 
 /// The text of a value.
-pub(crate) fn spelled(alloc: Global, value: &Value) -> Result<String, WantOfMemory> {
+pub(crate) fn spell_value(alloc: Global, value: &Value) -> Result<String, WantOfMemory> {
     let mut out = String::new(alloc);
     write_value(&mut out, value)?;
     Ok(out)

@@ -24,7 +24,7 @@ pub(crate) fn write_world(
     write_objects(out, program, state.objects.objects())?;
     write_known_names(out, state.known.names())?;
     write_subscriptions(out, state.topics.subscriptions())?;
-    write_messages(out, state.pending.ordered(alloc)?.as_slice())?;
+    write_messages(out, state.pending.copy_in_order(alloc)?.as_slice())?;
     write_published(out, state.published.as_slice())
 }
 

@@ -15,7 +15,7 @@ use Rattle.world_plain.specs.Valid.{PrecedesAll, IsUnused, NumbersDiffer, most_p
 use Rattle.world_plain.specs.ValidTest.{is_due_before}
 use Rattle.world_plain.specs.declared.message.Message.{Message}
 use Rattle.message_queue.specs.Heap.{IsHeap, is_sooner, is_later}
-use Rattle.message_queue.specs.Queue.{IsQueue, IsLightMessage, AreLightMessages, insert_in_order, least_of}
+use Rattle.message_queue.specs.Queue.{QueueRecord, IsQueue, IsLightMessage, AreLightMessages, insert_in_order, least_of}
 use Rattle.message_queue.specs.View.{messages_seen, in_order, queue_seen, HoldsQueue}
 use Rattle.message_queue.proofs.Before.{precedes-false, later_order}
 use Rattle.message_queue.proofs.Filtered.{NumbersDiffer-filtered, IsQueue-filtered, none_gone}
@@ -143,7 +143,7 @@ seen_sorted ms new p up differ =
 differ_kept : (keeps : PlainMessage → Bool) (ms : List PlainMessage) (next : ℕ) → IsQueue (record { messages = in_order ms; next = next }) → NumbersDiffer (filter keeps ms)
 differ_kept keeps ms next q = NumbersDiffer-filtered keeps ms (differ_before ms q.differ)
 
-pub seen_kept : (keeps : PlainMessage → Bool) (ms kept new : List Message) (next weight : ℕ)
+seen_kept : (keeps : PlainMessage → Bool) (ms kept new : List Message) (next weight : ℕ)
     → HoldsQueue ms next weight
     → messages_seen kept ≡ filter keeps (messages_seen ms)
     → IsPermutation kept new
@@ -176,6 +176,25 @@ pub kept_light : (keeps : PlainMessage → Bool) (ms kept new : List Message) (n
     → IsPermutation kept new
     → AreLightMessages (messages_seen new)
 kept_light keeps ms kept new next weight h is p = light_before (messages_seen new) (kept_is_queue keeps ms kept new next weight h is p).light
+
+-- the queue that is seen of the messages that are left
+pub queue_left : (keeps : PlainMessage → Bool) (was : QueueRecord) (ms kept new : List Message) (next weight : ℕ)
+    → HoldsQueue ms next weight
+    → messages_seen kept ≡ filter keeps (messages_seen ms)
+    → IsPermutation kept new
+    → queue_seen ms next ≡ was
+    → queue_seen new next ≡ record was { messages = filter keeps was.messages }
+queue_left keeps was ms kept new next weight h is p view =
+    ap (λ (l : List PlainMessage). record { messages = l; next = next }) (seen_kept keeps ms kept new next weight h is p)
+    ∙ ap (λ (q : QueueRecord). record q { messages = filter keeps q.messages }) view
+
+-- the messages that are gone and those that are left are as many as there were
+pub number_left : (was : QueueRecord) (ms new : List Message) (next gone : ℕ)
+    → queue_seen ms next ≡ was
+    → gone + length new ≡ length ms
+    → gone + length (in_order (messages_seen new)) ≡ length was.messages
+number_left was ms new next gone view left =
+    omega (arith, left, length-seen new, length-seen ms, ap (λ (q : QueueRecord). length q.messages) view)
 
 held_kept : (keeps : PlainMessage → Bool) (ms kept new : List Message) (next weight w : ℕ)
     → HoldsQueue ms next weight

@@ -147,7 +147,7 @@ impl Queue {
     }
 
     /// The messages by rising time and number, in memory of their own.
-    pub fn ordered(&self, alloc: Global) -> Result<Messages, WantOfMemory>
+    pub fn copy_in_order(&self, alloc: Global) -> Result<Messages, WantOfMemory>
         ensures { IfOk result (λ messages. map plain_message messages ≡ self.now.messages) }
     {
         let mut copies = copy_messages(alloc, &self.messages)?.into_vec();

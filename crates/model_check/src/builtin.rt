@@ -86,7 +86,7 @@ const BUILTINS: [Builtin; 22] = [
 pub fn called_builtin(name: &Text, given: usize) -> Result<Builtin, CheckFault>
     ensures { Solves result (faults_of_builtin name.now given) (λ found. found ≡ builtin_of name.now) }
 {
-    let Some(found) = named(name) else {
+    let Some(found) = find_builtin(name) else {
         return Err(CheckFault::NoName {
             name: name.try_clone()?,
         });
@@ -100,7 +100,7 @@ pub fn called_builtin(name: &Text, given: usize) -> Result<Builtin, CheckFault>
 }
 
 /// The builtin of that name, if there is one.
-pub fn named(name: &Text) -> Option<Builtin>
+pub fn find_builtin(name: &Text) -> Option<Builtin>
     ensures { result ≡ builtin_named name.now }
 {
     first_named(name, &BUILTINS)

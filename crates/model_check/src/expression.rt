@@ -30,31 +30,31 @@ pub fn expression(
     requires few_fields { length fields.now ≤ most_members }
     ensures { let names = map (λ c. c.name) classes.now in let tree = expression_tree expr.now in Solves result (faults_of_expression names fields.now scope.now.names.items tree) (λ s. solved_expression s ≡ solve_expression names fields.now scope.now.names.items tree) }
 {
-    let place = Place {
+    let context = Context {
         alloc,
         classes,
         fields,
         scope,
     };
-    place.expression(expr)
+    context.expression(expr)
 }
 
 // Where an expression stands: in a program with these classes, in a class with these fields, where these names are in scope.
 #[derive(Clone, Copy)]
-struct Place<'a> {
+struct Context<'a> {
     alloc: Global,
     classes: &'a [Class],
     fields: &'a [Text],
     scope: &'a Scope,
 }
 
-impl Place<'_> {
+impl Context<'_> {
     #[cycle(expression)]
     #[tactic(auto, using(crate::proofs::First::by_first, crate::proofs::Trees::by_items))]
     fn expression(&self, expr: &Expr) -> Result<SolvedExpr, CheckFault>
         requires few_classes { length self.now.classes.now ≤ most_members }
         requires few_fields { length self.now.fields.now ≤ most_members }
-        ensures { let place = self.now in let names = map (λ c. c.name) place.classes.now in let tree = expression_tree expr.now in Solves result (faults_of_expression names place.fields.now place.scope.now.names.items tree) (λ s. solved_expression s ≡ solve_expression names place.fields.now place.scope.now.names.items tree) }
+        ensures { let context = self.now in let names = map (λ c. c.name) context.classes.now in let tree = expression_tree expr.now in Solves result (faults_of_expression names context.fields.now context.scope.now.names.items tree) (λ s. solved_expression s ≡ solve_expression names context.fields.now context.scope.now.names.items tree) }
     {
         match expr {
             Expr::Nil => Ok(SolvedExpr::Nil),
@@ -103,7 +103,7 @@ impl Place<'_> {
     fn expressions(&self, exprs: &[Expr]) -> Result<Vec<SolvedExpr>, CheckFault>
         requires few_classes { length self.now.classes.now ≤ most_members }
         requires few_fields { length self.now.fields.now ≤ most_members }
-        ensures { let place = self.now in let names = map (λ c. c.name) place.classes.now in let trees = expression_trees exprs.now in Solves result (faults_of_expressions names place.fields.now place.scope.now.names.items trees) (λ s. solved_expressions s.items ≡ solve_expressions names place.fields.now place.scope.now.names.items trees) }
+        ensures { let context = self.now in let names = map (λ c. c.name) context.classes.now in let trees = expression_trees exprs.now in Solves result (faults_of_expressions names context.fields.now context.scope.now.names.items trees) (λ s. solved_expressions s.items ≡ solve_expressions names context.fields.now context.scope.now.names.items trees) }
     {
         let mut solved = Vec::new(self.alloc);
         for expr in exprs {
@@ -117,7 +117,7 @@ impl Place<'_> {
     fn unary(&self, op: UnaryOp, of: &Expr) -> Result<SolvedExpr, CheckFault>
         requires few_classes { length self.now.classes.now ≤ most_members }
         requires few_fields { length self.now.fields.now ≤ most_members }
-        ensures { let place = self.now in let names = map (λ c. c.name) place.classes.now in let tree = unary_tree op (expression_tree of.now) in Solves result (faults_of_expression names place.fields.now place.scope.now.names.items tree) (λ s. solved_expression s ≡ solve_expression names place.fields.now place.scope.now.names.items tree) }
+        ensures { let context = self.now in let names = map (λ c. c.name) context.classes.now in let tree = unary_tree op (expression_tree of.now) in Solves result (faults_of_expression names context.fields.now context.scope.now.names.items tree) (λ s. solved_expression s ≡ solve_expression names context.fields.now context.scope.now.names.items tree) }
     {
         let of = self.expression(of)?;
         Ok(new_unary(self.alloc, op, of)?)
@@ -128,7 +128,7 @@ impl Place<'_> {
     fn builtin(&self, name: &Text, args: &[Expr]) -> Result<SolvedExpr, CheckFault>
         requires few_classes { length self.now.classes.now ≤ most_members }
         requires few_fields { length self.now.fields.now ≤ most_members }
-        ensures { let place = self.now in let names = map (λ c. c.name) place.classes.now in let tree = builtin_tree name.now (expression_trees args.now) in Solves result (faults_of_expression names place.fields.now place.scope.now.names.items tree) (λ s. solved_expression s ≡ solve_expression names place.fields.now place.scope.now.names.items tree) }
+        ensures { let context = self.now in let names = map (λ c. c.name) context.classes.now in let tree = builtin_tree name.now (expression_trees args.now) in Solves result (faults_of_expression names context.fields.now context.scope.now.names.items tree) (λ s. solved_expression s ≡ solve_expression names context.fields.now context.scope.now.names.items tree) }
     {
         let name = called_builtin(name, args.len())?;
         let args = self.expressions(args)?;
@@ -140,7 +140,7 @@ impl Place<'_> {
     fn create(&self, class: &Text, options: &Expr) -> Result<SolvedExpr, CheckFault>
         requires few_classes { length self.now.classes.now ≤ most_members }
         requires few_fields { length self.now.fields.now ≤ most_members }
-        ensures { let place = self.now in let names = map (λ c. c.name) place.classes.now in let tree = create_tree class.now (expression_tree options.now) in Solves result (faults_of_expression names place.fields.now place.scope.now.names.items tree) (λ s. solved_expression s ≡ solve_expression names place.fields.now place.scope.now.names.items tree) }
+        ensures { let context = self.now in let names = map (λ c. c.name) context.classes.now in let tree = create_tree class.now (expression_tree options.now) in Solves result (faults_of_expression names context.fields.now context.scope.now.names.items tree) (λ s. solved_expression s ≡ solve_expression names context.fields.now context.scope.now.names.items tree) }
     {
         let class = class_number(self.classes, class)?;
         let options = self.expression(options)?;

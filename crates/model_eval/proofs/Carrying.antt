@@ -8,7 +8,7 @@ use Rattle.world_plain.specs.Valid.{Valid, most_turns}
 use Rattle.world_plain.specs.declared.message.Subscription.{Subscription}
 use Rattle.world_plain.specs.declared.world.Known.{Known}
 use Rattle.model_eval.specs.declared.fault.Fault.TheVariants.{Fuel, Size}
-use Rattle.model_eval.specs.Running.{Running, Outcome, Gives, Faults, and_then, enter, spend, give_in_bounds, give_by_weight, PureOutcome, value, fails, give_pure, decide}
+use Rattle.model_eval.specs.Running.{Running, Outcome, Gives, Faults, and_then, spend_step, spend, give_in_bounds, give_by_weight, PureOutcome, value, fails, give_pure, decide}
 use Rattle.model_eval.specs.Kept.{count_due, now_due, Kept, CarriesIf}
 use Rattle.model_eval.proofs.Pending.{if_either}
 use Rattle.model_eval.proofs.ValueBounds.{Replies, fits-true}
@@ -104,7 +104,7 @@ module _ (counts : List ℕ) where
   carries-test H P r b x y h g = if_either (CarriesIf H counts P r) b x y h g
 
   pub carries-entering : {A : Type 0} (H : Type 0) (P : A → Type 0) (r : Running) (next : Running → Outcome A)
-      → (H → Valid counts r.world) → CarriesIf H counts P (record r { fuel = r.fuel - 1 }) (next (record r { fuel = r.fuel - 1 })) → CarriesIf H counts P r (enter r next)
+      → (H → Valid counts r.world) → CarriesIf H counts P (record r { fuel = r.fuel - 1 }) (next (record r { fuel = r.fuel - 1 })) → CarriesIf H counts P r (spend_step r next)
   carries-entering H P r next v h =
       carries-test H P r (nat_eq r.fuel 0) (Faults Fuel r) (next (record r { fuel = r.fuel - 1 })) (λ _. (kept-refl r, v))
       (λ _. carries-after H H P r (record r { fuel = r.fuel - 1 }) (next (record r { fuel = r.fuel - 1 })) (kept-fuel r (r.fuel - 1) (omega arith)) (λ x. x) h)

@@ -22,7 +22,7 @@ use Rattle.model_eval.specs.declared.fault.Fault.TheVariants.{BadIndex, NoObject
 use Rattle.model_eval.specs.Running.{Running, with_world, Outcome, Gives, Faults, give_in_bounds}
 use Rattle.model_eval.specs.Objects.{get_named, with_fields, with_objects, if_light, put_fields, new_object, has_room_for, with_object, make_object, without_object, is_held, destroy, known_by, make_known}
 use Rattle.known_names.specs.Names.{with_known}
-use Rattle.model_eval.specs.Futures.{ahead, has_room, with_message, send_at, send_to, send}
+use Rattle.model_eval.specs.Futures.{ahead, has_room, with_message, send_message_at, send_to, send}
 use Rattle.model_eval.specs.Builtins.{draw, pure_of, takes_steps, builtin_outcome, pure_outcome, on_none, on_int, on_text, on_texts, on_ref, run_builtin_alone}
 use Rattle.model_eval.specs.Publishing.{has_room_to, with_subscription, add_subscription, subscription, subscribe, unsubscribe, messages_without_calls, cancel, count_views, tell_views}
 use Rattle.pubsub.specs.Topics.{is_subscribed, without_subscription}
@@ -75,7 +75,7 @@ module _ (counts : List ℕ) (H : Type 0) where
 
   sent-carries : (object : ℕ) (x : Name) (args : List PlainValue) (ahead : Option ℕ) (r : Running)
       → (H → Valid counts r.world) → (H → AllInBounds args × (length args ≤ most_parameters)) → IsShortName x → IsHeld r.world.objects object
-      → ((time : ℕ) → ahead ≡ Some time → (r.world.time ≤ time) × (time < time_limit)) → CarriesIf H counts InBounds r (send_at object x args ahead r)
+      → ((time : ℕ) → ahead ≡ Some time → (r.world.time ≤ time) × (time < time_limit)) → CarriesIf H counts InBounds r (send_message_at object x args ahead r)
   sent-carries object x args None r v fit short held within = (kept-refl r, v)
   sent-carries object x args (Some time) r v fit short held within =
       let w : WorldRecord = r.world in

@@ -16,7 +16,7 @@ use Rattle.model_eval.specs.declared.fault.Fault.TheVariants.{Full}
 use Rattle.model_eval.specs.Running.{Running, Gives, Faults, value, fails}
 use Rattle.model_eval.specs.declared.fault.EvalStop.{EvalStop}
 use Rattle.model_eval.specs.declared.fault.EvalStop.TheVariants.{Fault, WantOfMemory}
-use Rattle.model_eval.specs.Answer.{IsAbsent, Replies}
+use Rattle.model_eval.specs.Answer.{MissesField, Replies}
 use Rattle.model_eval.specs.Slots.{slot_value}
 use Rattle.model_eval.specs.Objects.{with_fields, with_objects, if_light, put_fields}
 
@@ -97,7 +97,7 @@ absent_index (w ∷ vs) zero e = absurd (none-some w (sym e))
 absent_index (w ∷ vs) (suc k) e = absent_index vs k e
 
 -- what is told of a field that is not there is what it holds
-pub absent-replies : (result : Result Value EvalStop) (found : Option ObjectRecord) (k : ℕ) → field_of found k ≡ None → IsAbsent result found → Replies result (slot_value found k)
+pub absent-replies : (result : Result Value EvalStop) (found : Option ObjectRecord) (k : ℕ) → field_of found k ≡ None → MissesField result found → Replies result (slot_value found k)
 absent-replies (Ok v) None k e h = absurd (false≢true h.1)
 absent-replies (Ok v) (Some o) k e h = ap value (absent_index o.fields k e ∙ sym h.0)
 absent-replies (Err (Fault f)) found k e h = ap (λ (o : Option ObjectRecord). slot_value o k) h.1 ∙ ap fails (sym h.0)

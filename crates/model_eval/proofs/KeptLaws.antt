@@ -16,7 +16,7 @@ use Rattle.model_lang.specs.Names.{HasShortNames, AllHaveShortNames, NamesAreSho
 use Rattle.model_check.specs.Builtins.{builtin_named}
 use Rattle.model_check.specs.Methods.{field_counts, method_named}
 use Rattle.model_eval.specs.declared.fault.Fault.TheVariants.{Arity, Depth}
-use Rattle.model_eval.specs.Running.{Running, Outcome, Gives, Faults, and_then, enter, give_by_weight, give_pure, truth, decide}
+use Rattle.model_eval.specs.Running.{Running, Outcome, Gives, Faults, and_then, spend_step, give_by_weight, give_pure, truth, decide}
 use Rattle.model_eval.specs.Operators.{apply_binary, truly, binary_outcome, apply_unary}
 use Rattle.model_eval.specs.Objects.{with_named, make_object, is_held}
 use Rattle.model_eval.specs.Futures.{send}
@@ -111,7 +111,7 @@ module _ (program : ProgramTree) (ev : Evaluate) (start : Start) (keeps : Evalua
       → (H → Valid (field_counts program) r.world) → (H → InBounds v) → CarriesIf H (field_counts program) Anything r (handle start v h r)
   handled_by-carries H v h r valid fit =
       let r1 : Running = record r { fuel = r.fuel - 1 } in
-      carries-test (field_counts program) H Anything r (is_held h.object r.world) (enter r (λ s. and_then (start h.object h.method (v ∷ []) s) (λ _. Gives tt))) (Gives tt r)
+      carries-test (field_counts program) H Anything r (is_held h.object r.world) (spend_step r (λ s. and_then (start h.object h.method (v ∷ []) s) (λ _. Gives tt))) (Gives tt r)
       (λ _. carries-entering (field_counts program) H Anything r (λ s. and_then (start h.object h.method (v ∷ []) s) (λ _. Gives tt)) valid
       (carries-next (field_counts program) H (Valid (field_counts program) r1.world × AllInBounds (v ∷ [])) InBounds Anything r1 (start h.object h.method (v ∷ []) r1) (λ _. Gives tt)
       (λ x. (valid x, (fit x, tt))) (begins h.object h.method (v ∷ []) r1) (λ _ s. (kept-refl s, λ x. (x.1, tt)))))

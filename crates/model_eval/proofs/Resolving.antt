@@ -26,7 +26,7 @@ use Rattle.model_check.specs.Methods.{method_named, FindsMethod}
 use Rattle.model_check.specs.Resolution.{IsPlace, Resolves, ResolvesAll, ResolvesStatement, ResolvesBlock, ResolvesElse, ResolvesMethod}
 use Rattle.model_eval.specs.declared.fault.Fault.{Fault}
 use Rattle.model_eval.specs.declared.fault.Fault.TheVariants.{Depth}
-use Rattle.model_eval.specs.Running.{Running, Outcome, Gives, Faults, and_then, enter, give_in_bounds, truth, decide, give_pure}
+use Rattle.model_eval.specs.Running.{Running, Outcome, Gives, Faults, and_then, spend_step, give_in_bounds, truth, decide, give_pure}
 use Rattle.model_eval.specs.Operators.{binary_outcome, apply_unary}
 use Rattle.model_eval.specs.Objects.{value_named, with_named, get_named, put_fields}
 use Rattle.model_eval.specs.Futures.{send}
@@ -313,10 +313,10 @@ module _ (program : ProgramTree) (here : Here) (ev : Evaluate) (by_slots : slots
 
 -- ---- all levels
 
-entering_same : {A : Type 0} (r : Running) (f g : Running → Outcome A) → ((r1 : Running) → f r1 ≡ g r1) → enter r f ≡ enter r g
+entering_same : {A : Type 0} (r : Running) (f g : Running → Outcome A) → ((r1 : Running) → f r1 ≡ g r1) → spend_step r f ≡ spend_step r g
 entering_same r f g same = if_same (nat_eq r.fuel 0) _ _ _ _ refl (same (record r { fuel = r.fuel - 1 }))
 
-entering_matches : (scope : List Name) (r : Running) (f : Running → Outcome (Flow (List PlainValue))) (g : Running → Outcome (Flow (List Local))) → ((r1 : Running) → Matches scope (f r1) (g r1)) → Matches scope (enter r f) (enter r g)
+entering_matches : (scope : List Name) (r : Running) (f : Running → Outcome (Flow (List PlainValue))) (g : Running → Outcome (Flow (List Local))) → ((r1 : Running) → Matches scope (f r1) (g r1)) → Matches scope (spend_step r f) (spend_step r g)
 entering_matches scope r f g same = if_matches scope (nat_eq r.fuel 0) _ _ _ _ (refl, refl) (same (record r { fuel = r.fuel - 1 }))
 
 pub evaluate-stands : (program : ProgramTree) (room : ℕ) (here : Here) (e : Expression) (s : SolvedExpression) (ls : List Local) (r : Running) → Resolves (class_names program) here.class.fields (names_of ls) e s → slots.evaluate program room here.object s (values_of ls) r ≡ evaluate program room here e ls r

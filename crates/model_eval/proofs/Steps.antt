@@ -5,7 +5,7 @@ use Rattle.std.proofs.lemmas.List.{map-append, take-map, length-map}
 use Rattle.model_value.specs.Plain.{PlainValue}
 use Rattle.model_lang.specs.Tree.{ProgramTree}
 use Rattle.model_check.specs.SolvedTree.{SolvedExpression, SolvedStatement, SolvedStatements}
-use Rattle.model_eval.specs.Running.{Running, Outcome, Gives, Faults, and_then, enter}
+use Rattle.model_eval.specs.Running.{Running, Outcome, Gives, Faults, and_then, spend_step}
 use Rattle.model_eval.specs.Meaning.{starts}
 use Rattle.model_eval.specs.declared.fault.Fault.TheVariants.{Fuel, Depth}
 use Rattle.model_eval.specs.Slots.{Evaluate, Execute, room_inside, evaluate, execute, expression_row, statement_row, loop_turns, after_test}
@@ -14,7 +14,7 @@ then_if : {A B : Type 0} (b : Bool) (x y : Outcome A) (next : A → Running → 
 then_if true x y next = refl
 then_if false x y next = refl
 
-then-entering : {A B : Type 0} (r : Running) (f : Running → Outcome A) (next : A → Running → Outcome B) → and_then (enter r f) next ≡ enter r (λ r1. and_then (f r1) next)
+then-entering : {A B : Type 0} (r : Running) (f : Running → Outcome A) (next : A → Running → Outcome B) → and_then (spend_step r f) next ≡ spend_step r (λ r1. and_then (f r1) next)
 then-entering r f next = then_if (nat_eq r.fuel 0) (Faults Fuel r) (f (record r { fuel = r.fuel - 1 })) next
 
 pub evaluate-entered : (program : ProgramTree) (room object : ℕ) (e : SolvedExpression) (locals : List PlainValue) (r : Running) → evaluate program room object e locals r ≡ and_then (room_inside room r) (λ inside. expression_row program (evaluate program inside) (starts program inside) object e locals)

@@ -123,10 +123,10 @@ Enters (Err (stop.Fault f)) budget meant = (state : State) → meant state ≡ F
 Enters (Err stop.WantOfMemory) budget meant = ⊥
 
 -- a step is taken, or there was none
-abbrev pub Steps : Result ⊤ EvalStop → Budget → Budget → Type 0
-Steps (Ok u) old new = (nat_eq old.fuel 0 ≡ false) × (new ≡ record old { fuel = old.fuel - 1 })
-Steps (Err (stop.Fault f)) old new = (f ≡ Fuel) × (nat_eq old.fuel 0 ≡ true) × (new ≡ old)
-Steps (Err stop.WantOfMemory) old new = ⊥
+abbrev pub TakesStep : Result ⊤ EvalStop → Budget → Budget → Type 0
+TakesStep (Ok u) old new = (nat_eq old.fuel 0 ≡ false) × (new ≡ record old { fuel = old.fuel - 1 })
+TakesStep (Err (stop.Fault f)) old new = (f ≡ Fuel) × (nat_eq old.fuel 0 ≡ true) × (new ≡ old)
+TakesStep (Err stop.WantOfMemory) old new = ⊥
 
 -- the same of what takes steps alone
 abbrev pub Spends : Result Value EvalStop → Budget → (State → Outcome PlainValue) → Type 0
@@ -141,10 +141,10 @@ Replies (Err (stop.Fault f)) meant = meant ≡ fails f
 Replies (Err stop.WantOfMemory) meant = Unit {0}
 
 -- a field that is not there: the object has no such field, or it is gone
-abbrev pub IsAbsent : Result Value EvalStop → Option ObjectRecord → Type 0
-IsAbsent (Ok v) found = (plain v ≡ nil) × (is_some found ≡ true)
-IsAbsent (Err (stop.Fault f)) found = (f ≡ NoObject) × (found ≡ None)
-IsAbsent (Err stop.WantOfMemory) found = ⊥
+abbrev pub MissesField : Result Value EvalStop → Option ObjectRecord → Type 0
+MissesField (Ok v) found = (plain v ≡ nil) × (is_some found ≡ true)
+MissesField (Err (stop.Fault f)) found = (f ≡ NoObject) × (found ≡ None)
+MissesField (Err stop.WantOfMemory) found = ⊥
 
 -- two values are Ints, or what needs two Ints fails
 abbrev pub AreInts : Result (ℤ × ℤ) EvalStop → PlainValue → PlainValue → Type 0

@@ -22,16 +22,16 @@ abbrev pub with_message : Running → PlainMessage → Running
 with_message r m = with_world r (record (r.world) { pending = insert_in_order m r.world.pending; next_number = r.world.next_number + 1 })
 
 -- the message has the world's next number
-abbrev pub send_at : ℕ → Name → List PlainValue → Option ℕ → Running → Outcome PlainValue
-send_at object x args None r = Faults Time r
-send_at object x args (Some time) r =
+abbrev pub send_message_at : ℕ → Name → List PlainValue → Option ℕ → Running → Outcome PlainValue
+send_message_at object x args None r = Faults Time r
+send_message_at object x args (Some time) r =
     let m : PlainMessage = record { time = time; number = r.world.next_number; object = object; method = x; args = args } in
     if nat_eq time r.world.time && nat_eq r.world.turns most_turns then Faults Instant r else
     if has_room r.world m then Gives nil (with_message r m) else Faults Full r
 
 abbrev pub send_to : Option ObjectRecord → ℕ → ℤ → Name → List PlainValue → Running → Outcome PlainValue
 send_to None object delay x args r = Faults NoObject r
-send_to (Some o) object delay x args r = send_at object x args (ahead r.world.time delay) r
+send_to (Some o) object delay x args r = send_message_at object x args (ahead r.world.time delay) r
 
 abbrev pub send : PlainValue → PlainValue → Name → List PlainValue → Running → Outcome PlainValue
 send (ref object) (int delay) x args r = send_to (object_at r.world.objects object) object delay x args r

@@ -12,7 +12,7 @@ use Rattle.model_check.specs.Faults.{class_names}
 use Rattle.model_check.specs.Methods.{method_named}
 use Rattle.model_eval.specs.declared.fault.Fault.TheVariants.{BadKind, NoObject, NoMethod, Arity, Fuel, Depth}
 pub use Rattle.model_eval.specs.Running.{Start}
-use Rattle.model_eval.specs.Running.{Running, Outcome, Gives, Faults, and_then, enter, give_in_bounds, give_by_weight, give_pure, truth, decide}
+use Rattle.model_eval.specs.Running.{Running, Outcome, Gives, Faults, and_then, spend_step, give_in_bounds, give_by_weight, give_pure, truth, decide}
 use Rattle.model_eval.specs.Operators.{binary_outcome, apply_unary}
 use Rattle.model_eval.specs.Objects.{get_named, put_fields, with_named, make_object}
 use Rattle.model_eval.specs.Futures.{send}
@@ -187,12 +187,12 @@ start_by program ex object x args r = starts_on program ex (object_at r.world.ob
 -- What the forms mean where so many more may be open: entering one takes a step of fuel, and then room.
 abbrev mutual
   pub evaluate : ProgramTree → ℕ → Evaluate
-  evaluate program zero here e locals r = enter r (Faults Depth)
-  evaluate program (suc room) here e locals r = enter r (expression_row program (evaluate program room) (start_by program (execute program room)) here e locals)
+  evaluate program zero here e locals r = spend_step r (Faults Depth)
+  evaluate program (suc room) here e locals r = spend_step r (expression_row program (evaluate program room) (start_by program (execute program room)) here e locals)
 
   pub execute : ProgramTree → ℕ → Execute
-  execute program zero here s locals r = enter r (Faults Depth)
-  execute program (suc room) here s locals r = enter r (statement_row (evaluate program room) (execute program room) here s locals)
+  execute program zero here s locals r = spend_step r (Faults Depth)
+  execute program (suc room) here s locals r = spend_step r (statement_row (evaluate program room) (execute program room) here s locals)
 
 -- a method starts on an object, where so many statements and expressions may be open
 abbrev pub starts : ProgramTree → ℕ → Start

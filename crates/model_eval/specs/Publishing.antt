@@ -12,7 +12,7 @@ use Rattle.pubsub.specs.Topics.{is_subscribed, without_subscription, handlers_of
 use Rattle.message_queue.specs.Queue.{calls}
 use Rattle.model_lang.specs.Tree.{Name}
 use Rattle.model_eval.specs.declared.fault.Fault.TheVariants.{NoObject, Full}
-use Rattle.model_eval.specs.Running.{Running, with_world, Outcome, Gives, Faults, and_then, enter, give_by_weight, Start}
+use Rattle.model_eval.specs.Running.{Running, with_world, Outcome, Gives, Faults, and_then, spend_step, give_by_weight, Start}
 use Rattle.model_eval.specs.Objects.{is_held}
 
 -- ---- publishing
@@ -20,7 +20,7 @@ use Rattle.model_eval.specs.Objects.{is_held}
 -- a handler takes a step, and its method starts with the value, unless its object is gone
 abbrev pub handle : Start → PlainValue → Handler → Running → Outcome ⊤
 handle start v h r =
-    if is_held h.object r.world then enter r (λ s. and_then (start h.object h.method (v ∷ []) s) (λ _. Gives tt)) else Gives tt r
+    if is_held h.object r.world then spend_step r (λ s. and_then (start h.object h.method (v ∷ []) s) (λ _. Gives tt)) else Gives tt r
 
 abbrev pub run_handlers : Start → PlainValue → List Handler → Running → Outcome ⊤
 run_handlers start v [] r = Gives tt r

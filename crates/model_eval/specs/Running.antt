@@ -25,8 +25,8 @@ and_then (Gives a r) next = next a r
 and_then (Faults f r) next = Faults f r
 
 -- entering a statement or an expression takes a step of fuel
-abbrev pub enter : {A : Type 0} → Running → (Running → Outcome A) → Outcome A
-enter r next = if nat_eq r.fuel 0 then Faults Fuel r else next (record r { fuel = r.fuel - 1 })
+abbrev pub spend_step : {A : Type 0} → Running → (Running → Outcome A) → Outcome A
+spend_step r next = if nat_eq r.fuel 0 then Faults Fuel r else next (record r { fuel = r.fuel - 1 })
 
 -- so many steps are taken, or none where fewer are left
 abbrev pub spend : {A : Type 0} → ℕ → Running → (Running → Outcome A) → Outcome A

@@ -9,7 +9,7 @@ use Rattle.model_lang.specs.Tree.{ProgramTree}
 use Rattle.model_check.specs.SolvedTree.{SolvedExpression, this, local, field, unary, binary, builtin, call, future, create, SolvedExpressions, no_expressions, expression, SolvedStatement, declare, assign, set_field, when, while, give, do_, SolvedStatements, no_statements, statement, SolvedOtherwise, no_else, else_block, SolvedMethod}
 use Rattle.model_check.specs.SolvedTree as solved
 use Rattle.model_eval.specs.declared.fault.Fault.TheVariants.{NoObject, Fuel, Depth, Arity}
-use Rattle.model_eval.specs.Running.{Running, Outcome, Gives, Faults, and_then, enter, give_in_bounds, give_by_weight, PureOutcome, value, fails, give_pure, truth, decide, Start}
+use Rattle.model_eval.specs.Running.{Running, Outcome, Gives, Faults, and_then, spend_step, give_in_bounds, give_by_weight, PureOutcome, value, fails, give_pure, truth, decide, Start}
 use Rattle.model_eval.specs.Operators.{binary_outcome, apply_unary}
 use Rattle.model_eval.specs.Objects.{put_fields}
 use Rattle.model_eval.specs.Futures.{send}
@@ -88,18 +88,18 @@ statement_row ev ex object (do_ e) locals r = and_then (ev object e locals r) (�
 
 -- how many more may be open inside, where so many may be open
 abbrev pub room_inside : ℕ → Running → Outcome ℕ
-room_inside zero r = enter r (Faults Depth)
-room_inside (suc room) r = enter r (Gives room)
+room_inside zero r = spend_step r (Faults Depth)
+room_inside (suc room) r = spend_step r (Gives room)
 
 -- a method is started by its name, whatever it is resolved to
 abbrev mutual
   pub evaluate : ProgramTree → ℕ → Evaluate
-  evaluate program zero object e locals r = enter r (Faults Depth)
-  evaluate program (suc room) object e locals r = enter r (expression_row program (evaluate program room) (starts program room) object e locals)
+  evaluate program zero object e locals r = spend_step r (Faults Depth)
+  evaluate program (suc room) object e locals r = spend_step r (expression_row program (evaluate program room) (starts program room) object e locals)
 
   pub execute : ProgramTree → ℕ → Execute
-  execute program zero object s locals r = enter r (Faults Depth)
-  execute program (suc room) object s locals r = enter r (statement_row (evaluate program room) (execute program room) object s locals)
+  execute program zero object s locals r = spend_step r (Faults Depth)
+  execute program (suc room) object s locals r = spend_step r (statement_row (evaluate program room) (execute program room) object s locals)
 
 -- the body of a method on an object
 abbrev pub perform : ProgramTree → ℕ → ℕ → SolvedMethod → List PlainValue → Running → Outcome PlainValue

@@ -42,7 +42,7 @@ pub fn answer(
         Builtin::ViewCount => count_views(args.as_slice(), state),
         Builtin::Views => tell_views(alloc, args.as_slice(), state, budget),
         Builtin::SessionId => session_id(alloc, args.as_slice(), state),
-        Builtin::Known => known(args.as_slice(), state),
+        Builtin::Known => tell_known(args.as_slice(), state),
         Builtin::BeKnown => make_known(args.as_slice(), object, state),
         Builtin::Exists => exists(args.as_slice(), state),
         Builtin::Destroy => take_away(args.as_slice(), state),
@@ -160,7 +160,7 @@ fn digits(alloc: Global, id: &[u8; 32]) -> Result<Text, WantOfMemory>
     Text::copy(alloc, digits.as_str())
 }
 
-fn known(args: &[Value], state: &State) -> Result<Value, EvalStop>
+fn tell_known(args: &[Value], state: &State) -> Result<Value, EvalStop>
     ensures { (budget : Budget) → Answers result state.now budget (on_text tell_known (plain_values args.now) (running state.now budget)) }
 {
     match args {

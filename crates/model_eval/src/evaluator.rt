@@ -10,7 +10,7 @@ ghost use Rattle.model_eval.specs.Builtins.{run_builtin, on_event};
 ghost use Rattle.model_eval.specs.Publishing.{run_handlers, handle, publish, tell_handlers};
 ghost use Rattle.model_eval.specs.Meaning.{call_on, create_object, run_init};
 ghost use Rattle.model_eval.specs.Slots.{block as block_of, room_inside, evaluate_all, expression_row as row_of_expression, in_turn, loop_turns, perform, statement_row as row_of_statement};
-ghost use Rattle.model_eval.specs.Answer.{Answers, AnswersAll, Did, Enters, Proceeds, Steps, evaluates_by, executes_by, running, starts_by};
+ghost use Rattle.model_eval.specs.Answer.{Answers, AnswersAll, Did, Enters, Proceeds, TakesStep, evaluates_by, executes_by, running, starts_by};
 ghost use Rattle.model_eval.specs.declared.state.State.{State};
 
 use crate::builtins::answer;
@@ -580,7 +580,7 @@ pub fn enter(room: u32, budget: &mut Budget) -> Result<u32, EvalStop>
 
 // Takes a step of fuel.
 fn take_step(budget: &mut Budget) -> Result<(), EvalStop>
-    ensures { Steps result budget.old budget.new }
+    ensures { TakesStep result budget.old budget.new }
 {
     if budget.fuel == 0 {
         return Err(EvalStop::Fault(Fault::Fuel));

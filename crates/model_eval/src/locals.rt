@@ -6,7 +6,7 @@ ghost use Rattle.model_eval.specs.Running.{value as reply_value};
 ghost use Rattle.model_eval.specs.Answer.{Replies};
 
 use crate::fault::EvalStop;
-use crate::values::copied;
+use crate::values::copy_value;
 use model_value::Value;
 use std::alloc::Global;
 use tea_base::WantOfMemory;
@@ -36,7 +36,7 @@ pub fn get_local(alloc: Global, locals: &[Value], slot: u32) -> Result<Value, Ev
     ensures { Replies result (reply_value (slice_index_or (plain_values locals.now) slot nil)) }
 {
     match locals.get(slot as usize) {
-        Some(value) => copied(alloc, value),
+        Some(value) => copy_value(alloc, value),
         None => Ok(Value::Nil),
     }
 }

@@ -5,7 +5,7 @@ ghost use Rattle.world_plain.specs.Valid.{object_at};
 ghost use Rattle.model_value.specs.Plain.{text_weight, values_weight};
 ghost use Rattle.world_plain.specs.World.{world_weight, most_world_weight};
 ghost use Rattle.model_eval.specs.declared.state.Budget.{Budget};
-ghost use Rattle.model_eval.specs.Futures.{ahead as ahead_of, send as sends, send_at, send_to};
+ghost use Rattle.model_eval.specs.Futures.{ahead as ahead_of, send as sends, send_message_at, send_to};
 ghost use Rattle.model_eval.specs.Publishing.{cancel};
 ghost use Rattle.model_eval.specs.Answer.{Answers, running, world_of};
 
@@ -51,18 +51,18 @@ fn send_to(
     }
     match ahead(state.time, delay) {
         None => Err(EvalStop::Fault(Fault::Time)),
-        Some(time) => send_at(state, time, object, method, args),
+        Some(time) => send_message_at(state, time, object, method, args),
     }
 }
 
-fn send_at(
+fn send_message_at(
     state: &mut State,
     time: u64,
     object: u32,
     method: &Text,
     args: Values,
 ) -> Result<Value, EvalStop>
-    ensures { (budget : Budget) → Answers result state.new budget (send_at object method.now (plain_values args) (Some time) (running state.old budget)) }
+    ensures { (budget : Budget) → Answers result state.new budget (send_message_at object method.now (plain_values args) (Some time) (running state.old budget)) }
 {
     if time == state.time && state.turns == MOST_TURNS {
         return Err(EvalStop::Fault(Fault::Instant));

@@ -8,11 +8,11 @@ ghost use Rattle.model_eval.specs.declared.state.Budget.{Budget};
 ghost use Rattle.model_eval.specs.Objects.{destroy, is_held as held, make_object, put_fields, without_object};
 ghost use Rattle.model_eval.specs.Slots.{slot_value, set_slot as slot_set};
 ghost use Rattle.model_eval.specs.Running.{with_world};
-ghost use Rattle.model_eval.specs.Answer.{Answers, Did, IsAbsent, Numbers, Replies, running, world_of};
+ghost use Rattle.model_eval.specs.Answer.{Answers, Did, MissesField, Numbers, Replies, running, world_of};
 
 use crate::fault::{EvalStop, Fault};
 use crate::state::State;
-use crate::values::copied;
+use crate::values::copy_value;
 use model_value::{Value, Values, nils, weight};
 use std::alloc::Global;
 use world_plain::{MOST_WORLD_WEIGHT, object_fits, value_fits};
@@ -23,14 +23,14 @@ pub fn get_slot(alloc: Global, state: &State, object: u32, slot: u32) -> Result<
     ensures { Replies result (slot_value (object_at state.now.objects.objects object) slot) }
 {
     match state.objects.field(object, slot) {
-        Some(value) => copied(alloc, value),
+        Some(value) => copy_value(alloc, value),
         None => absent(state, object),
     }
 }
 
 /// What a field that is not there holds: nothing, or the object is gone.
 fn absent(state: &State, object: u32) -> Result<Value, EvalStop>
-    ensures { IsAbsent result (object_at state.now.objects.objects object) }
+    ensures { MissesField result (object_at state.now.objects.objects object) }
 {
     if state.objects.holds(object) {
         Ok(Value::Nil)

@@ -54,7 +54,7 @@ impl State {
         let objects = copy_objects(alloc, self.objects.objects())?;
         let known = copy_known_names(alloc, self.known.names())?;
         let subscriptions = copy_subscriptions(alloc, self.topics.subscriptions())?;
-        let pending = self.pending.ordered(alloc)?;
+        let pending = self.pending.copy_in_order(alloc)?;
         Ok(PlainWorld {
             id: self.id,
             time: self.time,
@@ -106,6 +106,12 @@ fn copy_objects(alloc: Global, objects: &[Object]) -> Result<PlainObjects, WantO
     Ok(List::from_vec(copies))
 }
 
+/// The steps of a message.
+const MOST_FUEL: u32 = 100_000;
+
+/// The most statements and expressions that are open at a time.
+const MOST_OPEN: u32 = 512;
+
 /// What is left of what a message may take.
 #[derive(Clone, Copy, Debug, PartialEq, Eq)]
 pub struct Budget {
@@ -122,8 +128,8 @@ impl Budget {
         ensures room { result.room ≡ most_open }
     {
         Budget {
-            fuel: 100_000,
-            room: 512,
+            fuel: MOST_FUEL,
+            room: MOST_OPEN,
         }
     }
 }

@@ -15,17 +15,17 @@ use tea_base::{List, Text, WantOfMemory};
 
 /// A copy of a value. That of a number takes no call.
 #[inline(always)]
-pub fn copied(alloc: Global, value: &Value) -> Result<Value, EvalStop>
+pub fn copy_value(alloc: Global, value: &Value) -> Result<Value, EvalStop>
     ensures { Replies result (value_reply (plain value.now)) }
 {
     match value {
         Value::Int(number) => Ok(Value::Int(*number)),
-        _ => copied_whole(alloc, value),
+        _ => copy_whole_value(alloc, value),
     }
 }
 
 #[inline(always)]
-fn copied_whole(alloc: Global, value: &Value) -> Result<Value, EvalStop>
+fn copy_whole_value(alloc: Global, value: &Value) -> Result<Value, EvalStop>
     ensures { Replies result (value_reply (plain value.now)) }
 {
     Ok(copy(alloc, value)?)

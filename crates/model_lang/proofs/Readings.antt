@@ -1,5 +1,5 @@
 -- One thing comes of a text: a program, none, or a bound that it passes.
-use Rattle.std.proofs.Common.{◌≡◌, inl, inr, ℕ, ◌<◌, ◌≤◌, List, length, Option, Some, None, refl, sym, ap, ◌∙◌, subst, arith}
+use Rattle.std.proofs.Common.{◌≡◌, inl, inr, ℕ, ◌+◌, ◌<◌, ◌≤◌, List, length, Option, Some, None, refl, sym, ap, ◌∙◌, subst, arith}
 use Rattle.model_tokens.specs.declared.token.Token.{Token}
 use Rattle.model_tokens.specs.Division.{Divides}
 use Rattle.model_lang.specs.declared.fault.Bound.{Bound}
@@ -92,9 +92,9 @@ never_derived text never few ts divides brackets operators tree d (Some p) is =
 
 no_program_tokens : (text : List ℕ) → Never text → length text ≤ most_program_bytes → (ts : List Token) → Divides ts text → AreNoProgram ts
 no_program_tokens text never few ts divides =
-    let one : most_nested < greatest brackets_after 0 ts → ⊥ = λ many. never (too_large bound.Brackets 33) (tokens_past text ts bound.Brackets 33 few divides (inl (many, refl, refl))) in
+    let one : most_nested < greatest brackets_after 0 ts → ⊥ = λ many. never (too_large bound.Brackets (most_nested + 1)) (tokens_past text ts bound.Brackets (most_nested + 1) few divides (inl (many, refl, refl))) in
     let brackets : FewBrackets ts = omega (arith, one) in
-    let other : most_nested < greatest operators_after 0 ts → ⊥ = λ many. never (too_large bound.Operators 33) (tokens_past text ts bound.Operators 33 few divides (inr (inl (brackets, many, refl, refl)))) in
+    let other : most_nested < greatest operators_after 0 ts → ⊥ = λ many. never (too_large bound.Operators (most_nested + 1)) (tokens_past text ts bound.Operators (most_nested + 1) few divides (inr (inl (brackets, many, refl, refl)))) in
     let operators : FewOperators ts = omega (arith, other) in
     record { brackets = brackets; operators = operators; underived = λ tree d. never_derived text never few ts divides brackets operators tree d (first_excess tree) refl }
 

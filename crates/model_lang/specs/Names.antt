@@ -1,9 +1,7 @@
--- Names are short: of at most 64 characters.
-use Rattle.std.specs.Prelude.{ℕ, ◌≤◌, List, [], ◌∷◌, length}
+-- Names are short: no longer than the tokens let them be.
+use Rattle.std.specs.Prelude.{◌≤◌, List, [], ◌∷◌, length}
+use Rattle.model_tokens.specs.Spelling.{longest_name}
 use Rattle.model_lang.specs.Tree.{Name, Expression, nil, bool, int, text, this, local, field, list, unary, binary, builtin, call, future, create, Expressions, no_expressions, expression, Statement, declare, assign, set_field, when, while, give, do_, Statements, no_statements, statement, Otherwise, no_else, else_block, MethodTree, ProgramTree}
-
-abbrev pub longest_name : ℕ
-longest_name = 64
 
 abbrev pub IsShortName : Name → Type 0
 IsShortName x = length x ≤ longest_name

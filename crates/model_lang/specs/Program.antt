@@ -1,5 +1,5 @@
 -- What it is that a text is read as a program, and what it is that it is refused.
-use Rattle.std.specs.Prelude.{◌≡◌, ◌⊎◌, ℕ, ◌≤◌, ◌<◌, List, length, Some, None}
+use Rattle.std.specs.Prelude.{◌≡◌, ◌⊎◌, ℕ, ◌+◌, ◌≤◌, ◌<◌, List, length, Some, None}
 use Rattle.model_tokens.specs.declared.token.Token.{Token}
 use Rattle.model_tokens.specs.Division.{Divides}
 use Rattle.model_lang.specs.declared.fault.Bound.{Bound}
@@ -38,8 +38,8 @@ IsProgram tree = (text : List ℕ) × IsRead text tree
 -- first that is above the bound.
 abbrev pub ArePast : Bound → ℕ → List Token → Type 0
 ArePast what count ts =
-    ((most_nested < greatest brackets_after 0 ts) × (what ≡ bound.Brackets) × (count ≡ 33))
-    ⊎ ((FewBrackets ts × (most_nested < greatest operators_after 0 ts) × (what ≡ bound.Operators) × (count ≡ 33))
+    ((most_nested < greatest brackets_after 0 ts) × (what ≡ bound.Brackets) × (count ≡ most_nested + 1))
+    ⊎ ((FewBrackets ts × (most_nested < greatest operators_after 0 ts) × (what ≡ bound.Operators) × (count ≡ most_nested + 1))
     ⊎ (FewBrackets ts × FewOperators ts × ((tree : ProgramTree) × Derives ts tree × (first_excess tree ≡ Some (what, count)))))
 
 -- the bound that the text passes first, and the count

@@ -11,7 +11,7 @@ use model_tokens::{Symbol, Token};
 pub const MOST_PROGRAM_BYTES: usize = 65_536;
 
 /// The most brackets that are open at a token, and the most operators since the last `,`, `;`, `{` or `}`.
-const MOST_NESTED: usize = 32;
+pub const MOST_NESTED: usize = 32;
 
 /// The most fields of a class, and the most methods.
 const MOST_MEMBERS: usize = 256;

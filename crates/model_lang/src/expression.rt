@@ -7,7 +7,7 @@ ghost use Rattle.model_lang.specs.Lines.{line_number};
 ghost use Rattle.model_lang.specs.Reader.{read_expression, read_operator_line, read_unary, read_post, read_suffix, read_call, read_future, read_prim, read_word, read_opened, read_named, read_this, field_at as read_field, read_create, read_args, read_more};
 
 use crate::fault::ParseStop;
-use crate::front::{call_head, create_head, expect_symbol, message_head, named, symbol, word};
+use crate::front::{call_head, create_head, expect_symbol, message_head, name_at, symbol, word};
 use crate::operators::{Line, operator_at, sign_at};
 use crate::tree::{BinaryOp, Expr, UnaryOp};
 use model_tokens::{Symbol, Token, Word};
@@ -267,7 +267,7 @@ fn field_at(tokens: &[Token]) -> Option<(&Text, &[Token])>
     ensures { FindsName result (read_field tokens.now) }
 {
     let rest = symbol(tokens, Symbol::Dot)?;
-    let (name, rest) = named(rest)?;
+    let (name, rest) = name_at(rest)?;
     match symbol(rest, Symbol::OpenRound) {
         Some(_) => None,
         None => Some((name, rest)),

@@ -41,7 +41,7 @@ pub fn expect_symbol(tokens: &[Token], wanted: Symbol) -> Result<&[Token], Parse
 }
 
 /// The name at the front, if one is there, and the tokens behind it.
-pub fn named(tokens: &[Token]) -> Option<(&Text, &[Token])>
+pub fn name_at(tokens: &[Token]) -> Option<(&Text, &[Token])>
     ensures { FindsName result (name_at tokens.now) }
 {
     match tokens.split_first() {
@@ -54,7 +54,7 @@ pub fn named(tokens: &[Token]) -> Option<(&Text, &[Token])>
 fn expect_name(tokens: &[Token]) -> Result<(&Text, &[Token]), ParseStop>
     ensures { ExpectsName result (name_at tokens.now) }
 {
-    named(tokens).ok_or(ParseStop::at(tokens))
+    name_at(tokens).ok_or(ParseStop::at(tokens))
 }
 
 /// The name of a class at the front, which must be there, and the tokens behind it.

@@ -12,6 +12,7 @@ mod program;
 mod statement;
 mod tree;
 
+pub use bounds::MOST_PROGRAM_BYTES;
 pub use fault::{Bound, LangFault};
 pub use parsing::{one_derivation, one_reading, one_tree, parse};
 pub use program::Program;

@@ -6,7 +6,7 @@ ghost use Rattle.model_lang.specs.Grammar.{Derives};
 ghost use Rattle.model_lang.specs.Program.{IsRead, Reading, IsReading};
 ghost use Rattle.model_lang.specs.Answer.{Parses, ParsesTokens, IsPlaced};
 
-use crate::bounds::{MOST_PROGRAM_BYTES, TokenCount, first_excess, stays_low};
+use crate::bounds::{MOST_NESTED, MOST_PROGRAM_BYTES, TokenCount, first_excess, stays_low};
 use crate::class::program;
 use crate::fault::{Bound, LangFault, ParseStop};
 use crate::program::Program;
@@ -15,7 +15,7 @@ use model_tokens::{Token, TokenFault, one_division, place_of_fault, place_of_tok
 use std::alloc::Global;
 
 // The first count of brackets or operators that is above the bound.
-const ONE_TOO_MANY: u64 = 33;
+const ONE_TOO_MANY: u64 = MOST_NESTED as u64 + 1;
 
 /// Reads the program that a text spells.
 ///

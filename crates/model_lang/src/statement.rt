@@ -6,7 +6,7 @@ ghost use Rattle.model_lang.specs.Reader.{read_block, read_actions, read_action,
 
 use crate::expression::expression;
 use crate::fault::ParseStop;
-use crate::front::{expect_symbol, name, named, symbol, word};
+use crate::front::{expect_symbol, name, name_at, symbol, word};
 use crate::tree::{Expr, Stmt};
 use model_tokens::{Symbol, Token, Word};
 use std::alloc::Global;
@@ -172,7 +172,7 @@ fn simple(alloc: Global, tokens: &[Token]) -> Result<(Stmt, &[Token]), ParseStop
 fn assigned_at(tokens: &[Token]) -> Option<(&Text, &[Token])>
     ensures { FindsName result (read_assigned tokens.now) }
 {
-    let (name, rest) = named(tokens)?;
+    let (name, rest) = name_at(tokens)?;
     let rest = symbol(rest, Symbol::Assign)?;
     Some((name, rest))
 }

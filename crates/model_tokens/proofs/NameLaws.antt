@@ -7,7 +7,7 @@ use Rattle.std.proofs.lemmas.Str.{is_utf8-from_IsUtf8, IsUtf8-from_ascii, chars-
 use Rattle.std.specs.Str.{bytes_eq, is_utf8, chars}
 use Rattle.std.specs.Prelude.{nat_lt}
 use Rattle.model_tokens.specs.Bytes.{begins_name, begins_class_name, goes_on_name}
-use Rattle.model_tokens.specs.Spelling.{spelled_word, IsNamed}
+use Rattle.model_tokens.specs.Spelling.{longest_name, spelled_word, IsNamed}
 use Rattle.model_tokens.specs.Division.{a_token, EndsBefore}
 use Rattle.model_tokens.specs.Reader.{front, rest_past, kind_of, word_among, every_word, token_of_name, name_token_at, row, next_piece}
 use Rattle.model_tokens.specs.declared.token.Token.TheVariants as token
@@ -89,14 +89,14 @@ either_right false b h = h
 -- ---- what is read of a name
 
 -- a name of so many bytes, and what stands behind it
-read_name : (name rest : List ℕ) → prefix_len goes_on_name (name ++ rest) ≡ length name → length name ≤ 64 → name_token_at (name ++ rest) ≡ Some (a_token (token_of_name (word_among every_word name) name), rest)
+read_name : (name rest : List ℕ) → prefix_len goes_on_name (name ++ rest) ≡ length name → length name ≤ longest_name → name_token_at (name ++ rest) ≡ Some (a_token (token_of_name (word_among every_word name) name), rest)
 read_name name rest len short =
     let here : front goes_on_name (name ++ rest) ≡ name = ap (λ n. take n (name ++ rest)) len ∙ take_front name rest in
     let there : rest_past goes_on_name (name ++ rest) ≡ rest = ap (λ n. drop n (name ++ rest)) len ∙ drop_front name rest in
-    let test : nat_lt 64 (prefix_len goes_on_name (name ++ rest)) ≡ false = rw len (grind (arith, nat_tests)) in
+    let test : nat_lt longest_name (prefix_len goes_on_name (name ++ rest)) ≡ false = rw len (grind (arith, nat_tests)) in
     rw (test, here, there) refl
 
-named_next : (byte : ℕ) (bytes rest : List ℕ) → (begins_name byte || begins_class_name byte) ≡ true → list_all goes_on_name bytes ≡ true → length bytes < 64 → EndsBefore goes_on_name rest → next_piece ((byte ∷ bytes) ++ rest) ≡ Some (a_token (token_of_name (word_among every_word (byte ∷ bytes)) (byte ∷ bytes)), rest)
+named_next : (byte : ℕ) (bytes rest : List ℕ) → (begins_name byte || begins_class_name byte) ≡ true → list_all goes_on_name bytes ≡ true → length bytes < longest_name → EndsBefore goes_on_name rest → next_piece ((byte ∷ bytes) ++ rest) ≡ Some (a_token (token_of_name (word_among every_word (byte ∷ bytes)) (byte ∷ bytes)), rest)
 named_next byte bytes rest begins all short ends =
     let letter : kind_of byte ≡ kind.Letter = (begins_letter byte begins).0 in
     let every : list_all goes_on_name (byte ∷ bytes) ≡ true = from_both (goes_on_name byte) (list_all goes_on_name bytes) (begins_letter byte begins).1 all in

@@ -7,7 +7,7 @@ use Rattle.std.specs.Fmt.{decimal}
 use Rattle.std.proofs.lemmas.Bool.Decides.{nat_tests}
 use Rattle.std.proofs.lemmas.Fmt.{decimal_digit}
 use Rattle.model_tokens.specs.Bytes.{is_blank, is_digit, begins_name, begins_class_name, goes_on_name, goes_on_line}
-use Rattle.model_tokens.specs.Spelling.{spelled_word}
+use Rattle.model_tokens.specs.Spelling.{longest_name, spelled_word}
 use Rattle.model_tokens.specs.Division.{Piece, blank, comment, a_token, spelling, IsPiece, EndsPiece, EndsBefore, number_goes_on}
 use Rattle.model_tokens.specs.Reader.{TokenRead, front, rest_past, kind_of, word_among, every_word, token_of_name, number_in_bounds, literal_text_at, as_text, symbol_at, comment_at, as_symbol, or_symbol, row, next_piece}
 use Rattle.model_tokens.specs.declared.token.Token.TheVariants as token
@@ -65,13 +65,13 @@ either_name : (a b : Bool) → (a || b) ≡ true → b ≡ false → a ≡ true
 either_name true b h n = refl
 either_name false b h n = cc
 
-name_if : (byte : ℕ) (bytes : List ℕ) (rest : List ℕ) (text : List ℕ) → (byte ∷ bytes) ++ rest ≡ text → EndsBefore goes_on_name rest → list_all goes_on_name bytes ≡ true → length bytes < 64 → (begins_name byte || begins_class_name byte) ≡ true
+name_if : (byte : ℕ) (bytes : List ℕ) (rest : List ℕ) (text : List ℕ) → (byte ∷ bytes) ++ rest ≡ text → EndsBefore goes_on_name rest → list_all goes_on_name bytes ≡ true → length bytes < longest_name → (begins_name byte || begins_class_name byte) ≡ true
     → word_among every_word (byte ∷ bytes) ≡ None → (b : Bool) → begins_class_name byte ≡ b → Begins text (a_token (cond b (token.ClassName (byte ∷ bytes)) (token.Name (byte ∷ bytes)))) rest
 name_if byte bytes rest text whole ends all short begins none true hb = record { whole = whole; is = (hb, all, short); ends = ends }
 name_if byte bytes rest text whole ends all short begins none false hb =
     record { whole = whole; is = ((either_name (begins_name byte) (begins_class_name byte) begins hb, all, short), not_word (byte ∷ bytes) none); ends = ends }
 
-name_named : (byte : ℕ) (bytes : List ℕ) (rest : List ℕ) (text : List ℕ) → (byte ∷ bytes) ++ rest ≡ text → EndsBefore goes_on_name rest → list_all goes_on_name bytes ≡ true → length bytes < 64 → (begins_name byte || begins_class_name byte) ≡ true
+name_named : (byte : ℕ) (bytes : List ℕ) (rest : List ℕ) (text : List ℕ) → (byte ∷ bytes) ++ rest ≡ text → EndsBefore goes_on_name rest → list_all goes_on_name bytes ≡ true → length bytes < longest_name → (begins_name byte || begins_class_name byte) ≡ true
     → (o : Option Word) → word_among every_word (byte ∷ bytes) ≡ o → Begins text (a_token (token_of_name o (byte ∷ bytes))) rest
 name_named byte bytes rest text whole ends all short begins (Some w) e =
     record { whole = ap (λ xs. xs ++ rest) (sym (among_spells every_word (byte ∷ bytes) w e)) ∙ whole; is = tt; ends = ends }
@@ -82,14 +82,14 @@ name_found text name same left piece rest e h is =
     let wrap : List ℕ → TokenRead = λ xs. Some (a_token (token_of_name (word_among every_word xs) xs), left) in
     found text (a_token (token_of_name (word_among every_word name) name)) piece left rest (ap wrap e ∙ h) is
 
-name_read_if : (byte : ℕ) (bytes : List ℕ) (piece : Piece) (rest : List ℕ) (len : ℕ) (b : Bool) → nat_lt 64 len ≡ b → prefix_len goes_on_name (byte ∷ bytes) ≡ len → (begins_name byte || begins_class_name byte) ≡ true → goes_on_name byte ≡ true
+name_read_if : (byte : ℕ) (bytes : List ℕ) (piece : Piece) (rest : List ℕ) (len : ℕ) (b : Bool) → nat_lt longest_name len ≡ b → prefix_len goes_on_name (byte ∷ bytes) ≡ len → (begins_name byte || begins_class_name byte) ≡ true → goes_on_name byte ≡ true
     → cond {A = TokenRead} b None (Some (a_token (token_of_name (word_among every_word (front goes_on_name (byte ∷ bytes))) (front goes_on_name (byte ∷ bytes))), rest_past goes_on_name (byte ∷ bytes))) ≡ Some (piece, rest) → Begins (byte ∷ bytes) piece rest
 name_read_if byte bytes piece rest len true hb e begins goes h = cc
 name_read_if byte bytes piece rest len false hb e begins goes h =
     let is_front : front goes_on_name (byte ∷ bytes) ≡ byte ∷ front goes_on_name bytes = rw goes (rw (one-add (prefix_len goes_on_name bytes)) refl) in
     let counted : length (front goes_on_name (byte ∷ bytes)) ≡ prefix_len goes_on_name (byte ∷ bytes) = length_of_front goes_on_name (byte ∷ bytes) in
     let longer : suc (length (front goes_on_name bytes)) ≡ len = ap length (sym is_front) ∙ counted ∙ e in
-    let short : length (front goes_on_name bytes) < 64 = grind (arith, nat_tests) in
+    let short : length (front goes_on_name bytes) < longest_name = grind (arith, nat_tests) in
     let whole : (byte ∷ front goes_on_name bytes) ++ rest_past goes_on_name (byte ∷ bytes) ≡ byte ∷ bytes = ap (λ xs. xs ++ rest_past goes_on_name (byte ∷ bytes)) (sym is_front) ∙ whole_is goes_on_name (byte ∷ bytes) in
     let read = name_named byte (front goes_on_name bytes) (rest_past goes_on_name (byte ∷ bytes)) (byte ∷ bytes) whole (ends_behind goes_on_name (byte ∷ bytes)) (front_all goes_on_name bytes) short begins (word_among every_word (byte ∷ front goes_on_name bytes)) refl in
     name_found (byte ∷ bytes) (byte ∷ front goes_on_name bytes) (front goes_on_name (byte ∷ bytes)) (rest_past goes_on_name (byte ∷ bytes)) piece rest (sym is_front) h read
@@ -152,7 +152,7 @@ row_sound kind.Blank byte bytes piece rest e h = found (byte ∷ bytes) (blank b
 row_sound kind.Digit byte bytes piece rest e h = number_if byte bytes piece rest (byte == 48) refl (kind_digit byte e) h
 row_sound kind.Letter byte bytes piece rest e h =
     let begins = letter_begins byte e in
-    name_read_if byte bytes piece rest (prefix_len goes_on_name (byte ∷ bytes)) (nat_lt 64 (prefix_len goes_on_name (byte ∷ bytes))) refl refl begins (begins_letter byte begins).1 h
+    name_read_if byte bytes piece rest (prefix_len goes_on_name (byte ∷ bytes)) (nat_lt longest_name (prefix_len goes_on_name (byte ∷ bytes))) refl refl begins (begins_letter byte begins).1 h
 row_sound kind.Quote byte bytes piece rest e h = subst (λ n. Begins (n ∷ bytes) piece rest) (quote_kind byte e) (text_found bytes piece rest (literal_text_at bytes) refl h)
 row_sound kind.Other byte bytes piece rest e h = other_found (byte ∷ bytes) piece rest (comment_at (byte ∷ bytes)) refl h
 

@@ -4,7 +4,7 @@ use Rattle.std.specs.List.{prefix_len}
 use Rattle.std.specs.Str.{bytes_eq, is_utf8, chars}
 use Rattle.std.specs.Str.Parse.{digits_value}
 use Rattle.model_tokens.specs.Bytes.{is_blank, is_digit, begins_name, begins_class_name, goes_on_name, goes_on_line, is_control}
-use Rattle.model_tokens.specs.Spelling.{spelled_word}
+use Rattle.model_tokens.specs.Spelling.{longest_name, spelled_word}
 use Rattle.model_tokens.specs.Division.{Piece, blank, comment, a_token}
 use Rattle.model_tokens.specs.declared.token.Token.{Token}
 use Rattle.model_tokens.specs.declared.token.Token.TheVariants as token
@@ -50,7 +50,7 @@ token_of_name None bytes = if begins_class_name (slice_index bytes 0) then token
 
 abbrev pub name_token_at : List ℕ → TokenRead
 name_token_at text =
-    if nat_lt 64 (prefix_len goes_on_name text) then None
+    if nat_lt longest_name (prefix_len goes_on_name text) then None
     else Some (a_token (token_of_name (word_among every_word (front goes_on_name text)) (front goes_on_name text)), rest_past goes_on_name text)
 
 -- ---- numbers

@@ -77,10 +77,14 @@ token_spelling (token.Text characters) = spelled_text characters
 token_spelling (token.Word word) = spelled_word word
 token_spelling (token.Symbol symbol) = spelled_symbol symbol
 
--- one to 64 letters, digits and `_`, of which the first passes the test
+-- the most bytes of a name
+abbrev pub longest_name : ℕ
+longest_name = 64
+
+-- letters, digits and `_`, not too many of them, of which the first passes the test
 abbrev pub IsNamed : (ℕ → Bool) → List ℕ → Type 0
 IsNamed begins [] = ⊥
-IsNamed begins (byte ∷ bytes) = (begins byte ≡ true) × (list_all goes_on_name bytes ≡ true) × (length bytes < 64)
+IsNamed begins (byte ∷ bytes) = (begins byte ≡ true) × (list_all goes_on_name bytes ≡ true) × (length bytes < longest_name)
 
 abbrev pub IsToken : Token → Type 0
 IsToken (token.Name name) = IsNamed begins_name name × ((word : Word) → name ≢ spelled_word word)

@@ -13,7 +13,7 @@ use Rattle.world_plain.specs.declared.message.Subscription.{Subscription}
 use Rattle.pubsub.specs.declared.handler.Handler.{Handler}
 use Rattle.pubsub.specs.declared.index.TopicIndex.{TopicIndex}
 use Rattle.pubsub.specs.Topics.{AreLightSubscriptions, IsLightSubscription, is_to, is_subscribed, without_subscription, without_subscriber, handlers_of}
-use Rattle.pubsub.specs.Index.{handler_of, is_by, without_handler, without_object, handlers_at, FindsMore, FindsLess, IsTight}
+use Rattle.pubsub.specs.Index.{handler_of, is_by, without_handler, without_handlers_of, handlers_at, FindsMore, FindsLess, IsTight}
 use Rattle.pubsub.specs.Held.{HoldsTopics}
 use Rattle.pubsub.proofs.Subscriptions.{both, neither, same-true, appended, filtered, filter_all}
 
@@ -55,12 +55,12 @@ module _ (scope event : List ℕ) where
         on_topic (not d) before on e ∙ ap (λ (y : Bool). cond (not y) (handler_of t ∷ before) before) (elsewhere refl refl)
 
     one_gone : (object : ℕ) (x d : Bool) → is_to scope event t ≡ x → nat_eq t.object object ≡ d
-        → handlers_of scope event rest ≡ without_object object before
-        → handlers_of scope event (cond (not d) (t ∷ rest) rest) ≡ without_object object (cond x (handler_of t ∷ before) before)
-    one_gone object false d off gone e = off_topic (not d) (without_object object before) off e
+        → handlers_of scope event rest ≡ without_handlers_of object before
+        → handlers_of scope event (cond (not d) (t ∷ rest) rest) ≡ without_handlers_of object (cond x (handler_of t ∷ before) before)
+    one_gone object false d off gone e = off_topic (not d) (without_handlers_of object before) off e
     one_gone object true d on gone e =
-        on_topic (not d) (without_object object before) on e
-        ∙ ap (λ (y : Bool). cond (not y) (handler_of t ∷ without_object object before) (without_object object before)) (sym gone)
+        on_topic (not d) (without_handlers_of object before) on e
+        ∙ ap (λ (y : Bool). cond (not y) (handler_of t ∷ without_handlers_of object before) (without_handlers_of object before)) (sym gone)
 
   -- two of one topic are the same where their handlers are
   same_in_topic : (s t : Subscription) → is_to scope event t ≡ true → is_to scope event s ≡ true → same_subscription t s ≡ is_by s (handler_of t)
@@ -88,7 +88,7 @@ module _ (scope event : List ℕ) where
       one_less s t (without_subscription s ts) (handlers_of scope event ts) (is_to scope event t) (is_to scope event s) (same_subscription t s) (is_by s (handler_of t)) refl refl refl
       (λ on of_s. same_in_topic s t on of_s) (λ on off. same_elsewhere s t (same_subscription t s) refl on off) (handlers-without s ts)
 
-  handlers-left : (object : ℕ) (ss : List Subscription) → handlers_of scope event (without_subscriber object ss) ≡ without_object object (handlers_of scope event ss)
+  handlers-left : (object : ℕ) (ss : List Subscription) → handlers_of scope event (without_subscriber object ss) ≡ without_handlers_of object (handlers_of scope event ss)
   handlers-left object [] = refl
   handlers-left object (t ∷ ts) =
       one_gone t t (without_subscriber object ts) (handlers_of scope event ts) object (is_to scope event t) (nat_eq t.object object) refl refl (handlers-left object ts)
@@ -193,7 +193,7 @@ none_gone object old new is as_many = is ∙ filter_all (λ (s : Subscription). 
 
 pub without_one : (object : ℕ) (old new : List Subscription) (was index : TopicIndex) (weight after : ℕ) → HoldsTopics old was weight
     → new ≡ without_subscriber object old
-    → ((scope event : List ℕ) → handlers_at index scope event ≡ without_object object (handlers_at was scope event))
+    → ((scope event : List ℕ) → handlers_at index scope event ≡ without_handlers_of object (handlers_at was scope event))
     → IsTight index
     → after ≡ total_weight subscription_weight new
     → HoldsTopics new index after
@@ -201,7 +201,7 @@ without_one object old new was index weight after held is finds tight weighed = 
   topics = filtered (λ (s : Subscription). not (nat_eq s.object object)) new old is held.topics;
   indexed = λ scope event of_scope of_event.
       finds (encode_utf8_all scope) (encode_utf8_all event)
-      ∙ ap (without_object object) (held.indexed scope event of_scope of_event)
+      ∙ ap (without_handlers_of object) (held.indexed scope event of_scope of_event)
       ∙ sym (handlers-left scope event object old)
       ∙ ap (handlers_of scope event) (sym is);
   tight = tight;

@@ -24,8 +24,8 @@ abbrev pub without_handler : Subscription → List Handler → List Handler
 without_handler s = filter (λ h. not (is_by s h))
 
 -- the handlers but those of an object
-abbrev pub without_object : ℕ → List Handler → List Handler
-without_object object = filter (λ h. not (nat_eq h.object object))
+abbrev pub without_handlers_of : ℕ → List Handler → List Handler
+without_handlers_of object = filter (λ h. not (nat_eq h.object object))
 
 -- ---- what is found
 
@@ -38,8 +38,8 @@ abbrev pub handlers_at : TopicIndex → List ℕ → List ℕ → List Handler
 handlers_at index scope event = option_map_or (λ events. handlers_in events event) (get_by_text index.by_scope scope) []
 
 -- by the characters of both
-abbrev pub found : TopicIndex → List ℕ → List ℕ → List Handler
-found index scope event = handlers_at index (encode_utf8_all scope) (encode_utf8_all event)
+abbrev pub handlers_found : TopicIndex → List ℕ → List ℕ → List Handler
+handlers_found index scope event = handlers_at index (encode_utf8_all scope) (encode_utf8_all event)
 
 -- a fact at each topic: both its names are texts
 abbrev pub AtEachTopic : (List ℕ → List ℕ → Type 0) → Type 0
@@ -51,15 +51,15 @@ FindsSame old new = (scope event : List ℕ) → handlers_at new scope event ≡
 
 -- new finds the handler of a subscription behind what old finds in its topic, and elsewhere what old does
 abbrev pub FindsMore : Subscription → TopicIndex → TopicIndex → Type 0
-FindsMore s old new = AtEachTopic (λ scope event. found new scope event ≡ (if is_to scope event s then found old scope event ++ handler_of s ∷ [] else found old scope event))
+FindsMore s old new = AtEachTopic (λ scope event. handlers_found new scope event ≡ (if is_to scope event s then handlers_found old scope event ++ handler_of s ∷ [] else handlers_found old scope event))
 
 -- new does not find the handler of a subscription in its topic, and else what old does
 abbrev pub FindsLess : Subscription → TopicIndex → TopicIndex → Type 0
-FindsLess s old new = AtEachTopic (λ scope event. found new scope event ≡ (if is_to scope event s then without_handler s (found old scope event) else found old scope event))
+FindsLess s old new = AtEachTopic (λ scope event. handlers_found new scope event ≡ (if is_to scope event s then without_handler s (handlers_found old scope event) else handlers_found old scope event))
 
 -- an index finds in each topic those who handle it
 abbrev pub IsIndexOf : TopicIndex → List Subscription → Type 0
-IsIndexOf index ss = AtEachTopic (λ scope event. found index scope event ≡ handlers_of scope event ss)
+IsIndexOf index ss = AtEachTopic (λ scope event. handlers_found index scope event ≡ handlers_of scope event ss)
 
 -- ---- nothing is left behind
 

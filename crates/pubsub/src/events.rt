@@ -1,6 +1,6 @@
 //! The events of one scope.
 ghost use Rattle.std.specs.Prelude.{◌≡◌, ◌<◌, ◌++◌, ◌∷◌, ℕ, [], List, length, IsTrue, OnOk, OnErr, true, false, bytes_eq, if◌then◌else◌};
-ghost use Rattle.pubsub.specs.Index.{handlers_in, without_handler, without_object, AreHandled, AreHandledBut, AreTight, HasEvents};
+ghost use Rattle.pubsub.specs.Index.{handlers_in, without_handler, without_handlers_of, AreHandled, AreHandledBut, AreTight, HasEvents};
 
 use crate::handler::{Handler, remove_handler, remove_object};
 use indexmap::IndexMap;
@@ -87,14 +87,14 @@ impl Events {
 
     /// Takes the handlers of an object away from each event. Takes no memory.
     pub fn remove_object(&mut self, object: u32)
-        ensures found { (e : List ℕ) → handlers_in self.new e ≡ without_object object (handlers_in self.old e) }
+        ensures found { (e : List ℕ) → handlers_in self.new e ≡ without_handlers_of object (handlers_in self.old e) }
         ensures handled { AreHandled self.new }
     {
         // `len` is called for its clause that no two entries have one name.
         let _len = self.by_event.len();
         self.by_event.retain(
             |_event: &String, handlers: &mut Vec<Handler>| -> bool
-                ensures left { handlers.new.items ≡ without_object object handlers.old.items }
+                ensures left { handlers.new.items ≡ without_handlers_of object handlers.old.items }
                 ensures gone { result ≡ false → handlers.new.items ≡ [] }
                 ensures kept { result ≡ true → 0 < length handlers.new.items }
             {

@@ -1,6 +1,6 @@
 //! Who handles an event.
 ghost use Rattle.std.specs.Prelude.{◌≡◌, IfOk};
-ghost use Rattle.pubsub.specs.Index.{handler_of, is_by as comes_from, without_handler, without_object};
+ghost use Rattle.pubsub.specs.Index.{handler_of, is_by as comes_from, without_handler, without_handlers_of};
 
 use std::alloc::Global;
 use tea_base::{List, Text, WantOfMemory};
@@ -46,7 +46,7 @@ pub fn copy_handlers(alloc: Global, handlers: &[Handler]) -> Result<Handlers, Wa
 
 /// Takes away the handlers of an object.
 pub fn remove_object(handlers: &mut Vec<Handler>, object: u32)
-    ensures { handlers.new.items ≡ without_object object handlers.old.items }
+    ensures { handlers.new.items ≡ without_handlers_of object handlers.old.items }
 {
     handlers.retain(|handler| handler.object != object);
 }

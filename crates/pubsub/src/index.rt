@@ -2,7 +2,7 @@
 ghost use Rattle.std.specs.Prelude.{◌≡◌, ℕ, [], List, IsTrue, IfSome, OnOk, OnErr, true, false, encode_utf8_all};
 ghost use Rattle.std.specs.Str.{all_scalars};
 ghost use Rattle.std.specs.HashMap.{get_by_text};
-ghost use Rattle.pubsub.specs.Index.{handlers_in, handlers_at, found, without_object, FindsSame, FindsMore, FindsLess, AreTight, HasEvents, IsTight, IsTightBut};
+ghost use Rattle.pubsub.specs.Index.{handlers_in, handlers_at, handlers_found, without_handlers_of, FindsSame, FindsMore, FindsLess, AreTight, HasEvents, IsTight, IsTightBut};
 
 use crate::events::Events;
 use crate::handler::{Handler, handler_of};
@@ -33,7 +33,7 @@ impl TopicIndex {
 
     /// The handlers of an event in a scope. Takes no memory. Both are of Unicode scalar values, as each text is.
     pub fn find(&self, scope: &Text, event: &Text) -> &[Handler]
-        ensures found { result.now ≡ found self.now scope.now event.now }
+        ensures found { result.now ≡ handlers_found self.now scope.now event.now }
         ensures scope { all_scalars scope.now ≡ true }
         ensures event { all_scalars event.now ≡ true }
     {
@@ -101,14 +101,14 @@ impl TopicIndex {
 
     /// Takes the handlers of an object away from each topic. Takes no memory.
     pub fn remove_object(&mut self, object: u32)
-        ensures found { (scope : List ℕ) → (event : List ℕ) → handlers_at self.new scope event ≡ without_object object (handlers_at self.old scope event) }
+        ensures found { (scope : List ℕ) → (event : List ℕ) → handlers_at self.new scope event ≡ without_handlers_of object (handlers_at self.old scope event) }
         ensures tight { IsTight self.new }
     {
         // `len` is called for its clause that no two entries have one name.
         let _len = self.by_scope.len();
         self.by_scope.retain(
             |_scope: &String, events: &mut Events| -> bool
-                ensures left { (e : List ℕ) → handlers_in events.new e ≡ without_object object (handlers_in events.old e) }
+                ensures left { (e : List ℕ) → handlers_in events.new e ≡ without_handlers_of object (handlers_in events.old e) }
                 ensures gone { result ≡ false → (e : List ℕ) → handlers_in events.new e ≡ [] }
                 ensures kept { result ≡ true → AreTight events.new }
             {

@@ -6,6 +6,7 @@ use Rattle.byte_fields.specs.Fields.{whole}
 use Rattle.tea_base.specs.declared.entry.SessionId.{SessionId}
 use Rattle.tea_io.specs.declared.link.Heard.{Heard}
 use Rattle.tea_io.specs.declared.link.Heard.TheVariants as heard
+use Rattle.tea_io.specs.Links.{most_quiets}
 use Rattle.wire_frames.specs.Reading.{client_at}
 use Rattle.wire_frames.specs.declared.frame.ClientFrame.{ClientFrame}
 use Rattle.wire_frames.specs.declared.frame.ClientFrame.TheVariants as client
@@ -20,10 +21,10 @@ use Rattle.reflector_core.specs.declared.request.Refusal.TheVariants as refusal
 use Rattle.join_sync.specs.declared.cursor.Cursor.{Cursor}
 use Rattle.join_sync.specs.declared.early.Early.{Early}
 use Rattle.join_sync.specs.Answers.{answer_frame}
-use Rattle.join_sync.specs.Batches.{next_cursor, next_frames}
-use Rattle.join_sync.specs.Requests.{act_on, first_request}
+use Rattle.join_sync.specs.Batches.{most_pulled, next_cursor, next_frames}
+use Rattle.join_sync.specs.Requests.{IsJoin, act_on, first_request}
 use Rattle.system_plain.specs.ConnectionLine.{unread_frame}
-use Rattle.system_plain.specs.Steps.{answer_frames, most_pulled}
+use Rattle.system_plain.specs.Steps.{answer_frames}
 use Rattle.session_lock.specs.declared.knowledge.Item.{Item}
 use Rattle.session_lock.specs.declared.knowledge.Item.TheVariants.{Did, Void}
 use Rattle.session_lock.specs.History.{after_item}
@@ -32,11 +33,10 @@ use Rattle.reflector_core.specs.Play.{first_session}
 use Rattle.connection.specs.declared.ending.Ended.{Ended}
 use Rattle.connection.specs.declared.ending.Ended.TheVariants as ended
 use Rattle.connection.specs.Exchanges.{Exchange, Answered, Unanswered, exchanges_from, exchanges_in}
-use Rattle.connection.specs.Phases.{TalkPhase, Opening, Reading, Joining, Ticking, Pulling, Hearing, Taking, Asking, Sending, Leaving, Over, Wrong, TalkEvent, Hears, Reads, Makes, MakesAt, Misses, Sends, Loses, Fails, Wants, acted_phase, ending_phase, entered_phase, join_phase, most_quiets, opened_phase, read_phase, reply_phase, sending_phase, talk_step, talk_walk, telling_phase}
-use Rattle.connection.specs.Standing.{IsJoin}
+use Rattle.connection.specs.Phases.{TalkPhase, Opening, Reading, Joining, Ticking, Pulling, Hearing, Taking, Asking, Sending, Leaving, Over, Wrong, TalkEvent, Hears, Reads, Makes, MakesAt, Misses, Sends, Loses, Fails, Wants, acted_phase, ending_phase, entered_phase, join_phase, opened_phase, read_phase, reply_phase, sending_phase, talk_step, talk_walk, telling_phase}
 use Rattle.connection.specs.Talk.{Talk}
 use Rattle.connection.proofs.Callers.{first_is_join}
-use Rattle.reflect_server.specs.Views.{opens, closes, ends_view, has_void, holds}
+use Rattle.reflect_server.specs.Views.{opens_view, closes_view, ends_view, has_void, holds}
 use Rattle.reflect_server.proofs.HeldViews.{holds_behind}
 
 -- some call found no memory
@@ -74,26 +74,26 @@ held_before true true is = absurd (cc (is))
 held_before true false is = (refl, refl)
 held_before false c is = absurd (cc (is))
 
-module _ (asked : List Exchange) (exchange : Exchange) (v j : ℕ) (other : opens v j exchange ≡ false) (is : holds v j (asked ++ exchange ∷ []) ≡ true) where
-  was_held : (holds v j asked ≡ true) × (closes v j exchange ≡ false)
+module _ (asked : List Exchange) (exchange : Exchange) (v j : ℕ) (other : opens_view v j exchange ≡ false) (is : holds v j (asked ++ exchange ∷ []) ≡ true) where
+  was_held : (holds v j asked ≡ true) × (closes_view v j exchange ≡ false)
   was_held =
-      held_before (holds v j asked) (closes v j exchange)
-      (ap (λ (b : Bool). b || (holds v j asked && not (closes v j exchange))) (sym other) ∙ (sym (holds_behind v j false asked (exchange ∷ [])) ∙ is))
+      held_before (holds v j asked) (closes_view v j exchange)
+      (ap (λ (b : Bool). b || (holds v j asked && not (closes_view v j exchange))) (sym other) ∙ (sym (holds_behind v j false asked (exchange ∷ [])) ∙ is))
 
-own_more : (cursor : Cursor) (asked : List Exchange) (exchange : Exchange) → ((v j : ℕ) → opens v j exchange ≡ false) → HoldsOwn cursor asked → HoldsOwn cursor (asked ++ exchange ∷ [])
+own_more : (cursor : Cursor) (asked : List Exchange) (exchange : Exchange) → ((v j : ℕ) → opens_view v j exchange ≡ false) → HoldsOwn cursor asked → HoldsOwn cursor (asked ++ exchange ∷ [])
 own_more cursor asked exchange other own v j is = own v j (was_held asked exchange v j (other v j) is).0
 
-out_more : (cursor : Cursor) (asked : List Exchange) (exchange : Exchange) → ((v j : ℕ) → opens v j exchange ≡ false) → closes cursor.view cursor.joined exchange ≡ true
+out_more : (cursor : Cursor) (asked : List Exchange) (exchange : Exchange) → ((v j : ℕ) → opens_view v j exchange ≡ false) → closes_view cursor.view cursor.joined exchange ≡ true
     → HoldsOwn cursor asked → IsOut (asked ++ exchange ∷ [])
 out_more cursor asked exchange other closing own v j is =
     let was = was_held asked exchange v j (other v j) is in
     let mine = own v j was.0 in
-    absurd (cc (sym (ap (λ (n : ℕ). closes n cursor.joined exchange) mine.0 ∙ ap (λ (n : ℕ). closes v n exchange) mine.1) ∙ closing, was.1))
+    absurd (cc (sym (ap (λ (n : ℕ). closes_view n cursor.joined exchange) mine.0 ∙ ap (λ (n : ℕ). closes_view v n exchange) mine.1) ∙ closing, was.1))
 
 out_missed : (asked : List Exchange) → IsOut (asked ++ Unanswered ∷ [])
 out_missed asked v j is = missed_last asked
 
-own_opens : (cursor : Cursor) (request : Request) (given : Reply) → IsOwn cursor request → (v j : ℕ) → opens v j (Answered request given) ≡ false
+own_opens : (cursor : Cursor) (request : Request) (given : Reply) → IsOwn cursor request → (v j : ℕ) → opens_view v j (Answered request given) ≡ false
 own_opens cursor (Join view now want) given own v j = absurd own
 own_opens cursor (Send view joined number payload now) given own v j = refl
 own_opens cursor (Tick now) given own v j = absurd own
@@ -101,7 +101,7 @@ own_opens cursor (Leave view joined now) given own v j = refl
 own_opens cursor (Offer view joined time bytes) given own v j = refl
 own_opens cursor (Pull after limit) given own v j = absurd own
 
-own_closes : (cursor : Cursor) (request : Request) (given : Reply) → IsOwn cursor request → ends_view given ≡ true → closes cursor.view cursor.joined (Answered request given) ≡ true
+own_closes : (cursor : Cursor) (request : Request) (given : Reply) → IsOwn cursor request → ends_view given ≡ true → closes_view cursor.view cursor.joined (Answered request given) ≡ true
 own_closes cursor (Join view now want) given own ends = absurd own
 own_closes cursor (Send view joined number payload now) given own ends = both_true (both_true (eq-eqb view cursor.view own.0) (eq-eqb joined cursor.joined own.1)) ends
 own_closes cursor (Tick now) given own ends = absurd own

@@ -24,7 +24,7 @@ use Rattle.session_lock.specs.declared.knowledge.Item.{Item}
 use Rattle.session_lock.specs.declared.knowledge.Item.TheVariants.{Did, Void}
 use Rattle.session_lock.specs.History.{after_item, play, play_from}
 use Rattle.connection.specs.Exchanges.{Exchange, Answered, Unanswered, exchange_in, exchanges_from, exchanges_in}
-use Rattle.reflect_server.specs.Views.{opens, closes, ends_view, holds, holds_on}
+use Rattle.reflect_server.specs.Views.{opens_view, closes_view, ends_view, holds, holds_on}
 
 -- ---- tests
 
@@ -46,8 +46,8 @@ bool_cases false = inr refl
 abbrev Stands : PlainSession → Request → ℕ → SessionOutcome → Type 0
 Stands s request v o =
     is_here o.session.log v ≡ true
-    → ((is_here s.log v ≡ true) × (current o.session.log v ≡ current s.log v) × (closes v (current s.log v) (Answered request o.reply) ≡ false))
-    ⊎ (opens v (current o.session.log v) (Answered request o.reply) ≡ true)
+    → ((is_here s.log v ≡ true) × (current o.session.log v ≡ current s.log v) × (closes_view v (current s.log v) (Answered request o.reply) ≡ false))
+    ⊎ (opens_view v (current o.session.log v) (Answered request o.reply) ≡ true)
 
 module _ (log : List Entry) (entry : Entry) (v : ℕ) where
   pushed_other : is_presence_of v entry ≡ false → last_entry (presence (log ++ entry ∷ []) v) ≡ last_entry (presence log v)
@@ -86,12 +86,12 @@ stale_other log view joined v here stale =
 
 module _ (s : PlainSession) (v : ℕ) where
   -- the log is the same, and the exchange gives up nothing
-  same_kept : (request : Request) (reply : Reply) → (is_here s.log v ≡ true → closes v (current s.log v) (Answered request reply) ≡ false)
+  same_kept : (request : Request) (reply : Reply) → (is_here s.log v ≡ true → closes_view v (current s.log v) (Answered request reply) ≡ false)
       → Stands s request v (record { session = s; reply = reply })
   same_kept request reply stays here = inl (here, refl, stays here)
 
   other_kept : (request : Request) (o : SessionOutcome) → last_entry (presence o.session.log v) ≡ last_entry (presence s.log v)
-      → (is_here s.log v ≡ true → closes v (current s.log v) (Answered request o.reply) ≡ false) → Stands s request v o
+      → (is_here s.log v ≡ true → closes_view v (current s.log v) (Answered request o.reply) ≡ false) → Stands s request v o
   other_kept request o same stays here =
       let was : is_here s.log v ≡ true = ap is_some_join (sym same) ∙ here in
       inl (was, ap seq_or_zero same, stays was)
@@ -190,26 +190,26 @@ module _ (s : PlainSession) (v : ℕ) where
 
 pub holds_behind : (view joined : ℕ) (held : Bool) (xs ys : List Exchange) → holds_on view joined held (xs ++ ys) ≡ holds_on view joined (holds_on view joined held xs) ys
 holds_behind view joined held [] ys = refl
-holds_behind view joined held (x ∷ xs) ys = holds_behind view joined (opens view joined x || (held && not (closes view joined x))) xs ys
+holds_behind view joined held (x ∷ xs) ys = holds_behind view joined (opens_view view joined x || (held && not (closes_view view joined x))) xs ys
 
 or_true : (b : Bool) → (b || true) ≡ true
 or_true true = refl
 or_true false = refl
 
 -- an exchange that does not give the view up
-holds_still : (view joined : ℕ) (asked : List Exchange) (own : Bool) (exchange : Exchange) → holds view joined asked ≡ true → closes view joined exchange ≡ false
+holds_still : (view joined : ℕ) (asked : List Exchange) (own : Bool) (exchange : Exchange) → holds view joined asked ≡ true → closes_view view joined exchange ≡ false
     → holds view joined (asked ++ (if own then exchange ∷ [] else [])) ≡ true
 holds_still view joined asked true exchange held stays =
     holds_behind view joined false asked (exchange ∷ [])
-    ∙ (ap (λ (b : Bool). opens view joined exchange || (b && not (closes view joined exchange))) held
-    ∙ (ap (λ (b : Bool). opens view joined exchange || not b) stays ∙ or_true (opens view joined exchange)))
+    ∙ (ap (λ (b : Bool). opens_view view joined exchange || (b && not (closes_view view joined exchange))) held
+    ∙ (ap (λ (b : Bool). opens_view view joined exchange || not b) stays ∙ or_true (opens_view view joined exchange)))
 holds_still view joined asked false exchange held stays = ap (holds view joined) (append-nil asked) ∙ held
 
 -- an exchange that joins it
-holds_now : (view joined : ℕ) (asked : List Exchange) (exchange : Exchange) → opens view joined exchange ≡ true → holds view joined (asked ++ exchange ∷ []) ≡ true
+holds_now : (view joined : ℕ) (asked : List Exchange) (exchange : Exchange) → opens_view view joined exchange ≡ true → holds view joined (asked ++ exchange ∷ []) ≡ true
 holds_now view joined asked exchange joins =
     holds_behind view joined false asked (exchange ∷ [])
-    ∙ ap (λ (b : Bool). b || (holds view joined asked && not (closes view joined exchange))) joins
+    ∙ ap (λ (b : Bool). b || (holds view joined asked && not (closes_view view joined exchange))) joins
 
 -- each view that is here is held by someone
 abbrev AreHeld : PlainSession → (ℕ → List Exchange) → Type 0
@@ -220,8 +220,8 @@ item_held s asked (Void who) held v here =
     let before = held v here in (before.0, holds_still v (current s.log v) (asked before.0) (eqb who before.0) Unanswered before.1 refl)
 item_held s asked (Did who request) held v here = by (request_stands s v request here)
   where
-    by : ((is_here s.log v ≡ true) × (current (answer s request).session.log v ≡ current s.log v) × (closes v (current s.log v) (Answered request (answer s request).reply) ≡ false))
-        ⊎ (opens v (current (answer s request).session.log v) (Answered request (answer s request).reply) ≡ true)
+    by : ((is_here s.log v ≡ true) × (current (answer s request).session.log v ≡ current s.log v) × (closes_view v (current s.log v) (Answered request (answer s request).reply) ≡ false))
+        ⊎ (opens_view v (current (answer s request).session.log v) (Answered request (answer s request).reply) ≡ true)
         → (c : ℕ) × (holds v (current (answer s request).session.log v) (asked c ++ exchange_in s c (Did who request)) ≡ true)
     by (inl kept) =
         let before = held v kept.0 in (

@@ -12,9 +12,9 @@ use Rattle.session_lock.specs.History.{has}
 use Rattle.connection.specs.Exchanges.{Exchange, Answered, exchanges_in}
 
 -- the exchange is a Join of the view that got this seq
-abbrev pub opens : ℕ → ℕ → Exchange → Bool
-opens view joined (Answered (Join v now want) (Joined seq time last from base)) = (v == view) && (seq == joined)
-opens view joined other = false
+abbrev pub opens_view : ℕ → ℕ → Exchange → Bool
+opens_view view joined (Answered (Join v now want) (Joined seq time last from base)) = (v == view) && (seq == joined)
+opens_view view joined other = false
 
 -- the reply says that the caller holds its view no more
 abbrev pub ends_view : Reply → Bool
@@ -23,16 +23,16 @@ ends_view (Refused (Stale current)) = true
 ends_view other = false
 
 -- the exchange gives up the view that was joined so, or tells that it is gone
-abbrev pub closes : ℕ → ℕ → Exchange → Bool
-closes view joined (Answered (Leave v j now) given) = (v == view) && (j == joined)
-closes view joined (Answered (Send v j number payload now) given) = ((v == view) && (j == joined)) && ends_view given
-closes view joined (Answered (Offer v j time bytes) given) = ((v == view) && (j == joined)) && ends_view given
-closes view joined other = false
+abbrev pub closes_view : ℕ → ℕ → Exchange → Bool
+closes_view view joined (Answered (Leave v j now) given) = (v == view) && (j == joined)
+closes_view view joined (Answered (Send v j number payload now) given) = ((v == view) && (j == joined)) && ends_view given
+closes_view view joined (Answered (Offer v j time bytes) given) = ((v == view) && (j == joined)) && ends_view given
+closes_view view joined other = false
 
 -- the view is held that was joined so
 abbrev pub holds_on : ℕ → ℕ → Bool → List Exchange → Bool
 holds_on view joined held [] = held
-holds_on view joined held (exchange ∷ rest) = holds_on view joined (opens view joined exchange || (held && not (closes view joined exchange))) rest
+holds_on view joined held (exchange ∷ rest) = holds_on view joined (opens_view view joined exchange || (held && not (closes_view view joined exchange))) rest
 
 abbrev pub holds : ℕ → ℕ → List Exchange → Bool
 holds view joined asked = holds_on view joined false asked

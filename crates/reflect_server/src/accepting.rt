@@ -1,5 +1,5 @@
 //! Links that are accepted one after the other, each served in a thread beside the rest.
-ghost use Rattle.std.specs.Prelude.{◌≡◌, ◌+◌, ◌<◌, ◌≤◌, ◌++◌, ◌∷◌, [], All, Some, None, vec_len, vec_capacity};
+ghost use Rattle.std.specs.Prelude.{◌≡◌, ◌+◌, ◌<◌, ◌≤◌, ◌^◌, ◌++◌, ◌∷◌, [], All, Some, None, vec_len, vec_capacity};
 ghost use Rattle.std.specs.Thread.{IsSync};
 ghost use Rattle.run_steps.specs.Outside.{links_tell, net_tells};
 ghost use Rattle.session_lock.specs.Passes.{Merged, numbers_held};
@@ -112,7 +112,7 @@ pub fn accept_all<N: Net + Drop, C: Clock + Sync, G: Gate + Sync, R: Threads + W
 ) -> Round<N, N::Conn>
     requires keeper { HasNotCalled post.now.shared.now.session round.keeper }
     requires passes { All (IsFresh post.now.shared.now.session) passes.items }
-    requires few { vec_len passes + worker < 1000 }
+    requires few { vec_len passes + worker < 2 ^ 32 }
     requires room { vec_len passes ≤ vec_capacity round.served }
     requires begins { (round.served.items ≡ []) × (round.stopped ≡ None) }
     ensures room { vec_capacity result.served ≡ vec_capacity round.served }
@@ -138,7 +138,7 @@ pub fn accept_all<N: Net + Drop, C: Clock + Sync, G: Gate + Sync, R: Threads + W
         { serve_one(post, pass, link, worker) },
         || -> Round<N, N::Conn>
             requires { IsSync R.row × HasNotCalled post.now.shared.now.session round.keeper × All (IsFresh post.now.shared.now.session) passes.items
-                × (vec_len passes + worker + 1 < 1000) × (vec_len passes ≤ vec_capacity round.served) × (round.served.items ≡ []) × (round.stopped ≡ None) }
+                × (vec_len passes + worker + 1 < 2 ^ 32) × (vec_len passes ≤ vec_capacity round.served) × (round.served.items ≡ []) × (round.stopped ≡ None) }
             ensures room { vec_capacity result.served ≡ vec_capacity round.served }
             ensures round { GoesRound (C.gives post.entry.now.server.now.clock.now) post.entry.now.server.now.id
                 (net_tells N.coming N.over N.asked N.faults N.lent N.link_counts) (links_tell N.Conn.coming N.Conn.heard N.Conn.sent N.Conn.counts)

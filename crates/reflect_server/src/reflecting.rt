@@ -1,5 +1,6 @@
 //! A session that is reflected over a net.
 ghost use Rattle.std.specs.Prelude.{◌≡◌, ◌+◌, ◌≤◌, ◌++◌, ◌∷◌, [], IfOk, vec_len, vec_capacity};
+ghost use Rattle.run_steps.specs.Limits.{most_connections};
 ghost use Rattle.run_steps.specs.Outside.{links_tell, net_tells};
 ghost use Rattle.tea_io.specs.Told.{grown};
 ghost use Rattle.tea_io.specs.declared.net.NetCall.TheVariants.{Listen};
@@ -33,7 +34,7 @@ fn prepare<L: Link + Drop>(
     id: SessionId,
     connections: u32,
 ) -> Result<Prepared<L>, WantOfMemory>
-    requires { connections ≤ 64 }
+    requires { connections ≤ most_connections }
     ensures { IfOk result (λ prepared. IsPrepared connections prepared) }
 {
     let served = Vec::with_capacity(alloc, connections as usize)?;
@@ -99,7 +100,7 @@ fn serve_all<N: Net + Drop, C: Clock + Sync, G: Gate + Sync, R: Threads + Wait +
     net: N,
     prepared: Prepared<N::Conn>,
 ) -> (N, Result<Reflected, ServeFault>)
-    requires connections { server.now.connections ≤ 64 }
+    requires connections { server.now.connections ≤ most_connections }
     requires prepared { IsPrepared server.now.connections prepared }
     ensures { Reflects (C.gives server.now.clock.now) server.now.id
         (net_tells N.coming N.over N.asked N.faults N.lent N.link_counts) (links_tell N.Conn.coming N.Conn.heard N.Conn.sent N.Conn.counts)
@@ -142,7 +143,7 @@ pub fn reflect<N: Net + Drop, C: Clock + Sync, G: Gate + Sync, R: Threads + Wait
     server: &Server<'_, C, G>,
     mut net: N,
 ) -> (N, Result<Reflected, ServeFault>)
-    requires { (1 ≤ server.now.connections) × (server.now.connections ≤ 64) }
+    requires { (1 ≤ server.now.connections) × (server.now.connections ≤ most_connections) }
     ensures { Reflects (C.gives server.now.clock.now) server.now.id
         (net_tells N.coming N.over N.asked N.faults N.lent N.link_counts) (links_tell N.Conn.coming N.Conn.heard N.Conn.sent N.Conn.counts)
         (Listen server.now.address.now ∷ []) server.now.connections net result.0 result.1 }

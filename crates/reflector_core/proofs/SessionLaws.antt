@@ -27,10 +27,10 @@ IsSoundSession-later s horizon sound later bound = record {
   kept = IsKeptBy-grows s.horizon horizon s.kept later sound.kept;
 }
 
-abbrev here_after : PlainSession → ℕ → ℕ → What → ℕ
-here_after s time view what = here_count (s.log ++ next_entry s.log time view what ∷ [])
+abbrev next_here_count : PlainSession → ℕ → ℕ → What → ℕ
+next_here_count s time view what = here_count (s.log ++ next_entry s.log time view what ∷ [])
 
-IsSoundSession-append : (s : PlainSession) (time view : ℕ) (what : What) → IsSoundSession s → MayFollow s.log (next_entry s.log time view what) → s.horizon < time → time + here_after s time view what < time_limit → here_after s time view what ≤ most_here → length s.log + 1 + here_after s time view what ≤ most_entries → IsSoundSession (append_entry s time view what)
+IsSoundSession-append : (s : PlainSession) (time view : ℕ) (what : What) → IsSoundSession s → MayFollow s.log (next_entry s.log time view what) → s.horizon < time → time + next_here_count s time view what < time_limit → next_here_count s time view what ≤ most_here → length s.log + 1 + next_here_count s time view what ≤ most_entries → IsSoundSession (append_entry s time view what)
 IsSoundSession-append s time view what sound may later bounded here room = record {
   legal = IsLegal-push s.log (next_entry s.log time view what) sound.legal may;
   latest = omega (arith, last_time-push s.log (next_entry s.log time view what));
@@ -60,7 +60,7 @@ exit_may_follow s now view sound bound here =
 pub exit_is_sound : (s : PlainSession) (now view : ℕ) → IsSoundSession s → view < 2 ^ 32 → is_here s.log view ≡ true → IsSoundSession (append_entry s (stamp s.horizon now) view Exit)
 exit_is_sound s now view sound bound here =
     let count = here_count-push s.log (next_entry s.log (stamp s.horizon now) view Exit) in
-    let falls : here_after s (stamp s.horizon now) view Exit + 1 ≡ here_count s.log = grind (arith, count, here) in
+    let falls : next_here_count s (stamp s.horizon now) view Exit + 1 ≡ here_count s.log = grind (arith, count, here) in
     IsSoundSession-append s (stamp s.horizon now) view Exit sound (exit_may_follow s now view sound bound here) (omega arith) (omega (arith, sound.bounded, sound.here)) (omega (arith, sound.here)) (omega (arith, sound.room))
 
 pub event_may_follow : (s : PlainSession) (now view number : ℕ) (payload : List ℕ) → IsSoundSession s → view < 2 ^ 32 → is_here s.log view ≡ true → number ≡ last_number s.log view + 1 → length payload ≤ most_payload → payload_bytes s.log + length payload ≤ most_bytes → length s.log < most_open_entries → s.horizon < end_of_time → MayFollow s.log (next_entry s.log (stamp s.horizon now) view (Event number payload))
@@ -76,7 +76,7 @@ event_may_follow s now view number payload sound bound here next short fits stil
 pub event_is_sound : (s : PlainSession) (now view : ℕ) (number : ℕ) (payload : List ℕ) → IsSoundSession s → MayFollow s.log (next_entry s.log (stamp s.horizon now) view (Event number payload)) → s.horizon < end_of_time → IsSoundSession (append_entry s (stamp s.horizon now) view (Event number payload))
 event_is_sound s now view number payload sound may before_end =
     let count = here_count-push s.log (next_entry s.log (stamp s.horizon now) view (Event number payload)) in
-    let same : here_after s (stamp s.horizon now) view (Event number payload) ≡ here_count s.log = omega (arith, count) in
+    let same : next_here_count s (stamp s.horizon now) view (Event number payload) ≡ here_count s.log = omega (arith, count) in
     let still_open = may.allowed in
     IsSoundSession-append s (stamp s.horizon now) view (Event number payload) sound may (omega arith) (omega (arith, sound.here)) (omega (arith, sound.here)) (omega (arith, sound.here, still_open))
 
@@ -93,5 +93,5 @@ join_may_follow s now view sound bound named room still_open before_end = record
 pub join_is_sound : (s : PlainSession) (now view : ℕ) → IsSoundSession s → MayFollow s.log (next_entry s.log (stamp s.horizon now) view Join) → s.horizon < end_of_time → IsSoundSession (append_entry s (stamp s.horizon now) view Join)
 join_is_sound s now view sound may before_end =
     let count = here_count-push s.log (next_entry s.log (stamp s.horizon now) view Join) in
-    let here : here_after s (stamp s.horizon now) view Join ≤ most_here = grind (arith, count, may.allowed.0, sound.here) in
+    let here : next_here_count s (stamp s.horizon now) view Join ≤ most_here = grind (arith, count, may.allowed.0, sound.here) in
     IsSoundSession-append s (stamp s.horizon now) view Join sound may (omega arith) (omega arith) here (omega (arith, may.allowed))

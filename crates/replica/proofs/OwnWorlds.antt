@@ -10,7 +10,7 @@ use Rattle.world_plain.specs.Valid.{Valid}
 use Rattle.world_plain.specs.World.{WorldRecord}
 use Rattle.world.specs.declared.fault.WorldFault.{WorldFault}
 use Rattle.world.specs.declared.fault.WorldFault.TheVariants as fault
-use Rattle.world.specs.View.{WorldView, IsSoundWorld, Moves}
+use Rattle.world.specs.View.{WorldView, IsSoundWorld, MovesOn}
 use Rattle.world.specs.Worlds.{Scene, field_counts, first_scene, external, advance, take_up}
 use Rattle.world.proofs.ByWorld.{advance-by_world, external-by_world}
 use Rattle.world.proofs.Replays.{first-id, first-begins, external-id, advance-id}
@@ -40,7 +40,7 @@ first-of-session program id w same is sound =
       session = λ _. ap (λ (s : Scene). s.world.id) is ∙ first-id (program_tree program) (program-fits (program_tree program) faultless) id;
     }
 
-moves-keeps : (result : Result ⊤ WorldFault) (program : List Class) (id : List ℕ) (v w : WorldView) (back : Bool) (meant : Scene) → meant.world.id ≡ v.scene.world.id → Moves result v w back meant → IsOfSession program id v → IsOfSession program id w
+moves-keeps : (result : Result ⊤ WorldFault) (program : List Class) (id : List ℕ) (v w : WorldView) (back : Bool) (meant : Scene) → meant.world.id ≡ v.scene.world.id → MovesOn result v w back meant → IsOfSession program id v → IsOfSession program id w
 moves-keeps (Ok done) program id v w back meant stays moves is =
     subst (IsOfSession program id) (sym moves.2) (record { same = is.same; faultless = is.faultless; session = λ e. stays ∙ is.session e })
 moves-keeps (Err fault.Broken) program id v w back meant stays moves is = subst (IsOfSession program id) (sym moves.1) is
@@ -48,13 +48,13 @@ moves-keeps (Err (fault.Back time)) program id v w back meant stays moves is = s
 moves-keeps (Err fault.WantOfMemory) program id v w back meant stays moves is =
     record { same = is.same ∙ sym moves.4; faultless = subst (λ p. IsProgram (program_tree p)) (sym moves.4) is.faultless; session = λ e. absurd cc }
 
-pub external-keeps : (result : Result ⊤ WorldFault) (program : List Class) (id : List ℕ) (v w : WorldView) (entry : Entry) → Moves result v w (nat_le entry.time v.scene.world.time) (external (program_tree v.program) entry v.scene)
+pub external-keeps : (result : Result ⊤ WorldFault) (program : List Class) (id : List ℕ) (v w : WorldView) (entry : Entry) → MovesOn result v w (nat_le entry.time v.scene.world.time) (external (program_tree v.program) entry v.scene)
     → IsOfSession program id v → IsOfSession program id w
 external-keeps result program id v w entry moves is =
     let tree = program_tree v.program in
     moves-keeps result program id v w (nat_le entry.time v.scene.world.time) (external tree entry v.scene) (external-id tree (program-fits tree is.faultless) entry v.scene) moves is
 
-pub advance-keeps : (result : Result ⊤ WorldFault) (program : List Class) (id : List ℕ) (v w : WorldView) (t : ℕ) → Moves result v w (nat_lt t v.scene.world.time) (advance (program_tree v.program) t v.scene)
+pub advance-keeps : (result : Result ⊤ WorldFault) (program : List Class) (id : List ℕ) (v w : WorldView) (t : ℕ) → MovesOn result v w (nat_lt t v.scene.world.time) (advance (program_tree v.program) t v.scene)
     → IsOfSession program id v → IsOfSession program id w
 advance-keeps result program id v w t moves is =
     let tree = program_tree v.program in
@@ -64,7 +64,7 @@ advance-keeps result program id v w t moves is =
 
 moves-goes : (result : Result ⊤ WorldFault) (id : List ℕ) (v w : WorldView) (back behind : Bool) (meant : Scene) (world : WorldRecord) (out : List PlainOutgoing)
     → (v.broken ≡ false → back ≡ behind) → (v.broken ≡ false → meant.world ≡ world) → (v.broken ≡ false → meant.published ≡ out)
-    → Moves result v w back meant → GoesOn result (session_view id v) (session_view id w) behind world out
+    → MovesOn result v w back meant → GoesOn result (session_view id v) (session_view id w) behind world out
 moves-goes (Ok done) id v w back behind meant world out same is tells moves =
     let e : unless_broken (worlds (program_tree v.program) id).first v.broken meant.world ≡ world = whole-is (worlds (program_tree v.program) id).first meant.world v.broken moves.0 ∙ is moves.0 in
     let f = ap (λ (x : WorldRecord). record { program = v.program; id = id; world = x; out = meant.published; broken = v.broken }) e in
@@ -79,7 +79,7 @@ moves-goes (Err (fault.Back time)) id v w back behind meant world out same is te
 moves-goes (Err fault.WantOfMemory) id v w back behind meant world out same is tells moves =
     (moves.0, sym (same moves.0) ∙ moves.1, rw (moves.2, moves.3, moves.4) refl)
 
-pub external-goes : (result : Result ⊤ WorldFault) (id : List ℕ) (v w : WorldView) (entry : Entry) → Moves result v w (nat_le entry.time v.scene.world.time) (external (program_tree v.program) entry v.scene)
+pub external-goes : (result : Result ⊤ WorldFault) (id : List ℕ) (v w : WorldView) (entry : Entry) → MovesOn result v w (nat_le entry.time v.scene.world.time) (external (program_tree v.program) entry v.scene)
     → GoesOn result (session_view id v) (session_view id w) (nat_le entry.time (session_view id v).world.time) ((worlds (program_tree v.program) id).external (session_view id v).world entry)
     ((worlds (program_tree v.program) id).external_out (session_view id v).world entry v.scene.published)
 external-goes result id v w entry moves =
@@ -90,7 +90,7 @@ external-goes result id v w entry moves =
     (λ e. sym (ap (λ (x : WorldRecord). (worlds tree id).external_out x entry v.scene.published) (whole-seen id v e)))
     moves
 
-pub advance-goes : (result : Result ⊤ WorldFault) (id : List ℕ) (v w : WorldView) (t : ℕ) → Moves result v w (nat_lt t v.scene.world.time) (advance (program_tree v.program) t v.scene)
+pub advance-goes : (result : Result ⊤ WorldFault) (id : List ℕ) (v w : WorldView) (t : ℕ) → MovesOn result v w (nat_lt t v.scene.world.time) (advance (program_tree v.program) t v.scene)
     → GoesOn result (session_view id v) (session_view id w) (nat_lt t (session_view id v).world.time) ((worlds (program_tree v.program) id).advance (session_view id v).world t)
     ((worlds (program_tree v.program) id).advance_out (session_view id v).world t v.scene.published)
 advance-goes result id v w t moves =

@@ -23,18 +23,12 @@ use std::alloc::Global;
 use std::marker::Model;
 use std::sync::Arc;
 use tea_base::{Blob, Entry, List, MOST_PAYLOAD, SessionId, Text, WantOfMemory};
-use wire_frames::{Base, ClientFrame, ClientFrames, ServerFrame, Want};
+use wire_frames::{Base, ClientFrame, ClientFrames, JOIN_TAG, SNAP_TAG, ServerFrame, Want};
 use world::WorldFault;
 use world_plain::Published;
 
 /// The most events that a view publishes.
 const MOST_PUBLISHED: u32 = 1_048_576;
-
-/// The tag of a JOIN.
-const JOIN: u8 = 1;
-
-/// The tag of a SNAP.
-const SNAP: u8 = 3;
 
 /// A view's replica of the world of a session: it takes the frames that the view is sent, and keeps the events that the view
 /// published until they are acknowledged.
@@ -343,10 +337,10 @@ impl Replica {
         ensures taken { IsTaken result None self.new.plain (take_refused self.old.plain about code kept) }
         ensures session { KeepsSession self.old self.new }
     {
-        if about == SNAP {
+        if about == SNAP_TAG {
             return Ok(());
         }
-        if about == JOIN {
+        if about == JOIN_TAG {
             self.awaited = None;
         }
         Err(ReplicaFault::Refused { about, code, kept })

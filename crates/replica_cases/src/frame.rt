@@ -20,8 +20,8 @@ pub(crate) fn read_frame(alloc: Global, words: &[&str]) -> Result<ServerFrame, C
         "sync" => sync(alloc, rest),
         "recv" => recv(alloc, rest),
         "tick" => tick(rest),
-        "done" => done(rest),
-        "snapped" => snapped(rest),
+        "done" => done_frame(rest),
+        "snapped" => snapped_frame(rest),
         "refused" => refusal(rest),
         "alive" => Ok(ServerFrame::Alive),
         _ => Err(CaseFault::NoCase),
@@ -119,7 +119,7 @@ fn tick(words: &[&str]) -> Result<ServerFrame, CaseFault>
     Ok(ServerFrame::Tick(time_of(time)?))
 }
 
-fn done(words: &[&str]) -> Result<ServerFrame, CaseFault>
+fn done_frame(words: &[&str]) -> Result<ServerFrame, CaseFault>
     ensures { IfOk result IsTimely }
 {
     let [number, seq, time] = words else {
@@ -132,7 +132,7 @@ fn done(words: &[&str]) -> Result<ServerFrame, CaseFault>
     })
 }
 
-fn snapped(words: &[&str]) -> Result<ServerFrame, CaseFault>
+fn snapped_frame(words: &[&str]) -> Result<ServerFrame, CaseFault>
     ensures { IfOk result IsTimely }
 {
     let [time] = words else {

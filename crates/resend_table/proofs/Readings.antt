@@ -13,7 +13,7 @@ use Rattle.tea_base.proofs.LogLaws.{last_presence-push, sent-push, here_count-pu
 use Rattle.resend_table.specs.declared.stand.Kind.{Kind}
 use Rattle.resend_table.specs.declared.stand.Stand.{Stand}
 use Rattle.resend_table.specs.declared.table.Resend.{Resend}
-use Rattle.resend_table.specs.Stands.{kind_of, is_event_kind, absent, stand_of, stand_after, here_after, seq_in, IsNotedAs}
+use Rattle.resend_table.specs.Stands.{entry_kind, is_event_kind, absent_stand, stand_of, stand_after, here_count_after, seq_in, IsNotedAs}
 use Rattle.resend_table.specs.Noted.{HasNoted, stand_at}
 
 -- ---- how a view stands
@@ -43,14 +43,14 @@ abbrev made_stand : ℕ → Bool → ℕ → Stand
 made_stand current here last = record { current = current; here = here; last = last }
 
 stood_by : (same : Bool) (what : What) (seq current : ℕ) (here : Bool) (last : ℕ)
-    → cond same (stand_after (made_stand current here last) seq (kind_of what)) (made_stand current here last)
+    → cond same (stand_after (made_stand current here last) seq (entry_kind what)) (made_stand current here last)
     ≡ made_stand (cond (same && (is_join what || is_exit what)) seq current) (cond (same && (is_join what || is_exit what)) (is_join what) here) (last + cond (same && is_event what) 1 0)
 stood_by true what.Join seq current here last = let e : last ≡ last + 0 = omega arith in ap (made_stand seq true) e
 stood_by true what.Exit seq current here last = let e : last ≡ last + 0 = omega arith in ap (made_stand seq false) e
 stood_by true (what.Event number payload) seq current here last = refl
 stood_by false what seq current here last = let e : last ≡ last + 0 = omega arith in ap (made_stand current here) e
 
-stand-push : (log : List Entry) (entry : Entry) (view : ℕ) → stand_of (log ++ entry ∷ []) view ≡ cond (eqb entry.view view) (stand_after (stand_of log view) entry.seq (kind_of entry.what)) (stand_of log view)
+stand-push : (log : List Entry) (entry : Entry) (view : ℕ) → stand_of (log ++ entry ∷ []) view ≡ cond (eqb entry.view view) (stand_after (stand_of log view) entry.seq (entry_kind entry.what)) (stand_of log view)
 stand-push log entry view =
     rw (current-push log entry view, is_here-push log entry view, last_number-push log entry view)
     (sym (stood_by (eqb entry.view view) entry.what entry.seq (current log view) (is_here log view) (last_number log view)))
@@ -97,14 +97,14 @@ seq_at_if true false sent entry number = ap (λ (es : List Entry). seq_at es num
 seq_at_if false true sent entry number = ap (λ (es : List Entry). seq_at es number) (append-nil sent)
 seq_at_if false false sent entry number = ap (λ (es : List Entry). seq_at es number) (append-nil sent)
 
-is_event-kind : (what : What) → is_event_kind (kind_of what) ≡ is_event what
+is_event-kind : (what : What) → is_event_kind (entry_kind what) ≡ is_event what
 is_event-kind what.Join = refl
 is_event-kind what.Exit = refl
 is_event-kind (what.Event number payload) = refl
 
 event-push : (log : List Entry) (entry : Entry) (view number : ℕ)
     → option_map (λ (e : Entry). e.seq) (view_event (log ++ entry ∷ []) view number)
-    ≡ cond (is_event_kind (kind_of entry.what) && (eqb entry.view view && eqb (last_number log view + 1) number)) (Some entry.seq) (option_map (λ (e : Entry). e.seq) (view_event log view number))
+    ≡ cond (is_event_kind (entry_kind entry.what) && (eqb entry.view view && eqb (last_number log view + 1) number)) (Some entry.seq) (option_map (λ (e : Entry). e.seq) (view_event log view number))
 event-push log entry view number =
     ap (λ (es : List Entry). seq_at es number) (sent-push log entry view)
     ∙ seq_at_if (eqb entry.view view) (is_event entry.what) (view_events log view) entry number
@@ -112,14 +112,14 @@ event-push log entry view number =
 
 -- ---- how many are here
 
-here_step : (what : What) (here : Bool) (before after : ℕ) → after + cond ((is_join what || is_exit what) && here) 1 0 ≡ before + cond (is_join what) 1 0 → here_after before here (kind_of what) ≡ after
+here_step : (what : What) (here : Bool) (before after : ℕ) → after + cond ((is_join what || is_exit what) && here) 1 0 ≡ before + cond (is_join what) 1 0 → here_count_after before here (entry_kind what) ≡ after
 here_step what.Join true before after e = omega arith
 here_step what.Join false before after e = omega arith
 here_step what.Exit true before after e = omega arith
 here_step what.Exit false before after e = omega arith
 here_step (what.Event number payload) here before after e = omega arith
 
-here-push : (log : List Entry) (entry : Entry) → here_after (here_count log) (is_here log entry.view) (kind_of entry.what) ≡ here_count (log ++ entry ∷ [])
+here-push : (log : List Entry) (entry : Entry) → here_count_after (here_count log) (is_here log entry.view) (entry_kind entry.what) ≡ here_count (log ++ entry ∷ [])
 here-push log entry = here_step entry.what (is_here log entry.view) (here_count log) (here_count (log ++ entry ∷ [])) (here_count-push log entry)
 
 -- ---- one more entry is noted
@@ -135,15 +135,15 @@ same_number_if false event log at other number seq kept e = refl
 
 -- an entry is noted by its seq, its view and its kind alone
 stand_as : (entry : Entry) (seq view : ℕ) (kind : Kind) (v : ℕ) (stand kept : Stand) → IsNotedAs seq view kind entry
-    → cond (eqb view v) (stand_after stand seq kind) kept ≡ cond (eqb entry.view v) (stand_after stand entry.seq (kind_of entry.what)) kept
+    → cond (eqb view v) (stand_after stand seq kind) kept ≡ cond (eqb entry.view v) (stand_after stand entry.seq (entry_kind entry.what)) kept
 stand_as entry seq view kind v stand kept is = rw (is.0, is.1, is.2) refl
 
 seq_as : (entry : Entry) (seq view : ℕ) (kind : Kind) (v number last : ℕ) (kept : Option ℕ) → IsNotedAs seq view kind entry
-    → cond (is_event_kind kind && (eqb view v && eqb last number)) (Some seq) kept ≡ cond (is_event_kind (kind_of entry.what) && (eqb entry.view v && eqb last number)) (Some entry.seq) kept
+    → cond (is_event_kind kind && (eqb view v && eqb last number)) (Some seq) kept ≡ cond (is_event_kind (entry_kind entry.what) && (eqb entry.view v && eqb last number)) (Some entry.seq) kept
 seq_as entry seq view kind v number last kept is = rw (is.0, is.1, is.2) refl
 
 here_as : (entry : Entry) (seq view : ℕ) (kind : Kind) (log : List Entry) → IsNotedAs seq view kind entry
-    → here_after (here_count log) (is_here log view) kind ≡ here_after (here_count log) (is_here log entry.view) (kind_of entry.what)
+    → here_count_after (here_count log) (is_here log view) kind ≡ here_count_after (here_count log) (is_here log entry.view) (entry_kind entry.what)
 here_as entry seq view kind log is = rw (is.1, is.2) refl
 
 -- where each part of the table took note of the entry
@@ -170,17 +170,17 @@ module _ (before after : Resend) (log : List Entry) (entry : Entry) (seq view : 
       ∙ seq_as entry seq view kind v number (last_number log v + 1) (option_map (λ (e : Entry). e.seq) (view_event log v number)) is
       ∙ sym (event-push log entry v number)
 
-  noted_here : after.here_count ≡ here_after before.here_count stand.here kind → after.here_count ≡ here_count (log ++ entry ∷ [])
+  noted_here : after.here_count ≡ here_count_after before.here_count stand.here kind → after.here_count ≡ here_count (log ++ entry ∷ [])
   noted_here step =
       step
-      ∙ ap (λ (n : ℕ). here_after n stand.here kind) told.here
-      ∙ ap (λ (s : Stand). here_after (here_count log) s.here kind) at
+      ∙ ap (λ (n : ℕ). here_count_after n stand.here kind) told.here
+      ∙ ap (λ (s : Stand). here_count_after (here_count log) s.here kind) at
       ∙ here_as entry seq view kind log is
       ∙ here-push log entry
 
   pub noted : ((v : ℕ) → stand_at after v ≡ cond (eqb view v) (stand_after stand seq kind) (stand_at before v))
       → ((v number : ℕ) → seq_in after.seqs v number ≡ cond (is_event_kind kind && (eqb view v && eqb (stand.last + 1) number)) (Some seq) (seq_in before.seqs v number))
-      → after.here_count ≡ here_after before.here_count stand.here kind
+      → after.here_count ≡ here_count_after before.here_count stand.here kind
       → HasNoted after (log ++ entry ∷ [])
   noted stands seqs here = record {
     stands = λ v. noted_stand v (stands v);
@@ -189,7 +189,7 @@ module _ (before after : Resend) (log : List Entry) (entry : Entry) (seq view : 
   }
 
 -- the stand of the view is put, and all others stay
-pub stand_put : (b : Bool) (stand : Stand) (kept : Option Stand) → unwrap_or (cond b (Some stand) kept) absent ≡ cond b stand (unwrap_or kept absent)
+pub stand_put : (b : Bool) (stand : Stand) (kept : Option Stand) → unwrap_or (cond b (Some stand) kept) absent_stand ≡ cond b stand (unwrap_or kept absent_stand)
 stand_put true stand kept = refl
 stand_put false stand kept = refl
 

@@ -9,14 +9,14 @@ use Rattle.resend_table.specs.declared.stand.Kind.{Kind}
 use Rattle.resend_table.specs.declared.stand.Kind.TheVariants.{Join, Exit, Event}
 use Rattle.resend_table.specs.declared.stand.Stand.{Stand}
 
-abbrev pub kind_of : What → Kind
-kind_of what.Join = Join
-kind_of what.Exit = Exit
-kind_of (what.Event number payload) = Event
+abbrev pub entry_kind : What → Kind
+entry_kind what.Join = Join
+entry_kind what.Exit = Exit
+entry_kind (what.Event number payload) = Event
 
 -- the entry has this seq, this view, and is of this kind
 abbrev pub IsNotedAs : ℕ → ℕ → Kind → Entry → Type 0
-IsNotedAs seq view kind entry = (entry.seq ≡ seq) × (entry.view ≡ view) × (kind_of entry.what ≡ kind)
+IsNotedAs seq view kind entry = (entry.seq ≡ seq) × (entry.view ≡ view) × (entry_kind entry.what ≡ kind)
 
 abbrev pub is_event_kind : Kind → Bool
 is_event_kind Join = false
@@ -28,8 +28,8 @@ abbrev pub stand_of : List Entry → ℕ → Stand
 stand_of log view = record { current = current log view; here = is_here log view; last = last_number log view }
 
 -- a view that no entry names
-abbrev pub absent : Stand
-absent = record { current = 0; here = false; last = 0 }
+abbrev pub absent_stand : Stand
+absent_stand = record { current = 0; here = false; last = 0 }
 
 -- that of a view whose last Join, where it is here, or Exit has this seq
 abbrev pub with_presence : Stand → ℕ → Bool → Stand
@@ -42,15 +42,15 @@ stand_after stand seq Exit = with_presence stand seq false
 stand_after stand seq Event = record { current = stand.current; here = stand.here; last = stand.last + 1 }
 
 -- and of how many views are here
-abbrev pub here_after : ℕ → Bool → Kind → ℕ
-here_after count here Join = if here then count else count + 1
-here_after count here Exit = if here then count - 1 else count
-here_after count here Event = count
+abbrev pub here_count_after : ℕ → Bool → Kind → ℕ
+here_count_after count here Join = if here then count else count + 1
+here_count_after count here Exit = if here then count - 1 else count
+here_count_after count here Event = count
 
 -- ---- what the maps hold
 
 abbrev pub stand_in : {S : Type 0} → IndexMap ℕ Stand S → ℕ → Stand
-stand_in stands view = unwrap_or (get nat_eq stands view) absent
+stand_in stands view = unwrap_or (get nat_eq stands view) absent_stand
 
 -- both numbers are the same
 abbrev pub same_pair : ℕ × ℕ → ℕ × ℕ → Bool

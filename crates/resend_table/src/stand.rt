@@ -1,7 +1,7 @@
 //! How a view stands.
 ghost use Rattle.std.specs.Prelude.{◌≡◌, ◌<◌};
 ghost use Rattle.tea_base.specs.Limits.{most_entries};
-ghost use Rattle.resend_table.specs.Stands.{absent, stand_after, with_presence, here_after};
+ghost use Rattle.resend_table.specs.Stands.{absent_stand, stand_after, with_presence, here_count_after};
 
 /// What an entry records of its view.
 #[derive(Clone, Copy, Debug, PartialEq, Eq)]
@@ -28,7 +28,7 @@ pub struct Stand {
 impl Stand {
     /// That of a view which no entry names.
     pub fn absent() -> Stand
-        ensures { result ≡ absent }
+        ensures { result ≡ absent_stand }
     {
         Stand {
             current: 0,
@@ -64,8 +64,8 @@ impl Stand {
 }
 
 /// How many views are here after one more entry of a view.
-pub fn here_after(count: u32, here: bool, kind: Kind) -> u32
-    ensures { count < most_entries → result ≡ here_after count here kind }
+pub fn here_count_after(count: u32, here: bool, kind: Kind) -> u32
+    ensures { count < most_entries → result ≡ here_count_after count here kind }
 {
     match kind {
         Kind::Join if here => count,

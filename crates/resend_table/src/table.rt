@@ -4,7 +4,7 @@ ghost use Rattle.tea_base.specs.Limits.{most_entries};
 ghost use Rattle.indexmap.specs.IndexMap.{Updates, spare as room_of};
 ghost use Rattle.resend_table.specs.Stands.{is_event_kind, seq_in};
 
-use crate::stand::{Kind, Stand, here_after};
+use crate::stand::{Kind, Stand, here_count_after};
 use indexmap::IndexMap;
 use std::alloc::Global;
 use std::hash::Hash;
@@ -107,7 +107,7 @@ impl Resend {
         let stand = self.stand(view);
         put_seq(&mut self.seqs, view, stand.last, seq, kind);
         put(&mut self.stands, view, stand.after(seq, kind));
-        self.here_count = here_after(self.here_count, stand.here, kind);
+        self.here_count = here_count_after(self.here_count, stand.here, kind);
         self.spare -= 1;
     }
 

@@ -234,18 +234,18 @@ pub record HearsLink {L : Type 0} (links : LinksTell L) (came : Came) (what : He
   pub later : NoneFalls (links.counts old) (links.counts new)
   pub cause : CountRises (links.counts old) (links.counts new) (said came what)
 
-abbrev pub link_answer : Came → Result ⊤ LinkFault
-link_answer Well = Ok tt
-link_answer Failed = Err link_fault.Failed
-link_answer WantedMemory = Err link_fault.WantOfMemory
+abbrev pub link_result : Came → Result ⊤ LinkFault
+link_result Well = Ok tt
+link_result Failed = Err link_fault.Failed
+link_result WantedMemory = Err link_fault.WantOfMemory
 
 -- a frame is sent on the link
 pub record SendsFrame {L : Type 0} (links : LinksTell L) (came : Came) (frame : List ℕ) (old new : L) : Type 0 where
-  pub sent : HasSent (links.sent old) (links.sent new) frame (link_answer came)
+  pub sent : HasSent (links.sent old) (links.sent new) frame (link_result came)
   pub heard : links.heard new ≡ links.heard old
   pub coming : links.coming new ≡ links.coming old
   pub later : NoneFalls (links.counts old) (links.counts new)
-  pub cause : SendCause (links.counts old) (links.counts new) (link_answer came)
+  pub cause : SendCause (links.counts old) (links.counts new) (link_result came)
 
 -- ---- a step
 

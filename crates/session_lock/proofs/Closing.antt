@@ -15,7 +15,7 @@ use Rattle.session_lock.specs.declared.knowledge.Item.{Item}
 use Rattle.session_lock.specs.declared.knowledge.Knowledge.{Knowledge}
 use Rattle.session_lock.specs.History.{has, caller_of, calls_of, Saw, play, history_requests, IsSoundThrough}
 use Rattle.session_lock.specs.Numbers.{times, one_between}
-use Rattle.session_lock.specs.Rules.{all_numbers, views_total, has_ticket, one_if, is_holding, calls_as, holds_number, size_of, Every, PartsFit, HoldsInTurn, SpentHoldsNothing, PlaysWell, IsInOrder, Locks, first_knowledge, no_part}
+use Rattle.session_lock.specs.Rules.{all_numbers, views_total, has_ticket, one_if, is_holding, calls_as, holds_number, number_count, Every, PartsFit, HoldsInTurn, SpentHoldsNothing, PlaysWell, IsInOrder, Locks, first_knowledge, no_part}
 use Rattle.session_lock.proofs.Totals.{total_two, total_none, total_only}
 use Rattle.session_lock.proofs.Ranges.{none_in}
 use Rattle.session_lock.proofs.Histories.{has_own, none_behind, sound_end, play_requests}
@@ -33,7 +33,7 @@ times_has n (m ∷ ms) e = times_step (eqb n m) (has n ms) (times n ms) e (times
     times_step true h t e go = absurd (cc (e))
     times_step false h t e go = let r = go e in omega (arith, r)
 
-no_numbers : (n : ℕ) (u : Knowledge) → size_of u ≡ 0 → holds_number n u ≡ 0
+no_numbers : (n : ℕ) (u : Knowledge) → number_count u ≡ 0 → holds_number n u ≡ 0
 no_numbers n u e = let a = no_calls u.callers (omega (arith, e)) n in let b = none_in n u.spare (omega (arith, e)) in omega (arith, a, b)
 
 -- where who made no call has none in the history, the calls are the whole history
@@ -50,9 +50,9 @@ all_calls cs (x ∷ xs) h =
         let e : (if true then x ∷ calls_of (caller_of x ∷ []) xs else calls_of (caller_of x ∷ []) xs) ≡ [] = ap (λ (b : Bool). if b then x ∷ calls_of (caller_of x ∷ []) xs else calls_of (caller_of x ∷ []) xs) (sym own) ∙ h (caller_of x) (times_has (caller_of x) cs is) in
         absurd (cc (e))
 
-module _ (Trusted : PlainSession → Type 0) (history : List Item) (s : State PlainSession Knowledge) (k : IsInOrder Trusted history s) (id : ℕ) (v : Knowledge) (at : get_elem? s.views id ≡ some v) (whole : size_of v ≡ all_numbers) (free : v.holding ≡ false) where
-  others_none : (j : ℕ) (u : Knowledge) → get_elem? s.views j ≡ some u → j ≢ id → size_of u ≡ 0
-  others_none j u atj ne = let both = total_two size_of s.views j id u v atj at ne in let all = k.whole in omega (arith, both, all, whole)
+module _ (Trusted : PlainSession → Type 0) (history : List Item) (s : State PlainSession Knowledge) (k : IsInOrder Trusted history s) (id : ℕ) (v : Knowledge) (at : get_elem? s.views id ≡ some v) (whole : number_count v ≡ all_numbers) (free : v.holding ≡ false) where
+  others_none : (j : ℕ) (u : Knowledge) → get_elem? s.views j ≡ some u → j ≢ id → number_count u ≡ 0
+  others_none j u atj ne = let both = total_two number_count s.views j id u v atj at ne in let all = k.whole in omega (arith, both, all, whole)
 
   same_view : (j : ℕ) (u : Knowledge) → get_elem? s.views j ≡ some u → j ≡ id → u ≡ v
   same_view j u atj is = some-injective u v (sym atj ∙ (ap (λ (n : ℕ). get_elem? s.views n) is ∙ at))
@@ -76,7 +76,7 @@ module _ (Trusted : PlainSession → Type 0) (history : List Item) (s : State Pl
   pub holds_each : (n : ℕ) → holds_number n v ≡ one_between 0 all_numbers n
   holds_each n = sym (total_only (holds_number n) s.views id v at (λ j u atj ne. no_numbers n u (others_none j u atj ne))) ∙ k.numbers n
 
-pub closed : (Trusted : PlainSession → Type 0) (id : ℕ) (v : Knowledge) (words : List ℕ) (slots : List PlainSession) (x : PlainSession) → Final (Seen (Locks Trusted) id v) words slots → size_of v ≡ all_numbers → v.holding ≡ false → get_elem? slots 0 ≡ some x
+pub closed : (Trusted : PlainSession → Type 0) (id : ℕ) (v : Knowledge) (words : List ℕ) (slots : List PlainSession) (x : PlainSession) → Final (Seen (Locks Trusted) id v) words slots → number_count v ≡ all_numbers → v.holding ≡ false → get_elem? slots 0 ≡ some x
     → (x ≡ play v.seen) × (calls_of v.callers v.seen ≡ v.seen) × PlaysWell Trusted v.seen × ((n : ℕ) → holds_number n v ≡ one_between 0 all_numbers n)
 closed Trusted id v words slots x f whole free is =
     let s = f.0 in

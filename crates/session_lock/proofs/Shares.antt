@@ -13,7 +13,7 @@ use Rattle.session_lock.specs.declared.knowledge.Range.{Range}
 use Rattle.session_lock.specs.declared.knowledge.Knowledge.{Knowledge}
 use Rattle.session_lock.specs.History.{calls_of, Saw}
 use Rattle.session_lock.specs.Numbers.{in_ranges, count_of, take_numbers, drop_numbers, first_of_ranges}
-use Rattle.session_lock.specs.Rules.{views_total, is_ticket, has_ticket, one_if, is_holding, calls_as, holds_number, size_of, Every, HoldsInTurn, SpentHoldsNothing, PartsFit, no_part, IsSeenWhole, Locks}
+use Rattle.session_lock.specs.Rules.{views_total, is_ticket, has_ticket, one_if, is_holding, calls_as, holds_number, number_count, Every, HoldsInTurn, SpentHoldsNothing, PartsFit, no_part, IsSeenWhole, Locks}
 use Rattle.session_lock.specs.Steps.{split_left, split_right, join_left, join_right}
 use Rattle.session_lock.proofs.Totals.{total_set, total_snoc, every_set, every_snoc}
 use Rattle.session_lock.proofs.Ranges.{cut, cut_count, taken_count, first_out, in_ranges_append, count_append, times_append}
@@ -41,10 +41,10 @@ module _ (n : ℕ) (v : Knowledge) (n_some : 0 < n) (enough : n ≤ count_of v.s
       let out : 1 + in_ranges x (drop_numbers 1 the_taken) ≡ in_ranges x the_taken = subst (λ b. (if b then 1 else 0) + in_ranges x (drop_numbers 1 the_taken) ≡ in_ranges x the_taken) (eq-eqb x x refl) (first_out x the_taken taken_some) in
       omega (arith, two, out)
 
-  pub right_size : size_of (split_right n v) ≡ n
+  pub right_size : number_count (split_right n v) ≡ n
   right_size = let c = taken_count n v.spare enough in let a = cut_count 1 the_taken in let b = taken_count 1 the_taken taken_some in omega (arith, a, b, c)
 
-  pub left_size : size_of (split_left n v) + n ≡ size_of v
+  pub left_size : number_count (split_left n v) + n ≡ number_count v
   left_size = let a = cut_count n v.spare in let c = taken_count n v.spare enough in omega (arith, a, c)
 
   pub splits : (Trusted : PlainSession → Type 0) (id : ℕ) → Splits (Locks Trusted) id v (split_left n v) (split_right n v)
@@ -62,7 +62,7 @@ module _ (n : ℕ) (v : Knowledge) (n_some : 0 < n) (enough : n ≤ count_of v.s
           order = k.order;
           tickets = λ t. (let a = both (has_ticket t) in let b = k.tickets t in omega (arith, a, b));
           numbers = λ x. (let a = both (holds_number x) in let b = same_numbers x in let c = k.numbers x in omega (arith, a, b, c));
-          whole = (let a = both size_of in let b = k.whole in omega (arith, a, b, right_size, left_size));
+          whole = (let a = both number_count in let b = k.whole in omega (arith, a, b, right_size, left_size));
           seen = every_snoc (λ u. Saw u.callers u.seen history) (set s.views id l) r (every_set (λ u. Saw u.callers u.seen history) s.views id l k.seen (k.seen id v at)) (saw_new first v.callers v.seen history (k.seen id v at) (k.called first unused));
           parts = every_snoc (PartsFit history) (set s.views id l) r (every_set (PartsFit history) s.views id l k.parts (k.parts id v at)) (part_none history r no_part refl, part_none history r no_part refl);
           told = (let t = told_set history s.views id v l at refl (λ e. e) k.told in (t.0, t.1, at_longer (set s.views id l) (r ∷ []) t.0 t.1 t.2, t.3, t.4));
@@ -141,7 +141,7 @@ merges Trusted id other v w idle free idle' free' caller_is s (history, k) at ne
         order = k.order;
         tickets = λ t. join (has_ticket t) (let a : has_ticket t w ≡ 0 = ap (is_ticket t) idle' in omega (arith, a)) ∙ k.tickets t;
         numbers = λ n. join (holds_number n) (let a = times_append n v.callers w.callers in let b = in_ranges_append n v.spare w.spare in omega (arith, a, b)) ∙ k.numbers n;
-        whole = join size_of (let a = length-append v.callers w.callers in let b = count_append v.spare w.spare in omega (arith, a, b)) ∙ k.whole;
+        whole = join number_count (let a = length-append v.callers w.callers in let b = count_append v.spare w.spare in omega (arith, a, b)) ∙ k.whole;
         seen = every (λ u. Saw u.callers u.seen history) k.seen fits (saw_nothing history);
         parts = every (PartsFit history) k.parts (
           (saw, left, λ n e. (let a = times_append n v.callers w.callers in omega (arith, a, e))),

@@ -15,7 +15,7 @@ use Rattle.session_lock.specs.declared.knowledge.Part.{Part}
 use Rattle.session_lock.specs.declared.knowledge.Knowledge.{Knowledge}
 use Rattle.session_lock.specs.History.{caller_of, after_item, play, has, calls_of, Saw}
 use Rattle.session_lock.specs.Numbers.{times, in_ranges, count_of, one_between}
-use Rattle.session_lock.specs.Rules.{all_numbers, views_total, is_ticket, has_ticket, one_if, is_holding, calls_as, holds_number, size_of, HoldsOnce, HoldsInTurn, SpentHoldsNothing, PartFits, PartsFit, IsSeenWhole, IsInOrder, Locks, no_part}
+use Rattle.session_lock.specs.Rules.{all_numbers, views_total, is_ticket, has_ticket, one_if, is_holding, calls_as, holds_number, number_count, HoldsOnce, HoldsInTurn, SpentHoldsNothing, PartFits, PartsFit, IsSeenWhole, IsInOrder, Locks, no_part}
 use Rattle.session_lock.specs.Steps.{Unused, Settles, M, with_ticket, with_turn, with_seen_item, Draws, Looks, Finishes, CountsHistory}
 use Rattle.session_lock.proofs.Totals.{total_set, total_same, total_has, total_two, total_none, total_only, every_set, every_set_else}
 use Rattle.session_lock.proofs.Histories.{play_snoc, sound_more, sound_end, calls_append, saw_all, saw_more, saw_whole, saw_length, saw_nothing, saw_between, nothing_first, has_times}
@@ -110,7 +110,7 @@ module _ (Trusted : PlainSession → Type 0) where
                 let last : one_between (length history) (k.next + 1) t ≡ one_between (length history) (old + 1) t = ap (λ (n : ℕ). one_between (length history) (n + 1) t) (sym is ∙ hit) in
                 omega (arith, sum, none_yet, here, were, more, last);
             numbers = λ n. total_same (holds_number n) s.views id v w at refl ∙ k.numbers n;
-            whole = total_same size_of s.views id v w at refl ∙ k.whole;
+            whole = total_same number_count s.views id v w at refl ∙ k.whole;
             seen = every_set (λ u. Saw u.callers u.seen history) s.views id w k.seen (k.seen id v at);
             parts = every_set (PartsFit history) s.views id w k.parts (k.parts id v at);
             told = told_set history s.views id v w at refl (λ e. e) k.told;
@@ -179,7 +179,7 @@ module _ (Trusted : PlainSession → Type 0) where
             order = k.order;
             tickets = λ n. total_same (has_ticket n) s.views id v w at refl ∙ k.tickets n;
             numbers = λ n. total_same (holds_number n) s.views id v w at refl ∙ k.numbers n;
-            whole = total_same size_of s.views id v w at refl ∙ k.whole;
+            whole = total_same number_count s.views id v w at refl ∙ k.whole;
             seen = every_set (λ u. Saw u.callers u.seen history) s.views id w k.seen (saw_all v.callers history);
             parts = every_set (PartsFit history) s.views id w k.parts (parts_seen history v (k.parts id v at));
             told = told_set history s.views id v w at refl (λ e. refl) k.told;
@@ -249,7 +249,7 @@ module _ (Trusted : PlainSession → Type 0) where
                 let last : one_between (length h + 1) k.next t ≡ one_between (length (h ++ x ∷ [])) k.next t = ap (λ (n : ℕ). one_between n k.next t) (sym long) in
                 omega (arith, sum, mine_was, were, less, last);
             numbers = λ n. total_same (holds_number n) s.views id v w at refl ∙ k.numbers n;
-            whole = total_same size_of s.views id v w at refl ∙ k.whole;
+            whole = total_same number_count s.views id v w at refl ∙ k.whole;
             seen = every_set_else (λ u. Saw u.callers u.seen h) (λ u. Saw u.callers u.seen (h ++ x ∷ [])) s.views id w
                 (λ j u ne atj saw. saw_more u.callers u.seen h x saw (has_times (caller_of x) u.callers (away j u ne atj)))
                 k.seen (saw_all v.callers (h ++ x ∷ []));
@@ -289,7 +289,7 @@ module _ (Trusted : PlainSession → Type 0) where
     order = k.order;
     tickets = λ t. total_same (has_ticket t) s.views id v w at (ap (is_ticket t) ticket) ∙ k.tickets t;
     numbers = λ n. total_same (holds_number n) s.views id v w at (λ i. times n (callers i) + in_ranges n (spare i)) ∙ k.numbers n;
-    whole = total_same size_of s.views id v w at (λ i. length (callers i) + count_of (spare i)) ∙ k.whole;
+    whole = total_same number_count s.views id v w at (λ i. length (callers i) + count_of (spare i)) ∙ k.whole;
     seen = every_set (λ u. Saw u.callers u.seen history) s.views id w k.seen saw;
     parts = every_set (PartsFit history) s.views id w k.parts fits;
     told = told_set history s.views id v w at callers told k.told;

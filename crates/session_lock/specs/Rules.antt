@@ -49,8 +49,8 @@ abbrev pub HoldsOnce : Knowledge → Type 0
 HoldsOnce v = (n : ℕ) → holds_number n v ≤ one_between 0 all_numbers n
 
 -- how many numbers the view holds
-abbrev pub size_of : Knowledge → ℕ
-size_of v = length v.callers + count_of v.spare
+abbrev pub number_count : Knowledge → ℕ
+number_count v = length v.callers + count_of v.spare
 
 -- P holds of each view
 abbrev pub Every : (Knowledge → Type 0) → List Knowledge → Type 0
@@ -88,7 +88,7 @@ pub record IsInOrder (Trusted : PlainSession → Type 0) (history : List Item) (
   pub tickets : (t : ℕ) → views_total (has_ticket t) s.views ≡ one_between (length history) next t
   -- each number is held once
   pub numbers : (n : ℕ) → views_total (holds_number n) s.views ≡ one_between 0 all_numbers n
-  pub whole : views_total size_of s.views ≡ all_numbers
+  pub whole : views_total number_count s.views ≡ all_numbers
   -- each view has seen a beginning of the history, after which its callers made no call
   pub seen : Every (λ v. Saw v.callers v.seen history) s.views
   pub parts : Every (PartsFit history) s.views

@@ -4,7 +4,7 @@ use Rattle.tea_base.specs.declared.entry.Entry.{Entry}
 use Rattle.tea_base.specs.declared.entry.What.{What}
 use Rattle.tea_base.specs.declared.entry.What.TheVariants as what
 use Rattle.tea_base.specs.Limits.{most_payload}
-use Rattle.event_region.specs.RegionState.{bytes_at}
+use Rattle.event_region.specs.RegionState.{place_bytes}
 use Rattle.session_log.specs.declared.heads.Head.{Head}
 use Rattle.session_log.specs.declared.heads.HeadKind.{HeadKind}
 use Rattle.session_log.specs.declared.heads.HeadKind.TheVariants.{Join, Exit, Event}
@@ -12,7 +12,7 @@ use Rattle.session_log.specs.declared.heads.HeadKind.TheVariants.{Join, Exit, Ev
 abbrev pub what_of : List ℕ → HeadKind → What
 what_of payloads Join = what.Join
 what_of payloads Exit = what.Exit
-what_of payloads (Event number place) = what.Event number (bytes_at payloads place)
+what_of payloads (Event number place) = what.Event number (place_bytes payloads place)
 
 abbrev pub entry_of : List ℕ → Head → Entry
 entry_of payloads head =

@@ -9,12 +9,12 @@ use Rattle.session_log.specs.Heads.{entry_of, AreWithin}
 use Rattle.session_log.specs.declared.heads.Head.{Head}
 use Rattle.session_log.specs.declared.log.Log.TheInside.{Inside}
 
-abbrev pub entries_of : Inside → List Entry
-entries_of log = map (entry_of log.payloads.bytes) log.heads.items
+abbrev pub log_entries : Inside → List Entry
+log_entries log = map (entry_of log.payloads.bytes) log.heads.items
 
 abbrev pub log_state : Inside → LogState
 log_state log =
-    record { entries = entries_of log; spare_entries = log.spare_entries; spare_bytes = log.payloads.spare }
+    record { entries = log_entries log; spare_entries = log.spare_entries; spare_bytes = log.payloads.spare }
 
 -- the bytes of all payloads and the heads are those of a legal log
 pub record AreSound (payloads : List ℕ) (heads : List Head) : Type 0 where

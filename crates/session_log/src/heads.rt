@@ -24,15 +24,25 @@ pub struct Head {
     pub kind: HeadKind,
 }
 
-/// Adds a head, where there is room.
-pub fn push_head(heads: &mut Vec<Head>, head: Head)
-    requires { vec_len heads.old < vec_capacity heads.old }
-    ensures items { heads.new.items ≡ heads.old.items ++ head ∷ [] }
+/// Adds the head of the next entry, where there is room, and gives its seq.
+pub fn push_head(heads: &mut Vec<Head>, time: u64, view: u32, kind: HeadKind) -> u32
+    requires room { vec_len heads.old < vec_capacity heads.old }
+    requires short { vec_len heads.old ≤ most_entries }
+    ensures seq { result ≡ vec_len heads.old + 1 }
+    ensures items { heads.new.items ≡
+        heads.old.items ++ record { seq = result; time = time; view = view; kind = kind } ∷ [] }
     ensures len { vec_len heads.new ≡ vec_len heads.old + 1 }
     ensures room { vec_capacity heads.old ≤ vec_capacity heads.new }
 {
+    let seq = heads.len() as u32 + 1;
+    let head = Head {
+        seq,
+        time,
+        view,
+        kind,
+    };
     match heads.push(head) {
-        Ok(()) => {}
+        Ok(()) => seq,
         Err(_) => unreachable!(),
     }
 }

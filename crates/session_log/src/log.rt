@@ -8,7 +8,7 @@ ghost use Rattle.session_log.specs.Heads.{what_of, IsPresence};
 ghost use Rattle.session_log.specs.Spelling.{log_spelling};
 
 use crate::heads::{Head, HeadKind, count_until, last_number_in, push_head};
-use crate::payloads::{is_stored, store_event, stored};
+use crate::payloads::{copy_what, is_stored, store_event};
 use crate::spelling::write_entries;
 use byte_fields::Writer;
 use event_region::Region;
@@ -137,17 +137,8 @@ impl Log {
         ensures spare_entries { self.new.spare_entries + 1 ≡ self.old.spare_entries }
         ensures spare_bytes { self.new.spare_bytes + length payload.now ≡ self.old.spare_bytes }
     {
-        let seq = self.heads.len() as u32 + 1;
         let kind = store_event(&mut self.payloads, number, payload);
-        push_head(
-            &mut self.heads,
-            Head {
-                seq,
-                time,
-                view,
-                kind,
-            },
-        );
+        let seq = push_head(&mut self.heads, time, view, kind);
         self.spare_entries -= 1;
         seq
     }
@@ -163,16 +154,7 @@ impl Log {
         ensures spare_entries { self.new.spare_entries + 1 ≡ self.old.spare_entries }
         ensures spare_bytes { self.new.spare_bytes ≡ self.old.spare_bytes }
     {
-        let seq = self.heads.len() as u32 + 1;
-        push_head(
-            &mut self.heads,
-            Head {
-                seq,
-                time,
-                view,
-                kind,
-            },
-        );
+        let seq = push_head(&mut self.heads, time, view, kind);
         self.spare_entries -= 1;
         seq
     }
@@ -194,7 +176,7 @@ impl Log {
             return Err(GetRefusal::NoSuchSeq);
         }
         let head = self.heads[seq as usize - 1];
-        match stored(*self.heads.allocator(), &self.payloads, head.kind) {
+        match copy_what(*self.heads.allocator(), &self.payloads, head.kind) {
             Ok(what) => Ok(Entry {
                 seq: head.seq,
                 time: head.time,

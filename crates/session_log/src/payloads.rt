@@ -25,8 +25,8 @@ pub fn store_event(payloads: &mut Region, number: u32, bytes: &[u8]) -> HeadKind
     HeadKind::Event { number, place }
 }
 
-/// Two pieces as one, in memory of their own.
-fn joined(alloc: Global, first: &[u8], second: &[u8]) -> Result<Blob, WantOfMemory>
+/// Joins two pieces to one, in memory of its own.
+fn join_pieces(alloc: Global, first: &[u8], second: &[u8]) -> Result<Blob, WantOfMemory>
     ensures { IfOk result (λ whole. whole ≡ first.now ++ second.now) }
 {
     let mut whole = Vec::with_capacity(alloc, first.len() + second.len())?;
@@ -35,8 +35,8 @@ fn joined(alloc: Global, first: &[u8], second: &[u8]) -> Result<Blob, WantOfMemo
     Ok(Blob::from_vec(whole))
 }
 
-/// What was stored, its payload in memory of its own.
-pub fn stored(alloc: Global, payloads: &Region, kind: HeadKind) -> Result<What, WantOfMemory>
+/// A copy of what was stored, its payload in memory of its own.
+pub fn copy_what(alloc: Global, payloads: &Region, kind: HeadKind) -> Result<What, WantOfMemory>
     requires { IsKindWithin (length payloads.now.bytes) kind }
     ensures { IfOk result (λ what. what ≡ what_of payloads.now.bytes kind) }
 {
@@ -45,7 +45,7 @@ pub fn stored(alloc: Global, payloads: &Region, kind: HeadKind) -> Result<What, 
         HeadKind::Exit => Ok(What::Exit),
         HeadKind::Event { number, place } => {
             let (first, second) = payloads.pieces(place);
-            let payload = joined(alloc, first, second)?;
+            let payload = join_pieces(alloc, first, second)?;
             Ok(What::Event { number, payload })
         }
     }

@@ -1,6 +1,6 @@
 //! Lines, words and numbers of a text: each call that can want memory, once.
 use std::test::Fail;
-use text_lines::{numbered, split_lines, split_words};
+use text_lines::{spell_numbers, split_lines, split_words};
 
 #[test]
 fn a_text_is_divided_at_its_blanks(rt: HostRuntime) -> Result<(), Fail> {
@@ -15,7 +15,7 @@ fn a_text_is_divided_at_its_blanks(rt: HostRuntime) -> Result<(), Fail> {
 
 #[test]
 fn numbers_are_written_behind_a_word(rt: HostRuntime) -> Result<(), Fail> {
-    let text = numbered(rt.alloc(), "batch", &[0, u64::MAX])?;
+    let text = spell_numbers(rt.alloc(), "batch", &[0, u64::MAX])?;
     assert_eq!(rt; text.as_str(), "batch 0 18446744073709551615");
     Ok(())
 }

@@ -62,7 +62,7 @@ pub(crate) fn run(plan: &Plan, judge: Judge) -> Result<String, CaseFault> {
     if tally.reaches(&plan.least) {
         Ok(String::from_str(alloc, "ok")?)
     } else {
-        tally.told(alloc)
+        tally.tell(alloc)
     }
 }
 
@@ -74,7 +74,7 @@ impl Tally {
             && self.events >= least.events
     }
 
-    fn told(&self, alloc: Global) -> Result<String, CaseFault> {
+    fn tell(&self, alloc: Global) -> Result<String, CaseFault> {
         Ok(format!(in alloc;
             "too little: rests {} bases {} joins {} events {}",
             self.rests, self.bases, self.joins, self.events

@@ -48,7 +48,7 @@ impl Judge {
         let Some(replica) = system.replica(view) else {
             return Ok(Verdict::NoReplica);
         };
-        let snapshot = snapped(self.alloc, replica)?;
+        let snapshot = replica_snapshot(self.alloc, replica)?;
         if !self.is_at_rest(&snapshot)? {
             return Ok(Verdict::Moving);
         }
@@ -67,7 +67,7 @@ impl Judge {
         match unsnap(self.alloc, &self.program, &self.id, snapshot.bytes()) {
             Ok(world) => Ok(is_at_rest(&world)),
             Err(SnapFault::WantOfMemory) => Err(CaseFault::WantOfMemory),
-            Err(_) => Err(refused(self.alloc, "a snapshot is not read")),
+            Err(_) => Err(refusal(self.alloc, "a snapshot is not read")),
         }
     }
 
@@ -77,18 +77,18 @@ impl Judge {
         if time >= TIME_LIMIT || replica.seen() != log.after_time(time) {
             return Ok(false);
         }
-        Ok(self.replayed(log, time)? == *snapshot)
+        Ok(self.replay_snapshot(log, time)? == *snapshot)
     }
 
     /// The snapshot of the replay of a log to a time.
-    fn replayed(&self, log: &Log, time: u64) -> Result<Blob, CaseFault>
+    fn replay_snapshot(&self, log: &Log, time: u64) -> Result<Blob, CaseFault>
         requires { time < time_limit }
     {
         let mut world = World::first(self.alloc, self.program.clone()?, self.id)?;
         self.replay(&mut world, log, time)?;
         match world.to_plain() {
             Ok(plain) => Ok(snapshot(self.alloc, &plain)?),
-            Err(fault) => Err(stopped(self.alloc, fault)),
+            Err(fault) => Err(world_failure(self.alloc, fault)),
         }
     }
 
@@ -103,7 +103,7 @@ impl Judge {
         }
         match world.advance(time) {
             Ok(()) => Ok(()),
-            Err(fault) => Err(stopped(self.alloc, fault)),
+            Err(fault) => Err(world_failure(self.alloc, fault)),
         }
     }
 
@@ -112,23 +112,23 @@ impl Judge {
     {
         match world.external(entry) {
             Ok(()) => Ok(()),
-            Err(fault) => Err(stopped(self.alloc, fault)),
+            Err(fault) => Err(world_failure(self.alloc, fault)),
         }
     }
 }
 
 /// What ends a case.
-pub(crate) fn refused(alloc: Global, why: &str) -> CaseFault {
+pub(crate) fn refusal(alloc: Global, why: &str) -> CaseFault {
     match String::from_str(alloc, why) {
         Ok(told) => CaseFault::Refused { told },
         Err(_) => CaseFault::WantOfMemory,
     }
 }
 
-fn stopped(alloc: Global, fault: WorldFault) -> CaseFault {
+fn world_failure(alloc: Global, fault: WorldFault) -> CaseFault {
     match fault {
         WorldFault::WantOfMemory => CaseFault::WantOfMemory,
-        WorldFault::Broken | WorldFault::Back { .. } => refused(alloc, "a world does not go on"),
+        WorldFault::Broken | WorldFault::Back { .. } => refusal(alloc, "a world does not go on"),
     }
 }
 
@@ -140,10 +140,10 @@ pub(crate) fn entry_of(log: &Log, seq: u32) -> Result<Entry, CaseFault> {
     }
 }
 
-fn snapped(alloc: Global, replica: &Replica) -> Result<Blob, CaseFault> {
+fn replica_snapshot(alloc: Global, replica: &Replica) -> Result<Blob, CaseFault> {
     match replica.snap() {
         Ok(snapshot) => Ok(snapshot),
-        Err(fault) => Err(stopped(alloc, fault)),
+        Err(fault) => Err(world_failure(alloc, fault)),
     }
 }
 

@@ -1,6 +1,6 @@
 //! How a system comes to one time.
 use crate::course::Course;
-use crate::judging::{Rested, Verdict, refused};
+use crate::judging::{Rested, Verdict, refusal};
 use case_lines::CaseFault;
 use replica_plain::How;
 use system_core::ScheduleStep;
@@ -108,22 +108,22 @@ impl Course {
 
     /// All are at rest at one time, and have one snapshot.
     fn agree(&self) -> Result<(), CaseFault> {
-        let first = self.rested(1)?;
+        let first = self.rest_of(1)?;
         for view in 2..=self.drawer.views() {
-            let other = self.rested(view)?;
+            let other = self.rest_of(view)?;
             if other.time != first.time || other.snapshot != first.snapshot {
-                return Err(refused(self.judge.alloc, "two views differ in the end"));
+                return Err(refusal(self.judge.alloc, "two views differ in the end"));
             }
         }
         Ok(())
     }
 
     /// The replica of a view, which is at rest.
-    fn rested(&self, view: u32) -> Result<Rested, CaseFault> {
+    fn rest_of(&self, view: u32) -> Result<Rested, CaseFault> {
         match self.judge.verdict(&self.system, view)? {
             Verdict::Same(rested) => Ok(rested),
             Verdict::NoReplica | Verdict::Moving | Verdict::Differs => {
-                Err(refused(self.judge.alloc, "a view is not at rest in the end"))
+                Err(refusal(self.judge.alloc, "a view is not at rest in the end"))
             }
         }
     }

@@ -7,7 +7,7 @@ use Rattle.world_plain.specs.Messages.{PlainOutgoing}
 use Rattle.world_plain.specs.World.{WorldRecord}
 use Rattle.system_plain.specs.System.{Client, view_client, with_client}
 use Rattle.system_core.specs.declared.member.Member.{Member}
-use Rattle.system_core.specs.Parts.{AreApart, IsAbsent, IsMember, member_view, plain_client}
+use Rattle.system_core.specs.Parts.{AreApart, IsNoneOf, IsMember, member_view, plain_client}
 
 -- ---- lists
 
@@ -46,16 +46,16 @@ map-push f (y ∷ ys) x = ap (λ zs. f y ∷ zs) (map-push f ys x)
 
 -- ---- views
 
-pub absent-at : (view : ℕ) (members : List Member) (k : ℕ) (m : Member) → IsAbsent view (map member_view members) → slice_get members k ≡ Some m → m.view ≢ view
+pub absent-at : (view : ℕ) (members : List Member) (k : ℕ) (m : Member) → IsNoneOf view (map member_view members) → slice_get members k ≡ Some m → m.view ≢ view
 absent-at view [] k m absent at = absurd cc
 absent-at view (first ∷ rest) zero m absent at = λ same. absent.0 (let head : first ≡ m = cc in ap (λ (x : Member). x.view) head ∙ same)
 absent-at view (first ∷ rest) (suc k) m absent at = absent-at view rest k m absent.1 at
 
-absent-push : (views : List ℕ) (view other : ℕ) → IsAbsent view views → other ≢ view → IsAbsent view (views ++ other ∷ [])
+absent-push : (views : List ℕ) (view other : ℕ) → IsNoneOf view views → other ≢ view → IsNoneOf view (views ++ other ∷ [])
 absent-push [] view other absent far = (far, tt)
 absent-push (first ∷ rest) view other absent far = (absent.0, absent-push rest view other absent.1 far)
 
-pub apart-push : (views : List ℕ) (view : ℕ) → AreApart views → IsAbsent view views → AreApart (views ++ view ∷ [])
+pub apart-push : (views : List ℕ) (view : ℕ) → AreApart views → IsNoneOf view views → AreApart (views ++ view ∷ [])
 apart-push [] view apart absent = (tt, tt)
 apart-push (first ∷ rest) view apart absent = (absent-push rest first view apart.0 (λ same. absent.0 (sym same)), apart-push rest view apart.1 absent.1)
 
@@ -64,7 +64,7 @@ views-set [] k m new at same = refl
 views-set (first ∷ rest) zero m new at same = ap (λ v. v ∷ map member_view rest) (same ∙ (let head : m ≡ first = cc in ap (λ (x : Member). x.view) head))
 views-set (first ∷ rest) (suc k) m new at same = ap (λ vs. first.view ∷ vs) (views-set rest k m new at same)
 
-pub absent-next : (view : ℕ) (members : List Member) (k : ℕ) (m : Member) → IsAbsent view (map member_view (take k members)) → slice_get members k ≡ Some m → m.view ≢ view → IsAbsent view (map member_view (take (suc k) members))
+pub absent-next : (view : ℕ) (members : List Member) (k : ℕ) (m : Member) → IsNoneOf view (map member_view (take k members)) → slice_get members k ≡ Some m → m.view ≢ view → IsNoneOf view (map member_view (take (suc k) members))
 absent-next view [] k m absent at far = absurd cc
 absent-next view (first ∷ rest) zero m absent at far = (λ same. far (let head : first ≡ m = cc in sym (ap (λ (x : Member). x.view) head) ∙ same), tt)
 absent-next view (first ∷ rest) (suc k) m absent at far = (absent.0, absent-next view rest k m absent.1 at far)
@@ -81,7 +81,7 @@ miss : (a b : ℕ) → a ≢ b → eqb a b ≡ false
 miss a b far = grind (arith, nat_tests)
 
 -- a view that no member has is no client's
-pub client-absent : (classes : List Class) (id : List ℕ) (members : List Member) (view : ℕ) → AllByRecursion (IsMember classes id) members → IsAbsent view (map member_view members) → view_client (clients_of members) view ≡ None
+pub client-absent : (classes : List Class) (id : List ℕ) (members : List Member) (view : ℕ) → AllByRecursion (IsMember classes id) members → IsNoneOf view (map member_view members) → view_client (clients_of members) view ≡ None
 client-absent classes id [] view each absent = refl
 client-absent classes id (first ∷ rest) view each absent =
     rw (miss first.replica.plain.view view (λ same. absent.0 (each.0.viewed ∙ same))) (client-absent classes id rest view each.1 absent.1)
@@ -97,7 +97,7 @@ client-found classes id (first ∷ rest) (suc k) m each apart at =
     rw (miss first.replica.plain.view m.view (λ same. absent-at first.view rest k m apart.0 at (sym same ∙ sym each.0.viewed))) (client-found classes id rest k m each.1 apart.1 at)
 
 -- another client of a view that no member has changes nothing
-with-absent : (classes : List Class) (id : List ℕ) (members : List Member) (new : Client WorldRecord PlainOutgoing) → AllByRecursion (IsMember classes id) members → IsAbsent new.replica.view (map member_view members) → with_client (clients_of members) new ≡ clients_of members
+with-absent : (classes : List Class) (id : List ℕ) (members : List Member) (new : Client WorldRecord PlainOutgoing) → AllByRecursion (IsMember classes id) members → IsNoneOf new.replica.view (map member_view members) → with_client (clients_of members) new ≡ clients_of members
 with-absent classes id [] new each absent = refl
 with-absent classes id (first ∷ rest) new each absent =
     rw (miss first.replica.plain.view new.replica.view (λ same. absent.0 (each.0.viewed ∙ same))) (ap (λ cs. plain_client first ∷ cs) (with-absent classes id rest new each.1 absent.1))
@@ -110,7 +110,7 @@ client-changed classes id (first ∷ rest) zero m new each apart at same =
     let head : first ≡ m = cc in
     let heads : new.replica.plain.view ≡ first.view = same ∙ sym (ap (λ (x : Member). x.view) head) in
     rw (hit first.replica.plain.view new.replica.plain.view (sym each.0.viewed ∙ sym heads))
-    (ap (λ cs. plain_client new ∷ cs) (sym (with-absent classes id rest (plain_client new) each.1 (subst (λ v. IsAbsent v (map member_view rest)) (sym heads) apart.0))))
+    (ap (λ cs. plain_client new ∷ cs) (sym (with-absent classes id rest (plain_client new) each.1 (subst (λ v. IsNoneOf v (map member_view rest)) (sym heads) apart.0))))
 client-changed classes id (first ∷ rest) (suc k) m new each apart at same =
     rw (miss first.replica.plain.view new.replica.plain.view (λ eq. absent-at first.view rest k m apart.0 at (sym same ∙ sym eq ∙ sym each.0.viewed)))
     (ap (λ cs. plain_client first ∷ cs) (client-changed classes id rest k m new each.1 apart.1 at same))

@@ -18,7 +18,7 @@ use Rattle.system_plain.specs.Steps.{Found, Snap, snap_by}
 use Rattle.system_plain.specs.Schedule.{IsTypedStep}
 use Rattle.system_core.specs.declared.member.Member.{Member}
 use Rattle.system_core.specs.declared.parts.Parts.{Parts}
-use Rattle.system_core.specs.Parts.{HasMember, IsAbsent, IsMember, IsPlaced, IsSound, Takes, member_view, part_worlds, plain_client, plain_system}
+use Rattle.system_core.specs.Parts.{HasMember, IsNoneOf, IsMember, IsMemberPlace, IsSound, Takes, member_view, part_worlds, plain_client, plain_system}
 use Rattle.system_core.specs.Systems.{IsReplicaOf, SystemView, system_view}
 use Rattle.system_core.proofs.Members.{get-set}
 use Rattle.system_core.proofs.PartSteps.{absent-in, found-at, found-takes, founded_member, is-member-with, keeps-members, lost_member, member-at, snaps, snaps-none, snaps-shut, spells-lost, spells-none, spells-open, spells-shut, unmade, worlds-at}
@@ -26,19 +26,19 @@ use Rattle.system_core.proofs.PartTakes.{read-member, read-twice}
 
 -- ---- Snap
 
-pub snap-absent : (p : Parts) (view : ℕ) → IsSound p → IsAbsent view (map member_view p.members.items) → Takes p p (Snap view)
+pub snap-absent : (p : Parts) (view : ℕ) → IsSound p → IsNoneOf view (map member_view p.members.items) → Takes p p (Snap view)
 snap-absent p view sound absent =
     let none = absent-in p view sound absent in
     unmade p (Snap view) sound tt (spells-none (part_worlds p) (plain_system p) view none) (ap (snap_by (part_worlds p) (plain_system p)) none)
 
-pub snap-lost : (p : Parts) (k view : ℕ) (x : Member) → IsSound p → IsPlaced (Some k) p.members.items view → x ≡ get_or p.members.items k x → length p.connections.items ≤ x.newest → Takes p p (Snap view)
+pub snap-lost : (p : Parts) (k view : ℕ) (x : Member) → IsSound p → IsMemberPlace (Some k) p.members.items view → x ≡ get_or p.members.items k x → length p.connections.items ≤ x.newest → Takes p p (Snap view)
 snap-lost p k view x sound placed is past =
     let read = read-member p.members.items k view x placed is in
     let found = found-at p k view x sound read.0 read.1 in
     let none = slice_get_past p.connections.items x.newest past in
     unmade p (Snap view) sound tt (spells-lost (part_worlds p) (plain_system p) view (plain_client x) found none) (snaps-none (part_worlds p) (plain_system p) view (plain_client x) found none)
 
-pub snap-shut : (p : Parts) (k view : ℕ) (x : Member) (c : Connection) → IsSound p → IsPlaced (Some k) p.members.items view → x ≡ get_or p.members.items k x → x.newest < length p.connections.items → c ≡ get_or p.connections.items x.newest c → is_open c ≡ false
+pub snap-shut : (p : Parts) (k view : ℕ) (x : Member) (c : Connection) → IsSound p → IsMemberPlace (Some k) p.members.items view → x ≡ get_or p.members.items k x → x.newest < length p.connections.items → c ≡ get_or p.connections.items x.newest c → is_open c ≡ false
     → Takes p p (Snap view)
 snap-shut p k view x c sound placed is within at shut =
     let read = read-member p.members.items k view x placed is in
@@ -46,7 +46,7 @@ snap-shut p k view x c sound placed is within at shut =
     let there = slice_get_read p.connections.items _ x.newest c refl within at in
     unmade p (Snap view) sound tt (spells-shut (part_worlds p) (plain_system p) view (plain_client x) c found there shut) (snaps-shut (part_worlds p) (plain_system p) view (plain_client x) c found there shut)
 
-pub snap-takes : (old new : Parts) (k view : ℕ) (x y z : Member) (c d after : Connection) (time : ℕ) (bytes : List ℕ) (frames : List ClientFrame) → IsSound old → IsPlaced (Some k) old.members.items view
+pub snap-takes : (old new : Parts) (k view : ℕ) (x y z : Member) (c d after : Connection) (time : ℕ) (bytes : List ℕ) (frames : List ClientFrame) → IsSound old → IsMemberPlace (Some k) old.members.items view
     → x ≡ get_or old.members.items k x → y ≡ get_or old.members.items k y → z ≡ get_or old.members.items k z → x.newest < length old.connections.items → c ≡ get_or old.connections.items x.newest c → d ≡ get_or old.connections.items x.newest d
     → is_open c ≡ true → time ≡ y.replica.plain.world.time → Snaps (Ok bytes) (world_part z.replica) → frames ≡ up.Snap time bytes ∷ [] → after ≡ put_up d frames
     → new.program ≡ old.program → new.id ≡ old.id → new.members.items ≡ old.members.items → new.session.plain ≡ old.session.plain → new.connections.items ≡ set old.connections.items x.newest after → Takes old new (Snap view)
@@ -73,14 +73,14 @@ snap-takes old new k view x y z c d after time bytes frames sound placed read re
 
 -- ---- a member lost its world
 
-pub lost-members : (old : Parts) (members : List Member) (k view : ℕ) (x : Member) (replica : ReplicaView) → IsSound old → IsPlaced (Some k) old.members.items view → x ≡ get_or old.members.items k x
+pub lost-members : (old : Parts) (members : List Member) (k view : ℕ) (x : Member) (replica : ReplicaView) → IsSound old → IsMemberPlace (Some k) old.members.items view → x ≡ get_or old.members.items k x
     → replica ≡ with_plain x.replica (loses (worlds_of x.replica) x.replica.plain) → members ≡ set old.members.items k (record { view = x.view; replica = replica; newest = x.newest }) → members ≡ set old.members.items k (lost_member old x)
 lost-members old members k view x replica sound placed read lost is =
     let found = read-member old.members.items k view x placed read in
     is ∙ ap (λ (r : ReplicaView). set old.members.items k (let t : Member = record { view = x.view; replica = r; newest = x.newest } in t))
     (lost ∙ ap (λ w. with_plain x.replica (loses w x.replica.plain)) (worlds-at old k x sound found.0))
 
-pub lost-has : (old lost : Parts) (k view : ℕ) (x : Member) → IsSound old → IsPlaced (Some k) old.members.items view → x ≡ get_or old.members.items k x → lost.program ≡ old.program → lost.id ≡ old.id
+pub lost-has : (old lost : Parts) (k view : ℕ) (x : Member) → IsSound old → IsMemberPlace (Some k) old.members.items view → x ≡ get_or old.members.items k x → lost.program ≡ old.program → lost.id ≡ old.id
     → lost.members.items ≡ set old.members.items k (lost_member old x) → HasMember lost k
 lost-has old lost k view x sound placed read program name members =
     let found = read-member old.members.items k view x placed read in
@@ -93,7 +93,7 @@ lost-has old lost k view x sound placed read program name members =
 
 -- ---- Found
 
-pub found-made : (old new : Parts) (view newest : ℕ) (classes : List Class) (r after : ReplicaView) (frame : ClientFrame) (c : Connection) → IsSound old → IsTypedStep (Found view) → view ≢ 0 → IsAbsent view (map member_view old.members.items)
+pub found-made : (old new : Parts) (view newest : ℕ) (classes : List Class) (r after : ReplicaView) (frame : ClientFrame) (c : Connection) → IsSound old → IsTypedStep (Found view) → view ≢ 0 → IsNoneOf view (map member_view old.members.items)
     → classes ≡ arc_value old.program → r ≡ founded_replica classes old.id.0 view → after ≡ with_plain r (joining r.plain Fresh) → frame ≡ join_frame (worlds_of r) r.plain Fresh → newest ≡ length old.connections.items → c ≡ connecting view frame
     → new.program ≡ old.program → new.id ≡ old.id → new.session.plain ≡ old.session.plain → new.members.items ≡ old.members.items ++ record { view = view; replica = after; newest = newest } ∷ [] → new.connections.items ≡ old.connections.items ++ c ∷ []
     → Takes old new (Found view)
@@ -108,10 +108,10 @@ found-made old new view newest classes r after frame c sound typed named absent 
 
 -- ---- the replica of a view
 
-pub replica-none : (p : Parts) (spoilt : Bool) (s : SystemView) (view : ℕ) → s ≡ system_view p spoilt → IsSound p → IsAbsent view (map member_view p.members.items) → IsReplicaOf None s view
+pub replica-none : (p : Parts) (spoilt : Bool) (s : SystemView) (view : ℕ) → s ≡ system_view p spoilt → IsSound p → IsNoneOf view (map member_view p.members.items) → IsReplicaOf None s view
 replica-none p spoilt s view is sound absent = subst (λ (t : SystemView). IsReplicaOf None t view) (sym is) (λ whole. absent-in p view sound absent)
 
-pub replica-some : (p : Parts) (spoilt : Bool) (s : SystemView) (k view : ℕ) (x : Member) → s ≡ system_view p spoilt → spoilt ≡ false → IsSound p → IsPlaced (Some k) p.members.items view → x ≡ get_or p.members.items k x → IsReplicaOf (Some x.replica) s view
+pub replica-some : (p : Parts) (spoilt : Bool) (s : SystemView) (k view : ℕ) (x : Member) → s ≡ system_view p spoilt → spoilt ≡ false → IsSound p → IsMemberPlace (Some k) p.members.items view → x ≡ get_or p.members.items k x → IsReplicaOf (Some x.replica) s view
 replica-some p spoilt s k view x is whole sound placed read =
     let found = read-member p.members.items k view x placed read in
     let member = member-at p k x sound found.0 in

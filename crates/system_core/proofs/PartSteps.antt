@@ -22,7 +22,7 @@ use Rattle.system_plain.specs.Schedule.{IsTypedStep, SpellsWorld, SpellsWorldBy,
 use Rattle.system_plain.proofs.StepRows.{found_row}
 use Rattle.system_core.specs.declared.member.Member.{Member}
 use Rattle.system_core.specs.declared.parts.Parts.{Parts}
-use Rattle.system_core.specs.Parts.{AreApart, Connects, IsAbsent, IsMember, IsSound, Takes, member_view, part_worlds, plain_client, plain_system}
+use Rattle.system_core.specs.Parts.{AreApart, Connects, IsNoneOf, IsMember, IsSound, Takes, member_view, part_worlds, plain_client, plain_system}
 use Rattle.system_core.specs.Turns.{pump_turn, take_turn}
 use Rattle.system_core.proofs.Members.{all-at, all-push, all-set, apart-push, client-absent, client-changed, client-found, get-set, map-push, set-again, views-set}
 use Rattle.system_core.proofs.TurnSteps.{pump_step, take_step, with_turn}
@@ -50,7 +50,7 @@ pub found-at : (p : Parts) (k view : ℕ) (m : Member) → IsSound p → slice_g
 found-at p k view m sound at same =
     subst (λ v. view_client (plain_system p).clients v ≡ Some (plain_client m)) same (client-found (arc_value p.program) p.id.0 p.members.items k m sound.members sound.apart at)
 
-pub absent-in : (p : Parts) (view : ℕ) → IsSound p → IsAbsent view (map member_view p.members.items) → view_client (plain_system p).clients view ≡ None
+pub absent-in : (p : Parts) (view : ℕ) → IsSound p → IsNoneOf view (map member_view p.members.items) → view_client (plain_system p).clients view ≡ None
 absent-in p view sound absent = client-absent (arc_value p.program) p.id.0 p.members.items view sound.members absent
 
 -- ---- a step that is taken
@@ -259,7 +259,7 @@ abbrev pub founded_member : Parts → ℕ → Member
 founded_member p view =
     record { view = view; replica = with_plain (founded_replica (arc_value p.program) p.id.0 view) (joining (founded (part_worlds p) view) Fresh); newest = length p.connections.items }
 
-pub found-takes : (old new : Parts) (view : ℕ) → IsSound old → IsTypedStep (Found view) → view ≢ 0 → IsAbsent view (map member_view old.members.items) → new.program ≡ old.program → new.id ≡ old.id → new.session.plain ≡ old.session.plain
+pub found-takes : (old new : Parts) (view : ℕ) → IsSound old → IsTypedStep (Found view) → view ≢ 0 → IsNoneOf view (map member_view old.members.items) → new.program ≡ old.program → new.id ≡ old.id → new.session.plain ≡ old.session.plain
     → new.members.items ≡ old.members.items ++ founded_member old view ∷ []
     → new.connections.items ≡ old.connections.items ++ connecting view (join_frame (part_worlds old) (founded (part_worlds old) view) Fresh) ∷ [] → Takes old new (Found view)
 found-takes old new view sound typed named absent program name session members connections =

@@ -12,22 +12,22 @@ use Rattle.system_plain.specs.System.{Connection, System, is_open, put_up, with_
 use Rattle.system_plain.specs.Steps.{Transmit, transmit_by}
 use Rattle.system_core.specs.declared.member.Member.{Member}
 use Rattle.system_core.specs.declared.parts.Parts.{Parts}
-use Rattle.system_core.specs.Parts.{IsAbsent, IsPlaced, IsSound, Takes, member_view, part_worlds, plain_client, plain_system}
+use Rattle.system_core.specs.Parts.{IsNoneOf, IsMemberPlace, IsSound, Takes, member_view, part_worlds, plain_client, plain_system}
 use Rattle.system_core.proofs.PartSteps.{absent-in, changes, found-at, is-member-with, member-at, transmits, transmits-none, transmits-shut, unmade}
 
 -- ---- what was read
 
 -- a member that was read at the place of a view
-pub read-member : (members : List Member) (k view : ℕ) (x : Member) → IsPlaced (Some k) members view → x ≡ get_or members k x → (slice_get members k ≡ Some x) × (x.view ≡ view)
+pub read-member : (members : List Member) (k view : ℕ) (x : Member) → IsMemberPlace (Some k) members view → x ≡ get_or members k x → (slice_get members k ≡ Some x) × (x.view ≡ view)
 read-member members k view x placed is =
     let same : x ≡ placed.0 = is ∙ get_or_from_slice_get members k placed.0 x placed.1 in
     (placed.1 ∙ ap (λ (y : Member). Some y) (sym same), ap (λ (y : Member). y.view) same ∙ placed.2)
 
 -- each time the same
-pub read-twice : (members : List Member) (k view : ℕ) (x y : Member) → IsPlaced (Some k) members view → x ≡ get_or members k x → y ≡ get_or members k y → x ≡ y
+pub read-twice : (members : List Member) (k view : ℕ) (x y : Member) → IsMemberPlace (Some k) members view → x ≡ get_or members k x → y ≡ get_or members k y → x ≡ y
 read-twice members k view x y placed is other = is ∙ get_or_from_slice_get members k placed.0 x placed.1 ∙ sym (other ∙ get_or_from_slice_get members k placed.0 y placed.1)
 
-pub placed-within : (members : Vec Member Global) (k view : ℕ) → IsPlaced (Some k) members.items view → k < vec_len members
+pub placed-within : (members : Vec Member Global) (k view : ℕ) → IsMemberPlace (Some k) members.items view → k < vec_len members
 placed-within members k view placed =
     let within = slice_get_within members.items k placed.0 placed.1 in
     let len = members.ok.0 in
@@ -47,23 +47,23 @@ counted-within xs is within =
 
 -- ---- Transmit
 
-pub transmit-absent : (p : Parts) (view : ℕ) → IsSound p → IsAbsent view (map member_view p.members.items) → Takes p p (Transmit view)
+pub transmit-absent : (p : Parts) (view : ℕ) → IsSound p → IsNoneOf view (map member_view p.members.items) → Takes p p (Transmit view)
 transmit-absent p view sound absent = unmade p (Transmit view) sound tt tt (ap (transmit_by (plain_system p)) (absent-in p view sound absent))
 
-pub transmit-lost : (p : Parts) (k view : ℕ) (x : Member) → IsSound p → IsPlaced (Some k) p.members.items view → x ≡ get_or p.members.items k x → length p.connections.items ≤ x.newest → Takes p p (Transmit view)
+pub transmit-lost : (p : Parts) (k view : ℕ) (x : Member) → IsSound p → IsMemberPlace (Some k) p.members.items view → x ≡ get_or p.members.items k x → length p.connections.items ≤ x.newest → Takes p p (Transmit view)
 transmit-lost p k view x sound placed is past =
     let read = read-member p.members.items k view x placed is in
     unmade p (Transmit view) sound tt tt
     (transmits-none (part_worlds p) (plain_system p) view (plain_client x) (found-at p k view x sound read.0 read.1) (slice_get_past p.connections.items x.newest past))
 
-pub transmit-shut : (p : Parts) (k view : ℕ) (x : Member) (c : Connection) → IsSound p → IsPlaced (Some k) p.members.items view → x ≡ get_or p.members.items k x → x.newest < length p.connections.items → c ≡ get_or p.connections.items x.newest c → is_open c ≡ false
+pub transmit-shut : (p : Parts) (k view : ℕ) (x : Member) (c : Connection) → IsSound p → IsMemberPlace (Some k) p.members.items view → x ≡ get_or p.members.items k x → x.newest < length p.connections.items → c ≡ get_or p.connections.items x.newest c → is_open c ≡ false
     → Takes p p (Transmit view)
 transmit-shut p k view x c sound placed is within at shut =
     let read = read-member p.members.items k view x placed is in
     unmade p (Transmit view) sound tt tt
     (transmits-shut (part_worlds p) (plain_system p) view (plain_client x) c (found-at p k view x sound read.0 read.1) (slice_get_read p.connections.items _ x.newest c refl within at) shut)
 
-pub transmit-takes : (old new : Parts) (k view : ℕ) (x y : Member) (c d after : Connection) (replica : ReplicaView) (frames : List ClientFrame) → IsSound old → IsPlaced (Some k) old.members.items view
+pub transmit-takes : (old new : Parts) (k view : ℕ) (x y : Member) (c d after : Connection) (replica : ReplicaView) (frames : List ClientFrame) → IsSound old → IsMemberPlace (Some k) old.members.items view
     → x ≡ get_or old.members.items k x → y ≡ get_or old.members.items k y → x.newest < length old.connections.items → c ≡ get_or old.connections.items x.newest c → d ≡ get_or old.connections.items x.newest d → is_open c ≡ true
     → replica ≡ with_plain y.replica (gives y.replica.plain) → frames ≡ unsent y.replica.plain → after ≡ put_up d frames
     → new.program ≡ old.program → new.id ≡ old.id → new.session.plain ≡ old.session.plain

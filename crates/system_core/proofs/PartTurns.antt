@@ -20,7 +20,7 @@ use Rattle.system_plain.specs.Steps.{Cut, Publish, Pump, Receive, Take, cut_on, 
 use Rattle.system_plain.proofs.Receives.{taken_view}
 use Rattle.system_core.specs.declared.member.Member.{Member}
 use Rattle.system_core.specs.declared.parts.Parts.{Parts}
-use Rattle.system_core.specs.Parts.{IsAbsent, IsNoWant, IsPlaced, IsSound, Takes, member_view, part_worlds, plain_client, plain_system}
+use Rattle.system_core.specs.Parts.{IsNoneOf, IsNoWant, IsMemberPlace, IsSound, Takes, member_view, part_worlds, plain_client, plain_system}
 use Rattle.system_core.specs.Turns.{IsNextDown, pump_turn, take_turn, turn}
 use Rattle.system_core.proofs.Members.{set-same}
 use Rattle.system_core.proofs.PartSteps.{absent-in, changes, found-at, is-member-with, keeps-members, member-at, publishes-not, publishes-step, receives, receives-none, receives-nothing, turn-pumps, turn-takes, unmade, worlds-at}
@@ -70,17 +70,17 @@ cut-takes old new number up down c after sound within at is program name members
 
 -- ---- Receive
 
-pub receive-absent : (p : Parts) (view : ℕ) → IsSound p → IsAbsent view (map member_view p.members.items) → Takes p p (Receive view)
+pub receive-absent : (p : Parts) (view : ℕ) → IsSound p → IsNoneOf view (map member_view p.members.items) → Takes p p (Receive view)
 receive-absent p view sound absent = unmade p (Receive view) sound tt tt (ap (receive_by (part_worlds p) (plain_system p)) (absent-in p view sound absent))
 
-pub receive-lost : (p : Parts) (k view : ℕ) (x : Member) → IsSound p → IsPlaced (Some k) p.members.items view → x ≡ get_or p.members.items k x → length p.connections.items ≤ x.newest → Takes p p (Receive view)
+pub receive-lost : (p : Parts) (k view : ℕ) (x : Member) → IsSound p → IsMemberPlace (Some k) p.members.items view → x ≡ get_or p.members.items k x → length p.connections.items ≤ x.newest → Takes p p (Receive view)
 receive-lost p k view x sound placed is past =
     let read = read-member p.members.items k view x placed is in
     unmade p (Receive view) sound tt tt
     (receives-none (part_worlds p) (plain_system p) view (plain_client x) (found-at p k view x sound read.0 read.1) (slice_get_past p.connections.items x.newest past))
 
 -- no frame is in flight: what was looked at is as it was
-pub receive-nothing : (old new : Parts) (k view : ℕ) (x : Member) (c after : Connection) → IsSound old → IsPlaced (Some k) old.members.items view → x ≡ get_or old.members.items k x
+pub receive-nothing : (old new : Parts) (k view : ℕ) (x : Member) (c after : Connection) → IsSound old → IsMemberPlace (Some k) old.members.items view → x ≡ get_or old.members.items k x
     → x.newest < length old.connections.items → c ≡ get_or old.connections.items x.newest c → IsNextDown None c after
     → new.program ≡ old.program → new.id ≡ old.id → new.members.items ≡ old.members.items → new.session.plain ≡ old.session.plain → new.connections.items ≡ set old.connections.items x.newest after → Takes old new (Receive view)
 receive-nothing old new k view x c after sound placed is within at next program name members held connections =
@@ -91,7 +91,7 @@ receive-nothing old new k view x c after sound placed is within at next program 
     ∙ ap (system_of old.session.plain old) (connections ∙ ap (set old.connections.items x.newest) next.1 ∙ set-same old.connections.items x.newest c there)
     ∙ sym (receives-nothing (part_worlds old) (plain_system old) view (plain_client x) c (found-at old k view x sound read.0 read.1) there next.0))
 
-pub receive-takes : (old new : Parts) (k view : ℕ) (x y : Member) (c after : Connection) (frame : ServerFrame) (replica : ReplicaView) → IsSound old → IsPlaced (Some k) old.members.items view
+pub receive-takes : (old new : Parts) (k view : ℕ) (x y : Member) (c after : Connection) (frame : ServerFrame) (replica : ReplicaView) → IsSound old → IsMemberPlace (Some k) old.members.items view
     → x ≡ get_or old.members.items k x → y ≡ get_or old.members.items k y → x.newest < length old.connections.items → c ≡ get_or old.connections.items x.newest c → IsNextDown (Some frame) c after
     → replica ≡ with_plain y.replica replica.plain → replica.plain ≡ (taken (worlds_of y.replica) y.replica.plain frame).replica
     → new.program ≡ old.program → new.id ≡ old.id → new.session.plain ≡ old.session.plain
@@ -115,13 +115,13 @@ receive-takes old new k view x y c after frame replica sound placed read read_ag
 
 -- ---- Publish
 
-pub publish-absent : (p : Parts) (view : ℕ) (payload : List ℕ) → IsSound p → IsAbsent view (map member_view p.members.items) → Takes p p (Publish view payload)
+pub publish-absent : (p : Parts) (view : ℕ) (payload : List ℕ) → IsSound p → IsNoneOf view (map member_view p.members.items) → Takes p p (Publish view payload)
 publish-absent p view payload sound absent = unmade p (Publish view payload) sound tt tt (ap (publish_by (plain_system p) payload) (absent-in p view sound absent))
 
 may-be : (len most count top : ℕ) → len ≤ most → count < top → nat_le len most && nat_lt count top ≡ true
 may-be len most count top short few = let a : nat_le len most ≡ true = grind (arith, nat_tests) in let b : nat_lt count top ≡ true = grind (arith, nat_tests) in rw (a, b) refl
 
-pub publish-takes : (old new : Parts) (k view : ℕ) (y : Member) (payload : List ℕ) (replica : ReplicaView) → IsSound old → IsPlaced (Some k) old.members.items view → y ≡ get_or old.members.items k y
+pub publish-takes : (old new : Parts) (k view : ℕ) (y : Member) (payload : List ℕ) (replica : ReplicaView) → IsSound old → IsMemberPlace (Some k) old.members.items view → y ≡ get_or old.members.items k y
     → length payload ≤ most_payload → published_count y.replica.plain < most_published → replica ≡ with_plain y.replica replica.plain → replica.plain ≡ publishes y.replica.plain payload
     → new.program ≡ old.program → new.id ≡ old.id → new.session.plain ≡ old.session.plain → new.connections.items ≡ old.connections.items
     → new.members.items ≡ set old.members.items k (record { view = y.view; replica = replica; newest = y.newest }) → Takes old new (Publish view payload)
@@ -139,7 +139,7 @@ publish-takes old new k view y payload replica sound placed read short few keeps
     (may-be (length payload) most_payload (published_count y.replica.plain) most_published short few))
 
 -- it is refused: what was looked at is as it was
-pub publish-refused : (old new : Parts) (k view : ℕ) (y : Member) (payload : List ℕ) (replica : ReplicaView) → IsSound old → IsPlaced (Some k) old.members.items view → y ≡ get_or old.members.items k y
+pub publish-refused : (old new : Parts) (k view : ℕ) (y : Member) (payload : List ℕ) (replica : ReplicaView) → IsSound old → IsMemberPlace (Some k) old.members.items view → y ≡ get_or old.members.items k y
     → may_publish y.replica.plain payload ≡ false → replica ≡ with_plain y.replica replica.plain → replica.plain ≡ y.replica.plain
     → new.program ≡ old.program → new.id ≡ old.id → new.session.plain ≡ old.session.plain → new.connections.items ≡ old.connections.items
     → new.members.items ≡ set old.members.items k (record { view = y.view; replica = replica; newest = y.newest }) → Takes old new (Publish view payload)

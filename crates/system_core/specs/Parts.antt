@@ -29,19 +29,19 @@ abbrev pub member_view : Member → ℕ
 member_view m = m.view
 
 -- no view is this one
-abbrev pub IsAbsent : ℕ → List ℕ → Type 0
-IsAbsent view [] = Unit {0}
-IsAbsent view (other ∷ rest) = (other ≢ view) × IsAbsent view rest
+abbrev pub IsNoneOf : ℕ → List ℕ → Type 0
+IsNoneOf view [] = Unit {0}
+IsNoneOf view (other ∷ rest) = (other ≢ view) × IsNoneOf view rest
 
 -- no two views are the same
 abbrev pub AreApart : List ℕ → Type 0
 AreApart [] = Unit {0}
-AreApart (view ∷ rest) = IsAbsent view rest × AreApart rest
+AreApart (view ∷ rest) = IsNoneOf view rest × AreApart rest
 
 -- the place of the member of a view, if it has one
-abbrev pub IsPlaced : Option ℕ → List Member → ℕ → Type 0
-IsPlaced None members view = IsAbsent view (map member_view members)
-IsPlaced (Some place) members view = (m : Member) × (slice_get members place ≡ Some m) × (m.view ≡ view)
+abbrev pub IsMemberPlace : Option ℕ → List Member → ℕ → Type 0
+IsMemberPlace None members view = IsNoneOf view (map member_view members)
+IsMemberPlace (Some place) members view = (m : Member) × (slice_get members place ≡ Some m) × (m.view ≡ view)
 
 -- its replica is of this program and session and of its view, and is not broken
 pub record IsMember (classes : List Class) (id : List ℕ) (m : Member) : Type 0 where

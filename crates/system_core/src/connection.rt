@@ -5,20 +5,18 @@ ghost use Rattle.replica.specs.View.{IsTimely};
 ghost use Rattle.reflector_core.specs.Answer.{answer};
 ghost use Rattle.reflector_core.specs.PlainSession.{IsSoundSession};
 ghost use Rattle.reflector_core.specs.declared.request.Request.TheVariants.{Pull};
-ghost use Rattle.join_sync.specs.Requests.{IsOfFrame, act_on};
+ghost use Rattle.join_sync.specs.Requests.{IsJoin, IsOfFrame, act_on};
+ghost use Rattle.join_sync.specs.Batches.{most_pulled};
 ghost use Rattle.system_plain.specs.System.{close, closing, connecting, is_open, over_if, put_down, put_up, with_down, with_up};
-ghost use Rattle.system_plain.specs.Steps.{answer_frames, ends_connection, joined_view, most_pulled};
-ghost use Rattle.system_core.specs.Turns.{IsJoin, IsNextDown, IsNextUp, acts, asks, hears, joins, leaves, pump_turn, sends, take_turn, turn};
+ghost use Rattle.system_plain.specs.Steps.{answer_frames, ends_connection, joined_view};
+ghost use Rattle.system_core.specs.Turns.{IsNextDown, IsNextUp, act_turn, ask_turn, hear_turn, join_turn, leave_turn, pump_turn, send_turn, take_turn, turn};
 
-use join_sync::{Act, Cursor, open, replies_fit};
+use join_sync::{Act, Cursor, MOST_PULLED, open, replies_fit};
 use reflector_core::{Refusal, Reply, Request, Session};
 use std::alloc::Global;
 use std::marker::Model;
 use tea_base::{SessionId, WantOfMemory, push};
 use wire_frames::{ClientFrame, ServerFrame};
-
-/// How many entries are sent at most.
-const MOST_PULLED: u32 = 256;
 
 /// A connection, with the frames in flight on it, the next one first. A closed one lets no further frame into flight. One that
 /// is over acts on nothing any more.
@@ -219,7 +217,7 @@ impl Connection {
         frame: ClientFrame,
         now: u64,
     ) -> Result<(), WantOfMemory>
-        ensures { OnOk result (turn session.new.plain self.new ≡ hears session.old.plain id.now self.old None frame now) }
+        ensures { OnOk result (turn session.new.plain self.new ≡ hear_turn session.old.plain id.now self.old None frame now) }
     {
         match open(&frame, id, now) {
             Ok(request) => self.join(session, &request),
@@ -234,7 +232,7 @@ impl Connection {
     /// It asks for its first request.
     fn join(&mut self, session: &mut Session, request: &Request) -> Result<(), WantOfMemory>
         requires { IsJoin request.now }
-        ensures { OnOk result (turn session.new.plain self.new ≡ joins session.old.plain self.old request.now) }
+        ensures { OnOk result (turn session.new.plain self.new ≡ join_turn session.old.plain self.old request.now) }
     {
         replies_fit();
         let reply = session.call(request)?;
@@ -253,7 +251,7 @@ impl Connection {
         frame: ClientFrame,
         now: u64,
     ) -> Result<(), WantOfMemory>
-        ensures { OnOk result (turn session.new.plain self.new ≡ acts session.old.plain self.old (act_on cursor.now frame now)) }
+        ensures { OnOk result (turn session.new.plain self.new ≡ act_turn session.old.plain self.old (act_on cursor.now frame now)) }
     {
         replies_fit();
         match cursor.act(frame, now) {
@@ -270,7 +268,7 @@ impl Connection {
         request: &Request,
     ) -> Result<(), WantOfMemory>
         requires { IsOfFrame request.now }
-        ensures { OnOk result (turn session.new.plain self.new ≡ asks session.old.plain self.old request.now) }
+        ensures { OnOk result (turn session.new.plain self.new ≡ ask_turn session.old.plain self.old request.now) }
     {
         replies_fit();
         let reply = session.call(request)?;
@@ -281,7 +279,7 @@ impl Connection {
 
     /// No frame will come any more on a closed connection: its view leaves.
     fn leave(&mut self, session: &mut Session, now: u64) -> Result<(), WantOfMemory>
-        ensures { OnOk result (turn session.new.plain self.new ≡ leaves session.old.plain self.old self.old.cursor now) }
+        ensures { OnOk result (turn session.new.plain self.new ≡ leave_turn session.old.plain self.old self.old.cursor now) }
     {
         let Some(cursor) = self.cursor else {
             return Ok(());
@@ -325,7 +323,7 @@ impl Connection {
         cursor: Cursor,
     ) -> Result<(), WantOfMemory>
         requires { IsSoundSession session.old.plain }
-        ensures { OnOk result (turn session.new.plain self.new ≡ sends session.old.plain self.old cursor (answer session.old.plain (Pull cursor.after most_pulled)).reply) }
+        ensures { OnOk result (turn session.new.plain self.new ≡ send_turn session.old.plain self.old cursor (answer session.old.plain (Pull cursor.after most_pulled)).reply) }
     {
         replies_fit();
         let reply = session.call(&Request::Pull {

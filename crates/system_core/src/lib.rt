@@ -10,7 +10,7 @@ ghost use Rattle.tea_base.specs.Legal.{IsLegal};
 ghost use Rattle.replica_plain.specs.Following.{IsHonestBase};
 ghost use Rattle.system_plain.specs.Schedule.{HasEventsOnce, published_in};
 ghost use Rattle.system_core.specs.Promises.{AreAcknowledged, EqualSnapshots, HaveNoSurprise, ReplicasFollow};
-ghost use Rattle.system_core.specs.Schedules.{AreInBounds, IsInBounds, plain_step, plain_steps};
+ghost use Rattle.system_core.specs.Schedules.{AreInBounds, IsInBounds, plain_system_step, plain_steps};
 ghost use Rattle.system_core.specs.Systems.{IsStep, after_steps, first_view, system_worlds};
 
 mod connection;
@@ -72,7 +72,7 @@ pub fn run(
 fn take_step(system: &mut System, step: &ScheduleStep) -> Result<(), WantOfMemory>
     requires bounds { IsInBounds step.now }
     requires whole { system.old.spoilt ≡ false }
-    ensures { OnOk result (IsStep system.old system.new (plain_step step.now)) }
+    ensures { OnOk result (IsStep system.old system.new (plain_system_step step.now)) }
 {
     match system.step(step) {
         Ok(()) => Ok(()),

@@ -1,5 +1,5 @@
 //! Members of a system.
-ghost use Rattle.system_core.specs.Parts.{IsPlaced};
+ghost use Rattle.system_core.specs.Parts.{IsMemberPlace};
 
 use replica::Replica;
 
@@ -13,7 +13,7 @@ pub(crate) struct Member {
 
 /// Where the member of a view stands, if it has one.
 pub(crate) fn place(members: &[Member], view: u32) -> Option<usize>
-    ensures { IsPlaced result members.now view }
+    ensures { IsMemberPlace result members.now view }
 {
     for (index, member) in members.iter().enumerate() {
         if member.view == view {

@@ -4,8 +4,8 @@ ghost use Rattle.model_value.specs.Payload.{payload_spelling};
 ghost use Rattle.model_value.specs.Plain.{InBounds};
 ghost use Rattle.model_value.specs.View.{plain};
 ghost use Rattle.system_plain.specs.Steps.{Cut, Found, Publish, Pump, Receive, Reconnect, Restart, Snap, Take, Transmit, whole_for};
-ghost use Rattle.system_core.specs.Parts.{Connects, HasMember, IsNoWant, IsPlaced, IsSound, Takes};
-ghost use Rattle.system_core.specs.Schedules.{IsInBounds, plain_step};
+ghost use Rattle.system_core.specs.Parts.{Connects, HasMember, IsNoWant, IsMemberPlace, IsSound, Takes};
+ghost use Rattle.system_core.specs.Schedules.{IsInBounds, plain_system_step};
 
 use crate::connection::{Connection, close};
 use crate::member::{Member, place};
@@ -64,7 +64,7 @@ fn want_of(taken: Result<(), ReplicaFault>) -> Result<(), WantOfMemory>
 impl Parts {
     /// Where the member of a view stands, if it has one.
     pub(crate) fn place(&self, view: u32) -> Option<usize>
-        ensures { IsPlaced result self.now.members.items view }
+        ensures { IsMemberPlace result self.now.members.items view }
     {
         place(&self.members, view)
     }
@@ -73,7 +73,7 @@ impl Parts {
     pub(crate) fn make(&mut self, step: &ScheduleStep) -> Result<(), WantOfMemory>
         requires sound { IsSound self.old }
         requires bounds { IsInBounds step.now }
-        ensures { OnOk result (Takes self.old self.new (plain_step step.now)) }
+        ensures { OnOk result (Takes self.old self.new (plain_system_step step.now)) }
     {
         match step {
             ScheduleStep::Found { view } => self.found(*view),

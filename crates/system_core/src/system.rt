@@ -4,7 +4,7 @@ ghost use Rattle.std.specs.Arc.{arc_value};
 ghost use Rattle.std.specs.Option.{option_copied};
 ghost use Rattle.model_lang.specs.Program.{IsProgram};
 ghost use Rattle.model_lang.specs.TreeView.{program_tree};
-ghost use Rattle.system_core.specs.Schedules.{IsInBounds, plain_step};
+ghost use Rattle.system_core.specs.Schedules.{IsInBounds, plain_system_step};
 ghost use Rattle.system_core.specs.Systems.{IsReplicaOf, Steps, first_view};
 
 use crate::parts::Parts;
@@ -84,7 +84,7 @@ impl System {
     /// - `WantOfMemory`: the system is spoilt from then on.
     pub fn step(&mut self, step: &ScheduleStep) -> Result<(), StepFault>
         requires { IsInBounds step.now }
-        ensures { Steps result self.old self.new (plain_step step.now) }
+        ensures { Steps result self.old self.new (plain_system_step step.now) }
     {
         if self.spoilt {
             return Err(StepFault::Spoilt);

@@ -33,13 +33,13 @@ use Rattle.join_sync.specs.declared.cursor.Cursor.{Cursor}
 use Rattle.join_sync.specs.declared.early.Early.{Early}
 use Rattle.join_sync.specs.declared.early.Early.TheVariants.{NotJoined, OtherSession}
 use Rattle.join_sync.specs.Answers.{answer_frame, first_cursor, join_answer}
-use Rattle.join_sync.specs.Batches.{entry_frames, newer_tick, next_cursor, next_frames, tick_frames}
+use Rattle.join_sync.specs.Batches.{entry_frames, most_pulled, newer_tick, next_cursor, next_frames, tick_frames}
 use Rattle.join_sync.specs.Refusals.{early_code, early_frame, refused_frame}
 use Rattle.join_sync.specs.Requests.{act_on, first_request}
 use Rattle.join_sync.specs.Standing.{StandsAt as CursorStands}
 use Rattle.join_sync.proofs.Openings.{joined_stands}
 use Rattle.system_plain.specs.ConnectionLine.{AreSoundTurns, ConnectionLine, Hears, LineTurn, Others, Pumps, after_turn, after_turns, first_line, hears, hears_act, hears_first, pumps, pumps_batch, unread_frame}
-use Rattle.system_plain.specs.Steps.{answer_frames, ends_connection, found, most_pulled}
+use Rattle.system_plain.specs.Steps.{answer_frames, ends_connection, found}
 use Rattle.system_plain.proofs.AnswerFrames.{refused_form}
 use Rattle.system_plain.proofs.Facts.{FlowsFrom, Meets}
 use Rattle.system_plain.proofs.FactsGrow.{begins_grow, flows_grow}

@@ -29,12 +29,12 @@ use Rattle.join_sync.specs.declared.cursor.Cursor.{Cursor}
 use Rattle.join_sync.specs.declared.early.Early.{Early}
 use Rattle.join_sync.specs.declared.early.Early.TheVariants.{NotJoined, OtherSession}
 use Rattle.join_sync.specs.Answers.{first_cursor, join_answer}
-use Rattle.join_sync.specs.Batches.{entry_frames, newer_tick, next_cursor, next_frames, tick_frames}
+use Rattle.join_sync.specs.Batches.{entry_frames, most_pulled, newer_tick, next_cursor, next_frames, tick_frames}
 use Rattle.join_sync.specs.Refusals.{early_frame, refused_frame}
 use Rattle.join_sync.specs.Requests.{first_request}
 use Rattle.join_sync.proofs.Openings.{joined_stands}
 use Rattle.join_sync.proofs.Pulls.{batch_stands, batch_streams}
-use Rattle.system_plain.specs.Steps.{answer_frames, join_on, leave_on, most_pulled, pump_batch, pump_on, pump_with, take_first, take_frame, take_next, take_on}
+use Rattle.system_plain.specs.Steps.{answer_frames, join_on, leave_on, pump_batch, pump_on, pump_with, take_first, take_frame, take_next, take_on}
 use Rattle.system_plain.specs.System.{Connection, System, over_if, put_down, with_cursor, with_up}
 use Rattle.system_plain.proofs.AnswerFrames.{of_refusal}
 use Rattle.system_plain.proofs.Changes.{connection_changes}

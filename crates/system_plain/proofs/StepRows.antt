@@ -24,7 +24,7 @@ use Rattle.join_sync.specs.declared.act.Act.{Act}
 use Rattle.join_sync.specs.declared.act.Act.TheVariants.{Answer, Call}
 use Rattle.join_sync.specs.declared.cursor.Cursor.{Cursor}
 use Rattle.join_sync.specs.declared.early.Early.{Early}
-use Rattle.join_sync.specs.Batches.{next_cursor, next_frames}
+use Rattle.join_sync.specs.Batches.{most_pulled, next_cursor, next_frames}
 use Rattle.join_sync.specs.Refusals.{early_frame}
 use Rattle.join_sync.specs.Requests.{act_on, first_request}
 use Rattle.system_plain.specs.Steps.{Cut, Found, Publish, Pump, Receive, Reconnect, Restart, Snap, SystemStep, Take, Transmit, after_step, asked_connection, can_be_made, connect, cut_on, found, has_frame, joined_connection, joined_view, leave_on, may_publish, may_take, publish_by, pump_batch, pump_on, pump_with, receive_by, receive_next, receive_on, reconnect_by, restart_by, snap_by, snap_on, take_act, take_first, take_frame, take_next, take_on, transmit_by, transmit_on, whole_for}
@@ -194,14 +194,14 @@ leave_row m s number now c cursor at going has ups closed =
     going_row m s number now c [] at going ups ∙ ap (λ (x : Option Cursor). leave_on s number c x now) has ∙ true_chosen c.closed _ s closed
 
 -- a Pump of a joined connection that is not over
-pump_going : {W O : Type 0} (m : Worlds W O) (s : System W O) (number now : ℕ) (c : Connection) (cursor : Cursor) (reply : Reply) → slice_get s.connections number ≡ Some c → c.over ≡ false → c.cursor ≡ Some cursor → (answer (answer s.session (request.Tick now)).session (request.Pull cursor.after 256)).reply ≡ reply
+pump_going : {W O : Type 0} (m : Worlds W O) (s : System W O) (number now : ℕ) (c : Connection) (cursor : Cursor) (reply : Reply) → slice_get s.connections number ≡ Some c → c.over ≡ false → c.cursor ≡ Some cursor → (answer (answer s.session (request.Tick now)).session (request.Pull cursor.after most_pulled)).reply ≡ reply
     → after_step m s (Pump number now) ≡ pump_batch s number c cursor (answer s.session (request.Tick now)).session reply
 pump_going m s number now c cursor reply at going has is =
     ap (λ (found : Option Connection). pump_on s number found now) at ∙ false_chosen c.over s _ going ∙ ap (λ (x : Option Cursor). pump_with s number c x now) has
     ∙ ap (λ (r : Reply). pump_batch s number c cursor (answer s.session (request.Tick now)).session r) is
 
 pub pump_row : {W O : Type 0} (m : Worlds W O) (s : System W O) (number now : ℕ) (c : Connection) (cursor : Cursor) (entries : List Entry) (tick : Option ℕ) → slice_get s.connections number ≡ Some c → c.over ≡ false → c.cursor ≡ Some cursor
-    → (answer (answer s.session (request.Tick now)).session (request.Pull cursor.after 256)).reply ≡ reply.Batch entries tick
+    → (answer (answer s.session (request.Tick now)).session (request.Pull cursor.after most_pulled)).reply ≡ reply.Batch entries tick
     → after_step m s (Pump number now) ≡ record {
       session = (answer s.session (request.Tick now)).session;
       clients = s.clients;
@@ -210,7 +210,7 @@ pub pump_row : {W O : Type 0} (m : Worlds W O) (s : System W O) (number now : �
 pump_row m s number now c cursor entries tick at going has is = pump_going m s number now c cursor (reply.Batch entries tick) at going has is
 
 pub pump_nothing_row : {W O : Type 0} (m : Worlds W O) (s : System W O) (number now : ℕ) (c : Connection) (cursor : Cursor) (why : Refusal) → slice_get s.connections number ≡ Some c → c.over ≡ false → c.cursor ≡ Some cursor
-    → (answer (answer s.session (request.Tick now)).session (request.Pull cursor.after 256)).reply ≡ reply.Refused why → after_step m s (Pump number now) ≡ record s { session = (answer s.session (request.Tick now)).session }
+    → (answer (answer s.session (request.Tick now)).session (request.Pull cursor.after most_pulled)).reply ≡ reply.Refused why → after_step m s (Pump number now) ≡ record s { session = (answer s.session (request.Tick now)).session }
 pump_nothing_row m s number now c cursor why at going has is = pump_going m s number now c cursor (reply.Refused why) at going has is
 
 pub receive_row : {W O : Type 0} (m : Worlds W O) (s : System W O) (view : ℕ) (client : Client W O) (c : Connection) (frame : ServerFrame) (rest : List ServerFrame) → view_client s.clients view ≡ Some client → slice_get s.connections client.newest ≡ Some c → c.down ≡ frame ∷ rest

@@ -23,7 +23,7 @@ use Rattle.join_sync.specs.declared.act.Act.{Act}
 use Rattle.join_sync.specs.declared.act.Act.TheVariants.{Call}
 use Rattle.join_sync.specs.declared.cursor.Cursor.{Cursor}
 use Rattle.join_sync.specs.Requests.{act_on}
-use Rattle.system_plain.specs.Schedule.{AreTypedSteps, IsExpected, IsNoSurprise, IsNotDiffers, IsSchedule, IsTypedStep, MovesInTime, SpellWorlds, SpellsWorld, ViewPayloads, act_replies, after_schedule, client_faults, faults_from, faults_in, faults_of, next_fault, next_fault_of, next_fault_on, next_replies, nothing_published, published_after, replies_from, replies_in, replies_on, run_schedule, step_faults, step_replies}
+use Rattle.system_plain.specs.Schedule.{AreTypedSteps, IsExpected, IsNoSurprise, IsNotDiffers, IsSchedule, IsTypedStep, MovesInTime, SpellWorlds, SpellsWorld, ViewPayloads, act_replies, after_schedule, client_faults, faults_from, faults_in, faults_of, next_fault, next_fault_of, next_fault_on, next_replies, nothing_published, published_after, step_replies_from, replies_in, replies_on, run_schedule, step_faults, step_replies}
 use Rattle.system_plain.specs.Steps.{Receive, SystemStep, Take, after_step}
 use Rattle.system_plain.specs.System.{Client, Connection, System, first_system, view_client}
 use Rattle.system_plain.specs.Traffic.{traffics_in}
@@ -50,11 +50,11 @@ faults_from-push m s (first ∷ steps) next =
     ap (λ (rest : List ReplicaFault). step_faults m s first ++ rest) (faults_from-push m (after_step m s first) steps next)
     ∙ sym (append_assoc (step_faults m s first) (faults_from m (after_step m s first) steps) (step_faults m (run_schedule m (after_step m s first) steps) next))
 
-pub replies_from-push : {W O : Type 0} (m : Worlds W O) (s : System W O) (steps : List SystemStep) (next : SystemStep) → replies_from m s (steps ++ next ∷ []) ≡ replies_from m s steps ++ step_replies (run_schedule m s steps) next
-replies_from-push m s [] next = append-nil (step_replies s next)
-replies_from-push m s (first ∷ steps) next =
-    ap (λ (rest : List Reply). step_replies s first ++ rest) (replies_from-push m (after_step m s first) steps next)
-    ∙ sym (append_assoc (step_replies s first) (replies_from m (after_step m s first) steps) (step_replies (run_schedule m (after_step m s first) steps) next))
+pub step_replies_from-push : {W O : Type 0} (m : Worlds W O) (s : System W O) (steps : List SystemStep) (next : SystemStep) → step_replies_from m s (steps ++ next ∷ []) ≡ step_replies_from m s steps ++ step_replies (run_schedule m s steps) next
+step_replies_from-push m s [] next = append-nil (step_replies s next)
+step_replies_from-push m s (first ∷ steps) next =
+    ap (λ (rest : List Reply). step_replies s first ++ rest) (step_replies_from-push m (after_step m s first) steps next)
+    ∙ sym (append_assoc (step_replies s first) (step_replies_from m (after_step m s first) steps) (step_replies (run_schedule m (after_step m s first) steps) next))
 
 -- ---- what one step met and was told
 
@@ -137,10 +137,10 @@ step_agrees : {W O : Type 0} (published : ViewPayloads) (s : System W O) (next :
 step_agrees published s (Take number now) numbered = on_agrees published s number (slice_get s.connections number) now numbered refl
 step_agrees published s other numbered = All-nil IsNotDiffers
 
-replies_agree : {W O : Type 0} (m : Worlds W O) → AreWorlds m → (published : ViewPayloads) (s : System W O) (steps : List SystemStep) → AreTypedSteps steps → SpellWorlds m s steps → SystemStands m published s → All IsNotDiffers (replies_from m s steps)
+replies_agree : {W O : Type 0} (m : Worlds W O) → AreWorlds m → (published : ViewPayloads) (s : System W O) (steps : List SystemStep) → AreTypedSteps steps → SpellWorlds m s steps → SystemStands m published s → All IsNotDiffers (step_replies_from m s steps)
 replies_agree m laws published s [] typed spells kept = All-nil IsNotDiffers
 replies_agree m laws published s (next ∷ steps) typed spells kept =
-    All-append IsNotDiffers (step_replies s next) (replies_from m (after_step m s next) steps) (step_agrees published s next kept.numbered)
+    All-append IsNotDiffers (step_replies s next) (step_replies_from m (after_step m s next) steps) (step_agrees published s next kept.numbered)
     (replies_agree m laws (published_after s published next) (after_step m s next) steps typed.1 spells.1 (step_keeps m laws published s next typed.0 spells.0 kept))
 
 pub schedule_agrees : {W O : Type 0} (m : Worlds W O) (steps : List SystemStep) → IsSchedule m steps → All IsNotDiffers (replies_in m steps)

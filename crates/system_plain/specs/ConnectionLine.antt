@@ -12,7 +12,7 @@ use Rattle.join_sync.specs.declared.act.Act.TheVariants.{Call, Answer}
 use Rattle.join_sync.specs.declared.cursor.Cursor.{Cursor}
 use Rattle.join_sync.specs.declared.early.Early.{Early}
 use Rattle.join_sync.specs.Answers.{answer_frame, first_cursor, join_answer}
-use Rattle.join_sync.specs.Batches.{next_cursor, next_frames}
+use Rattle.join_sync.specs.Batches.{most_pulled, next_cursor, next_frames}
 use Rattle.join_sync.specs.Refusals.{early_frame}
 use Rattle.join_sync.specs.Requests.{act_on, first_request}
 use Rattle.wire_frames.specs.declared.frame.ClientFrame.{ClientFrame}
@@ -20,7 +20,7 @@ use Rattle.wire_frames.specs.declared.frame.ServerFrame.{ServerFrame}
 use Rattle.wire_frames.specs.Frames.{IsTypedClient}
 use Rattle.wire_frames.specs.declared.frame.ServerFrame.TheVariants as server
 use Rattle.system_plain.specs.System.{System, Connection}
-use Rattle.system_plain.specs.Steps.{answer_frames, ends_connection, joined_view, most_pulled}
+use Rattle.system_plain.specs.Steps.{answer_frames, ends_connection, joined_view}
 
 -- given: the frames that were heard, None one that could not be read. sent: those that were sent. Both in order.
 pub record ConnectionLine : Type 0 where

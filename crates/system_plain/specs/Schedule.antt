@@ -170,12 +170,12 @@ abbrev pub step_replies : {W O : Type 0} → System W O → SystemStep → List 
 step_replies s (Take number now) = replies_on s (slice_get s.connections number) now
 step_replies s other = []
 
-abbrev pub replies_from : {W O : Type 0} → Worlds W O → System W O → List SystemStep → List Reply
-replies_from m s [] = []
-replies_from m s (step ∷ steps) = step_replies s step ++ replies_from m (after_step m s step) steps
+abbrev pub step_replies_from : {W O : Type 0} → Worlds W O → System W O → List SystemStep → List Reply
+step_replies_from m s [] = []
+step_replies_from m s (step ∷ steps) = step_replies s step ++ step_replies_from m (after_step m s step) steps
 
 abbrev pub replies_in : {W O : Type 0} → Worlds W O → List SystemStep → List Reply
-replies_in m steps = replies_from m first_system steps
+replies_in m steps = step_replies_from m first_system steps
 
 -- ---- the times of frames
 

@@ -16,7 +16,7 @@ use Rattle.join_sync.specs.declared.act.Act.TheVariants.{Call, Answer}
 use Rattle.join_sync.specs.declared.cursor.Cursor.{Cursor}
 use Rattle.join_sync.specs.declared.early.Early.{Early}
 use Rattle.join_sync.specs.Answers.{answer_frame, first_cursor, join_answer}
-use Rattle.join_sync.specs.Batches.{next_cursor, next_frames}
+use Rattle.join_sync.specs.Batches.{most_pulled, next_cursor, next_frames}
 use Rattle.join_sync.specs.Refusals.{early_frame}
 use Rattle.join_sync.specs.Requests.{act_on, first_request}
 use Rattle.replica_plain.specs.declared.how.How.{How}
@@ -153,10 +153,6 @@ take_on m s number None now = s
 take_on m s number (Some c) now = if c.over then s else take_next m s number c c.up now
 
 -- ---- Pump: time goes on, and a joined connection is sent what is new
-
--- how many entries it is sent at most
-abbrev pub most_pulled : ℕ
-most_pulled = 256
 
 abbrev pub pump_batch : {W O : Type 0} → System W O → ℕ → Connection → Cursor → PlainSession → Reply → System W O
 pump_batch s number c cursor session (reply.Batch entries tick) =

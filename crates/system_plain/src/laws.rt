@@ -17,7 +17,7 @@ ghost use Rattle.reflector_core.specs.declared.request.Request.{Request};
 ghost use Rattle.reflector_core.specs.declared.request.Request.TheVariants.{Leave, Pull, Tick};
 ghost use Rattle.reflector_core.specs.declared.request.Request.TheVariants as request;
 ghost use Rattle.join_sync.specs.Answers.{answer_frame, first_cursor, join_answer};
-ghost use Rattle.join_sync.specs.Batches.{next_cursor, next_frames};
+ghost use Rattle.join_sync.specs.Batches.{most_pulled, next_cursor, next_frames};
 ghost use Rattle.join_sync.specs.Refusals.{early_frame};
 ghost use Rattle.join_sync.specs.Requests.{act_on, first_request};
 ghost use Rattle.join_sync.specs.declared.act.Act.TheVariants.{Answer, Call};
@@ -32,7 +32,7 @@ ghost use Rattle.replica_plain.specs.declared.how.How.TheVariants.{Fresh, Resume
 ghost use Rattle.replica_plain.specs.Following.{FollowsLog, IsHonestBase};
 ghost use Rattle.system_plain.specs.System.{Client, Connection, System, close, closing, connecting, is_open, over_if, put_down, view_client, with_client, with_connection, with_cursor, with_down, with_replica, with_up};
 ghost use Rattle.system_plain.specs.Steps.{SystemStep, answer_frames, ends_connection, Cut, Found, Publish, Pump, Receive, Reconnect, Restart, Snap, Take, Transmit, after_step, asked_connection, can_be_made, joined_connection, joined_view, may_publish, whole_for};
-ghost use Rattle.system_plain.specs.Schedule.{AreTypedSteps, HasEventsOnce, IsExpected, IsTypedStep, MovesInTime, ViewPayloads, IsNoSurprise, IsNotDiffers, IsSchedule, SpellWorlds, SpellsWorld, after_schedule, faults_from, faults_in, faults_of, next_fault, published_after, published_by, published_in, replies_from, replies_in, run_schedule, step_faults, step_replies};
+ghost use Rattle.system_plain.specs.Schedule.{AreTypedSteps, HasEventsOnce, IsExpected, IsTypedStep, MovesInTime, ViewPayloads, IsNoSurprise, IsNotDiffers, IsSchedule, SpellWorlds, SpellsWorld, after_schedule, faults_from, faults_in, faults_of, next_fault, published_after, published_by, published_in, step_replies_from, replies_in, run_schedule, step_faults, step_replies};
 ghost use Rattle.system_plain.specs.Traffic.{Traffics, traffics_after, traffics_by, traffics_in};
 ghost use Rattle.system_plain.specs.ConnectionLine.{AreSoundTurns, AreTypedTurns, Hears, LineTurn, Pumps, after_turn, after_turns, first_line, line_on, open_connection, with_line};
 
@@ -155,7 +155,7 @@ pub fn step_table<W, O>()
         } }
     ensures pumps { (m : Worlds W O) (s : System W O) (number now : ℕ) (c : Connection) (cursor : Cursor) (entries : List Entry) (tick : Option ℕ)
         → slice_get s.connections number ≡ Some c → c.over ≡ false → c.cursor ≡ Some cursor
-        → (answer (answer s.session (Tick now)).session (Pull cursor.after 256)).reply ≡ Batch entries tick
+        → (answer (answer s.session (Tick now)).session (Pull cursor.after most_pulled)).reply ≡ Batch entries tick
         → after_step m s (Pump number now) ≡ record {
           session = (answer s.session (Tick now)).session;
           clients = s.clients;
@@ -163,7 +163,7 @@ pub fn step_table<W, O>()
         } }
     ensures pumps_nothing { (m : Worlds W O) (s : System W O) (number now : ℕ) (c : Connection) (cursor : Cursor) (refusal : Refusal)
         → slice_get s.connections number ≡ Some c → c.over ≡ false → c.cursor ≡ Some cursor
-        → (answer (answer s.session (Tick now)).session (Pull cursor.after 256)).reply ≡ Refused refusal
+        → (answer (answer s.session (Tick now)).session (Pull cursor.after most_pulled)).reply ≡ Refused refusal
         → after_step m s (Pump number now) ≡ record s { session = (answer s.session (Tick now)).session } }
     ensures receives { (m : Worlds W O) (s : System W O) (view : ℕ) (client : Client W O) (c : Connection) (frame : ServerFrame) (rest : List ServerFrame) → view_client s.clients view ≡ Some client
         → slice_get s.connections client.newest ≡ Some c → c.down ≡ frame ∷ rest
@@ -216,7 +216,7 @@ pub fn whole_schedules<W, O>()
     ensures faults { (m : Worlds W O) (s : System W O) (steps : List SystemStep) (step : SystemStep)
         → faults_from m s (steps ++ step ∷ []) ≡ faults_from m s steps ++ step_faults m (run_schedule m s steps) step }
     ensures replies { (m : Worlds W O) (s : System W O) (steps : List SystemStep) (step : SystemStep)
-        → replies_from m s (steps ++ step ∷ []) ≡ replies_from m s steps ++ step_replies (run_schedule m s steps) step }
+        → step_replies_from m s (steps ++ step ∷ []) ≡ step_replies_from m s steps ++ step_replies (run_schedule m s steps) step }
 {}
 
 /// A schedule with one more step is one, where the step's view is a number of 32 bits and a snapshot that it sends spells its world.

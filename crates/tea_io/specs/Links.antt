@@ -36,6 +36,10 @@ TakesFrame before now End = HasNoMore before × (now ≡ before)
 TakesFrame before now Failed = now ≡ before
 TakesFrame before now WantOfMemory = now ≡ before
 
+-- a link that is quiet at so many receives in a row is given up, whatever time that took
+abbrev pub most_quiets : ℕ
+most_quiets = 6000
+
 -- no count falls
 pub record NoneFalls (before now : Counts) : Type 0 where
   pub faults : before.faults ≤ now.faults

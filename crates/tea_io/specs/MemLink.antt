@@ -25,8 +25,8 @@ next_of [] = End
 next_of (frame ∷ frames) = Frame frame
 
 -- what a receive answers
-abbrev pub recv_answer : MemLinkState → Heard
-recv_answer link =
+abbrev pub link_recv_answer : MemLinkState → Heard
+link_recv_answer link =
     if fails_at link.failing link.next_call then Failed
     else if fails_at link.quiet link.next_call then Quiet
     else next_of link.coming
@@ -60,8 +60,8 @@ after_recv Failed link =
 after_recv WantOfMemory link = link
 
 -- what a send answers
-abbrev pub send_answer : MemLinkState → Result (Unit {0}) LinkFault
-send_answer link =
+abbrev pub link_send_answer : MemLinkState → Result (Unit {0}) LinkFault
+link_send_answer link =
     if fails_at link.failing link.next_call then Err fault.Failed else Ok tt
 
 -- what a send leaves: one that fails sends nothing

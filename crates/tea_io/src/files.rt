@@ -7,7 +7,7 @@ ghost use Rattle.tea_io.specs.declared.files.FileFault.TheVariants.{WantOfMemory
 ghost use Rattle.tea_io.specs.Files.{Content, MayBe, IsTooLargeFor, IsNotTooLarge, Holds};
 ghost use Rattle.tea_io.specs.Files.{AsksFiles, FileCause};
 
-use tea_base::{Blob, List, Text};
+use tea_base::{Blob, Text};
 
 /// Why a call of files was not answered.
 #[derive(Clone, Copy, Debug, PartialEq, Eq)]
@@ -36,9 +36,6 @@ pub enum FileCall {
     /// A write under this name.
     Write(Text),
 }
-
-/// Calls of files in order.
-pub type FileCalls = List<FileCall>;
 
 /// Files by name. Names are told apart by their characters. Where an implementation knows what it
 /// holds and what it was asked, it tells, and its callers can prove what they read.

@@ -16,13 +16,13 @@ mod no_net;
 mod sink;
 
 pub use clock::{Clock, FixedClock, ListClock, Times};
-pub use files::{FileCall, FileCalls, FileFault, Files};
+pub use files::{FileCall, FileFault, Files};
 pub use gate::{Gate, OpenGate};
-pub use link::{Heard, Link, LinkFault};
+pub use link::{Heard, Link, LinkFault, MOST_QUIETS};
 pub use mem_files::{MemFiles, NamedBlob, NamedBlobs};
 pub use mem_link::{Blobs, MemLink, MemLinks};
 pub use mem_net::MemNet;
 pub use mem_sink::MemSink;
-pub use net::{Net, NetCall, NetCalls, NetFault};
+pub use net::{Net, NetCall, NetFault};
 pub use no_net::{NoLink, NoNet};
 pub use sink::{Sink, SinkFault};

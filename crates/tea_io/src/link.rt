@@ -7,6 +7,9 @@ ghost use Rattle.tea_io.specs.Links.{Counts, note_of, TakesFrame, NoneFalls, Cou
 
 use tea_base::Blob;
 
+/// A link is given up once it was quiet at so many receives in a row, whatever time that took.
+pub const MOST_QUIETS: u32 = 6000;
+
 /// What a receive tells.
 #[derive(Debug, Drop)]
 pub enum Heard {

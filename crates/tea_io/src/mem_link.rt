@@ -3,7 +3,7 @@ ghost use Rattle.std.specs.Prelude.{◌≡◌, ◌≤◌, [], Some, Err, length}
 ghost use Rattle.tea_io.specs.Told.{grown};
 ghost use Rattle.tea_io.specs.Calls.{IsAnswerOr};
 ghost use Rattle.tea_io.specs.Links.{no_counts, note_of, TakesFrame, NoneFalls, CountRises, Sends, SendCause};
-ghost use Rattle.tea_io.specs.MemLink.{recv_answer, after_recv, send_answer, after_send};
+ghost use Rattle.tea_io.specs.MemLink.{link_recv_answer, after_recv, link_send_answer, after_send};
 
 use crate::calls::is_failing;
 use crate::link::{Heard, Link, LinkFault};
@@ -133,7 +133,7 @@ impl Link for MemLink {
         ensures cause { CountRises self.old.counts self.new.counts result }
 
         // What it answers but for want of memory, and all that it leaves.
-        ensures answer { IsAnswerOr Heard.WantOfMemory (recv_answer self.old) result }
+        ensures answer { IsAnswerOr Heard.WantOfMemory (link_recv_answer self.old) result }
         ensures leaves { self.new ≡ after_recv result self.old }
     {
         // Room for the note comes first: then nothing is refused behind what changes.
@@ -178,7 +178,7 @@ impl Link for MemLink {
         ensures cause { SendCause self.old.counts self.new.counts result }
 
         // What it answers but for want of memory, and all that it leaves.
-        ensures answer { IsAnswerOr (Err LinkFault.WantOfMemory) (send_answer self.old) result }
+        ensures answer { IsAnswerOr (Err LinkFault.WantOfMemory) (link_send_answer self.old) result }
         ensures leaves { self.new ≡ after_send result self.old frame.now }
     {
         if is_failing(self.failing.as_slice(), self.next_call) {

@@ -8,7 +8,7 @@ ghost use Rattle.tea_io.specs.Links.{Counts, no_counts};
 ghost use Rattle.tea_io.specs.Nets.{plus, AsksNet, NetCause};
 
 use crate::link::Link;
-use tea_base::{List, Text};
+use tea_base::Text;
 
 /// A call of a net that was made, with its address.
 #[derive(Debug, Drop)]
@@ -20,9 +20,6 @@ pub enum NetCall {
     /// A `connect` to this address.
     Connect(Text),
 }
-
-/// Calls of a net in order.
-pub type NetCalls = List<NetCall>;
 
 /// Why a call of a net was not answered.
 #[derive(Clone, Copy, Debug, PartialEq, Eq)]

@@ -24,8 +24,8 @@ IsPlain-decimal zero small = record { nonempty = lit< tt; no_plus = λ e. omega 
 IsPlain-decimal (suc n) small = IsPlain-decimal-positive (suc n) (omega arith) small
 
 -- what `parse` reads of a plain word is what the word spells
-pub spelled-parsed : {E : Type 0} (word : LineWord) (n : ℕ) (result : Result ℕ E) → ParsesUnsigned 64 10 word result → IsPlain word → result ≡ Ok n → (word ≡ decimal n) × (n < 2 ^ 64)
-spelled-parsed word n result parses plain ok =
+pub spelled_by-parsed : {E : Type 0} (word : LineWord) (n : ℕ) (result : Result ℕ E) → ParsesUnsigned 64 10 word result → IsPlain word → result ≡ Ok n → (word ≡ decimal n) × (n < 2 ^ 64)
+spelled_by-parsed word n result parses plain ok =
     let read = rw ok at (parse_plain own 64 word result parses plain.no_plus) in
     let same : n ≡ digits_value 10 word = read.1 in
     let text : decimal (digits_value 10 word) ≡ word = decimal-digits_value own word read.0.0 plain.nonempty plain.no_zero read.0.2 in

@@ -1,9 +1,10 @@
 -- The words of lines, and the numbers that words spell. Texts are seen as their bytes.
-use Rattle.std.specs.Prelude.{ℕ, Bool, ◌==◌, ◌&&◌, ◌||◌, nat_le, nat_lt, ◌^◌, ◌-◌, not, if◌then◌else◌, ◌<◌, ◌≡◌, ◌≢◌, slice_index, List, [], ◌∷◌, ◌++◌, length, filter, Option, Some, None, option_and_then}
+use Rattle.std.specs.Prelude.{ℕ, Bool, true, ◌==◌, ◌&&◌, ◌||◌, nat_le, nat_lt, ◌^◌, ◌-◌, not, if◌then◌else◌, ◌<◌, ◌≡◌, ◌≢◌, slice_index, List, [], ◌∷◌, ◌++◌, length, filter, Option, Some, None, option_and_then}
 use Rattle.std.specs.List.{slice_split}
 use Rattle.std.specs.Str.{bytes_eq}
 use Rattle.std.specs.Str.Parse.{digits_value}
 use Rattle.std.specs.Fmt.{decimal}
+use Rattle.tea_base.specs.Limits.{time_limit}
 
 abbrev pub LineWord : Type 0
 LineWord = List ℕ
@@ -35,6 +36,15 @@ in_range low high number = if nat_le low number && nat_le number high then Some 
 abbrev pub number_of_word : ℕ → ℕ → LineWord → Option ℕ
 number_of_word low high word = option_and_then (in_range low high) (spelled_by word)
 
+-- the TeaTime that a word spells
+abbrev pub time_of_word : LineWord → Option ℕ
+time_of_word word = number_of_word 0 (time_limit - 1) word
+
+-- an empty line or one that begins with `#`
+abbrev pub is_skipped : List ℕ → Bool
+is_skipped [] = true
+is_skipped (first ∷ rest) = first == 35
+
 -- the word is not empty, has no plus, and no zero before its last digit
 pub record IsPlain (word : LineWord) : Type 0 where
   pub nonempty : 0 < length word
@@ -47,5 +57,5 @@ spaced [] = []
 spaced (number ∷ numbers) = 32 ∷ (decimal number ++ spaced numbers)
 
 -- a word, and numbers
-abbrev pub numbered : LineWord → List ℕ → List ℕ
-numbered word numbers = word ++ spaced numbers
+abbrev pub spell_numbers : LineWord → List ℕ → List ℕ
+spell_numbers word numbers = word ++ spaced numbers

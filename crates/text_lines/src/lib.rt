@@ -4,5 +4,5 @@
 mod reading;
 mod writing;
 
-pub use reading::{number, split_lines, split_words};
-pub use writing::numbered;
+pub use reading::{is_skipped, number, split_lines, split_words, time_of_word};
+pub use writing::spell_numbers;

@@ -3,10 +3,14 @@ ghost use Rattle.std.specs.Prelude.{◌≡◌, ℕ, ◌≤◌, ◌<◌, ◌^◌,
 ghost use Rattle.std.specs.Fmt.{decimal};
 ghost use Rattle.std.specs.Str.Lines.{lines};
 ghost use Rattle.std.specs.List.{slice_split};
-ghost use Rattle.text_lines.specs.Lines.{words_of, ends_in_space, spelled_by, number_of_word, IsPlain};
+ghost use Rattle.tea_base.specs.Limits.{time_limit};
+ghost use Rattle.text_lines.specs.Lines.{words_of, ends_in_space, spelled_by, number_of_word, time_of_word, is_skipped, IsPlain};
 
 use std::alloc::{AllocError, Global};
-use tea_base::WantOfMemory;
+use tea_base::{TIME_LIMIT, WantOfMemory};
+
+/// The latest TeaTime that is named, in microseconds.
+const LAST_TIME: u64 = TIME_LIMIT - 1;
 
 /// The lines of a text. LF ends a line; it may be missing after the last one, and one CR before it is dropped.
 pub fn split_lines<'a>(alloc: Global, text: &'a str) -> Result<Vec<&'a str>, WantOfMemory>
@@ -19,6 +23,16 @@ fn collect_lines<'a>(alloc: Global, text: &'a str) -> Result<Vec<&'a str>, Alloc
     ensures { IfOk result (λ found. map (λ line. line.now) found.items ≡ lines text.now) }
 {
     text.lines().collect(alloc)
+}
+
+/// Whether a line is empty or begins with `#`.
+pub fn is_skipped(line: &[u8]) -> bool
+    ensures { result ≡ is_skipped line.now }
+{
+    match line {
+        [] => true,
+        [first, ..] => *first == b'#',
+    }
 }
 
 /// The pieces of a line between its spaces, some of them empty.
@@ -65,7 +79,7 @@ fn is_plain(word: &[u8]) -> bool
 }
 
 /// The number that a word spells in decimal, without a sign or leading zeros.
-fn spelled(word: &str) -> Option<u64>
+fn decimal_number(word: &str) -> Option<u64>
     ensures read { result ≡ spelled_by word.now }
     ensures found { IfSome result (λ n. (word.now ≡ decimal n) × (n < 2 ^ 64)) }
     ensures none { IfNone result ((n : ℕ) → n < 2 ^ 64 → word.now ≡ decimal n → ⊥) }
@@ -85,10 +99,18 @@ pub fn number(word: &str, low: u64, high: u64) -> Option<u64>
     ensures found { IfSome result (λ n. (word.now ≡ decimal n) × (low ≤ n) × (n ≤ high)) }
     ensures none { IfNone result ((n : ℕ) → low ≤ n → n ≤ high → word.now ≡ decimal n → ⊥) }
 {
-    let number = spelled(word)?;
+    let number = decimal_number(word)?;
     if low <= number && number <= high {
         Some(number)
     } else {
         None
     }
+}
+
+/// The TeaTime that a word spells.
+pub fn time_of_word(word: &str) -> Option<u64>
+    ensures read { result ≡ time_of_word word.now }
+    ensures bound { IfSome result (λ time. time < time_limit) }
+{
+    number(word, 0, LAST_TIME)
 }

@@ -1,13 +1,13 @@
 //! From words and numbers to text.
 ghost use Rattle.std.specs.Prelude.{◌≡◌, string_bytes, IfOk};
-ghost use Rattle.text_lines.specs.Lines.{numbered};
+ghost use Rattle.text_lines.specs.Lines.{spell_numbers};
 
 use std::alloc::Global;
 use tea_base::WantOfMemory;
 
 /// A word, and numbers in decimal, each behind a space.
-pub fn numbered(alloc: Global, word: &str, numbers: &[u64]) -> Result<String, WantOfMemory>
-    ensures { IfOk result (λ text. string_bytes text ≡ numbered word.now numbers.now) }
+pub fn spell_numbers(alloc: Global, word: &str, numbers: &[u64]) -> Result<String, WantOfMemory>
+    ensures { IfOk result (λ text. string_bytes text ≡ spell_numbers word.now numbers.now) }
 {
     let mut text = String::from_str(alloc, word)?;
     for number in numbers {

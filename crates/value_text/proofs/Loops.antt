@@ -4,31 +4,31 @@ use Rattle.std.specs.Prelude.{false, ◌==◌}
 use Rattle.std.proofs.lemmas.Bool.Decides.{nat_tests}
 use Rattle.byte_fields.specs.Fields.{Decoder}
 use Rattle.model_value.specs.Plain.{PlainValue}
-use Rattle.value_text.specs.Reading.{behind_item, items_at}
+use Rattle.value_text.specs.Reading.{behind_item, text_items_at}
 
 -- an item was read
 pub one_more : (read : Decoder PlainValue) (before : List PlainValue) (count i : ℕ) (bytes behind : List ℕ) (value : PlainValue) (total : Option (List PlainValue × List ℕ)) → i < count → read bytes ≡ Some (value, behind)
-    → items_at read before (count - i) bytes ≡ total → behind_item (before ++ value ∷ []) (items_at read (before ++ value ∷ []) (count - (i + 1))) behind ≡ total
-unfolding items_at
+    → text_items_at read before (count - i) bytes ≡ total → behind_item (before ++ value ∷ []) (text_items_at read (before ++ value ∷ []) (count - (i + 1))) behind ≡ total
+unfolding text_items_at
 one_more read before count i bytes behind value total lt found so_far =
     let k : count - i ≡ suc (count - (i + 1)) = omega arith in
-    let one : items_at read before (count - i) bytes ≡ behind_item (before ++ value ∷ []) (items_at read (before ++ value ∷ []) (count - (i + 1))) behind = rw (k, found) refl in
+    let one : text_items_at read before (count - i) bytes ≡ behind_item (before ++ value ∷ []) (text_items_at read (before ++ value ∷ []) (count - (i + 1))) behind = rw (k, found) refl in
     sym one ∙ so_far
 
 -- none was read
-pub no_more : (read : Decoder PlainValue) (before : List PlainValue) (count i : ℕ) (bytes : List ℕ) (total : Option (List PlainValue × List ℕ)) → i < count → read bytes ≡ None → items_at read before (count - i) bytes ≡ total → total ≡ None
-unfolding items_at
+pub no_more : (read : Decoder PlainValue) (before : List PlainValue) (count i : ℕ) (bytes : List ℕ) (total : Option (List PlainValue × List ℕ)) → i < count → read bytes ≡ None → text_items_at read before (count - i) bytes ≡ total → total ≡ None
+unfolding text_items_at
 no_more read before count i bytes total lt none so_far =
     let k : count - i ≡ suc (count - (i + 1)) = omega arith in
-    let one : items_at read before (count - i) bytes ≡ None = rw (k, none) refl in
+    let one : text_items_at read before (count - i) bytes ≡ None = rw (k, none) refl in
     sym so_far ∙ one
 
 -- there may be no more
-pub at_end : (read : Decoder PlainValue) (before : List PlainValue) (count i : ℕ) (bytes : List ℕ) (total : Option (List PlainValue × List ℕ)) → count ≤ i → items_at read before (count - i) bytes ≡ total → total ≡ None
-unfolding items_at
+pub at_end : (read : Decoder PlainValue) (before : List PlainValue) (count i : ℕ) (bytes : List ℕ) (total : Option (List PlainValue × List ℕ)) → count ≤ i → text_items_at read before (count - i) bytes ≡ total → total ≡ None
+unfolding text_items_at
 at_end read before count i bytes total le so_far =
     let k : count - i ≡ 0 = omega arith in
-    let one : items_at read before (count - i) bytes ≡ None = rw k refl in
+    let one : text_items_at read before (count - i) bytes ≡ None = rw k refl in
     sym so_far ∙ one
 
 -- ---- what stands behind an item

@@ -14,10 +14,10 @@ use Rattle.model_value.specs.Spelling.{IsValue, AreValues, item_count}
 use Rattle.model_value.specs.View.{plains_of}
 use Rattle.model_value.proofs.Items.{plains_of-items_of}
 use Rattle.model_value.proofs.ValueCodec.{InBounds-is_in_bounds, is_in_bounds-InBounds}
-use Rattle.value_text.specs.Reading.{goes_on_word, value_of_word, word_at, value_row, behind_item, items_at, list_at, value_at, items_in, value_of_text}
+use Rattle.value_text.specs.Reading.{goes_on_word, value_of_word, word_at, value_text_row, behind_item, text_items_at, bracketed_items, value_text_at, nested_items, value_of_text}
 use Rattle.value_text.specs.ValueText.{value_text, items_text}
 use Rattle.value_text.proofs.Numerals.{passed}
-use Rattle.value_text.proofs.Rows.{value_at-row}
+use Rattle.value_text.proofs.Rows.{value_text_at-row}
 use Rattle.value_text.proofs.WordLaws.{IsWord, HasWord, has_word, word_again, word_only}
 
 -- one step was made
@@ -76,55 +76,55 @@ count-le_length (item value (item next rest)) are =
 
 -- behind an item stands the end, or a comma and more of them
 one_item : (read : Decoder PlainValue) (before : List PlainValue) (count : ℕ) (bytes behind : List ℕ) (value : PlainValue) → read bytes ≡ Some (value, behind)
-    → items_at read before (suc count) bytes ≡ behind_item (before ++ value ∷ []) (items_at read (before ++ value ∷ []) count) behind
-unfolding items_at
+    → text_items_at read before (suc count) bytes ≡ behind_item (before ++ value ∷ []) (text_items_at read (before ++ value ∷ []) count) behind
+unfolding text_items_at
 one_item read before count bytes behind value e = rw e refl
 
-list_begun_if : (read : Decoder PlainValue) (bytes rest : List ℕ) (items : PlainValues) → Begins bytes → items_at read [] (length bytes) bytes ≡ Some (items_of items, rest) → list_at read bytes ≡ Some (items, rest)
+list_begun_if : (read : Decoder PlainValue) (bytes rest : List ℕ) (items : PlainValues) → Begins bytes → text_items_at read [] (length bytes) bytes ≡ Some (items_of items, rest) → bracketed_items read bytes ≡ Some (items, rest)
 list_begun_if read [] rest items b e = absurd b
 list_begun_if read (byte ∷ bytes) rest items b e = rw (b, e) (ap (λ vs. Some (vs, rest)) (plains_of-items_of items))
 
-list_begun : (read : Decoder PlainValue) (items : PlainValues) (rest : List ℕ) → AreValues items → (1 ≤ item_count items → items_at read [] (length (items_text items ++ 93 ∷ rest)) (items_text items ++ 93 ∷ rest) ≡ Some (items_of items, rest))
-    → list_at read (items_text items ++ 93 ∷ rest) ≡ Some (items, rest)
+list_begun : (read : Decoder PlainValue) (items : PlainValues) (rest : List ℕ) → AreValues items → (1 ≤ item_count items → text_items_at read [] (length (items_text items ++ 93 ∷ rest)) (items_text items ++ 93 ∷ rest) ≡ Some (items_of items, rest))
+    → bracketed_items read (items_text items ++ 93 ∷ rest) ≡ Some (items, rest)
 list_begun read no_items rest are found = refl
 list_begun read (item value more) rest are found =
     list_begun_if read (items_text (item value more) ++ 93 ∷ rest) rest (item value more) (begins_more (items_text (item value more)) (93 ∷ rest) (items_begin value more are.0)) (found (omega arith))
 
-text_row : (characters rest : List ℕ) (items : Decoder PlainValues) → IsValue (text characters) → value_row items (spelled_text characters ++ rest) ≡ Some (text characters, rest)
+text_row : (characters rest : List ℕ) (items : Decoder PlainValues) → IsValue (text characters) → value_text_row items (spelled_text characters ++ rest) ≡ Some (text characters, rest)
 text_row characters rest items is =
     ap (λ xs. made_at text literal_text_at xs) (append_assoc (flat_map spelled_character characters) (34 ∷ []) rest)
     ∙ ap (λ found. made_from text found) (literal_again characters rest is)
 
-word_in : (value : PlainValue) (levels : ℕ) (rest : List ℕ) → IsWord value → IsValue value → EndsBefore goes_on_word rest → value_at levels (value_text value ++ rest) ≡ Some (value, rest)
-word_in value levels rest word is ends = value_at-row levels (value_text value ++ rest) ∙ word_again value (has_word value word is) (items_in levels) rest ends
+word_in : (value : PlainValue) (levels : ℕ) (rest : List ℕ) → IsWord value → IsValue value → EndsBefore goes_on_word rest → value_text_at levels (value_text value ++ rest) ≡ Some (value, rest)
+word_in value levels rest word is ends = value_text_at-row levels (value_text value ++ rest) ∙ word_again value (has_word value word is) (nested_items levels) rest ends
 
 mutual
-  value_again : (value : PlainValue) (levels : ℕ) (rest : List ℕ) → IsValue value → depth value ≤ levels → EndsBefore goes_on_word rest → value_at levels (value_text value ++ rest) ≡ Some (value, rest)
+  value_again : (value : PlainValue) (levels : ℕ) (rest : List ℕ) → IsValue value → depth value ≤ levels → EndsBefore goes_on_word rest → value_text_at levels (value_text value ++ rest) ≡ Some (value, rest)
   value_again nil levels rest is deep ends = word_in nil levels rest tt is ends
   value_again (bool flag) levels rest is deep ends = word_in (bool flag) levels rest tt is ends
   value_again (int number) levels rest is deep ends = word_in (int number) levels rest tt is ends
-  value_again (text characters) levels rest is deep ends = value_at-row levels (spelled_text characters ++ rest) ∙ text_row characters rest (items_in levels) is
+  value_again (text characters) levels rest is deep ends = value_text_at-row levels (spelled_text characters ++ rest) ∙ text_row characters rest (nested_items levels) is
   value_again (ref object) levels rest is deep ends = word_in (ref object) levels rest tt is ends
   value_again (list items) zero rest is deep ends = absurd (omega arith)
   value_again (list items) (suc levels) rest is deep ends =
       let bytes : List ℕ = items_text items ++ 93 ∷ rest in
       let long = count-le_length items is in
       let sum = length-append (items_text items) (93 ∷ rest) in
-      value_at-row (suc levels) (value_text (list items) ++ rest)
-      ∙ ap (λ xs. made_at list (list_at (value_at levels)) xs) (append_assoc (items_text items) (93 ∷ []) rest)
-      ∙ ap (λ found. made_from list found) (list_begun (value_at levels) items rest is (λ some. items_again items levels [] (length bytes) rest is (omega arith) some (omega arith)))
+      value_text_at-row (suc levels) (value_text (list items) ++ rest)
+      ∙ ap (λ xs. made_at list (bracketed_items (value_text_at levels)) xs) (append_assoc (items_text items) (93 ∷ []) rest)
+      ∙ ap (λ found. made_from list found) (list_begun (value_text_at levels) items rest is (λ some. items_again items levels [] (length bytes) rest is (omega arith) some (omega arith)))
 
   items_again : (items : PlainValues) (levels : ℕ) (before : List PlainValue) (count : ℕ) (rest : List ℕ) → AreValues items → greatest_depth items ≤ levels → 1 ≤ item_count items → item_count items ≤ count
-      → items_at (value_at levels) before count (items_text items ++ 93 ∷ rest) ≡ Some (before ++ items_of items, rest)
+      → text_items_at (value_text_at levels) before count (items_text items ++ 93 ∷ rest) ≡ Some (before ++ items_of items, rest)
   items_again no_items levels before count rest are deep some enough = absurd (omega arith)
   items_again (item value more) levels before zero rest are deep some enough = absurd (omega arith)
   items_again (item value no_items) levels before (suc count) rest are deep some enough =
-      one_item (value_at levels) before count (value_text value ++ 93 ∷ rest) (93 ∷ rest) value (value_again value levels (93 ∷ rest) are.0 (omega arith) refl)
+      one_item (value_text_at levels) before count (value_text value ++ 93 ∷ rest) (93 ∷ rest) value (value_again value levels (93 ∷ rest) are.0 (omega arith) refl)
   items_again (item value (item next more)) levels before (suc count) rest are deep some enough =
       let behind : List ℕ = items_text (item next more) ++ 93 ∷ rest in
       let more_items : List PlainValue = items_of (item next more) in
-      ap (items_at (value_at levels) before (suc count)) (append_assoc (value_text value) (44 ∷ items_text (item next more)) (93 ∷ rest))
-      ∙ one_item (value_at levels) before count (value_text value ++ 44 ∷ behind) (44 ∷ behind) value (value_again value levels (44 ∷ behind) are.0 (omega arith) refl)
+      ap (text_items_at (value_text_at levels) before (suc count)) (append_assoc (value_text value) (44 ∷ items_text (item next more)) (93 ∷ rest))
+      ∙ one_item (value_text_at levels) before count (value_text value ++ 44 ∷ behind) (44 ∷ behind) value (value_again value levels (44 ∷ behind) are.0 (omega arith) refl)
       ∙ items_again (item next more) levels (before ++ value ∷ []) count rest are.1 (omega arith) (omega arith) (omega arith)
       ∙ ap (λ (vs : List PlainValue). Some (vs, rest)) (append_assoc before (value ∷ []) more_items)
 
@@ -192,7 +192,7 @@ row_if items levels byte bytes value rest only true b hq hb e = rw (is_number by
 row_if items levels byte bytes value rest only false true hq hb e = rw (is_number byte 91 hb) (list_only_row items bytes levels value rest only e)
 row_if items levels byte bytes value rest only false false hq hb e = word_only_row (byte ∷ bytes) levels value rest e
 
-row_only : (items : Decoder PlainValues) (levels : ℕ) → ((bs : List ℕ) (vs : PlainValues) (r : List ℕ) → items bs ≡ Some (vs, r) → ItemsRead levels bs vs r) → ReadsOnly levels (value_row items)
+row_only : (items : Decoder PlainValues) (levels : ℕ) → ((bs : List ℕ) (vs : PlainValues) (r : List ℕ) → items bs ≡ Some (vs, r) → ItemsRead levels bs vs r) → ReadsOnly levels (value_text_row items)
 unfolding ReadsOnly
 row_only items levels only [] value rest e = absurd (none-some (value, rest) e)
 row_only items levels only (byte ∷ bytes) value rest e = row_if items levels byte bytes value rest only (byte == 34) (byte == 91) refl refl e
@@ -230,46 +230,46 @@ behind_only : (levels : ℕ) (before : List PlainValue) (value : PlainValue) (mo
 behind_only levels before value more [] values rest is deep later found = absurd (none-some (values, rest) found)
 behind_only levels before value more (byte ∷ bytes) values rest is deep later found = behind_if levels before value more byte bytes values rest is deep later (byte == 93) (byte == 44) refl refl found
 
-items_only : (levels : ℕ) (read : Decoder PlainValue) → ReadsOnly levels read → (count : ℕ) (before : List PlainValue) (bytes : List ℕ) (values : List PlainValue) (rest : List ℕ) → items_at read before count bytes ≡ Some (values, rest) → MoreRead levels before bytes values rest
-unfolding items_at ReadsOnly
+items_only : (levels : ℕ) (read : Decoder PlainValue) → ReadsOnly levels read → (count : ℕ) (before : List PlainValue) (bytes : List ℕ) (values : List PlainValue) (rest : List ℕ) → text_items_at read before count bytes ≡ Some (values, rest) → MoreRead levels before bytes values rest
+unfolding text_items_at ReadsOnly
 items_only levels read only zero before bytes values rest e = absurd (none-some (values, rest) e)
 items_only levels read only (suc count) before bytes values rest e =
-    let s = stepped (read bytes) (λ x. behind_item (before ++ x.0 ∷ []) (items_at read (before ++ x.0 ∷ []) count) x.1) (values, rest) e in
+    let s = stepped (read bytes) (λ x. behind_item (before ++ x.0 ∷ []) (text_items_at read (before ++ x.0 ∷ []) count) x.1) (values, rest) e in
     let one = only bytes s.0.0 s.0.1 s.1 in
-    let more = behind_only levels before s.0.0 (items_at read (before ++ s.0.0 ∷ []) count) s.0.1 values rest one.is one.deep (λ bs vs r f. items_only levels read only count (before ++ s.0.0 ∷ []) bs vs r f) s.2 in
+    let more = behind_only levels before s.0.0 (text_items_at read (before ++ s.0.0 ∷ []) count) s.0.1 values rest one.is one.deep (λ bs vs r f. items_only levels read only count (before ++ s.0.0 ∷ []) bs vs r f) s.2 in
     subst (λ bs. MoreRead levels before bs values rest) (sym one.whole) more
 
 list_if : (levels : ℕ) (read : Decoder PlainValue) → ReadsOnly levels read → (byte : ℕ) (bytes : List ℕ) (items : PlainValues) (rest : List ℕ) → (b : Bool) → (byte == 93) ≡ b
-    → (if b then Some (no_items, bytes) else made_at plains_of (items_at read [] (length (byte ∷ bytes))) (byte ∷ bytes)) ≡ Some (items, rest) → ItemsRead (suc levels) (byte ∷ bytes) items rest
+    → (if b then Some (no_items, bytes) else made_at plains_of (text_items_at read [] (length (byte ∷ bytes))) (byte ∷ bytes)) ≡ Some (items, rest) → ItemsRead (suc levels) (byte ∷ bytes) items rest
 list_if levels read only byte bytes items rest true hb e =
     let p = same_Some (no_items, bytes) (items, rest) e in
     let none : ItemsRead (suc levels) (byte ∷ bytes) no_items bytes = record { are = tt; deep = omega arith; whole = ap (λ b. b ∷ bytes) (is_number byte 93 hb) } in
     subst (λ (q : PlainValues × List ℕ). ItemsRead (suc levels) (byte ∷ bytes) q.0 q.1) p none
 list_if levels read only byte bytes items rest false hb e =
-    let m = made_pair plains_of (items_at read [] (length (byte ∷ bytes)) (byte ∷ bytes)) items rest e in
+    let m = made_pair plains_of (text_items_at read [] (length (byte ∷ bytes)) (byte ∷ bytes)) items rest e in
     let found = items_only levels read only (length (byte ∷ bytes)) [] (byte ∷ bytes) m.0 rest m.1 in
     let same : found.more ≡ items = sym (plains_of-items_of found.more) ∙ ap plains_of found.behind ∙ m.2 in
     let deep = found.deep in
     subst (λ vs. ItemsRead (suc levels) (byte ∷ bytes) vs rest) same (record { are = found.are; deep = omega arith; whole = found.whole })
 
-list_only : (levels : ℕ) (read : Decoder PlainValue) → ReadsOnly levels read → (bytes : List ℕ) (items : PlainValues) (rest : List ℕ) → list_at read bytes ≡ Some (items, rest) → ItemsRead (suc levels) bytes items rest
+list_only : (levels : ℕ) (read : Decoder PlainValue) → ReadsOnly levels read → (bytes : List ℕ) (items : PlainValues) (rest : List ℕ) → bracketed_items read bytes ≡ Some (items, rest) → ItemsRead (suc levels) bytes items rest
 list_only levels read only [] items rest e = absurd (none-some (items, rest) e)
 list_only levels read only (byte ∷ bytes) items rest e = list_if levels read only byte bytes items rest (byte == 93) refl e
 
 never_only : (bytes : List ℕ) (items : PlainValues) (rest : List ℕ) → never_at {A = PlainValues} bytes ≡ Some (items, rest) → ItemsRead 0 bytes items rest
 never_only bytes items rest e = absurd (none-some (items, rest) e)
 
-value_only : (levels : ℕ) → ReadsOnly levels (value_at levels)
-unfolding value_at
+value_only : (levels : ℕ) → ReadsOnly levels (value_text_at levels)
+unfolding value_text_at
 value_only zero = row_only never_at 0 never_only
-value_only (suc levels) = row_only (list_at (value_at levels)) (suc levels) (list_only levels (value_at levels) (value_only levels))
+value_only (suc levels) = row_only (bracketed_items (value_text_at levels)) (suc levels) (list_only levels (value_text_at levels) (value_only levels))
 
 -- ---- the whole text
 
 -- the value that has a text is read from it
 pub text_again : (value : PlainValue) → IsValue value → InBounds value → value_of_text (value_text value) ≡ Some value
 text_again value is bounds =
-    let read : value_at most_depth (value_text value) ≡ Some (value, []) = ap (value_at most_depth) (sym (append-nil (value_text value))) ∙ value_again value most_depth [] is bounds.1 tt in
+    let read : value_text_at most_depth (value_text value) ≡ Some (value, []) = ap (value_text_at most_depth) (sym (append-nil (value_text value))) ∙ value_again value most_depth [] is bounds.1 tt in
     rw (read, is_in_bounds-InBounds value bounds) refl
 
 is_empty : (xs : List ℕ) → (length xs == 0) ≡ true → xs ≡ []
@@ -287,9 +287,9 @@ pub record TextIs (bytes : List ℕ) (value : PlainValue) : Type 0 where
 text_read : (bytes : List ℕ) (value : PlainValue) → value_of_text bytes ≡ Some value → TextIs bytes value
 unfolding ReadsOnly
 text_read bytes value e =
-    let t = stepped (tested_at is_in_bounds (value_at most_depth) bytes) (λ x. if length x.1 == 0 then Some x.0 else None) value e in
+    let t = stepped (tested_at is_in_bounds (value_text_at most_depth) bytes) (λ x. if length x.1 == 0 then Some x.0 else None) value e in
     let w = passed (length t.0.1 == 0) t.0.0 value t.2 in
-    let r = stepped (value_at most_depth bytes) (λ x. if is_in_bounds x.0 then Some x else None) t.0 t.1 in
+    let r = stepped (value_text_at most_depth bytes) (λ x. if is_in_bounds x.0 then Some x else None) t.0 t.1 in
     let b = passed (is_in_bounds r.0.0) r.0 t.0 r.2 in
     let read = value_only most_depth bytes r.0.0 r.0.1 r.1 in
     let none : r.0.1 ≡ [] = ap (λ (q : PlainValue × List ℕ). q.1) b.1 ∙ is_empty t.0.1 w.0 in

@@ -16,7 +16,7 @@ use Rattle.model_tokens.proofs.Lists.{front_is, behind_is}
 use Rattle.model_value.specs.Plain.{PlainValue, nil, bool, int, text, ref, list, PlainValues, depth}
 use Rattle.model_value.specs.Spelling.{IsValue}
 use Rattle.text_lines.specs.Lines.{number_of_word}
-use Rattle.value_text.specs.Reading.{goes_on_word, object_of_digits, negative_of_digits, natural_of_digits, numeral_of_word, value_of_word, word_at, value_row}
+use Rattle.value_text.specs.Reading.{goes_on_word, object_of_digits, negative_of_digits, natural_of_digits, numeral_of_word, value_of_word, word_at, value_text_row}
 use Rattle.value_text.specs.ValueText.{value_text}
 use Rattle.value_text.proofs.Numerals.{decimal_digits, number_again, number_only}
 
@@ -118,13 +118,13 @@ has_word (text characters) word is = absurd word
 has_word (ref object) word is = object_word object is
 has_word (list items) word is = absurd word
 
-pub word_again : (value : PlainValue) → HasWord value → (items : Decoder PlainValues) (rest : List ℕ) → EndsBefore goes_on_word rest → value_row items (value_text value ++ rest) ≡ Some (value, rest)
+pub word_again : (value : PlainValue) → HasWord value → (items : Decoder PlainValues) (rest : List ℕ) → EndsBefore goes_on_word rest → value_text_row items (value_text value ++ rest) ≡ Some (value, rest)
 word_again value word items rest ends =
     let bytes : List ℕ = word.first ∷ word.more in
     let here : front goes_on_word (bytes ++ rest) ≡ bytes = front_is goes_on_word bytes rest word.go_on ends in
     let there : rest_past goes_on_word (bytes ++ rest) ≡ rest = behind_is goes_on_word bytes rest word.go_on ends in
     let found : word_at (bytes ++ rest) ≡ Some (value, rest) = rw (here, word.means) (ap (λ r. Some (value, r)) there) in
-    ap (λ xs. value_row items (xs ++ rest)) word.whole ∙ rw (word.no_quote, word.no_bracket) found
+    ap (λ xs. value_text_row items (xs ++ rest)) word.whole ∙ rw (word.no_quote, word.no_bracket) found
 
 -- ---- what is read has the word
 

@@ -43,9 +43,9 @@ abbrev pub word_at : Decoder PlainValue
 word_at bytes = value_of_word (front goes_on_word bytes) >>= λ value. Some (value, rest_past goes_on_word bytes)
 
 -- what the first byte says, by a reader of what stands behind `[`
-abbrev pub value_row : Decoder PlainValues → Decoder PlainValue
-value_row items [] = None
-value_row items (byte ∷ rest) =
+abbrev pub value_text_row : Decoder PlainValues → Decoder PlainValue
+value_text_row items [] = None
+value_text_row items (byte ∷ rest) =
     if byte == 34 then made_at text literal_text_at rest
     else (if byte == 91 then made_at list items rest
     else word_at (byte ∷ rest))
@@ -59,28 +59,28 @@ behind_item items more (byte ∷ rest) =
     else None)
 
 -- at most so many items behind those that were read, and `]`
-unfoldable pub items_at : Decoder PlainValue → List PlainValue → ℕ → Decoder (List PlainValue)
-items_at read before zero bytes = None
-items_at read before (suc count) bytes =
-    read bytes >>= λ x. behind_item (before ++ x.0 ∷ []) (items_at read (before ++ x.0 ∷ []) count) x.1
+unfoldable pub text_items_at : Decoder PlainValue → List PlainValue → ℕ → Decoder (List PlainValue)
+text_items_at read before zero bytes = None
+text_items_at read before (suc count) bytes =
+    read bytes >>= λ x. behind_item (before ++ x.0 ∷ []) (text_items_at read (before ++ x.0 ∷ []) count) x.1
 
 -- what stands behind `[`: each item has a byte or more
-abbrev pub list_at : Decoder PlainValue → Decoder PlainValues
-list_at read [] = None
-list_at read (byte ∷ rest) =
+abbrev pub bracketed_items : Decoder PlainValue → Decoder PlainValues
+bracketed_items read [] = None
+bracketed_items read (byte ∷ rest) =
     if byte == 93 then Some (no_items, rest)
-    else made_at plains_of (items_at read [] (length (byte ∷ rest))) (byte ∷ rest)
+    else made_at plains_of (text_items_at read [] (length (byte ∷ rest))) (byte ∷ rest)
 
 -- values in which lists nest at most so deep
-unfoldable pub value_at : ℕ → Decoder PlainValue
-value_at zero = value_row never_at
-value_at (suc levels) = value_row (list_at (value_at levels))
+unfoldable pub value_text_at : ℕ → Decoder PlainValue
+value_text_at zero = value_text_row never_at
+value_text_at (suc levels) = value_text_row (bracketed_items (value_text_at levels))
 
 -- what stands behind `[`, where lists may nest so deep
-abbrev pub items_in : ℕ → Decoder PlainValues
-items_in zero = never_at
-items_in (suc levels) = list_at (value_at levels)
+abbrev pub nested_items : ℕ → Decoder PlainValues
+nested_items zero = never_at
+nested_items (suc levels) = bracketed_items (value_text_at levels)
 
 -- the value in bounds that has this text, if there is one
 abbrev pub value_of_text : List ℕ → Option PlainValue
-value_of_text = whole (tested_at is_in_bounds (value_at most_depth))
+value_of_text = whole (tested_at is_in_bounds (value_text_at most_depth))

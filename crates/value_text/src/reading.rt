@@ -8,7 +8,7 @@ ghost use Rattle.model_value.specs.View.{plain, plains, plain_values};
 ghost use Rattle.model_tokens.specs.Reader.{literal_text_at};
 ghost use Rattle.text_lines.specs.Lines.{number_of_word};
 ghost use Rattle.value_text.specs.Answer.{ReadsValue};
-ghost use Rattle.value_text.specs.Reading.{goes_on_word, numeral_of_word, value_of_word, word_at, value_at, items_at, items_in, value_of_text};
+ghost use Rattle.value_text.specs.Reading.{goes_on_word, numeral_of_word, value_of_word, word_at, value_text_at, text_items_at, nested_items, value_of_text};
 ghost use Rattle.value_text.specs.ValueText.{value_text};
 ghost use Rattle.std.specs.List.{prefix_len};
 
@@ -38,7 +38,7 @@ pub fn read_value(alloc: Global, text: &[u8]) -> Result<Value, ValueFault>
 fn read_whole(alloc: Global, text: &[u8]) -> Result<Value, ValueFault>
     ensures { Decodes ValueFault.BadValue plain result (value_of_text text.now) }
 {
-    let (value, rest) = value_at(alloc, MOST_DEPTH, text)?;
+    let (value, rest) = value_text_at(alloc, MOST_DEPTH, text)?;
     if !in_bounds(&value) || !rest.is_empty() {
         return Err(ValueFault::BadValue);
     }
@@ -46,43 +46,47 @@ fn read_whole(alloc: Global, text: &[u8]) -> Result<Value, ValueFault>
 }
 
 /// The value at the front, in which lists nest at most `levels` deep, and the bytes behind it.
-#[cycle(value_at)]
+#[cycle(value_text_at)]
 #[tactic(auto, using(crate::proofs::Rows::by_row))]
-fn value_at<'a>(
+fn value_text_at<'a>(
     alloc: Global,
     levels: u32,
     bytes: &'a [u8],
 ) -> Result<(Value, &'a [u8]), ValueFault>
-    ensures { Decodes ValueFault.BadValue (λ x. (plain x.0, x.1.now)) result (value_at levels bytes.now) }
+    ensures { Decodes ValueFault.BadValue (λ x. (plain x.0, x.1.now)) result (value_text_at levels bytes.now) }
 {
     let Some((first, behind)) = bytes.split_first() else {
         return Err(ValueFault::BadValue);
     };
     match *first {
         b'"' => text_at(alloc, behind),
-        b'[' => list_at(alloc, levels, behind),
+        b'[' => list_value_at(alloc, levels, behind),
         _ => word_at(bytes),
     }
 }
 
 /// The list behind a `[`, and the bytes behind the list.
-#[cycle(value_at)]
-fn list_at<'a>(alloc: Global, levels: u32, bytes: &'a [u8]) -> Result<(Value, &'a [u8]), ValueFault>
-    ensures { Decodes ValueFault.BadValue (λ x. (plain x.0, x.1.now)) result (made_at list (items_in levels) bytes.now) }
+#[cycle(value_text_at)]
+fn list_value_at<'a>(
+    alloc: Global,
+    levels: u32,
+    bytes: &'a [u8],
+) -> Result<(Value, &'a [u8]), ValueFault>
+    ensures { Decodes ValueFault.BadValue (λ x. (plain x.0, x.1.now)) result (made_at list (nested_items levels) bytes.now) }
 {
-    let (items, rest) = items_in(alloc, levels, bytes)?;
+    let (items, rest) = nested_items(alloc, levels, bytes)?;
     Ok((Value::List(items), rest))
 }
 
 /// The items of a list, which is itself counted among the levels, and the bytes behind the `]` that ends them.
-#[cycle(value_at)]
+#[cycle(value_text_at)]
 #[tactic(auto, using(crate::proofs::Rows::by_row))]
-fn items_in<'a>(
+fn nested_items<'a>(
     alloc: Global,
     levels: u32,
     bytes: &'a [u8],
 ) -> Result<(Vec<Value>, &'a [u8]), ValueFault>
-    ensures { Decodes ValueFault.BadValue (λ x. (plains x.0.items, x.1.now)) result (items_in levels bytes.now) }
+    ensures { Decodes ValueFault.BadValue (λ x. (plains x.0.items, x.1.now)) result (nested_items levels bytes.now) }
 {
     if levels == 0 {
         return Err(ValueFault::BadValue);
@@ -93,23 +97,23 @@ fn items_in<'a>(
     if *first == b']' {
         return Ok((Vec::new(alloc), behind));
     }
-    items_at(alloc, levels - 1, bytes)
+    text_items_at(alloc, levels - 1, bytes)
 }
 
 /// One item or more, and the bytes behind the `]` that ends them.
-#[cycle(value_at)]
-fn items_at<'a>(
+#[cycle(value_text_at)]
+fn text_items_at<'a>(
     alloc: Global,
     levels: u32,
     bytes: &'a [u8],
 ) -> Result<(Vec<Value>, &'a [u8]), ValueFault>
-    ensures { Decodes ValueFault.BadValue (λ x. (plain_values x.0.items, x.1.now)) result (items_at (value_at levels) [] (length bytes.now) bytes.now) }
+    ensures { Decodes ValueFault.BadValue (λ x. (plain_values x.0.items, x.1.now)) result (text_items_at (value_text_at levels) [] (length bytes.now) bytes.now) }
 {
     let mut items = Vec::new(alloc);
     let mut rest = bytes;
     // Each item has a byte or more.
     for _ in 0..bytes.len() {
-        let (item, behind) = value_at(alloc, levels, rest)?;
+        let (item, behind) = value_text_at(alloc, levels, rest)?;
         push(&mut items, item)?;
         let Some((first, after)) = behind.split_first() else {
             return Err(ValueFault::BadValue);

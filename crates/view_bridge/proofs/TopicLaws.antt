@@ -10,7 +10,7 @@ use Rattle.world_plain.specs.Messages.{PlainOutgoing}
 use Rattle.view_bridge.specs.declared.topic.Topic.{Topic}
 use Rattle.view_bridge.specs.declared.topic.Handling.{Handling}
 use Rattle.view_bridge.specs.declared.topic.Handling.TheVariants.{Queued, OncePerFrame}
-use Rattle.view_bridge.specs.Topics.{is_topic, handling_of, is_subscribed, subscribes, is_of, is_published, handles, is_handled, handled_events, of_topic, shown_together, IsSublist}
+use Rattle.view_bridge.specs.Topics.{is_topic, handling_of, has_topic, subscribes, is_of, is_published, handles, is_handled, handled_events, of_topic, shown_together, IsSublist}
 
 pub ruleset by_texts = (bytes_eq-Decides)
 
@@ -79,16 +79,16 @@ held_step : (b more : Bool) (n k : ℕ) → more ≡ nat_lt n k → (b || more) 
 held_step true more n k e = grind (arith, nat_tests)
 held_step false more n k e = grind (arith, nat_tests)
 
-held-before : (scope event : List ℕ) (ts : List Topic) → is_subscribed ts scope event ≡ nat_lt (topics_before scope event ts) (length ts)
+held-before : (scope event : List ℕ) (ts : List Topic) → has_topic ts scope event ≡ nat_lt (topics_before scope event ts) (length ts)
 held-before scope event [] = refl
-held-before scope event (t ∷ ts) = held_step (is_topic scope event t) (is_subscribed ts scope event) (topics_before scope event ts) (length ts) (held-before scope event ts)
+held-before scope event (t ∷ ts) = held_step (is_topic scope event t) (has_topic ts scope event) (topics_before scope event ts) (length ts) (held-before scope event ts)
 
 is_some-cond : (b : Bool) (n : ℕ) → is_some (cond b (Some n) None) ≡ b
 is_some-cond true n = refl
 is_some-cond false n = refl
 
 -- a topic is held where it is found
-pub subscribed-position : (scope event : List ℕ) (ts : List Topic) → is_some (position (is_topic scope event) ts) ≡ is_subscribed ts scope event
+pub subscribed-position : (scope event : List ℕ) (ts : List Topic) → is_some (position (is_topic scope event) ts) ≡ has_topic ts scope event
 subscribed-position scope event ts =
     is_some-cond (nat_lt (topics_before scope event ts) (length ts)) (topics_before scope event ts) ∙ sym (held-before scope event ts)
 

@@ -16,9 +16,9 @@ handling_of [] scope event = None
 handling_of (topic ∷ topics) scope event = if is_topic scope event topic then Some topic.handling else handling_of topics scope event
 
 -- whether there is a topic of this event in this scope
-abbrev pub is_subscribed : List Topic → List ℕ → List ℕ → Bool
-is_subscribed [] scope event = false
-is_subscribed (topic ∷ topics) scope event = is_topic scope event topic || is_subscribed topics scope event
+abbrev pub has_topic : List Topic → List ℕ → List ℕ → Bool
+has_topic [] scope event = false
+has_topic (topic ∷ topics) scope event = is_topic scope event topic || has_topic topics scope event
 
 -- a topic of this event in this scope gets the handling where it stands; else the topic stands last
 abbrev pub subscribes : List Topic → List ℕ → List ℕ → Handling → List Topic

@@ -1,7 +1,7 @@
 //! The topics of a view.
 ghost use Rattle.std.specs.Prelude.{◌≡◌, [], map, IfOk, OnOk, OnErr};
 ghost use Rattle.world_plain.specs.Messages.{plain_outgoing};
-ghost use Rattle.view_bridge.specs.Topics.{subscribes, unsubscribes, is_subscribed, handled_events};
+ghost use Rattle.view_bridge.specs.Topics.{subscribes, unsubscribes, has_topic, handled_events};
 
 use crate::events::{handle, place_of, remove};
 use crate::topic::{Handling, Topic};
@@ -70,7 +70,7 @@ impl ViewTopics {
 
     /// Takes away the topic of this scope and event, and tells whether there was one. Takes no memory.
     pub fn unsubscribe(&mut self, scope: &Text, event: &Text) -> bool
-        ensures held { result ≡ is_subscribed self.old scope.now event.now }
+        ensures held { result ≡ has_topic self.old scope.now event.now }
         ensures topics { self.new ≡ unsubscribes self.old scope.now event.now }
     {
         let held = place_of(&self.topics, scope, event).is_some();

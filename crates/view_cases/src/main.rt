@@ -28,7 +28,7 @@ mod telling;
 use crate::case::{Case, NetCases};
 use crate::run::run_case;
 use crate::telling::told_run;
-use case_lines::{CaseFault, case_files, expanded, is_case, print_outcome};
+use case_lines::{CaseFault, case_files, expand, is_case, print_outcome};
 use std::io::{self, ErrorKind};
 use std::sync::Wait;
 use std::thread::Threads;
@@ -64,7 +64,7 @@ fn line_outcome<R: Threads + Wait + Sync + AllocGlobal>(
     kind: NetCases,
     line: &str,
 ) -> Result<String, CaseFault> {
-    let bytes = expanded(rt.alloc(), line)?;
+    let bytes = expand(rt.alloc(), line)?;
     let case = Case::read(rt.alloc(), kind, bytes.bytes())?;
     let run = run_case(rt, &case)?;
     Ok(told_run(rt.alloc(), &case, &run)?)

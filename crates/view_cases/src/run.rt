@@ -50,11 +50,11 @@ pub(crate) fn run_case<R: Threads + Wait + Sync + AllocGlobal>(
 
 fn words_of(alloc: Global, case: &Case) -> Result<Words, WantOfMemory> {
     match case.kind {
-        NetCases::Views => copied(
+        NetCases::Views => copy_words(
             alloc,
             &["join", "p", case.name, case.address, case.number, "s"],
         ),
-        NetCases::Reflectors => copied(
+        NetCases::Reflectors => copy_words(
             alloc,
             &[
                 "reflect",
@@ -70,7 +70,7 @@ fn words_of(alloc: Global, case: &Case) -> Result<Words, WantOfMemory> {
     }
 }
 
-fn copied(alloc: Global, texts: &[&str]) -> Result<Words, WantOfMemory> {
+fn copy_words(alloc: Global, texts: &[&str]) -> Result<Words, WantOfMemory> {
     let mut words = Words::new(alloc);
     for text in texts {
         words.push(Text::copy(alloc, text)?)?;

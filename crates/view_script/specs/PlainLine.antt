@@ -54,19 +54,19 @@ LineFits Cut = Unit {0}
 LineFits Quit = Unit {0}
 
 -- a line that publishes counts 1, and any other 0
-abbrev pub publishes : PlainLine → ℕ
-publishes (Publish scope event value) = 1
-publishes (Watch scope event handling) = 0
-publishes (Wait time) = 0
-publishes Settle = 0
-publishes Snap = 0
-publishes Cut = 0
-publishes Quit = 0
+abbrev pub line_publishes : PlainLine → ℕ
+line_publishes (Publish scope event value) = 1
+line_publishes (Watch scope event handling) = 0
+line_publishes (Wait time) = 0
+line_publishes Settle = 0
+line_publishes Snap = 0
+line_publishes Cut = 0
+line_publishes Quit = 0
 
 -- how many lines publish
 abbrev pub publish_count : List PlainLine → ℕ
 publish_count [] = 0
-publish_count (line ∷ lines) = publishes line + publish_count lines
+publish_count (line ∷ lines) = line_publishes line + publish_count lines
 
 -- the most lines that may publish
 abbrev pub most_publishes : ℕ

@@ -1,27 +1,22 @@
 -- The grammar of a view script, over plain lists: lines and words. Texts are seen as their UTF-8.
-use Rattle.std.specs.Prelude.{ℕ, Bool, true, nat_le, ◌==◌, ◌-◌, if◌then◌else◌, List, [], ◌∷◌, ◌++◌, Option, Some, None, codes}
+use Rattle.std.specs.Prelude.{ℕ, nat_le, ◌==◌, if◌then◌else◌, List, [], ◌∷◌, ◌++◌, Option, Some, None, codes}
 use Rattle.std.specs.Option.{option_map}
 use Rattle.std.specs.Str.{bytes_eq, is_utf8}
 use Rattle.std.specs.Str.Lines.{lines}
 use Rattle.byte_fields.specs.Fields.{whole}
-use Rattle.tea_base.specs.Limits.{time_limit}
-use Rattle.text_lines.specs.Lines.{LineWord, number_of_word}
+use Rattle.text_lines.specs.Lines.{LineWord, is_skipped, time_of_word}
 use Rattle.model_tokens.specs.Reader.{literal_text_at}
 use Rattle.model_value.specs.Plain.{PlainValue}
 use Rattle.value_text.specs.Reading.{value_of_text}
 use Rattle.view_bridge.specs.declared.topic.Handling.{Handling}
 use Rattle.view_bridge.specs.declared.topic.Handling.TheVariants.{Queued, OncePerFrame}
 use Rattle.view_script.specs.PlainLine.{PlainLine, Publish, Watch, Wait, Settle, Snap, Cut, Quit, payload_fits, publish_count, most_publishes}
-use Rattle.view_script.specs.Words.{words_of}
+use Rattle.view_script.specs.Words.{script_words_of}
 
 -- the text of a word that is one text literal: a quote, and what ends with the next one
 abbrev pub literal_of : LineWord → Option (List ℕ)
 literal_of [] = None
 literal_of (byte ∷ bytes) = if byte == 34 then whole literal_text_at bytes else None
-
--- a TeaTime
-abbrev pub time_of : LineWord → Option ℕ
-time_of word = number_of_word 0 (time_limit - 1) word
 
 -- `queued | once`
 abbrev pub handling_of_word : LineWord → Option Handling
@@ -50,7 +45,7 @@ watch_of words = None
 
 -- `T`
 abbrev pub wait_of : List LineWord → Option PlainLine
-wait_of (time ∷ []) = option_map Wait (time_of time)
+wait_of (time ∷ []) = option_map Wait (time_of_word time)
 wait_of words = None
 
 -- a line without fields
@@ -71,11 +66,6 @@ line_of (name ∷ fields) =
     else (if bytes_eq name (codes "quit") then line_alone Quit fields
     else None))))))
 
--- an empty line or one that begins with `#`
-abbrev pub is_skipped : List ℕ → Bool
-is_skipped [] = true
-is_skipped (first ∷ rest) = first == 35
-
 -- these lines, and then those
 abbrev pub then_lines : List PlainLine → Option (List PlainLine) → Option (List PlainLine)
 then_lines front None = None
@@ -88,7 +78,7 @@ then_line (Some line) rest = then_lines (line ∷ []) rest
 -- the lines of these lines of text, where each that is not skipped is one
 abbrev pub lines_of : List (List ℕ) → Option (List PlainLine)
 lines_of [] = Some []
-lines_of (text ∷ more) = if is_skipped text then lines_of more else then_line (line_of (words_of text)) (lines_of more)
+lines_of (text ∷ more) = if is_skipped text then lines_of more else then_line (line_of (script_words_of text)) (lines_of more)
 
 -- if not too many of them publish
 abbrev pub if_few : Option (List PlainLine) → Option (List PlainLine)

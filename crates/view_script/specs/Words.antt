@@ -30,8 +30,8 @@ abbrev pub filled_parts : List LineWord → List LineWord
 filled_parts = filter (λ part. not (is_empty part))
 
 -- words are divided by one or more spaces outside of literals; a line that begins or ends with a space has none
-abbrev pub words_of : List ℕ → List LineWord
-words_of line = if ends_in_space line then [] else filled_parts (parts_from Outside line)
+abbrev pub script_words_of : List ℕ → List LineWord
+script_words_of line = if ends_in_space line then [] else filled_parts (parts_from Outside line)
 
 -- how many bytes stand before the first that divides
 abbrev pub part_length : Place → List ℕ → ℕ

@@ -6,20 +6,18 @@ ghost use Rattle.model_tokens.specs.Reader.{literal_text_at};
 ghost use Rattle.model_value.specs.Plain.{InBounds};
 ghost use Rattle.model_value.specs.View.{plain};
 ghost use Rattle.tea_base.specs.Limits.{time_limit};
+ghost use Rattle.text_lines.specs.Lines.{time_of_word};
 ghost use Rattle.value_text.specs.Reading.{value_of_text};
-ghost use Rattle.view_script.specs.ViewScript.{literal_of, handling_of_word, time_of};
+ghost use Rattle.view_script.specs.ViewScript.{literal_of, handling_of_word};
 
 use crate::fault::ScriptFault;
 use model_tokens::{TokenFault, read_literal};
 use model_value::{Value, ValueFault};
 use std::alloc::Global;
-use tea_base::{TIME_LIMIT, Text};
-use text_lines::number;
+use tea_base::Text;
+use text_lines::time_of_word;
 use value_text::read_value;
 use view_bridge::Handling;
-
-/// The latest TeaTime that is named, in microseconds.
-const LAST_TIME: u64 = TIME_LIMIT - 1;
 
 /// The text whose literal, all but its first quote, these bytes are.
 fn whole_literal(alloc: Global, bytes: &[u8]) -> Result<Text, ScriptFault>
@@ -78,11 +76,11 @@ pub fn handling_in(word: &[u8]) -> Option<Handling>
 
 /// A TeaTime.
 pub fn time_in(word: &[u8]) -> Option<u64>
-    ensures read { result ≡ time_of word.now }
+    ensures read { result ≡ time_of_word word.now }
     ensures bound { IfSome result (λ time. time < time_limit) }
 {
     match str::from_utf8(word) {
-        Ok(word) => number(word, 0, LAST_TIME),
+        Ok(word) => time_of_word(word),
         Err(_) => None,
     }
 }

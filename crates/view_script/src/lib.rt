@@ -30,5 +30,4 @@ mod words;
 
 pub use fault::ScriptFault;
 pub use line::ViewLine;
-pub use reading::MOST_PUBLISHES;
 pub use script::{ViewScript, parse_script};

@@ -4,8 +4,8 @@ ghost use Rattle.std.specs.List.{AllByRecursion};
 ghost use Rattle.std.specs.Str.Lines.{lines as lines_of_text};
 ghost use Rattle.byte_fields.specs.Fields.{Decodes};
 ghost use Rattle.view_script.specs.PlainLine.{plain_line, plain_lines, LineFits, IsViewScript, publish_count as count_publishes};
-ghost use Rattle.view_script.specs.ViewScript.{is_skipped as skips, line_of, lines_of, then_lines, if_few};
-ghost use Rattle.view_script.specs.Words.{words_of};
+ghost use Rattle.view_script.specs.ViewScript.{line_of, lines_of, then_lines, if_few};
+ghost use Rattle.view_script.specs.Words.{script_words_of};
 
 use crate::fault::ScriptFault;
 use crate::line::ViewLine;
@@ -13,24 +13,14 @@ use crate::rows::line;
 use crate::words::split_words;
 use std::alloc::Global;
 use tea_base::push;
-use text_lines::split_lines;
+use text_lines::{is_skipped, split_lines};
 
 /// The most lines of a script that publish.
-pub const MOST_PUBLISHES: usize = 1_048_576;
-
-/// Whether a line is empty or begins with `#`.
-fn is_skipped(line: &[u8]) -> bool
-    ensures { result ≡ skips line.now }
-{
-    match line {
-        [] => true,
-        [first, ..] => *first == b'#',
-    }
-}
+const MOST_PUBLISHES: usize = 1_048_576;
 
 /// What a line spells.
 fn read_line(alloc: Global, text: &[u8]) -> Result<ViewLine, ScriptFault>
-    ensures read { Decodes ScriptFault.Bad plain_line result (line_of (words_of text.now)) }
+    ensures read { Decodes ScriptFault.Bad plain_line result (line_of (script_words_of text.now)) }
     ensures fits { IfOk result (λ line. LineFits (plain_line line)) }
 {
     let words = split_words(alloc, text)?;

@@ -36,7 +36,7 @@ impl ViewScript {
     /// The lines in order. Takes no memory.
     ///
     /// In each script a value that is published is in bounds, and its payload has at most 4,096 bytes; each time is below
-    /// 2^53; and at most [`MOST_PUBLISHES`](crate::MOST_PUBLISHES) lines publish.
+    /// 2^53; and at most 1,048,576 lines publish.
     pub fn lines(&self) -> &[ViewLine]
         ensures lines { result.now ≡ self.now }
         ensures script { IsViewScript (plain_lines self.now) }

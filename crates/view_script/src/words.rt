@@ -1,6 +1,6 @@
 //! From lines to words.
 ghost use Rattle.std.specs.Prelude.{◌≡◌, ◌≤◌, ◌∷◌, [], ◌++◌, map, drop, length, IfOk, OnOk};
-ghost use Rattle.view_script.specs.Words.{next_place as place_behind, divides as divides_words, part_length as length_of_part, filled_parts, words_of};
+ghost use Rattle.view_script.specs.Words.{next_place as place_behind, divides as divides_words, part_length as length_of_part, filled_parts, script_words_of};
 ghost use Rattle.text_lines.specs.Lines.{ends_in_space as begins_or_ends_in_space};
 
 use std::alloc::Global;
@@ -83,7 +83,7 @@ fn push_part<'a>(words: &mut Vec<&'a [u8]>, part: &'a [u8]) -> Result<(), WantOf
 /// The words of a line, divided by one or more spaces outside of text literals. A line that begins or ends with a space
 /// has none.
 pub fn split_words<'a>(alloc: Global, line: &'a [u8]) -> Result<Vec<&'a [u8]>, WantOfMemory>
-    ensures { IfOk result (λ found. map (λ word. word.now) found.items ≡ words_of line.now) }
+    ensures { IfOk result (λ found. map (λ word. word.now) found.items ≡ script_words_of line.now) }
 {
     let mut words = Vec::new(alloc);
     if ends_in_space(line) {

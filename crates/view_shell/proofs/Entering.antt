@@ -13,7 +13,7 @@ use Rattle.view_shell.specs.declared.ending.ViewEnd.TheVariants as ending
 use Rattle.view_shell.specs.declared.lines.Departure.{Departure}
 use Rattle.view_shell.specs.declared.hearing.Synced.{Synced}
 use Rattle.view_shell.specs.declared.watcher.Watcher.{Watcher}
-use Rattle.view_shell.specs.Phases.{Viewer, Phase, Receives, Receiving, Sending, Tells, ToJoin, Over, bad_base, enter, given, joined, run, send_all}
+use Rattle.view_shell.specs.Phases.{Viewer, Phase, Receives, Receiving, Sending, Tells, ToJoin, Over, bad_base, enter_session, given, joined, run, send_all}
 use Rattle.view_shell.specs.Viewers.{viewer}
 use Rattle.view_shell.specs.Flows.{bad_base_answer, departure_phase}
 use Rattle.view_shell.specs.Hearing.{rejoined_text, synced_phase}
@@ -49,18 +49,18 @@ rejoins v how found is = ap (λ (h : How). synced_phase v h found) is
 pub sent_to_join : {L : Type 0} (links : LinksTell L) (address : List ℕ) (lines : List PlainLine) (w w' : Watcher) (replica : ReplicaView) (how : How) (frame : ClientFrame) (old new : L)
     → w' ≡ record w { replica = replica; receives = w'.receives; quiets = 0 } → w'.receives ≡ 0 → replica ≡ with_plain w.replica (joining w.replica.plain how) → frame ≡ join_frame (worlds_of w.replica) w.replica.plain how
     → Goes (LinkActs links) (Sending (joined (viewer address w lines) how) frame [] (Receives (ToJoin how))) (Receiving (joined (viewer address w lines) how) (ToJoin how)) old new
-    → Goes (LinkActs links) (enter (viewer address w lines) how) (Receiving (viewer address w' lines) (ToJoin how)) old new
+    → Goes (LinkActs links) (enter_session (viewer address w lines) how) (Receiving (viewer address w' lines) (ToJoin how)) old new
 sent_to_join links address lines w w' replica how frame old new kept zero joins is goes =
     let v = joined (viewer address w lines) how in
     let u = viewer address w' lines in
-    goes_from (LinkActs links) (enter (viewer address w lines) how) (Sending v frame [] (Receives (ToJoin how))) (Receiving u (ToJoin how)) old new (ap (λ (f : ClientFrame). Sending v f [] (Receives (ToJoin how))) (sym is))
+    goes_from (LinkActs links) (enter_session (viewer address w lines) how) (Sending v frame [] (Receives (ToJoin how))) (Receiving u (ToJoin how)) old new (ap (λ (f : ClientFrame). Sending v f [] (Receives (ToJoin how))) (sym is))
     (goes_to (LinkActs links) (Sending v frame [] (Receives (ToJoin how))) (Receiving v (ToJoin how)) (Receiving u (ToJoin how)) old new
     (ap (λ (one : Viewer). Receiving one (ToJoin how)) (viewer_joined address lines w w' replica how kept zero joins)) goes)
 
 -- a view that joined, and whose script has begun
 module _ {W L : Type 0} (out : OutputTells W) (links : LinksTell L) (address : List ℕ) (lines : List PlainLine) (how : How) (found : Synced) (w0 w1 w2 : Watcher) where
   abbrev pub start : Phase
-  start = enter (viewer address w0 lines) how
+  start = enter_session (viewer address w0 lines) how
 
   abbrev pub met : Phase
   met = synced_phase (viewer address w1 lines) how found

@@ -5,7 +5,7 @@ use Rattle.replica_plain.specs.Calls.{takes_out}
 use Rattle.run_steps.specs.Outside.{OutputTells, LinksTell, Well, Acts, PrintsText, window, window_tells}
 use Rattle.view_script.specs.PlainLine.{PlainLine}
 use Rattle.view_shell.specs.declared.ending.ViewEnd.{ViewEnd}
-use Rattle.view_shell.specs.declared.lines.Flow.{Flow}
+use Rattle.view_shell.specs.declared.lines.LineOutcome.{LineOutcome}
 use Rattle.view_shell.specs.Phases.{Viewer, Phase, finish, run, shown_text}
 use Rattle.view_shell.specs.Flows.{flow_of, flow_phase}
 use Rattle.view_shell.specs.ViewRun.{Doing, Goes, Stops, StopsPrinting}
@@ -17,17 +17,17 @@ abbrev pub Done : {S : Type 0} → Doing S → Phase → Viewer → List PlainLi
 Done does from v lines old new done = MatchResult done (λ it. Goes does from (run v lines) old new) (λ end. Stops does from end old new)
 
 -- the same, as it is told of its flow
-abbrev pub Flows : {S : Type 0} → Doing S → Phase → Viewer → List PlainLine → S → S → Result Flow ViewEnd → Type 0
+abbrev pub Flows : {S : Type 0} → Doing S → Phase → Viewer → List PlainLine → S → S → Result LineOutcome ViewEnd → Type 0
 Flows does from v lines old new flow = MatchResult flow (λ one. Goes does from (flow_phase v lines one) old new) (λ end. Stops does from end old new)
 
 flow_by : {S : Type 0} (does : Doing S) (from : Phase) (v : Viewer) (lines : List PlainLine) (old new : S) (done : Result ⊤ ViewEnd) → Done does from v lines old new done → Flows does from v lines old new (flow_of done)
 flow_by does from v lines old new (Ok it) talk = talk
 flow_by does from v lines old new (Err end) talk = talk
 
-pub flow_from : {S : Type 0} (does : Doing S) (from start : Phase) (v : Viewer) (lines : List PlainLine) (old new : S) (done : Result ⊤ ViewEnd) (flow : Result Flow ViewEnd) → flow ≡ flow_of done → from ≡ start
+pub flow_from : {S : Type 0} (does : Doing S) (from start : Phase) (v : Viewer) (lines : List PlainLine) (old new : S) (done : Result ⊤ ViewEnd) (flow : Result LineOutcome ViewEnd) → flow ≡ flow_of done → from ≡ start
     → Done does start v lines old new done → Flows does from v lines old new flow
 flow_from does from start v lines old new done flow is same talk =
-    subst (λ (f : Result Flow ViewEnd). Flows does from v lines old new f) (sym is)
+    subst (λ (f : Result LineOutcome ViewEnd). Flows does from v lines old new f) (sym is)
     (subst (λ (p : Phase). Flows does p v lines old new (flow_of done)) (sym same) (flow_by does start v lines old new done talk))
 
 -- behind what was done before

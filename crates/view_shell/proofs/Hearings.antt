@@ -3,6 +3,7 @@ use Rattle.std.proofs.Common.{◌≡◌, inl, inr, ℕ, ◌==◌, Bool, true, fa
 use Rattle.byte_fields.specs.Fields.{whole}
 use Rattle.tea_io.specs.declared.link.Heard.{Heard}
 use Rattle.tea_io.specs.declared.link.Heard.TheVariants as heard
+use Rattle.tea_io.specs.Links.{most_quiets}
 use Rattle.wire_frames.specs.Reading.{server_at}
 use Rattle.wire_frames.specs.declared.frame.ClientFrame.{ClientFrame}
 use Rattle.wire_frames.specs.declared.frame.ServerFrame.{ServerFrame}
@@ -19,7 +20,7 @@ use Rattle.view_shell.specs.declared.hearing.Stop.{Stop}
 use Rattle.view_shell.specs.declared.hearing.Stop.TheVariants as stop
 use Rattle.view_shell.specs.declared.hearing.SnapAnswer.{SnapAnswer}
 use Rattle.view_shell.specs.declared.hearing.Synced.{Synced}
-use Rattle.view_shell.specs.Phases.{Viewer, Phase, Aim, ToJoin, ToReach, ToSettle, ToSnap, Task, Begins, Receives, Tells, Receiving, Over, Hearing, bad_base, given, go_on, heard_frame, heard_quiet, most_quiets, quiet, reads, send_all, synced}
+use Rattle.view_shell.specs.Phases.{Viewer, Phase, Aim, ToJoin, ToReach, ToSettle, ToSnap, Task, Begins, Receives, Tells, Receiving, Over, Hearing, bad_base, given, go_on, heard_frame, heard_quiet, quiet, reads, send_all, synced}
 use Rattle.view_shell.proofs.Going.{Follows, goes_and_stops, goes_on}
 use Rattle.view_shell.specs.ViewText.{rejoined_line}
 use Rattle.view_shell.specs.ViewRun.{Doing, Goes, Stops, LinkActs}

@@ -7,10 +7,10 @@ use Rattle.run_steps.specs.Outside.{Acts, LinksTell, Outside, OutputTells, windo
 use Rattle.view_script.specs.PlainLine.{PlainLine, plain_line, plain_lines}
 use Rattle.view_script.specs.declared.line.ViewLine.{ViewLine}
 use Rattle.view_shell.specs.declared.ending.ViewEnd.{ViewEnd}
-use Rattle.view_shell.specs.declared.lines.Flow.{Flow}
-use Rattle.view_shell.specs.declared.lines.Flow.TheVariants as flow
+use Rattle.view_shell.specs.declared.lines.LineOutcome.{LineOutcome}
+use Rattle.view_shell.specs.declared.lines.LineOutcome.TheVariants as flow
 use Rattle.view_shell.specs.declared.watcher.Watcher.{Watcher}
-use Rattle.view_shell.specs.Phases.{Phase, Returning, leave, run}
+use Rattle.view_shell.specs.Phases.{Phase, Returning, leave_session, run}
 use Rattle.view_shell.specs.Flows.{flow_phase}
 use Rattle.view_shell.specs.Viewers.{viewer}
 use Rattle.view_shell.specs.ViewRun.{Goes, Stops}
@@ -35,8 +35,8 @@ module _ {W L : Type 0} (out : OutputTells W) (links : LinksTell L) (address : L
       line_stops end stops = goes_and_stops (Acts (window_tells out links)) (all_acts_behind (window_tells out links)) first (phase_at (plain_line line ∷ more)) end old now new at_line stops
 
       -- and this comes of it
-      module _ (w' : Watcher) (done : Flow) (goes : Goes (Acts (window_tells out links)) (phase_at (plain_line line ∷ more)) (flow_phase (viewer address w' more) more done) now new) where
-        pub line_flows : (one : Flow) → done ≡ one → Goes (Acts (window_tells out links)) first (flow_phase (viewer address w' more) more one) old new
+      module _ (w' : Watcher) (done : LineOutcome) (goes : Goes (Acts (window_tells out links)) (phase_at (plain_line line ∷ more)) (flow_phase (viewer address w' more) more done) now new) where
+        pub line_flows : (one : LineOutcome) → done ≡ one → Goes (Acts (window_tells out links)) first (flow_phase (viewer address w' more) more one) old new
         line_flows one which =
             goes_to (Acts (window_tells out links)) first (flow_phase (viewer address w' more) more done) (flow_phase (viewer address w' more) more one) old new (ap (flow_phase (viewer address w' more) more) which)
             (goes_on (Acts (window_tells out links)) (all_acts_behind (window_tells out links)) first (phase_at (plain_line line ∷ more)) (flow_phase (viewer address w' more) more done) old now new at_line goes)
@@ -49,11 +49,11 @@ module _ {W L : Type 0} (out : OutputTells W) (links : LinksTell L) (address : L
 
     -- no line is left
     module _ (over : length lines ≤ i) where
-      at_end : Goes (Acts (window_tells out links)) first (leave (viewer address w [])) old now
-      at_end = goes_to (Acts (window_tells out links)) first (phase_at (plain_lines (drop i lines))) (leave (viewer address w [])) old now (ap (λ (ls : List ViewLine). phase_at (plain_lines ls)) (drop_all _ _ over)) so_far
+      at_end : Goes (Acts (window_tells out links)) first (leave_session (viewer address w [])) old now
+      at_end = goes_to (Acts (window_tells out links)) first (phase_at (plain_lines (drop i lines))) (leave_session (viewer address w [])) old now (ap (λ (ls : List ViewLine). phase_at (plain_lines ls)) (drop_all _ _ over)) so_far
 
-      pub leave_goes : (to : Phase) → Goes (Acts (window_tells out links)) (leave (viewer address w [])) to now new → Goes (Acts (window_tells out links)) first to old new
-      leave_goes to goes = goes_on (Acts (window_tells out links)) (all_acts_behind (window_tells out links)) first (leave (viewer address w [])) to old now new at_end goes
+      pub leave_goes : (to : Phase) → Goes (Acts (window_tells out links)) (leave_session (viewer address w [])) to now new → Goes (Acts (window_tells out links)) first to old new
+      leave_goes to goes = goes_on (Acts (window_tells out links)) (all_acts_behind (window_tells out links)) first (leave_session (viewer address w [])) to old now new at_end goes
 
-      pub leave_stops : (end : ViewEnd) → Stops (Acts (window_tells out links)) (leave (viewer address w [])) end now new → Stops (Acts (window_tells out links)) first end old new
-      leave_stops end stops = goes_and_stops (Acts (window_tells out links)) (all_acts_behind (window_tells out links)) first (leave (viewer address w [])) end old now new at_end stops
+      pub leave_stops : (end : ViewEnd) → Stops (Acts (window_tells out links)) (leave_session (viewer address w [])) end now new → Stops (Acts (window_tells out links)) first end old new
+      leave_stops end stops = goes_and_stops (Acts (window_tells out links)) (all_acts_behind (window_tells out links)) first (leave_session (viewer address w [])) end old now new at_end stops

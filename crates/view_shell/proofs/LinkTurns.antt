@@ -13,7 +13,7 @@ use Rattle.view_shell.specs.declared.ending.ViewEnd.TheVariants as ending
 use Rattle.view_shell.specs.declared.lines.Departure.{Departure}
 use Rattle.view_shell.specs.declared.lines.Departure.TheVariants as departure
 use Rattle.view_shell.specs.declared.watcher.Watcher.{Watcher}
-use Rattle.view_shell.specs.Phases.{Connecting, Phase, Returning, enter}
+use Rattle.view_shell.specs.Phases.{Connecting, Phase, Returning, enter_session}
 use Rattle.view_shell.specs.Viewers.{viewer}
 use Rattle.view_shell.specs.ViewRun.{Goes, ViewRan}
 use Rattle.view_shell.proofs.Going.{all_acts_behind, goes_and_stops, goes_to}
@@ -28,7 +28,7 @@ module _ {W N L : Type 0} (out : OutputTells W) (net : NetTells N L) (links : Li
   left = plain_lines (drop i lines)
 
   abbrev pub joins_with : List PlainLine → Phase
-  joins_with ls = enter (viewer address w ls) how
+  joins_with ls = enter_session (viewer address w ls) how
 
   module _ (o0 o : W) (n0 n n' : N) (so_far : Goes (Acts (In out net links)) begins_at (Connecting (viewer address w left) how) (booth o0 n0 None) (booth o n None))
       (made : Result L CallFault) (makes : MakesLink net links (came_of made) address n n' (made_of made)) where

@@ -2,7 +2,7 @@
 use Rattle.std.proofs.Common.{◌≡◌, ℕ, ◌+◌, ◌<◌, ◌≤◌, List, ◌∷◌, length, drop, get_or, sym, ap, subst, ◌∙◌, arith}
 use Rattle.std.specs.List.{AllByRecursion}
 use Rattle.std.proofs.lemmas.List.{at_drop_more, drop-map, length-map}
-use Rattle.view_script.specs.PlainLine.{LineFits, PlainLine, most_publishes, plain_line, plain_lines, publish_count, publishes}
+use Rattle.view_script.specs.PlainLine.{LineFits, PlainLine, most_publishes, plain_line, plain_lines, publish_count, line_publishes}
 use Rattle.view_script.specs.declared.line.ViewLine.{ViewLine}
 use Rattle.view_shell.specs.declared.watcher.Watcher.{Watcher}
 use Rattle.view_shell.specs.Viewers.{HasRoomFor}
@@ -17,13 +17,13 @@ module _ (lines : List ViewLine) (i : ℕ) (line : ViewLine) (within : i < lengt
   pub fits_here : AllByRecursion LineFits (plain_lines (drop i lines)) → LineFits (plain_line line) × AllByRecursion LineFits (plain_lines rest)
   fits_here fit = subst (AllByRecursion LineFits) here fit
 
-  pub room_here : (w : Watcher) → HasRoomFor w (plain_lines (drop i lines)) → w.published + (publishes (plain_line line) + publish_count (plain_lines rest)) ≤ most_publishes
+  pub room_here : (w : Watcher) → HasRoomFor w (plain_lines (drop i lines)) → w.published + (line_publishes (plain_line line) + publish_count (plain_lines rest)) ≤ most_publishes
   room_here w room = subst (λ (ls : List PlainLine). w.published + publish_count ls ≤ most_publishes) here room
 
-  pub room_now : (w : Watcher) → HasRoomFor w (plain_lines (drop i lines)) → w.published + publishes (plain_line line) ≤ most_publishes
+  pub room_now : (w : Watcher) → HasRoomFor w (plain_lines (drop i lines)) → w.published + line_publishes (plain_line line) ≤ most_publishes
   room_now w room = let held = room_here w room in omega (arith, held)
 
-  pub room_on : (w w' : Watcher) → w'.published ≡ w.published + publishes (plain_line line) → HasRoomFor w (plain_lines (drop i lines)) → HasRoomFor w' (plain_lines rest)
+  pub room_on : (w w' : Watcher) → w'.published ≡ w.published + line_publishes (plain_line line) → HasRoomFor w (plain_lines (drop i lines)) → HasRoomFor w' (plain_lines rest)
   room_on w w' is room = let held = room_here w room in omega (arith, held, is)
 
 -- the plain lines behind some are those of the lines behind them

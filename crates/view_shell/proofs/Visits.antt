@@ -7,7 +7,7 @@ use Rattle.run_steps.specs.Outside.{Outside, OutsideTells, OutputTells, LinksTel
 use Rattle.run_steps.proofs.Beside.{all_with_net}
 use Rattle.view_shell.specs.declared.ending.ViewEnd.{ViewEnd}
 use Rattle.view_shell.specs.declared.ending.ViewEnd.TheVariants as ending
-use Rattle.view_shell.specs.Phases.{Viewer, Phase, Connecting, Returning, Over, enter}
+use Rattle.view_shell.specs.Phases.{Viewer, Phase, Connecting, Returning, Over, enter_session}
 use Rattle.view_shell.specs.declared.watcher.Watcher.{Watcher}
 use Rattle.view_shell.specs.Viewers.{HasRoomBehind, HasRoomFor, KnowsItself}
 use Rattle.view_shell.specs.ViewRun.{Doing, Goes, Stops, ViewRan}
@@ -52,10 +52,10 @@ module _ {W N L : Type 0} (out : OutputTells W) (net : NetTells N L) (links : Li
   }
 
   -- a link is made, or not
-  pub connects_goes : (v : Viewer) (how : How) (address : List ℕ) (w : W) (n n' : N) (l : L) → address ≡ v.address → MakesLink net links Well address n n' (Some l) → Goes (Acts In) (Connecting v how) (enter v how) (booth w n None) (booth w n' (Some l))
+  pub connects_goes : (v : Viewer) (how : How) (address : List ℕ) (w : W) (n n' : N) (l : L) → address ≡ v.address → MakesLink net links Well address n n' (Some l) → Goes (Acts In) (Connecting v how) (enter_session v how) (booth w n None) (booth w n' (Some l))
   connects_goes v how address w n n' l is makes = record {
     steps = Connects address ∷ [];
-    walks = (enter v how, (is, refl), refl);
+    walks = (enter_session v how, (is, refl), refl);
     acts = inl (booth w n' (Some l), (refl, makes, refl), refl);
   }
 
@@ -63,17 +63,17 @@ module _ {W N L : Type 0} (out : OutputTells W) (net : NetTells N L) (links : Li
       → Stops (Acts In) (Connecting v how) (unmade why) (booth w n None) (booth w n' None)
   connect_stops v how address w n n' fault.Failed is makes = record {
     steps = Connects address ∷ [];
-    last = enter v how;
+    last = enter_session v how;
     cut = Some (record { step = Connects address; came = Failed });
-    walks = (enter v how, (is, refl), refl);
+    walks = (enter_session v how, (is, refl), refl);
     acts = inr (inl ((refl, makes, refl), refl));
     ends = refl;
   }
   connect_stops v how address w n n' fault.WantOfMemory is makes = record {
     steps = Connects address ∷ [];
-    last = enter v how;
+    last = enter_session v how;
     cut = Some (record { step = Connects address; came = WantedMemory });
-    walks = (enter v how, (is, refl), refl);
+    walks = (enter_session v how, (is, refl), refl);
     acts = inr (inr ((refl, makes, refl), refl));
     ends = refl;
   }
@@ -103,24 +103,24 @@ module _ {W N L : Type 0} (out : OutputTells W) (net : NetTells N L) (links : Li
 
   -- a turn from link to link: one is made, and then
   module _ (start : Phase) (v : Viewer) (how : How) (o : Outside ⊤ W N L) (w w' : W) (n n' n'' : N) (l l' : L) (so_far : Goes (Acts In) start (Connecting v how) o (booth w n None)) (makes : MakesLink net links Well v.address n n' (Some l)) where
-    connected : Goes (Acts In) start (enter v how) o (booth w n' (Some l))
-    connected = goes_on (Acts In) (all_acts_behind In) start (Connecting v how) (enter v how) o (booth w n None) (booth w n' (Some l)) so_far (connects_goes v how v.address w n n' l refl makes)
+    connected : Goes (Acts In) start (enter_session v how) o (booth w n' (Some l))
+    connected = goes_on (Acts In) (all_acts_behind In) start (Connecting v how) (enter_session v how) o (booth w n None) (booth w n' (Some l)) so_far (connects_goes v how v.address w n n' l refl makes)
 
     -- the view goes to another one
-    pub turn_goes : (u : Viewer) (again : How) → Goes (Acts (window_tells out links)) (enter v how) (Returning u again) (window w l) (window w' l') → TakesBack net links l' n' n'' → Goes (Acts In) start (Connecting u again) o (booth w' n'' None)
+    pub turn_goes : (u : Viewer) (again : How) → Goes (Acts (window_tells out links)) (enter_session v how) (Returning u again) (window w l) (window w' l') → TakesBack net links l' n' n'' → Goes (Acts In) start (Connecting u again) o (booth w' n'' None)
     turn_goes u again goes takes =
         goes_on (Acts In) (all_acts_behind In) start (Returning u again) (Connecting u again) o (booth w' n' (Some l')) (booth w' n'' None)
-        (goes_on (Acts In) (all_acts_behind In) start (enter v how) (Returning u again) o (booth w n' (Some l)) (booth w' n' (Some l')) connected (goes_in_booth (enter v how) (Returning u again) n' w w' l l' goes))
+        (goes_on (Acts In) (all_acts_behind In) start (enter_session v how) (Returning u again) o (booth w n' (Some l)) (booth w' n' (Some l')) connected (goes_in_booth (enter_session v how) (Returning u again) n' w w' l l' goes))
         (returns_goes u again w' n' n'' l' takes)
 
     -- the run stops
-    pub turn_stops : (end : ViewEnd) → Stops (Acts (window_tells out links)) (enter v how) end (window w l) (window w' l') → TakesBack net links l' n' n'' → ViewRan In start end o (booth w' n'' None)
+    pub turn_stops : (end : ViewEnd) → Stops (Acts (window_tells out links)) (enter_session v how) end (window w l) (window w' l') → TakesBack net links l' n' n'' → ViewRan In start end o (booth w' n'' None)
     turn_stops end stops takes =
         over_with_link start end o w' n' n'' l'
-        (goes_and_stops (Acts In) (all_acts_behind In) start (enter v how) end o (booth w n' (Some l)) (booth w' n' (Some l')) connected (stops_in_booth (enter v how) end n' w w' l l' stops)) takes
+        (goes_and_stops (Acts In) (all_acts_behind In) start (enter_session v how) end o (booth w n' (Some l)) (booth w' n' (Some l')) connected (stops_in_booth (enter_session v how) end n' w w' l l' stops)) takes
 
-    pub turn_done : Goes (Acts (window_tells out links)) (enter v how) (Over ending.Done) (window w l) (window w' l') → TakesBack net links l' n' n'' → ViewRan In start ending.Done o (booth w' n'' None)
-    turn_done goes takes = turn_stops ending.Done (reaches_end (Acts (window_tells out links)) (enter v how) (Over ending.Done) ending.Done (window w l) (window w' l') goes refl) takes
+    pub turn_done : Goes (Acts (window_tells out links)) (enter_session v how) (Over ending.Done) (window w l) (window w' l') → TakesBack net links l' n' n'' → ViewRan In start ending.Done o (booth w' n'' None)
+    turn_done goes takes = turn_stops ending.Done (reaches_end (Acts (window_tells out links)) (enter_session v how) (Over ending.Done) ending.Done (window w l) (window w' l') goes refl) takes
 
 -- ---- the lines that are left
 

@@ -5,14 +5,14 @@ use Rattle.replica_plain.specs.declared.how.How.TheVariants.{Fresh, Whole, Resum
 use Rattle.view_script.specs.PlainLine.{PlainLine}
 use Rattle.view_shell.specs.declared.ending.ViewEnd.{ViewEnd}
 use Rattle.view_shell.specs.declared.ending.ViewEnd.TheVariants as ending
-use Rattle.view_shell.specs.declared.lines.Flow.{Flow}
-use Rattle.view_shell.specs.declared.lines.Flow.TheVariants as flow
+use Rattle.view_shell.specs.declared.lines.LineOutcome.{LineOutcome}
+use Rattle.view_shell.specs.declared.lines.LineOutcome.TheVariants as flow
 use Rattle.view_shell.specs.declared.lines.Departure.{Departure}
 use Rattle.view_shell.specs.declared.lines.Departure.TheVariants as departure
 use Rattle.view_shell.specs.Phases.{Viewer, Phase, Returning, Over, run, with_lines}
 
 -- a line of the script is done, and the script goes on; or the link is cut; or all is done
-abbrev pub flow_phase : Viewer → List PlainLine → Flow → Phase
+abbrev pub flow_phase : Viewer → List PlainLine → LineOutcome → Phase
 flow_phase v lines flow.GoesOn = run v lines
 flow_phase v lines flow.Cuts = Returning (with_lines v lines) Resume
 flow_phase v lines flow.Leaves = Over ending.Done
@@ -29,6 +29,6 @@ bad_base_answer Whole = Err ending.Peer
 bad_base_answer Resume = Err ending.Peer
 
 -- what comes of a line that was done so
-abbrev pub flow_of : Result ⊤ ViewEnd → Result Flow ViewEnd
+abbrev pub flow_of : Result ⊤ ViewEnd → Result LineOutcome ViewEnd
 flow_of (Ok done) = Ok flow.GoesOn
 flow_of (Err end) = Err end

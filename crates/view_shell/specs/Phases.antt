@@ -3,6 +3,7 @@ use Rattle.std.specs.Prelude.{◌≡◌, ℕ, ◌+◌, ◌==◌, nat_le, if◌th
 use Rattle.byte_fields.specs.Fields.{whole}
 use Rattle.tea_io.specs.declared.link.Heard.{Heard}
 use Rattle.tea_io.specs.declared.link.Heard.TheVariants as heard
+use Rattle.tea_io.specs.Links.{most_quiets}
 use Rattle.model_value.specs.Payload.{payload_spelling}
 use Rattle.world_plain.specs.Messages.{PlainOutgoing}
 use Rattle.world_plain.specs.World.{WorldRecord}
@@ -39,10 +40,6 @@ pub record Viewer : Type 0 where
   pub lines : List PlainLine
   pub receives : ℕ
   pub quiets : ℕ
-
--- a link that is quiet so often in a row is over
-abbrev pub most_quiets : ℕ
-most_quiets = 6000
 
 -- a view that heard its link so often and sent nothing says that it is alive
 abbrev pub most_receives : ℕ
@@ -106,8 +103,8 @@ receive v (ToReach time) = if nat_le time v.replica.world.time then finish v (ti
 receive v ToSettle = settle_on v v.replica.outbox
 receive v aim = Receiving v aim
 
-abbrev pub leave : Viewer → Phase
-leave v = Sending v client.Leave [] Leaves
+abbrev pub leave_session : Viewer → Phase
+leave_session v = Sending v client.Leave [] Leaves
 
 -- the events that were not given yet count as given: they are sent next
 abbrev pub given : Viewer → Viewer
@@ -121,19 +118,19 @@ abbrev pub published : Viewer → List ℕ → Viewer
 published v payload = record v { replica = publishes v.replica payload }
 
 -- its frames are sent; before its script begins nothing is printed
-abbrev pub after : Viewer → Task → Phase
-after v (Receives aim) = receive v aim
-after v Begins = Printing v []
-after v (Tells text) = finish v text
-after v Leaves = PrintingLast (view_line v.replica)
+abbrev pub begin_task : Viewer → Task → Phase
+begin_task v (Receives aim) = receive v aim
+begin_task v Begins = Printing v []
+begin_task v (Tells text) = finish v text
+begin_task v Leaves = PrintingLast (view_line v.replica)
 
 abbrev pub send_all : Viewer → List ClientFrame → Task → Phase
-send_all v [] task = after v task
+send_all v [] task = begin_task v task
 send_all v (frame ∷ frames) task = Sending v frame frames task
 
 -- the first of these lines: a row for each kind
 abbrev pub run : Viewer → List PlainLine → Phase
-run v [] = leave v
+run v [] = leave_session v
 run v (Publish scope event value ∷ rest) =
     let w = published (with_lines v rest) (payload_spelling (record { scope = scope; event = event; value = value })) in
     send_all (given w) (unsent w.replica) (Tells [])
@@ -142,15 +139,15 @@ run v (Wait time ∷ rest) = receive (with_lines v rest) (ToReach time)
 run v (Settle ∷ rest) = send_all (given (with_lines v rest)) (unsent v.replica) (Receives ToSettle)
 run v (Snap ∷ rest) = Sending (with_lines v rest) (snap_frame v.worlds v.replica) [] (Receives ToSnap)
 run v (Cut ∷ rest) = Returning (with_lines v rest) Resume
-run v (Quit ∷ rest) = leave (with_lines v rest)
+run v (Quit ∷ rest) = leave_session (with_lines v rest)
 
 -- ---- joining
 
 abbrev pub joined : Viewer → How → Viewer
 joined v how = record v { replica = joining v.replica how; receives = 0; quiets = 0 }
 
-abbrev pub enter : Viewer → How → Phase
-enter v how = Sending (joined v how) (join_frame v.worlds v.replica how) [] (Receives (ToJoin how))
+abbrev pub enter_session : Viewer → How → Phase
+enter_session v how = Sending (joined v how) (join_frame v.worlds v.replica how) [] (Receives (ToJoin how))
 
 -- ---- hearing
 
@@ -180,15 +177,15 @@ bad_base v (ToJoin Fresh) = Returning v Whole
 bad_base v aim = Over ending.Peer
 
 -- What the replica made of a frame. One whose memory ran out is broken from then on.
-abbrev pub takes : Viewer → Aim → ServerFrame → Option ReplicaFault → Phase
-takes v aim frame None = took v aim frame
-takes v aim frame (Some (fault.Refused about code kept)) = Over (ending.Refused code kept)
-takes v aim frame (Some fault.BadBase) = bad_base v aim
-takes v aim frame (Some fault.Unasked) = Over ending.Peer
-takes v aim frame (Some (fault.OutOfOrder expected found)) = Over ending.Peer
-takes v aim frame (Some (fault.Back time)) = Over ending.Peer
-takes v aim frame (Some fault.Broken) = Over ending.WantOfMemory
-takes v aim frame (Some fault.WantOfMemory) = Over ending.WantOfMemory
+abbrev pub phase_behind_frame : Viewer → Aim → ServerFrame → Option ReplicaFault → Phase
+phase_behind_frame v aim frame None = took v aim frame
+phase_behind_frame v aim frame (Some (fault.Refused about code kept)) = Over (ending.Refused code kept)
+phase_behind_frame v aim frame (Some fault.BadBase) = bad_base v aim
+phase_behind_frame v aim frame (Some fault.Unasked) = Over ending.Peer
+phase_behind_frame v aim frame (Some (fault.OutOfOrder expected found)) = Over ending.Peer
+phase_behind_frame v aim frame (Some (fault.Back time)) = Over ending.Peer
+phase_behind_frame v aim frame (Some fault.Broken) = Over ending.WantOfMemory
+phase_behind_frame v aim frame (Some fault.WantOfMemory) = Over ending.WantOfMemory
 
 abbrev pub with_taken : Viewer → Taken WorldRecord PlainOutgoing → Viewer
 with_taken v t = record v { replica = t.replica }
@@ -197,7 +194,7 @@ abbrev pub reads : Viewer → Aim → Option ServerFrame → Phase
 reads v aim None = Over ending.Peer
 reads v aim (Some frame) =
     let t = taken v.worlds v.replica frame in
-    takes (with_taken v t) aim frame t.fault
+    phase_behind_frame (with_taken v t) aim frame t.fault
 
 -- the link was heard once more, and was not quiet, or was
 abbrev pub heard_frame : Viewer → Viewer
@@ -219,7 +216,7 @@ Hearing v aim heard.End next = next ≡ Over ending.Ended
 Hearing v aim what next = ⊥
 
 abbrev pub Moves : Phase → Step → Phase → Type 0
-Moves (Connecting v how) (Connects address) next = (address ≡ v.address) × (next ≡ enter v how)
+Moves (Connecting v how) (Connects address) next = (address ≡ v.address) × (next ≡ enter_session v how)
 Moves (Sending v frame frames task) (Sends bytes) next = (bytes ≡ client_spelling frame) × (next ≡ send_all (record v { receives = 0 }) frames task)
 Moves (Receiving v aim) (Hears what) next = Hearing v aim what next
 Moves (Printing v text) (Prints piece) next = (piece ≡ text) × (next ≡ run v v.lines)

@@ -2,7 +2,7 @@
 use Rattle.std.specs.Prelude.{ℕ, List, [], ◌∷◌, ◌++◌, codes, flat_map}
 use Rattle.hex.specs.Hex.{encode_lower}
 use Rattle.sha2.specs.Sha256.{sha256}
-use Rattle.text_lines.specs.Lines.{numbered}
+use Rattle.text_lines.specs.Lines.{spell_numbers}
 use Rattle.model_tokens.specs.Spelling.{spelled_text}
 use Rattle.value_text.specs.ValueText.{value_text}
 use Rattle.world_plain.specs.Messages.{PlainOutgoing}
@@ -13,7 +13,7 @@ use Rattle.replica_plain.specs.PlainReplica.{PlainReplica}
 -- an event that is handled: its time, its scope, its name and its value
 abbrev pub event_line : PlainOutgoing → List ℕ
 event_line event =
-    numbered (codes "event") (event.time ∷ [])
+    spell_numbers (codes "event") (event.time ∷ [])
     ++ 32 ∷ (spelled_text event.scope ++ 32 ∷ (spelled_text event.event ++ 32 ∷ (value_text event.value ++ 10 ∷ [])))
 
 abbrev pub events_text : List PlainOutgoing → List ℕ
@@ -21,7 +21,7 @@ events_text events = flat_map event_line events
 
 -- a word and numbers
 abbrev pub numbers_line : List ℕ → List ℕ → List ℕ
-numbers_line word numbers = numbered word numbers ++ 10 ∷ []
+numbers_line word numbers = spell_numbers word numbers ++ 10 ∷ []
 
 -- the time that was waited for
 abbrev pub time_line : ℕ → List ℕ
@@ -44,11 +44,11 @@ abbrev pub rejoined_line : ℕ → ℕ → List ℕ
 rejoined_line joined from = numbers_line (codes "rejoined") (joined ∷ from ∷ [])
 
 -- a view, its time, how many entries it has seen, and a digest
-abbrev pub digested_line : PlainReplica WorldRecord PlainOutgoing → List ℕ → List ℕ
-digested_line r digest =
-    numbered (codes "view") (r.view ∷ []) ++ (numbered (codes " time") (r.world.time ∷ []) ++ (numbered (codes " seq") (r.seen ∷ [])
+abbrev pub digested_view_line : PlainReplica WorldRecord PlainOutgoing → List ℕ → List ℕ
+digested_view_line r digest =
+    spell_numbers (codes "view") (r.view ∷ []) ++ (spell_numbers (codes " time") (r.world.time ∷ []) ++ (spell_numbers (codes " seq") (r.seen ∷ [])
     ++ (codes " digest " ++ (encode_lower digest ++ 10 ∷ []))))
 
 -- the last line, with the digest of its snapshot
 abbrev pub view_line : PlainReplica WorldRecord PlainOutgoing → List ℕ
-view_line r = digested_line r (sha256 (world_spelling r.world))
+view_line r = digested_view_line r (sha256 (world_spelling r.world))

@@ -9,7 +9,8 @@ use Rattle.view_script.specs.PlainLine.{PlainLine, publish_count, most_publishes
 use Rattle.view_shell.specs.declared.lines.Departure.{Departure}
 use Rattle.view_shell.specs.declared.lines.Departure.TheVariants as departure
 use Rattle.view_shell.specs.declared.watcher.Watcher.{Watcher}
-use Rattle.view_shell.specs.Phases.{Viewer, Phase, Connecting, most_quiets, most_receives}
+use Rattle.tea_io.specs.Links.{most_quiets}
+use Rattle.view_shell.specs.Phases.{Viewer, Phase, Connecting, most_receives}
 
 -- the view, with what is left of its script
 abbrev pub viewer : List ℕ → Watcher → List PlainLine → Viewer

@@ -18,11 +18,8 @@ use crate::watcher::Watcher;
 use replica_plain::ReplicaFault;
 use std::sync::Wait;
 use tea_base::Blob;
-use tea_io::{Heard, Link};
+use tea_io::{Heard, Link, MOST_QUIETS};
 use wire_frames::{FrameFault, ServerFrame, read_server};
-
-/// A link that is quiet so often in a row is over.
-const MOST_QUIETS: u32 = 6000;
 
 /// Why a view does not go on on its link.
 #[derive(Clone, Copy, Debug, PartialEq, Eq)]

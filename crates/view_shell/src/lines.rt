@@ -8,10 +8,10 @@ ghost use Rattle.replica_plain.specs.Calls.{publishes, snap_frame, takes_out, un
 ghost use Rattle.replica.specs.View.{with_plain, worlds_of};
 ghost use Rattle.tea_base.specs.Limits.{most_payload};
 ghost use Rattle.view_bridge.specs.Topics.{subscribes};
-ghost use Rattle.view_script.specs.PlainLine.{LineFits, PlainLine, most_publishes, payload_length, plain_line, plain_lines, publishes as publishes_one};
+ghost use Rattle.view_script.specs.PlainLine.{LineFits, PlainLine, most_publishes, payload_length, plain_line, plain_lines, line_publishes};
 ghost use Rattle.std.specs.List.{AllByRecursion};
-ghost use Rattle.view_shell.specs.Phases.{Over, Viewer, Receives, Sending, Tells, ToReach, ToSettle, ToSnap, finish, given, leave, receive, run, send_all, shown_text};
-ghost use Rattle.view_shell.specs.ViewText.{digested_line, numbers_line, view_line};
+ghost use Rattle.view_shell.specs.Phases.{Over, Viewer, Receives, Sending, Tells, ToReach, ToSettle, ToSnap, finish, given, leave_session, receive, run, send_all, shown_text};
+ghost use Rattle.view_shell.specs.ViewText.{digested_view_line, numbers_line, view_line};
 ghost use Rattle.view_shell.specs.Viewers.{HasRoomBehind, HasRoomFor, IsReady, KnowsItself, viewer};
 ghost use Rattle.view_shell.specs.Flows.{departure_phase, flow_of, flow_phase};
 ghost use Rattle.view_shell.specs.ViewRun.{GoesOrStops, LinkActs, StopsPrinting};
@@ -29,14 +29,14 @@ use snapshot_codec::digest;
 use std::sync::Wait;
 use tea_base::{Text, WantOfMemory};
 use tea_io::{Link, Sink};
-use text_lines::numbered;
+use text_lines::spell_numbers;
 use view_bridge::Handling;
 use view_script::ViewLine;
 use wire_frames::ClientFrame;
 
 /// What comes of a line.
 #[derive(Clone, Copy, Debug, PartialEq, Eq)]
-pub enum Flow {
+pub enum LineOutcome {
     /// The script goes on.
     GoesOn,
     /// The link is cut.
@@ -353,11 +353,11 @@ fn watch<W: Sink>(
 /// The last line, with the digest of the replica's snapshot.
 fn view_line(watcher: &Watcher, digest: &[u8; 32]) -> Result<String, WantOfMemory>
     requires knows { KnowsItself watcher.now }
-    ensures { IfOk result (λ line. string_bytes line ≡ digested_line watcher.now.replica.plain digest.now) }
+    ensures { IfOk result (λ line. string_bytes line ≡ digested_view_line watcher.now.replica.plain digest.now) }
 {
-    let mut line = numbered(watcher.alloc, "view", &[u64::from(watcher.view)])?;
-    let time = numbered(watcher.alloc, " time", &[watcher.replica.time()])?;
-    let seen = numbered(watcher.alloc, " seq", &[u64::from(watcher.replica.seen())])?;
+    let mut line = spell_numbers(watcher.alloc, "view", &[u64::from(watcher.view)])?;
+    let time = spell_numbers(watcher.alloc, " time", &[watcher.replica.time()])?;
+    let seen = spell_numbers(watcher.alloc, " seq", &[u64::from(watcher.replica.seen())])?;
     line.push_str(time.as_str())?;
     line.push_str(seen.as_str())?;
     line.push_str(" digest ")?;
@@ -384,7 +384,7 @@ fn leave<L: Link, W: Sink>(watcher: &mut Watcher, link: &mut L, out: &mut W) -> 
     ensures kept { watcher.new ≡ record watcher.old { receives = watcher.new.receives } }
     ensures ready { OnOk result (IsReady watcher.new) }
     ensures talk { (address : List ℕ) (lines : List PlainLine) → GoesOrStops (Acts (window_tells (output_tells W.written W.faults W.wants) (links_tell L.coming L.heard L.sent L.counts)))
-        (leave (viewer address watcher.old lines)) (λ _. Over ViewEnd.Done) result (window out.old link.old) (window out.new link.new) }
+        (leave_session (viewer address watcher.old lines)) (λ _. Over ViewEnd.Done) result (window out.old link.old) (window out.new link.new) }
 {
     match send(watcher, link, &ClientFrame::Leave) {
         Ok(()) => {}
@@ -403,11 +403,11 @@ fn leave<L: Link, W: Sink>(watcher: &mut Watcher, link: &mut L, out: &mut W) -> 
 // ---- a script
 
 /// What comes of a line that was done so.
-fn flow_of(done: Result<(), ViewEnd>) -> Result<Flow, ViewEnd>
+fn flow_of(done: Result<(), ViewEnd>) -> Result<LineOutcome, ViewEnd>
     ensures { result ≡ flow_of done }
 {
     match done {
-        Ok(()) => Ok(Flow::GoesOn),
+        Ok(()) => Ok(LineOutcome::GoesOn),
         Err(end) => Err(end),
     }
 }
@@ -419,12 +419,12 @@ fn run_line<R: Wait, L: Link, W: Sink>(
     line: &ViewLine,
     link: &mut L,
     out: &mut W,
-) -> Result<Flow, ViewEnd>
+) -> Result<LineOutcome, ViewEnd>
     requires ready { IsReady watcher.old }
     requires fits { LineFits (plain_line line.now) }
-    requires room { watcher.old.published + publishes_one (plain_line line.now) ≤ most_publishes }
+    requires room { watcher.old.published + line_publishes (plain_line line.now) ≤ most_publishes }
     ensures ready { OnOk result (IsReady watcher.new) }
-    ensures count { OnOk result (watcher.new.published ≡ watcher.old.published + publishes_one (plain_line line.now)) }
+    ensures count { OnOk result (watcher.new.published ≡ watcher.old.published + line_publishes (plain_line line.now)) }
     ensures talk { (address : List ℕ) (lines : List PlainLine) → GoesOrStops (Acts (window_tells (output_tells W.written W.faults W.wants) (links_tell L.coming L.heard L.sent L.counts)))
         (run (viewer address watcher.old (plain_line line.now ∷ lines)) (plain_line line.now ∷ lines)) (λ flow. flow_phase (viewer address watcher.new lines) lines flow) result (window out.old link.old) (window out.new link.new) }
 {
@@ -448,9 +448,9 @@ fn run_line<R: Wait, L: Link, W: Sink>(
             Err(end) => Err(end),
         },
         ViewLine::Snap => flow_of(snap(rt, watcher, link, out)),
-        ViewLine::Cut => Ok(Flow::Cuts),
+        ViewLine::Cut => Ok(LineOutcome::Cuts),
         ViewLine::Quit => match leave(watcher, link, out) {
-            Ok(()) => Ok(Flow::Leaves),
+            Ok(()) => Ok(LineOutcome::Leaves),
             Err(end) => Err(end),
         },
     }
@@ -474,14 +474,14 @@ pub fn run_lines<R: Wait, L: Link, W: Sink>(
 {
     for place in 0..lines.len() {
         match run_line(rt, watcher, &lines[place], link, out) {
-            Ok(Flow::GoesOn) => {}
-            Ok(Flow::Cuts) => {
+            Ok(LineOutcome::GoesOn) => {}
+            Ok(LineOutcome::Cuts) => {
                 return Ok(Departure::Again {
                     how: How::Resume,
                     count: place + 1,
                 });
             }
-            Ok(Flow::Leaves) => return Ok(Departure::Done),
+            Ok(LineOutcome::Leaves) => return Ok(Departure::Done),
             Err(end) => return Err(end),
         }
     }

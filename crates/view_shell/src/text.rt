@@ -1,12 +1,12 @@
 //! The lines that a view prints.
 ghost use Rattle.std.specs.Prelude.{◌≡◌, ◌++◌, [], IfOk, OnOk, string_bytes, map};
-ghost use Rattle.text_lines.specs.Lines.{numbered};
+ghost use Rattle.text_lines.specs.Lines.{spell_numbers};
 ghost use Rattle.world_plain.specs.Messages.{plain_outgoing};
 ghost use Rattle.view_shell.specs.ViewText.{event_line, events_text, numbers_line};
 
 use std::alloc::Global;
 use tea_base::WantOfMemory;
-use text_lines::numbered;
+use text_lines::spell_numbers;
 use value_text::{push_text, push_value};
 use world_plain::{Outgoing, Published};
 
@@ -14,7 +14,7 @@ use world_plain::{Outgoing, Published};
 pub fn numbers_line(alloc: Global, word: &str, numbers: &[u64]) -> Result<String, WantOfMemory>
     ensures { IfOk result (λ line. string_bytes line ≡ numbers_line word.now numbers.now) }
 {
-    let mut line = numbered(alloc, word, numbers)?;
+    let mut line = spell_numbers(alloc, word, numbers)?;
     line.push_str("\n")?;
     Ok(line)
 }
@@ -23,7 +23,7 @@ pub fn numbers_line(alloc: Global, word: &str, numbers: &[u64]) -> Result<String
 fn push_event(alloc: Global, out: &mut String, event: &Outgoing) -> Result<(), WantOfMemory>
     ensures { OnOk result (string_bytes out.new ≡ string_bytes out.old ++ event_line (plain_outgoing event.now)) }
 {
-    out.push_str(numbered(alloc, "event", &[event.time])?.as_str())?;
+    out.push_str(spell_numbers(alloc, "event", &[event.time])?.as_str())?;
     out.push_str(" ")?;
     push_text(out, &event.scope)?;
     out.push_str(" ")?;

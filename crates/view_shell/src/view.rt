@@ -5,7 +5,7 @@ ghost use Rattle.std.specs.List.{AllByRecursion};
 ghost use Rattle.model_lang.specs.TreeView.{program_tree};
 ghost use Rattle.run_steps.specs.Outside.{Acts, booth, booth_tells, links_tell, net_tells, output_tells, window, window_tells};
 ghost use Rattle.view_script.specs.PlainLine.{LineFits, PlainLine, plain_lines};
-ghost use Rattle.view_shell.specs.Phases.{Connecting, ToJoin, enter, run};
+ghost use Rattle.view_shell.specs.Phases.{Connecting, ToJoin, enter_session, run};
 ghost use Rattle.view_shell.specs.Viewers.{HasRoomBehind, HasRoomFor, IsReady, KnowsItself, first_phase, viewer};
 ghost use Rattle.view_shell.specs.Flows.{bad_base_answer, departure_phase};
 ghost use Rattle.view_shell.specs.ViewRun.{Goes, GoesOrStops, LinkActs, ViewRan};
@@ -41,7 +41,7 @@ pub struct Visit {
 
 /// How a view joins on a link, and the lines that are left of its script.
 #[derive(Clone, Copy)]
-pub struct Entry<'a> {
+pub struct LinkPlan<'a> {
     pub how: How,
     pub lines: &'a [ViewLine],
 }
@@ -59,9 +59,9 @@ fn join<R: Wait, L: Link>(
     ensures knows { KnowsItself watcher.new }
     ensures talk { (address : List ℕ) (lines : List PlainLine) → MatchResult result
         (λ found. Goes (LinkActs (links_tell L.coming L.heard L.sent L.counts))
-        (enter (viewer address watcher.old lines) how) (synced_phase (viewer address watcher.new lines) how found) link.old link.new)
+        (enter_session (viewer address watcher.old lines) how) (synced_phase (viewer address watcher.new lines) how found) link.old link.new)
         (λ stop. StopsHearing (LinkActs (links_tell L.coming L.heard L.sent L.counts)) stop
-        (enter (viewer address watcher.old lines) how) (viewer address watcher.new lines) (ToJoin how) link.old link.new) }
+        (enter_session (viewer address watcher.old lines) how) (viewer address watcher.new lines) (ToJoin how) link.old link.new) }
 {
     // A replica is broken for want of memory alone.
     if watcher.replica.broken() {
@@ -107,7 +107,7 @@ fn begin<L: Link, W: Sink>(
 fn attend<R: Wait, L: Link, W: Sink>(
     rt: &R,
     watcher: &mut Watcher,
-    entry: &Entry<'_>,
+    entry: &LinkPlan<'_>,
     link: &mut L,
     out: &mut W,
 ) -> Result<Departure, ViewEnd>
@@ -117,7 +117,7 @@ fn attend<R: Wait, L: Link, W: Sink>(
     ensures knows { OnOk result (KnowsItself watcher.new) }
     ensures room { IfOk result (λ departure. HasRoomBehind departure watcher.new (plain_lines entry.now.lines.now)) }
     ensures talk { (address : List ℕ) → GoesOrStops (Acts (window_tells (output_tells W.written W.faults W.wants) (links_tell L.coming L.heard L.sent L.counts)))
-        (enter (viewer address watcher.old (plain_lines entry.now.lines.now)) entry.now.how) (λ departure. departure_phase (viewer address watcher.new) (plain_lines entry.now.lines.now) departure) result (window out.old link.old) (window out.new link.new) }
+        (enter_session (viewer address watcher.old (plain_lines entry.now.lines.now)) entry.now.how) (λ departure. departure_phase (viewer address watcher.new) (plain_lines entry.now.lines.now) departure) result (window out.old link.old) (window out.new link.new) }
 {
     let found = match join(rt, watcher, link, entry.how) {
         Ok(found) => found,
@@ -172,7 +172,7 @@ fn visit_links<R: Wait, N: Net, W: Sink>(
             Err(CallFault::Failed) => return ViewEnd::NetFault,
             Err(CallFault::WantOfMemory) => return ViewEnd::WantOfMemory,
         };
-        let entry = Entry {
+        let entry = LinkPlan {
             how,
             lines: &lines[next..],
         };

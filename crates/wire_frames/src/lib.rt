@@ -9,6 +9,7 @@ mod lent;
 mod owning;
 mod reading;
 mod start;
+mod tags;
 mod writing;
 
 pub use fault::FrameFault;
@@ -18,4 +19,5 @@ pub use laws::{
 };
 pub use reading::{read_client, read_server};
 pub use start::{Base, Want};
+pub use tags::{ALIVE_TAG, JOIN_TAG, LEAVE_TAG, SEND_TAG, SNAP_TAG};
 pub use writing::{write_client, write_server};

@@ -7,6 +7,7 @@ ghost use Rattle.wire_frames.specs.Spelling.{frame_entry_spelling, base_spelling
 
 use crate::frame::{ClientFrame, ServerFrame};
 use crate::start::{Base, Want};
+use crate::tags::{ALIVE_TAG, JOIN_TAG, LEAVE_TAG, SEND_TAG, SNAP_TAG};
 use byte_fields::Writer;
 use entry_fields::{LentWhat, put_what};
 use std::alloc::Global;
@@ -129,30 +130,30 @@ fn put_client(out: &mut Writer, frame: &ClientFrame) -> Result<(), WantOfMemory>
             view,
             want,
         } => {
-            out.put_u8(1)?;
+            out.put_u8(JOIN_TAG)?;
             out.put_bytes(&session.0)?;
             out.put_u32(*view)?;
             put_want(out, *want)?;
             Ok(())
         }
         ClientFrame::Send { number, payload } => {
-            out.put_u8(2)?;
+            out.put_u8(SEND_TAG)?;
             out.put_u32(*number)?;
             out.put_blob(payload.bytes())?;
             Ok(())
         }
         ClientFrame::Snap { time, bytes } => {
-            out.put_u8(3)?;
+            out.put_u8(SNAP_TAG)?;
             out.put_u64(*time)?;
             out.put_blob(bytes.bytes())?;
             Ok(())
         }
         ClientFrame::Leave => {
-            out.put_u8(4)?;
+            out.put_u8(LEAVE_TAG)?;
             Ok(())
         }
         ClientFrame::Alive => {
-            out.put_u8(5)?;
+            out.put_u8(ALIVE_TAG)?;
             Ok(())
         }
     }

@@ -23,11 +23,11 @@ use Rattle.pubsub.specs.declared.handler.Handler.{Handler}
 use Rattle.pubsub.specs.Topics.{is_subscribed, without_subscription, handlers_of}
 use Rattle.model_eval.specs.declared.fault.Fault.{Fault}
 use Rattle.model_eval.specs.declared.fault.Fault.TheVariants.{BadIndex, NoObject, Arity, Fuel, Depth, Size, Instant, Full}
-use Rattle.model_eval.specs.Running.{Running, with_world, Outcome, Gives, Faults, and_then, enter, spend, give_in_bounds, give_by_weight, PureOutcome, value, fails, give_pure, truth, decide}
+use Rattle.model_eval.specs.Running.{Running, with_world, Outcome, Gives, Faults, and_then, spend_step, spend, give_in_bounds, give_by_weight, PureOutcome, value, fails, give_pure, truth, decide}
 use Rattle.model_eval.specs.Operators.{apply_binary, truly, binary_outcome, apply_unary}
 use Rattle.model_eval.specs.Objects.{get_named, with_fields, if_light, put_fields, new_object, has_room_for, with_object, make_object, without_object, is_held, destroy, with_named, make_known}
 use Rattle.known_names.specs.Names.{with_known}
-use Rattle.model_eval.specs.Futures.{ahead, has_room, with_message, send_at, send_to, send}
+use Rattle.model_eval.specs.Futures.{ahead, has_room, with_message, send_message_at, send_to, send}
 use Rattle.model_eval.specs.Builtins.{draw, pure_of, takes_steps, builtin_outcome, pure_outcome, on_none, on_int, on_text, on_texts, on_event, on_ref, tell_time, tell_id, tell_known, tell_held, run_builtin_alone, run_builtin, run_if_builtin}
 use Rattle.model_eval.specs.Publishing.{handle, run_handlers, tell_handlers, with_outgoing, publish, has_room_to, with_subscription, add_subscription, subscription, subscribe, unsubscribe, messages_without_calls, cancel, count_views, tell_views}
 use Rattle.model_eval.specs.Meaning.{Here, Local, locals_of, with_local, Flow, next, return_with, follow, leave_block, method_result, put_field, Evaluate, Execute, Start, evaluate_all, in_turn, block, otherwise, loop_turns, call_on, init, run_init, create_object, create_if_class, number_of_class, expression_row, statement_row, perform, starts_in, starts_on, start_by, evaluate, execute, starts}
@@ -59,7 +59,7 @@ either-silent : {A : Type 0} (b : Bool) (f g : Running → Outcome A) (r : Runni
 either-silent true f g r h k = h
 either-silent false f g r h k = k
 
-entering-silent : {A : Type 0} (go : Running → Outcome A) (r : Running) → IsSilent go (record r { fuel = r.fuel - 1 }) → IsSilent (λ s. enter s go) r
+entering-silent : {A : Type 0} (go : Running → Outcome A) (r : Running) → IsSilent go (record r { fuel = r.fuel - 1 }) → IsSilent (λ s. spend_step s go) r
 entering-silent go r h = either-silent (nat_eq r.fuel 0) (Faults Fuel) (λ s. go (record s { fuel = r.fuel - 1 })) r refl h
 
 spending-silent : (steps : ℕ) (v : PlainValue) (r : Running) → IsSilent (λ s. spend steps s (Gives v)) r
@@ -103,7 +103,7 @@ put-silent (Some o) id change r = light-silent tt (record (r.world) { objects = 
 
 -- ---- futures
 
-sent-silent : (object : ℕ) (x : Name) (args : List PlainValue) (ahead : Option ℕ) (r : Running) → IsSilent (send_at object x args ahead) r
+sent-silent : (object : ℕ) (x : Name) (args : List PlainValue) (ahead : Option ℕ) (r : Running) → IsSilent (send_message_at object x args ahead) r
 sent-silent object x args None r = refl
 sent-silent object x args (Some time) r =
     let w : WorldRecord = r.world in
@@ -259,7 +259,7 @@ module _ (start : Start) (begins : StartsSilently start) where
   handled_by-silent v h r =
       let go : Running → Outcome ⊤ = λ s. and_then (start h.object h.method (v ∷ []) s) (λ _. Gives tt) in
       let r1 : Running = record r { fuel = r.fuel - 1 } in
-      either-silent (is_held h.object r.world) (λ s. enter s go) (Gives tt) r
+      either-silent (is_held h.object r.world) (λ s. spend_step s go) (Gives tt) r
       (entering-silent go r (then-silent (start h.object h.method (v ∷ [])) (λ _. Gives tt) r1 (begins h.object h.method (v ∷ []) r1) (λ _ s. refl))) refl
 
   handled-silent : (v : PlainValue) (hs : List Handler) (r : Running) → IsSilent (run_handlers start v hs) r

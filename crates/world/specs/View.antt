@@ -31,9 +31,9 @@ AreBehind t [] = Unit {0}
 AreBehind t (m ∷ ms) = (t < m.time) × AreBehind t ms
 
 -- where a view is taken away
-abbrev pub IsPlaceOf : Option ℕ → ℕ → List ℕ → Type 0
-IsPlaceOf None view views = without_view view views ≡ views
-IsPlaceOf (Some place) view views = (place < length views) × (without_view view views ≡ remove views place)
+abbrev pub IsPlaceOfView : Option ℕ → ℕ → List ℕ → Type 0
+IsPlaceOfView None view views = without_view view views ≡ views
+IsPlaceOfView (Some place) view views = (place < length views) × (without_view view views ≡ remove views place)
 
 -- what contracts see of a World
 pub record WorldView : Type 0 where
@@ -57,11 +57,11 @@ pub record IsSoundWorld (w : WorldView) : Type 0 where
   pub quiet : w.broken ≡ true → w.scene.published ≡ []
 
 -- a call that moves a world on, where it would go back or not
-abbrev pub Moves : Result ⊤ WorldFault → WorldView → WorldView → Bool → Scene → Type 0
-Moves (Ok done) old new back meant = (old.broken ≡ false) × (back ≡ false) × (new ≡ record old { scene = meant })
-Moves (Err fault.Broken) old new back meant = (old.broken ≡ true) × (new ≡ old)
-Moves (Err (fault.Back time)) old new back meant = (old.broken ≡ false) × (back ≡ true) × (time ≡ old.scene.world.time) × (new ≡ old)
-Moves (Err fault.WantOfMemory) old new back meant = (old.broken ≡ false) × (back ≡ false) × (new.broken ≡ true) × (new.scene.published ≡ []) × (new.program ≡ old.program)
+abbrev pub MovesOn : Result ⊤ WorldFault → WorldView → WorldView → Bool → Scene → Type 0
+MovesOn (Ok done) old new back meant = (old.broken ≡ false) × (back ≡ false) × (new ≡ record old { scene = meant })
+MovesOn (Err fault.Broken) old new back meant = (old.broken ≡ true) × (new ≡ old)
+MovesOn (Err (fault.Back time)) old new back meant = (old.broken ≡ false) × (back ≡ true) × (time ≡ old.scene.world.time) × (new ≡ old)
+MovesOn (Err fault.WantOfMemory) old new back meant = (old.broken ≡ false) × (back ≡ false) × (new.broken ≡ true) × (new.scene.published ≡ []) × (new.program ≡ old.program)
 
 -- a copy of the world as plain data
 abbrev pub Copies : Result PlainWorld WorldFault → WorldView → Type 0

@@ -7,7 +7,7 @@ ghost use Rattle.model_lang.specs.TreeView.{program_tree};
 ghost use Rattle.model_lang.specs.Program.{IsProgram};
 ghost use Rattle.world.specs.Worlds.{field_counts, advance as advanced, external as entered_by, after_entry, after_join, after_exit, after_event, after_telling_of, view_join, view_exit, is_view_here, with_view, without_view};
 ghost use Rattle.model_eval.specs.Answer.{world_of};
-ghost use Rattle.world.specs.View.{scene, IsPlaceOf};
+ghost use Rattle.world.specs.View.{scene, IsPlaceOfView};
 
 use crate::messages::{begin, count, count_bad_event, handle, inform, move_to, take_due};
 use model_check::Checked;
@@ -205,7 +205,7 @@ fn place_before(views: &[u32], view: u32) -> usize
 }
 
 fn place_of(views: &[u32], view: u32) -> Option<usize>
-    ensures { IsPlaceOf result view views.now }
+    ensures { IsPlaceOfView result view views.now }
 {
     for i in 0..views.len() {
         if view == views[i] {

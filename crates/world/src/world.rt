@@ -7,7 +7,7 @@ ghost use Rattle.tea_base.specs.Limits.{time_limit};
 ghost use Rattle.world_plain.specs.World.{world_record};
 ghost use Rattle.model_lang.specs.TreeView.{program_tree};
 ghost use Rattle.world.specs.Worlds.{field_counts, first_scene as first_of, advance as advanced, external as entered_by, take_up};
-ghost use Rattle.world.specs.View.{Moves, Copies, IsSoundWorld};
+ghost use Rattle.world.specs.View.{MovesOn, Copies, IsSoundWorld};
 
 use crate::fault::WorldFault;
 use crate::{opening, resuming, simulation};
@@ -98,7 +98,7 @@ impl World {
     /// nothing. Want of memory breaks the world.
     pub fn advance(&mut self, time: u64) -> Result<(), WorldFault>
         requires { time < time_limit }
-        ensures moves { Moves result self.old self.new (nat_lt time self.old.scene.world.time) (advanced (program_tree self.old.program) time self.old.scene) }
+        ensures moves { MovesOn result self.old self.new (nat_lt time self.old.scene.world.time) (advanced (program_tree self.old.program) time self.old.scene) }
         ensures arrives { OnOk result (self.new.scene.world.time ≡ time) }
     {
         if self.broken {
@@ -131,7 +131,7 @@ impl World {
     /// both change nothing. Want of memory breaks the world.
     pub fn external(&mut self, entry: &Entry) -> Result<(), WorldFault>
         requires { entry.now.time < time_limit }
-        ensures moves { Moves result self.old self.new (nat_le entry.now.time self.old.scene.world.time) (entered_by (program_tree self.old.program) entry.now self.old.scene) }
+        ensures moves { MovesOn result self.old self.new (nat_le entry.now.time self.old.scene.world.time) (entered_by (program_tree self.old.program) entry.now self.old.scene) }
         ensures arrives { OnOk result (self.new.scene.world.time ≡ entry.now.time) }
     {
         if self.broken {

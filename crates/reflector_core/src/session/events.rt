@@ -14,7 +14,7 @@ use resend_table::Kind;
 use tea_base::{END_OF_TIME, MOST_BYTES, MOST_PAYLOAD, WantOfMemory};
 
 /// A length as a reply gives it.
-pub(super) fn capped(len: usize) -> u32
+pub(super) fn cap_len(len: usize) -> u32
     ensures { result ≡ reply_length len }
 {
     len.min(u32::MAX as usize) as u32
@@ -44,7 +44,7 @@ impl Session {
         }
         if payload.len() > MOST_PAYLOAD {
             return Ok(Reply::Refused(Refusal::TooLong {
-                len: capped(payload.len()),
+                len: cap_len(payload.len()),
             }));
         }
         let next = self.last_number(view) + 1;

@@ -5,7 +5,7 @@ ghost use Rattle.reflector_core.specs.Answer.{with_reply, MayWantMemory, is_ahea
 
 use crate::request::{Refusal, Reply};
 use crate::session::Session;
-use crate::session::events::capped;
+use crate::session::events::cap_len;
 use tea_base::{Blob, MOST_SNAPSHOT, WantOfMemory};
 use wire_frames::{Base, Want};
 
@@ -30,7 +30,7 @@ impl Session {
         }
         if bytes.len() > MOST_SNAPSHOT {
             return Ok(Reply::Refused(Refusal::TooLong {
-                len: capped(bytes.len()),
+                len: cap_len(bytes.len()),
             }));
         }
         if self.horizon < time {

@@ -4,7 +4,7 @@ use Rattle.std.proofs.lemmas.Option.{slice_get_read}
 use Rattle.std.specs.Arc.{arc_value}
 use Rattle.model_lang.specs.TreeView.{program_tree}
 use Rattle.system_core.specs.declared.step.ScheduleStep.{ScheduleStep}
-use Rattle.system_core.specs.Schedules.{AreInBounds, IsInBounds, plain_step, plain_steps}
+use Rattle.system_core.specs.Schedules.{AreInBounds, IsInBounds, plain_system_step, plain_steps}
 use Rattle.system_core.proofs.Members.{all-at, map-push}
 use Rattle.system_core.proofs.Runs.{HasRun, has-run-next, has-run-none, keeps-all, not-spoilt, take-next}
 use Rattle.system_core.proofs.run.Goals as goal
@@ -16,10 +16,10 @@ loop-step-init c =
     subst (HasRun classes name []) (sym c.in_ok-system.ensures) (has-run-none classes name (c.worlds_stand.ensures (program_tree classes) name c.tell_program.ensures))
 
 -- one step more
-steps-next : (list : List ScheduleStep) (k : ℕ) (step : ScheduleStep) → slice_get list k ≡ Some step → plain_steps (take (k + 1) list) ≡ plain_steps (take k list) ++ plain_step step ∷ []
+steps-next : (list : List ScheduleStep) (k : ℕ) (step : ScheduleStep) → slice_get list k ≡ Some step → plain_steps (take (k + 1) list) ≡ plain_steps (take k list) ++ plain_system_step step ∷ []
 steps-next list k step at =
     let next : k + 1 ≡ suc k = omega arith in
-    rw next (ap plain_steps (take-next list k step at) ∙ map-push plain_step (take k list) step)
+    rw next (ap plain_steps (take-next list k step at) ∙ map-push plain_system_step (take k list) step)
 
 pub loop-step-preserved : goal.loop-step-preserved
 loop-step-preserved c =
@@ -27,7 +27,7 @@ loop-step-preserved c =
     let k = c.loop-step.step-index in
     let at = slice_get_read list _ k c.step-item.result refl c.loop-step-test.true c.step-item.is in
     subst (λ steps. HasRun (arc_value c.args.program) c.args.id.0 steps c.take_step.new.system) (sym (steps-next list k c.step-item.result at))
-    (has-run-next (arc_value c.args.program) c.args.id.0 (plain_steps (take k list)) (plain_step c.step-item.result) c.loop-step.system c.take_step.new.system c.loop-step.invariant c.in_ok-take_step.ensures)
+    (has-run-next (arc_value c.args.program) c.args.id.0 (plain_steps (take k list)) (plain_system_step c.step-item.result) c.loop-step.system c.take_step.new.system c.loop-step.invariant c.in_ok-take_step.ensures)
 
 pub take_step-requires : goal.take_step-requires
 take_step-requires c =

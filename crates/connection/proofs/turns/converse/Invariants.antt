@@ -1,4 +1,5 @@
 use Rattle.std.proofs.Common.{◌≡◌, ◌<◌}
+use Rattle.tea_io.specs.Links.{most_quiets}
 use Rattle.session_lock.specs.History.{play}
 use Rattle.connection.specs.Phases.{Ticking}
 use Rattle.connection.specs.Standing.{IsStanding}
@@ -8,7 +9,7 @@ use Rattle.connection.proofs.turns.converse.Given as goal
 -- the turns so far
 abbrev pub invariant-loop : goal.invariant-loop
 invariant-loop g l = record {
-  row : l.quiets < 6000;
+  row : l.quiets < most_quiets;
   session : l.pass.session ≡ l.service.shared.now.session;
   standing : IsStanding (play l.pass.seen) l.cursor;
   kept : l.pass ≡ record l.initial.pass { seen = l.pass.seen };

@@ -3,9 +3,10 @@ use Rattle.connection.specs.Phases.{Pulling}
 use Rattle.connection.proofs.Callers.{batch_at, pulled_so}
 use Rattle.connection.proofs.Talking.{asks_nothing, asks_pull, talks_to}
 use Rattle.connection.proofs.turns.pull.Goals as goal
+use Rattle.join_sync.specs.Batches.{most_pulled}
 
 pub hand_out-requires : goal.hand_out-requires
-hand_out-requires g c = let told = c.in-Ok.ensures.reply in batch_at _ told.0 _ c.args.cursor.now 256 c.in-Ok.batch c.requires.standing told.1
+hand_out-requires g c = let told = c.in-Ok.ensures.reply in batch_at _ told.0 _ c.args.cursor.now most_pulled c.in-Ok.batch c.requires.standing told.1
 
 pub returns-in-Err-clause-talk : goal.returns-in-Err-clause-talk
 returns-in-Err-clause-talk g c quiets = talks_to _ _ _ _ _ _ _ c.leave_at.ensures (asks_nothing _ _ (Pulling c.args.cursor.now quiets) _ c.args.pass.now c.ask.new.pass _ c.in-Err.ensures.asked c.ask.ensures.sees refl refl refl)
@@ -16,4 +17,4 @@ returns-clause-talk g c quiets = asks_pull _ _ c.args.cursor.now quiets c.in-Ok.
 pub returns-clause-standing : goal.returns-clause-standing
 returns-clause-standing g c =
     let told = c.in-Ok.ensures.reply in
-    pulled_so c.hand_out.result _ told.0 _ c.args.cursor.now c.hand_out.new.cursor 256 c.in-Ok.batch c.requires.standing told.1 c.hand_out.ensures.cursor
+    pulled_so c.hand_out.result _ told.0 _ c.args.cursor.now c.hand_out.new.cursor most_pulled c.in-Ok.batch c.requires.standing told.1 c.hand_out.ensures.cursor

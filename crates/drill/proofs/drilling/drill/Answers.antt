@@ -9,13 +9,14 @@ use Rattle.reflector_core.specs.Play.{first_session}
 use Rattle.session_lock.specs.History.{IsSoundThrough, play}
 use Rattle.session_lock.specs.Passes.{PassState, SharedState, numbers_held, own_calls}
 use Rattle.replica.specs.View.{ReplicaView}
+use Rattle.run_steps.specs.Limits.{most_drill_events, most_drill_views}
 use Rattle.drill.specs.declared.drilling.Rested.{Rested}
 use Rattle.drill.specs.declared.finished.Finished.{Finished}
 use Rattle.drill.specs.declared.size.Size.{Size}
 use Rattle.drill.specs.declared.trust.TrustReplay.{TrustReplay}
 use Rattle.drill.specs.declared.worker.Worker.{Worker}
 use Rattle.drill.specs.Drill.{HasDrilled}
-use Rattle.drill.specs.Drilling.{ComesToEnd, Gathers, HaveEnded, MayRest, numbers_from, rested_of, views_of_workers}
+use Rattle.drill.specs.Drilling.{ComesToEnd, GathersWorkers, HaveEnded, MayRest, numbers_from, rested_of, views_of_workers}
 use Rattle.drill.specs.Program.{IsDrillProgram}
 use Rattle.drill.specs.Reports.{IsAtEnd, Reports}
 use Rattle.drill.proofs.Drillings.{IsClosed}
@@ -26,7 +27,7 @@ use Rattle.drill.proofs.drilling.drill.Goals as goal
 
 -- the workers have ended, and their session is closed
 closed_by : (gives : ℕ → Type 0) (size : Size) (shared : SharedState TrustReplay) (workers : List Worker) (ended : List Finished) (keeper : PassState) (s : PlainSession)
-    → (1 ≤ size.views) × (size.views ≤ 8) × (size.events ≤ 10000) → HaveEnded gives size shared workers ended → views_of_workers workers ≡ numbers_from 1 size.views → Gathers shared ended keeper
+    → (1 ≤ size.views) × (size.views ≤ most_drill_views) × (size.events ≤ most_drill_events) → HaveEnded gives size shared workers ended → views_of_workers workers ≡ numbers_from 1 size.views → GathersWorkers shared ended keeper
     → s ≡ play keeper.seen → own_calls keeper ≡ keeper.seen → IsSoundThrough first_session keeper.seen → IsClosed gives size shared ended keeper s
 closed_by gives size shared workers ended keeper s fits told views gathers plays calls sound = record {
   fits = record { some = fits.0; views = fits.1; events = fits.2 };

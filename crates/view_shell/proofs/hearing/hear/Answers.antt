@@ -1,6 +1,7 @@
 use Rattle.std.proofs.Common.{◌≡◌, ◌==◌, false, refl, sym, arith}
 use Rattle.std.proofs.lemmas.Bool.Decides.{nat_tests}
-use Rattle.view_shell.specs.Phases.{Over, heard_quiet, most_quiets, took}
+use Rattle.tea_io.specs.Links.{most_quiets}
+use Rattle.view_shell.specs.Phases.{Over, heard_quiet, took}
 use Rattle.view_shell.specs.declared.ending.ViewEnd.TheVariants as ending
 use Rattle.view_shell.specs.Viewers.{viewer}
 use Rattle.view_shell.proofs.Going.{reaches_end}

@@ -8,7 +8,7 @@ use Rattle.view_bridge.specs.Topics.{subscribes}
 use Rattle.view_script.specs.PlainLine.{plain_line}
 use Rattle.view_script.specs.declared.line.ViewLine.{ViewLine}
 use Rattle.view_shell.specs.declared.ending.ViewEnd.TheVariants as ending
-use Rattle.view_shell.specs.Phases.{Viewer, Over, Receives, Sending, Tells, ToReach, ToSettle, ToSnap, finish, given, leave, published, receive, run, send_all}
+use Rattle.view_shell.specs.Phases.{Viewer, Over, Receives, Sending, Tells, ToReach, ToSettle, ToSnap, finish, given, leave_session, published, receive, run, send_all}
 use Rattle.view_shell.specs.Viewers.{viewer}
 use Rattle.view_shell.proofs.Flowing.{done_behind, done_printing, flow_from}
 use Rattle.view_shell.proofs.Going.{all_acts_behind, goes_from, goes_in_window, stops_from, stops_in_window, wants}
@@ -100,7 +100,7 @@ returns-in-Ok-leave-clause-talk g c address lines =
     let links = links_tell g.L.Link.coming g.L.Link.heard g.L.Link.sent g.L.Link.counts in
     let old = c.args.watcher.now in
     let first = run (viewer address old (plain_line c.args.line.now ∷ lines)) (plain_line c.args.line.now ∷ lines) in
-    goes_from (Acts (window_tells out links)) first (leave (viewer address old lines)) (Over ending.Done) (window c.args.out.now c.args.link.now) (window c.leave.new.out c.leave.new.link) (ap (λ (l : ViewLine). run (viewer address old (plain_line l ∷ lines)) (plain_line l ∷ lines)) c.in-Quit.is) (c.in-Ok-leave.ensures.talk address lines)
+    goes_from (Acts (window_tells out links)) first (leave_session (viewer address old lines)) (Over ending.Done) (window c.args.out.now c.args.link.now) (window c.leave.new.out c.leave.new.link) (ap (λ (l : ViewLine). run (viewer address old (plain_line l ∷ lines)) (plain_line l ∷ lines)) c.in-Quit.is) (c.in-Ok-leave.ensures.talk address lines)
 
 pub returns-in-Err-leave-clause-talk : goal.returns-in-Err-leave-clause-talk
 returns-in-Err-leave-clause-talk g c address lines =
@@ -108,4 +108,4 @@ returns-in-Err-leave-clause-talk g c address lines =
     let links = links_tell g.L.Link.coming g.L.Link.heard g.L.Link.sent g.L.Link.counts in
     let old = c.args.watcher.now in
     let first = run (viewer address old (plain_line c.args.line.now ∷ lines)) (plain_line c.args.line.now ∷ lines) in
-    stops_from (Acts (window_tells out links)) first (leave (viewer address old lines)) c.in-Err-leave.end (window c.args.out.now c.args.link.now) (window c.leave.new.out c.leave.new.link) (ap (λ (l : ViewLine). run (viewer address old (plain_line l ∷ lines)) (plain_line l ∷ lines)) c.in-Quit.is) (c.in-Err-leave.ensures.talk address lines)
+    stops_from (Acts (window_tells out links)) first (leave_session (viewer address old lines)) c.in-Err-leave.end (window c.args.out.now c.args.link.now) (window c.leave.new.out c.leave.new.link) (ap (λ (l : ViewLine). run (viewer address old (plain_line l ∷ lines)) (plain_line l ∷ lines)) c.in-Quit.is) (c.in-Err-leave.ensures.talk address lines)

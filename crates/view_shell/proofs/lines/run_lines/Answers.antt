@@ -2,7 +2,7 @@ use Rattle.std.proofs.Common.{◌+◌, ◌≤◌, List, [], length, refl, sym, s
 use Rattle.run_steps.specs.Outside.{links_tell, output_tells}
 use Rattle.view_script.specs.PlainLine.{PlainLine}
 use Rattle.view_shell.specs.declared.ending.ViewEnd.TheVariants as ending
-use Rattle.view_shell.specs.declared.lines.Flow.TheVariants as flow
+use Rattle.view_shell.specs.declared.lines.LineOutcome.TheVariants as flow
 use Rattle.view_shell.specs.Phases.{Over}
 use Rattle.view_shell.specs.Viewers.{HasRoomFor}
 use Rattle.view_shell.proofs.LineTurns.{leave_goes, leave_stops, line_cuts, line_flows, line_stops}

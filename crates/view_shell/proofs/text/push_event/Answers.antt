@@ -1,5 +1,5 @@
 use Rattle.std.proofs.Common.{List, ℕ, [], ◌∷◌, ◌++◌, string_bytes, codes}
-use Rattle.text_lines.specs.Lines.{numbered}
+use Rattle.text_lines.specs.Lines.{spell_numbers}
 use Rattle.model_tokens.specs.Spelling.{spelled_text}
 use Rattle.model_value.specs.View.{plain}
 use Rattle.value_text.specs.ValueText.{value_text}
@@ -20,7 +20,7 @@ returns c =
     let h : List ℕ = string_bytes c.push_str-4.new.self in
     let i : List ℕ = string_bytes c.push_value.new.out in
     let last : List ℕ = string_bytes c.push_str-5.new.self in
-    piece_before (string_bytes c.args.out.now) a last (numbered (codes "event") (event.time ∷ [])) (32 ∷ scope) (rw (c.as_str.ensures.value, c.in_ok-numbered.ensures) at c.in_ok-push_str.ensures.bytes)
+    piece_before (string_bytes c.args.out.now) a last (spell_numbers (codes "event") (event.time ∷ [])) (32 ∷ scope) (rw (c.as_str.ensures.value, c.in_ok-spell_numbers.ensures) at c.in_ok-push_str.ensures.bytes)
     (piece_before a b last (32 ∷ []) scope c.in_ok-push_str-2.ensures.bytes
     (piece_before b d last (spelled_text event.scope) (32 ∷ name) c.in_ok-push_text.ensures.literal
     (piece_before d e last (32 ∷ []) name c.in_ok-push_str-3.ensures.bytes

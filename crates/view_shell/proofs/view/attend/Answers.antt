@@ -1,6 +1,6 @@
 use Rattle.run_steps.specs.Outside.{Acts, links_tell, output_tells, window, window_tells}
 use Rattle.view_script.specs.PlainLine.{plain_lines}
-use Rattle.view_shell.specs.Phases.{ToJoin, bad_base, enter}
+use Rattle.view_shell.specs.Phases.{ToJoin, bad_base, enter_session}
 use Rattle.view_shell.specs.Flows.{departure_phase}
 use Rattle.view_shell.specs.Viewers.{viewer}
 use Rattle.view_shell.specs.Hearing.{synced_phase}
@@ -15,7 +15,7 @@ returns-in-Err-End-clause-talk g c address =
     let links = links_tell g.L.Link.coming g.L.Link.heard g.L.Link.sent g.L.Link.counts in
     let how = c.args.entry.now.how in
     let lines = plain_lines c.args.entry.now.lines.now in
-    let start = enter (viewer address c.args.watcher.now lines) how in
+    let start = enter_session (viewer address c.args.watcher.now lines) how in
     stops_in_window out links c.args.out.now start c.in-Err-End.end c.args.link.now c.join.new.link
     (stopped_end _ c.in-Err-End.field-0 c.in-Err-End.end start (viewer address c.join.new.watcher lines) (ToJoin how) c.args.link.now c.join.new.link c.in-Err-End.field-0-is (c.in-Err-End.ensures.talk address lines))
 
@@ -25,7 +25,7 @@ returns-in-Err-BadBase-clause-talk g c address =
     let links = links_tell g.L.Link.coming g.L.Link.heard g.L.Link.sent g.L.Link.counts in
     let how = c.args.entry.now.how in
     let lines = plain_lines c.args.entry.now.lines.now in
-    let start = enter (viewer address c.args.watcher.now lines) how in
+    let start = enter_session (viewer address c.args.watcher.now lines) how in
     let v = viewer address c.join.new.watcher in
     base_flows (Acts (window_tells out links)) start v lines how (window c.args.out.now c.args.link.now) (window c.args.out.now c.join.new.link) c.bad_base.result c.bad_base.ensures
     (goes_in_window out links c.args.out.now start (bad_base (v lines) (ToJoin how)) c.args.link.now c.join.new.link
@@ -37,7 +37,7 @@ returns-in-Err-clause-talk g c address =
     let links = links_tell g.L.Link.coming g.L.Link.heard g.L.Link.sent g.L.Link.counts in
     let how = c.args.entry.now.how in
     let lines = plain_lines c.args.entry.now.lines.now in
-    let start = enter (viewer address c.args.watcher.now lines) how in
+    let start = enter_session (viewer address c.args.watcher.now lines) how in
     let met = synced_phase (viewer address c.join.new.watcher lines) how c.in-Ok.found in
     goes_and_stops (Acts (window_tells out links)) (all_acts_behind (window_tells out links)) start met c.in-Err.end
     (window c.args.out.now c.args.link.now) (window c.args.out.now c.join.new.link) (window c.begin.new.out c.begin.new.link)

@@ -1,5 +1,6 @@
 use Rattle.std.proofs.Common.{◌≡◌, ◌%◌, arith}
 use Rattle.std.proofs.lemmas.Bool.Decides.{nat_tests}
+use Rattle.drill.specs.Doing.{loss_interval}
 use Rattle.drill.proofs.Losings.{dropped, offered}
 use Rattle.drill.proofs.worker.Worker.lose_connection.Goals as goal
 
@@ -9,5 +10,5 @@ returns-then-turn-ne0-clause-lost g c =
 
 pub returns-clause-lost : goal.returns-clause-lost
 returns-clause-lost g c =
-    let multiple : c.args.turn % 256 ≡ 0 = grind (arith, nat_tests) in
+    let multiple : c.args.turn % loss_interval ≡ 0 = grind (arith, nat_tests) in
     (c.requires.owed.0, offered _ _ _ _ c.offer.new.self _ _ _ c.lose.new.self c.requires.owed.1 multiple c.offer.ensures.rest c.in_ok-offer.ensures.worker c.in_ok-offer.ensures.offered c.in_ok-lose.ensures.ok)

@@ -1,7 +1,7 @@
 use Rattle.std.proofs.Common.{◌≡◌, ◌+◌, ◌-◌, ◌≤◌}
-use Rattle.drill.specs.Turns.{IsReady}
+use Rattle.drill.specs.Turns.{IsWorkerReady}
 use Rattle.drill.proofs.worker.Worker.make_turns.Given as goal
 
 abbrev pub invariant-loop-turn : goal.invariant-loop-turn
 invariant-loop-turn g l =
-    IsReady (g.C.Clock.gives l.hall.clock.now) l.hall.size l.hall.shared.now l.self l.cursor (l.turn - 1) × (l.self.view ≡ l.fn.self.view) × (l.turn ≤ l.hall.size.events + 1)
+    IsWorkerReady (g.C.Clock.gives l.hall.clock.now) l.hall.size l.hall.shared.now l.self l.cursor (l.turn - 1) × (l.self.view ≡ l.fn.self.view) × (l.turn ≤ l.hall.size.events + 1)

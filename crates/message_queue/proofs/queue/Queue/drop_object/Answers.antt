@@ -1,8 +1,7 @@
-use Rattle.std.proofs.Common.{length, nat_eq, not, ap, ◌∙◌, arith}
+use Rattle.std.proofs.Common.{nat_eq, not, arith}
 use Rattle.std.proofs.lemmas.List.Sorted.{IsPermutation-refl}
 use Rattle.world_plain.specs.Messages.{PlainMessage}
-use Rattle.message_queue.specs.Queue.{QueueRecord, without_messages_to}
-use Rattle.message_queue.proofs.Held.{length-seen, few_held, kept_light, held_left, seen_kept}
+use Rattle.message_queue.proofs.Held.{few_held, kept_light, held_left, queue_left, number_left}
 use Rattle.message_queue.proofs.queue.Queue.drop_object.Goals as goal
 
 pub rebuild-requires-clause-left : goal.rebuild-requires-clause-left
@@ -24,10 +23,9 @@ invariant_of-self c =
 
 pub returns-clause-number : goal.returns-clause-number
 returns-clause-number c =
-    omega (arith, c.len-before.ensures, c.rebuild.ensures.number, length-seen c.rebuild.new.messages.items, length-seen c.self.inside.messages.items, ap (λ (q : QueueRecord). length q.messages) c.self.view_is)
+    number_left c.args.self.now c.self.inside.messages.items c.rebuild.new.messages.items c.self.inside.next c.rebuild.result c.self.view_is
+    (omega (arith, c.len-before.ensures, c.rebuild.ensures.number))
 
 pub returns-clause-queue : goal.returns-clause-queue
 returns-clause-queue c =
-    ap (λ l. record { messages = l; next = c.self.inside.next })
-    (seen_kept (λ (m : PlainMessage). not (nat_eq m.object c.args.object)) c.self.inside.messages.items c.remove_object.new.messages.items c.rebuild.new.messages.items c.self.inside.next c.self.inside.weight c.self.invariant c.remove_object.ensures.kept c.rebuild.ensures.held)
-    ∙ ap (without_messages_to c.args.object) c.self.view_is
+    queue_left (λ (m : PlainMessage). not (nat_eq m.object c.args.object)) c.args.self.now c.self.inside.messages.items c.remove_object.new.messages.items c.rebuild.new.messages.items c.self.inside.next c.self.inside.weight c.self.invariant c.remove_object.ensures.kept c.rebuild.ensures.held c.self.view_is

@@ -3,7 +3,7 @@ use Rattle.std.specs.Prelude.{bytes_eq, encode_utf8_all}
 use Rattle.pubsub.specs.declared.handler.Handler.{Handler}
 use Rattle.pubsub.specs.declared.events.Events.{Events}
 use Rattle.pubsub.specs.Topics.{is_to}
-use Rattle.pubsub.specs.Index.{handlers_in, handlers_at, found, AreTight}
+use Rattle.pubsub.specs.Index.{handlers_in, handlers_at, handlers_found, AreTight}
 use Rattle.pubsub.proofs.Lookups.{written, inserted, either_same, on_err}
 use Rattle.pubsub.proofs.Tight.{holds_at, holds_written, holds_inserted}
 use Rattle.pubsub.proofs.Names.{in_topic}
@@ -30,8 +30,8 @@ returns-in-Some-clause-ok c =
     written (λ (v : Events). handlers_in v e) scope_name old.by_scope (c.get_mut.follows.lender c.add.new.self) (λ (l : List Handler). cond (bytes_eq event_name e) (l ++ h ∷ []) l)
     c.in-Some.events.now c.add.new.self c.in-Some.ensures.value (c.get_mut.follows.holds c.add.new.self) (c.in_ok-add.ensures.ok e) (encode_utf8_all scope)
     ∙ in_topic s scope_name event_name c.name-scope.ensures.bytes c.name-event.ensures.bytes c.name-scope.ensures.scalars c.name-event.ensures.scalars scope event of_scope of_event
-    (found old scope event ++ h ∷ []) (found old scope event)
-    ∙ ap (λ (g : Handler). cond (is_to scope event s) (found old scope event ++ g ∷ []) (found old scope event)) c.in_ok-handler.ensures
+    (handlers_found old scope event ++ h ∷ []) (handlers_found old scope event)
+    ∙ ap (λ (g : Handler). cond (is_to scope event s) (handlers_found old scope event ++ g ∷ []) (handlers_found old scope event)) c.in_ok-handler.ensures
 
 pub returns-clause-ok : goal.returns-clause-ok
 returns-clause-ok c =
@@ -46,8 +46,8 @@ returns-clause-ok c =
     c.in_ok-key.key c.add-2.new.self c.get_mut.follows.lender-at-none c.in_ok-key.ensures.ok c.in_default.ensures.value c.get_mut.follows.holds-at-none c.in_ok-insert.ensures.updates
     (c.in_ok-add-2.ensures.ok e ∙ ap (λ (l : List Handler). cond (bytes_eq event_name e) (l ++ h ∷ []) l) (c.new-events.ensures.found e)) (encode_utf8_all scope)
     ∙ in_topic s scope_name event_name c.name-scope.ensures.bytes c.name-event.ensures.bytes c.name-scope.ensures.scalars c.name-event.ensures.scalars scope event of_scope of_event
-    (found old scope event ++ h ∷ []) (found old scope event)
-    ∙ ap (λ (g : Handler). cond (is_to scope event s) (found old scope event ++ g ∷ []) (found old scope event)) c.in_ok-handler.ensures
+    (handlers_found old scope event ++ h ∷ []) (handlers_found old scope event)
+    ∙ ap (λ (g : Handler). cond (is_to scope event s) (handlers_found old scope event ++ g ∷ []) (handlers_found old scope event)) c.in_ok-handler.ensures
 
 pub returns-in_err-add-clause-tight : goal.returns-in_err-add-clause-tight
 returns-in_err-add-clause-tight c =

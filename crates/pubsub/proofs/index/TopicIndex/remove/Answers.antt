@@ -4,7 +4,7 @@ use Rattle.std.specs.HashMap.{get_by_text}
 use Rattle.pubsub.specs.declared.handler.Handler.{Handler}
 use Rattle.pubsub.specs.declared.events.Events.{Events}
 use Rattle.pubsub.specs.declared.index.TopicIndex.{TopicIndex}
-use Rattle.pubsub.specs.Index.{handlers_in, handlers_at, found, without_handler, AreHandled, HasEvents, AreTight, IsTight, IsTightBut}
+use Rattle.pubsub.specs.Index.{handlers_in, handlers_at, handlers_found, without_handler, AreHandled, HasEvents, AreTight, IsTight, IsTightBut}
 use Rattle.pubsub.proofs.Lookups.{written, missed, either_same}
 use Rattle.pubsub.proofs.Tight.{weaker, not_apart, holds_at, holds_written}
 use Rattle.pubsub.proofs.Names.{in_topic}
@@ -30,7 +30,7 @@ returns-clause-found c =
     c.forget_empty.ensures.found (encode_utf8_all scope) (encode_utf8_all event)
     ∙ left (encode_utf8_all scope) (encode_utf8_all event)
     ∙ in_topic s scope_name event_name c.name-scope.ensures.bytes c.name-event.ensures.bytes c.name-scope.ensures.scalars c.name-event.ensures.scalars scope event of_scope of_event
-    (without_handler s (found old scope event)) (found old scope event)
+    (without_handler s (handlers_found old scope event)) (handlers_found old scope event)
 
 pub returns-clause-tight : goal.returns-clause-tight
 returns-clause-tight c =

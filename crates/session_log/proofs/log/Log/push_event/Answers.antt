@@ -1,9 +1,9 @@
-use Rattle.std.proofs.Common.{arith, ◌≡◌, length}
+use Rattle.std.proofs.Common.{arith, ◌≡◌, ◌+◌, length}
 use Rattle.std.proofs.lemmas.List.{length-map}
 use Rattle.tea_base.specs.declared.entry.What.TheVariants as what
 use Rattle.tea_base.specs.Legal.{MayFollow}
 use Rattle.session_log.specs.Heads.{entry_of}
-use Rattle.session_log.specs.Kept.{entries_of}
+use Rattle.session_log.specs.Kept.{log_entries}
 use Rattle.session_log.specs.LogState.{next_entry}
 use Rattle.session_log.proofs.HeadLaws.{AreSound-push, entries-push, short-push}
 use Rattle.session_log.proofs.log.Log.push_event.Goals as goal
@@ -19,17 +19,17 @@ invariant_of-self c =
     let fields = c.self.inside in
     let stored = c.store_event-kind.ensures in
     let event = what.Event c.args.number c.args.payload.now in
-    let may : MayFollow (entries_of fields) (next_entry (entries_of fields) c.args.time c.args.view event) = rw (← c.self.view_is) at c.requires.legal in
+    let may : MayFollow (log_entries fields) (next_entry (log_entries fields) c.args.time c.args.view event) = rw (← c.self.view_is) at c.requires.legal in
     record {
-      kept = AreSound-push _ _ fields.heads.items _ _ event c.self.invariant.kept stored.appended c.push_head.ensures.items stored.kept stored.within (omega (arith, c.len.ensures)) may;
-      short = omega (arith, short-push fields.payloads.bytes fields.heads.items c.args.time c.args.view event may, c.push_head.ensures.len, c.len.ensures);
-      room_for_entries = omega (arith, c.push_head.ensures.len, c.push_head.ensures.room);
+      kept = AreSound-push _ _ fields.heads.items _ _ event c.self.invariant.kept stored.appended c.push_head-seq.ensures.items stored.kept stored.within (omega (arith, c.push_head-seq.ensures.seq)) may;
+      short = omega (arith, short-push fields.payloads.bytes fields.heads.items c.args.time c.args.view event may, c.push_head-seq.ensures.len);
+      room_for_entries = omega (arith, c.push_head-seq.ensures.len, c.push_head-seq.ensures.room);
     }
 
 pub returns-clause-entries : goal.returns-clause-entries
 returns-clause-entries c =
     let fields = c.self.inside in
     let stored = c.store_event-kind.ensures in
-    let seq_is : length (entries_of fields) ≡ c.len.result = omega (arith, length-map fields.heads.items (entry_of fields.payloads.bytes), c.len.ensures) in
-    let pushed = entries-push _ _ _ fields.heads.items _ _ (what.Event c.args.number c.args.payload.now) c.self.invariant.kept.within stored.appended c.push_head.ensures.items stored.kept in
+    let seq_is : length (log_entries fields) + 1 ≡ c.push_head-seq.result = omega (arith, length-map fields.heads.items (entry_of fields.payloads.bytes), c.push_head-seq.ensures.seq) in
+    let pushed = entries-push _ _ _ fields.heads.items _ _ (what.Event c.args.number c.args.payload.now) c.self.invariant.kept.within stored.appended c.push_head-seq.ensures.items stored.kept in
     rw (← c.self.view_is, seq_is) pushed

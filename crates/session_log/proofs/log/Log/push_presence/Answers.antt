@@ -3,7 +3,7 @@ use Rattle.std.proofs.lemmas.List.{append-nil}
 use Rattle.tea_base.specs.Legal.{MayFollow}
 use Rattle.tea_base.specs.Readings.{event_payload}
 use Rattle.session_log.specs.Heads.{what_of}
-use Rattle.session_log.specs.Kept.{entries_of}
+use Rattle.session_log.specs.Kept.{log_entries}
 use Rattle.session_log.specs.LogState.{next_entry}
 use Rattle.session_log.proofs.HeadLaws.{AreSound-push, short-push, what_of-presence, payload_of-presence, IsKindWithin-presence}
 use Rattle.session_log.proofs.log.Log.push_presence.Goals as goal
@@ -13,10 +13,10 @@ invariant_of-self c =
     let fields = c.self.inside in
     let is = c.requires.presence in
     let recorded = what_of [] c.args.kind in
-    let may : MayFollow (entries_of fields) (next_entry (entries_of fields) c.args.time c.args.view recorded) = rw (← c.self.view_is) at c.requires.legal in
+    let may : MayFollow (log_entries fields) (next_entry (log_entries fields) c.args.time c.args.view recorded) = rw (← c.self.view_is) at c.requires.legal in
     let same : fields.payloads.bytes ≡ fields.payloads.bytes ++ event_payload recorded = rw (payload_of-presence c.args.kind is) (sym (append-nil fields.payloads.bytes)) in
     record {
-      kept = AreSound-push _ _ fields.heads.items _ _ recorded c.self.invariant.kept same c.push_head.ensures.items (what_of-presence _ _ is) (IsKindWithin-presence _ _ is) (omega (arith, c.len.ensures)) may;
-      short = omega (arith, short-push fields.payloads.bytes fields.heads.items c.args.time c.args.view recorded may, c.push_head.ensures.len, c.len.ensures);
-      room_for_entries = omega (arith, c.push_head.ensures.len, c.push_head.ensures.room);
+      kept = AreSound-push _ _ fields.heads.items _ _ recorded c.self.invariant.kept same c.push_head-seq.ensures.items (what_of-presence _ _ is) (IsKindWithin-presence _ _ is) (omega (arith, c.push_head-seq.ensures.seq)) may;
+      short = omega (arith, short-push fields.payloads.bytes fields.heads.items c.args.time c.args.view recorded may, c.push_head-seq.ensures.len);
+      room_for_entries = omega (arith, c.push_head-seq.ensures.len, c.push_head-seq.ensures.room);
     }

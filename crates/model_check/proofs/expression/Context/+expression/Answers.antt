@@ -14,7 +14,7 @@ use Rattle.model_check.specs.SolvedView.{solved_expression}
 use Rattle.model_check.specs.Solving.{solve_expression}
 use Rattle.model_check.proofs.First.{first_of-append, first_of-three, first_behind, refused_before, refused_behind}
 use Rattle.model_check.proofs.Trees.{solved_expressions_of-map, how_many-map}
-use Rattle.model_check.proofs.expression.Place.+expression.Goals as goal
+use Rattle.model_check.proofs.expression.Context.+expression.Goals as goal
 
 pub expressions-returns : goal.expressions-returns
 expressions-returns t c =

@@ -3,7 +3,7 @@ use Rattle.model_lang.specs.TreeView.{expression_tree, expression_trees}
 use Rattle.model_check.specs.Faults.{first_of, faults_of_expressions}
 use Rattle.model_check.specs.SolvedView.{solved_expression}
 use Rattle.model_check.specs.Solving.{solve_expression}
-use Rattle.model_check.proofs.expression.Place.+expression.Given as goal
+use Rattle.model_check.proofs.expression.Context.+expression.Given as goal
 
 abbrev pub invariant-expressions-loop-expr : goal.invariant-expressions-loop-expr
 invariant-expressions-loop-expr l = record {

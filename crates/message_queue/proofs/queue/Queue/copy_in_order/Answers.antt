@@ -4,7 +4,7 @@ use Rattle.message_queue.specs.Queue.{QueueRecord}
 use Rattle.message_queue.specs.View.{messages_seen, in_order}
 use Rattle.message_queue.proofs.Held.{seen_sorted}
 use Rattle.message_queue.proofs.InOrder.{differ_before}
-use Rattle.message_queue.proofs.queue.Queue.ordered.Goals as goal
+use Rattle.message_queue.proofs.queue.Queue.copy_in_order.Goals as goal
 
 pub returns : goal.returns
 returns c =

@@ -1,8 +1,8 @@
 use Rattle.std.proofs.Common.{rules, sym}
 use Rattle.std.proofs.lemmas.Fmt.{parse-decimal}
 use Rattle.text_lines.specs.Lines.{IsPlain}
-use Rattle.text_lines.proofs.Numbers.{IsPlain-decimal, spelled-parsed, spelled_by-none, spelled_by-decimal}
-use Rattle.text_lines.proofs.reading.spelled.Goals as goal
+use Rattle.text_lines.proofs.Numbers.{IsPlain-decimal, spelled_by-parsed, spelled_by-none, spelled_by-decimal}
+use Rattle.text_lines.proofs.reading.decimal_number.Goals as goal
 
 pub returns-then-not-is_plain-clause-none : goal.returns-then-not-is_plain-clause-none
 returns-then-not-is_plain-clause-none c = λ n small spells.
@@ -15,7 +15,7 @@ returns-then-not-is_plain-clause-read c = sym (spelled_by-none c.args.word.now (
 pub returns-in-Ok-clause-found : goal.returns-in-Ok-clause-found
 returns-in-Ok-clause-found c =
     let plain = rw c.as_bytes.ensures.value at (c.if-not-is_plain.ensures.0 (search rules)) in
-    spelled-parsed c.args.word.now c.in-Ok.number c.parse.result c.parse.ensures.value.0 plain c.in-Ok.is
+    spelled_by-parsed c.args.word.now c.in-Ok.number c.parse.result c.parse.ensures.value.0 plain c.in-Ok.is
 
 pub returns-in-Ok-clause-read : goal.returns-in-Ok-clause-read
 returns-in-Ok-clause-read c = let found = returns-in-Ok-clause-found c in sym (spelled_by-decimal c.in-Ok.number c.args.word.now found.0 found.1)
