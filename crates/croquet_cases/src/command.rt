@@ -1,12 +1,13 @@
 //! A command over files that a case writes out.
-use crate::run::{Faults, Given, NONE, Run};
+use crate::faults::{Faults, NONE};
+use crate::run::{Given, Run};
 use crate::spelling::outcome_text;
+use crate::words::number_of;
 use case_lines::{CaseFault, lines_of};
 use std::alloc::Global;
 use std::sync::Wait;
 use std::thread::Threads;
 use tea_base::{Blob, WantOfMemory};
-use text_lines::number;
 
 /// A command: `WORDS ; NAME=CONTENT ; NAME:HEX ; .. ; fail file N ; want output N`. The words are divided by blanks, `''`
 /// is the empty word, and `-` alone is no word; the lines of a content are divided by ` / `; call N of the files, or of
@@ -15,13 +16,6 @@ use text_lines::number;
 struct Command {
     given: Given,
     faults: Faults,
-}
-
-fn number_of(digits: &str) -> Result<u32, CaseFault> {
-    match number(digits, 0, 1000) {
-        Some(number) => Ok(number as u32),
-        None => Err(CaseFault::NoCase),
-    }
 }
 
 impl Command {

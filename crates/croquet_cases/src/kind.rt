@@ -1,8 +1,13 @@
 //! What cases are of, and what they come to.
 use crate::command;
-use crate::run::{Given, NONE};
+use crate::faults::NONE;
+use crate::net_case::{NetCase, NetCommand};
+use crate::net_run::run_case;
+use crate::run::Given;
 use crate::session::{Session, log_of, stamp};
 use crate::spelling::outcome_text;
+use crate::telling::told_run;
+use crate::words::text_of;
 use case_lines::CaseFault;
 use std::sync::Wait;
 use std::thread::Threads;
@@ -17,6 +22,8 @@ pub(crate) enum CommandCases {
     Snapshots,
     Resumed,
     Commands,
+    Views,
+    Reflectors,
 }
 
 impl CommandCases {
@@ -30,6 +37,8 @@ impl CommandCases {
             "snapshots" => Some(CommandCases::Snapshots),
             "resumed" => Some(CommandCases::Resumed),
             "commands" => Some(CommandCases::Commands),
+            "views" => Some(CommandCases::Views),
+            "reflectors" => Some(CommandCases::Reflectors),
             _ => None,
         }
     }
@@ -50,11 +59,9 @@ pub(crate) fn outcome<R: Threads + Wait + Sync + AllocGlobal>(
         CommandCases::Snapshots => snapshot(rt, text_of(case)?),
         CommandCases::Resumed => tell_resumption(rt, text_of(case)?),
         CommandCases::Commands => command::outcome(rt, text_of(case)?),
+        CommandCases::Views => tell_net_case(rt, NetCommand::Join, case),
+        CommandCases::Reflectors => tell_net_case(rt, NetCommand::Reflect, case),
     }
-}
-
-fn text_of(case: &[u8]) -> Result<&str, CaseFault> {
-    str::from_utf8(case).map_err(|_| CaseFault::NoCase)
 }
 
 /// The first word of a case, and what is behind it.
@@ -105,4 +112,14 @@ fn tell_resumption<R: Threads + Wait + Sync + AllocGlobal>(
         told.push_str(if is_same { " same" } else { " differs" })?;
     }
     Ok(told)
+}
+
+fn tell_net_case<R: Threads + Wait + Sync + AllocGlobal>(
+    rt: &R,
+    command: NetCommand,
+    case: &[u8],
+) -> Result<String, CaseFault> {
+    let case = NetCase::read(rt.alloc(), command, case)?;
+    let run = run_case(rt, &case)?;
+    Ok(told_run(rt.alloc(), &case, &run)?)
 }

@@ -10,18 +10,41 @@
 //! | `snapshots` | the same | the bytes of the snapshot that `replay` writes |
 //! | `resumed` | `NAME FIRST TIME SCRIPT \| PROGRAM` | the line of a replay that goes on from the snapshot at FIRST, and whether its snapshot is the `same` as without it |
 //! | `commands` | `WORDS ; NAME=CONTENT ; NAME:HEX ; .. ; fail file N ; want output N` | what the command prints, and the file `f` |
+//! | `views` | `NAME VIEW SCRIPT \| PROGRAM \| LINK \| LINK ..` | what `join` of this session as this view, with this script, does over a net that gives these links |
+//! | `reflectors` | `NAME N \| PROGRAM \| LINK \| LINK ..` | what `reflect` of this session to N connections does over such a net |
 //!
 //! The words of a command are divided by blanks; `''` is the empty word, and `-` alone is no word. A content has its lines
 //! divided by ` / `. Call N of the files, or of the output, fails, or wants memory.
 //!
 //! Behind what is printed stands the status in square brackets, if it is not 0.
+//!
+//! In `views` and `reflectors` the lines of a script are divided by ` / `, and `-` is a script without a line. The net gives its links
+//! one after the other, and the clock stays at 0. Behind the program stand, in any order:
+//!
+//! | Part | What it is |
+//! |---|---|
+//! | frames in hexadecimal digits, divided by blanks | a link, to which these frames come, and then its end; `''` is a frame of no bytes, `-` alone is no frame |
+//! | `fail N`, `quiet N` and `quiet N-M` among them | which calls of the link fail, and which receives are quiet; receives and sends are numbered together, from 1 |
+//! | `address X` | the address, in place of `localhost:8080` |
+//! | `fail net N`, `fail file N`, `fail output N` | the net's call N fails, or the files' or the output's |
+//! | `want output N` | call N of the output wants memory |
+//!
+//! Behind the status stands ` f=` and a reflector's log, if it was written; then for each link that was given back, in order, ` > `,
+//! the frames that were sent on it, and how many receives were made on it; then how many links were given back, and how many were
+//! asked for.
 #![tactic(auto)]
 
 mod command;
+mod faults;
 mod kind;
+mod link;
+mod net_case;
+mod net_run;
 mod run;
 mod session;
 mod spelling;
+mod telling;
+mod words;
 
 use crate::kind::{CommandCases, outcome};
 use case_lines::{CaseFault, case_files, expand, is_case, print_outcome};

@@ -1,28 +1,12 @@
 //! A run of the program over files and an output in memory.
+use crate::faults::Faults;
 use case_lines::{WantingFiles, WantingSink};
 use croquet::{Status, croquet};
 use std::alloc::Global;
 use std::sync::Wait;
 use std::thread::Threads;
 use tea_base::{Blob, Numbers, Text, WantOfMemory, Words};
-use tea_io::{Files, FixedClock, MemFiles, MemSink, NamedBlob, NamedBlobs, NoNet, OpenGate};
-
-/// Which call of the files and which of the output fails, and which wants memory, counted from 1; 0 is none.
-#[derive(Clone, Copy)]
-pub(crate) struct Faults {
-    pub(crate) failing_file: u32,
-    pub(crate) failing_output: u32,
-    pub(crate) wanting_file: u32,
-    pub(crate) wanting_output: u32,
-}
-
-/// All calls go well.
-pub(crate) const NONE: Faults = Faults {
-    failing_file: 0,
-    failing_output: 0,
-    wanting_file: 0,
-    wanting_output: 0,
-};
+use tea_io::{Files, FixedClock, MemFiles, NamedBlob, NamedBlobs, NoNet, OpenGate};
 
 /// What a run is given: its words, and the files that it finds.
 #[derive(Drop)]
@@ -70,12 +54,9 @@ impl Given {
     }
 
     /// Files that hold what is given, of which one call fails, counted from behind the writes that put them there.
-    fn files(&self, failing: u32) -> Result<MemFiles, WantOfMemory> {
+    fn files(&self, faults: Faults) -> Result<MemFiles, WantOfMemory> {
         let writes = u32::try_from(self.files.len()).unwrap_or(u32::MAX);
-        let failing = match failing {
-            0 => 0,
-            number => number.saturating_add(writes),
-        };
+        let failing = faults.failing_file_behind(writes);
         let failing = Numbers::from_vec(vec![in self.alloc; failing]?);
         let mut files = MemFiles::new(self.alloc, NamedBlobs::new(self.alloc), failing);
         for file in self.files.as_slice() {
@@ -87,17 +68,6 @@ impl Given {
         Ok(files)
     }
 
-    /// An output of which one call fails, and one wants memory.
-    fn output(&self, faults: Faults) -> Result<WantingSink, WantOfMemory> {
-        let failing = Numbers::from_vec(vec![in self.alloc; faults.failing_output]?);
-        Ok(WantingSink {
-            out: MemSink::new(self.alloc, failing),
-            calls: 0,
-            wanting: faults.wanting_output,
-            wants: 0,
-        })
-    }
-
     /// Runs the words over the files, and over no net.
     pub(crate) fn run<R: Threads + Wait + Sync>(
         &self,
@@ -105,11 +75,11 @@ impl Given {
         faults: Faults,
     ) -> Result<Run, WantOfMemory> {
         let mut files = WantingFiles {
-            files: self.files(faults.failing_file)?,
+            files: self.files(faults)?,
             calls: 0,
             wanting: faults.wanting_file,
         };
-        let mut output = self.output(faults)?;
+        let mut output = faults.output(self.alloc)?;
         let (_net, status) = croquet(
             rt,
             self.alloc,

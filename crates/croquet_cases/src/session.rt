@@ -1,5 +1,6 @@
 //! Sessions that a script makes, and the worlds of their logs.
-use crate::run::{Given, NONE, Run};
+use crate::faults::NONE;
+use crate::run::{Given, Run};
 use crate::spelling::outcome_text;
 use case_lines::{CaseFault, lines_of};
 use std::alloc::Global;

@@ -23,13 +23,12 @@ use Rattle.replica_plain.specs.declared.how.How.{How}
 use Rattle.replica_plain.specs.declared.how.How.TheVariants.{Fresh}
 use Rattle.replica_plain.specs.Calls.{join_want}
 use Rattle.replica.specs.View.{ReplicaView, worlds_of}
-use Rattle.run_steps.specs.Limits.{most_drill_views}
 use Rattle.drill.specs.declared.trust.TrustReplay.{TrustReplay}
 use Rattle.drill.specs.declared.size.Size.{Size}
 use Rattle.drill.specs.declared.worker.Worker.{Worker}
 use Rattle.drill.specs.Asking.{IsDrillHistory, entries_used_by}
 use Rattle.drill.specs.Doing.{HasDone, HasFinished, IsHereBy}
-use Rattle.drill.specs.Drilled.{drawn_numbers, entries_by, own, own_turns}
+use Rattle.drill.specs.Drilled.{drawn_numbers, entries_by, own, own_turns, sources_per_seed}
 use Rattle.drill.specs.Sizes.{IsOfSize}
 use Rattle.drill.specs.Turns.{Does, Ends, HasEnded, HasJoined, IsWorkerReady}
 use Rattle.drill.specs.Workers.{IsFirst, IsWorker, KeepsSource}
@@ -71,7 +70,7 @@ module _ (gives : ℕ → Type 0) (size : Size) (shared : SharedState TrustRepla
   view_kept : new.view ≡ w.view
   view_kept = ap (λ (one : Worker). one.view) source
 
-  source_is : new.source ≡ size.seed * most_drill_views + w.view - 1
+  source_is : new.source ≡ size.seed * sources_per_seed + w.view - 1
   source_is = ap (λ (one : Worker). one.source) source ∙ first.source
 
   nothing_before : IsDrillHistory gives size.views w.pass.seen → entries_by w.view (play w.pass.seen).log ≡ []
@@ -89,7 +88,7 @@ module _ (gives : ℕ → Type 0) (size : Size) (shared : SharedState TrustRepla
 
   -- what the first Join comes to
   abbrev FirstComes : ℕ → PlainSession → SessionOutcome → Type 0
-  FirstComes view s = JoinComes s view 0 want.Fresh (own_turns 1 (drawn_numbers (size.seed * most_drill_views + view - 1) size.events)) (own size.seed view size.events)
+  FirstComes view s = JoinComes s view 0 want.Fresh (own_turns 1 (drawn_numbers (size.seed * sources_per_seed + view - 1) size.events)) (own size.seed view size.events)
 
   module _ (cursor : Option Cursor) (has : HasJoined gives size.views shared w new Fresh cursor) where
     same : IsDrillHistory gives size.views new.pass.seen → entries_by w.view (play has.asked.history).log ≡ []
@@ -100,7 +99,7 @@ module _ (gives : ℕ → Type 0) (size : Size) (shared : SharedState TrustRepla
     comes : IsDrillHistory gives size.views new.pass.seen
         → FirstComes w.view (play has.asked.history) (answer (play has.asked.history) (Join w.view has.now want.Fresh))
     comes whole =
-        join_row (play has.asked.history) w.view has.now 0 want.Fresh (own_turns 1 (drawn_numbers (size.seed * most_drill_views + w.view - 1) size.events)) (own size.seed w.view size.events)
+        join_row (play has.asked.history) w.view has.now 0 want.Fresh (own_turns 1 (drawn_numbers (size.seed * sources_per_seed + w.view - 1) size.events)) (own size.seed w.view size.events)
         ((call Fresh cursor has).room few.views whole)
         first.worker.named.0 refl (nothing_done (play has.asked.history).log w.view (own size.seed w.view size.events) (same whole))
 
@@ -117,7 +116,7 @@ module _ (gives : ℕ → Type 0) (size : Size) (shared : SharedState TrustRepla
       let all : size.events ≡ size.events - 0 = omega arith in
       rw (view_kept, source_is, has.asked.session)
       (record {
-        done = subst (λ (count : ℕ). HasDone after.log w.view 0 (own_turns 1 (drawn_numbers (size.seed * most_drill_views + w.view - 1) count)) (own size.seed w.view size.events)) all joined.done;
+        done = subst (λ (count : ℕ). HasDone after.log w.view 0 (own_turns 1 (drawn_numbers (size.seed * sources_per_seed + w.view - 1) count)) (own size.seed w.view size.events)) all joined.done;
         here = subst (IsHereBy after.log w.view) (sym is.1) joined.here;
         late = inl refl;
         based = λ many. absurd (omega (arith, many));

@@ -17,7 +17,7 @@ use Rattle.drill.specs.declared.size.Size.{Size}
 use Rattle.drill.specs.declared.worker.Worker.{Worker}
 use Rattle.drill.specs.Asking.{IsDrillHistory}
 use Rattle.drill.specs.Doing.{HasDone, KeepsFrom, WasSentBy, loss_interval}
-use Rattle.drill.specs.Drilled.{entries_by, own}
+use Rattle.drill.specs.Drilled.{drop_interval, entries_by, own}
 use Rattle.drill.specs.Turns.{HasOffered, IsLost, IsOwed, Loses, left_behind}
 use Rattle.drill.specs.Workers.{ChangesPass, HasAsked, IsWorker}
 use Rattle.drill.proofs.Grown.{HasCalled, by_horizon, by_later, has_called, sent_later}
@@ -25,18 +25,18 @@ use Rattle.drill.proofs.Asks.{worker_with}
 use Rattle.drill.proofs.Histories.{done_same, here_same}
 use Rattle.drill.proofs.Requests.{offer_log, offer_row}
 use Rattle.drill.proofs.Settlings.{base_next}
-use Rattle.drill.proofs.TurnLaws.{joins_once, multiple_of_64}
+use Rattle.drill.proofs.TurnLaws.{joins_once, drop_of_loss}
 
 module _ (gives : ℕ → Type 0) (size : Size) (shared : SharedState TrustReplay) (w : Worker) (cursor : Cursor) (number : ℕ) (payload : List ℕ)
     (owed : IsOwed gives size shared w cursor number payload) where
   -- a Join is left
-  join_left : number % 64 ≡ 0 → IsDrillHistory gives size.views w.pass.seen
+  join_left : number % drop_interval ≡ 0 → IsDrillHistory gives size.views w.pass.seen
       → HasDone (play w.pass.seen).log w.view number (what.Join ∷ left_behind size w number) (own size.seed w.view size.events)
   join_left multiple whole =
       subst (λ (joins : List What). HasDone (play w.pass.seen).log w.view number (joins ++ left_behind size w number) (own size.seed w.view size.events)) (joins_once number multiple) (owed.does whole).done
 
   -- its world stays
-  pub dropped : number % 64 ≡ 0 → (number % loss_interval ≡ 0 → ⊥) → IsLost gives size shared w cursor number payload Resume
+  pub dropped : number % drop_interval ≡ 0 → (number % loss_interval ≡ 0 → ⊥) → IsLost gives size shared w cursor number payload Resume
   dropped multiple other = record {
     waiting = owed.waiting;
     few = owed.few;
@@ -83,7 +83,7 @@ module _ (gives : ℕ → Type 0) (size : Size) (shared : SharedState TrustRepla
         let owes = owed.does first in
         let grows = call.grows in
         record {
-          done = done_same before.log after.log w.view number (what.Join ∷ left_behind size w number) (own size.seed w.view size.events) (same_log whole) (join_left (multiple_of_64 number multiple) first);
+          done = done_same before.log after.log w.view number (what.Join ∷ left_behind size w number) (own size.seed w.view size.events) (same_log whole) (join_left (drop_of_loss number multiple) first);
           here = here_same before.log after.log w.view cursor.joined (same_log whole) owes.here;
           sent = sent_later before after w.view grows number payload owes.sent;
           early = by_horizon before after w.view grows number owes.early;

@@ -22,6 +22,7 @@ use Rattle.drill.specs.declared.size.Size.{Size}
 use Rattle.drill.specs.declared.trust.TrustReplay.{TrustReplay}
 use Rattle.drill.specs.declared.worker.Worker.{Worker}
 use Rattle.drill.specs.Asking.{IsAskedInDrill}
+use Rattle.drill.specs.Drilled.{sources_per_seed}
 use Rattle.drill.specs.Drilling.{IsDrillSession, keeper_after, numbers_from, views_of, views_of_workers}
 use Rattle.drill.specs.Program.{IsDrillProgram, drill_name, drill_text}
 use Rattle.drill.specs.Sizes.{IsOfSize}
@@ -90,7 +91,7 @@ pub record IsMade (size : Size) (prepared : DrillSession) (made : ℕ) (keeper :
   pub numbers : numbers_held w.pass ≡ 1
   pub view : w.view ≡ made + 1
   pub replica : w.replica ≡ founded_replica (arc_value prepared.program) prepared.id.0 (made + 1)
-  pub source : w.source ≡ size.seed * most_drill_views + made
+  pub source : w.source ≡ size.seed * sources_per_seed + made
 
 module _ (gives : ℕ → Type 0) (size : Size) (prepared : DrillSession) (made : ℕ) (keeper : PassState) (w : Worker) (is : IsMade size prepared made keeper w) where
   seen_none : w.pass.seen ≡ []

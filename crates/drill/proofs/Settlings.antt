@@ -16,7 +16,7 @@ use Rattle.drill.specs.declared.size.Size.{Size}
 use Rattle.drill.specs.declared.worker.Worker.{Worker}
 use Rattle.drill.specs.Asking.{IsDrillHistory}
 use Rattle.drill.specs.Doing.{HasBase, HasDone, IsHereBy, WasSentBy, loss_interval}
-use Rattle.drill.specs.Drilled.{own}
+use Rattle.drill.specs.Drilled.{drop_interval, own}
 use Rattle.drill.specs.Sizes.{IsOfSize}
 use Rattle.drill.specs.Taking.{HasTaken, IsFine}
 use Rattle.drill.specs.Turns.{Does, HasTakenMore, IsOwed, IsWorkerReady, IsSettled, IsSettling, left_behind}
@@ -25,7 +25,7 @@ use Rattle.drill.specs.Working.{IsCaughtUp}
 use Rattle.drill.proofs.Grown.{base_later, by_later, works_same}
 use Rattle.drill.proofs.Asks.{worker_with}
 use Rattle.drill.proofs.Histories.{done_same, here_same}
-use Rattle.drill.proofs.TurnLaws.{joins_none, multiple_of_64}
+use Rattle.drill.proofs.TurnLaws.{joins_none, drop_of_loss}
 
 -- ---- the Done
 
@@ -60,7 +60,7 @@ module _ (gives : ℕ → Type 0) (size : Size) (shared : SharedState TrustRepla
   done_fine w cursor number seq time payload owed = record { none = ap (λ taken. taken.fault) (owed_taken w cursor number seq time payload owed) }
 
   -- a turn that keeps its connection
-  settles_here : (w : Worker) (cursor : Cursor) (number : ℕ) (payload : List ℕ) → IsOwed gives size shared w cursor number payload → (number % 64 ≡ 0 → ⊥)
+  settles_here : (w : Worker) (cursor : Cursor) (number : ℕ) (payload : List ℕ) → IsOwed gives size shared w cursor number payload → (number % drop_interval ≡ 0 → ⊥)
       → IsSettled gives size shared (record w { replica = with_plain w.replica (acknowledges w.replica.plain []) }) cursor number
   settles_here w cursor number payload owed keeps = record {
     worker = worker_with gives size shared w w.source (with_plain w.replica (acknowledges w.replica.plain [])) refl refl refl owed.waiting.worker;
@@ -75,11 +75,11 @@ module _ (gives : ℕ → Type 0) (size : Size) (shared : SharedState TrustRepla
       done = subst (λ (joins : List What). HasDone (play w.pass.seen).log w.view number (joins ++ left_behind size w number) (own size.seed w.view size.events)) (joins_none number keeps) owes.done;
       here = owes.here;
       early = owes.early;
-      based = λ many. base_next (play w.pass.seen) w.view number w.replica.plain.base owed.waiting.turn.0 (λ mark. keeps (multiple_of_64 number mark)) (owes.based (omega (arith, many, keeps)));
+      based = λ many. base_next (play w.pass.seen) w.view number w.replica.plain.base owed.waiting.turn.0 (λ mark. keeps (drop_of_loss number mark)) (owes.based (omega (arith, many, keeps)));
     };
   }
 
-  pub done_settles : (w : Worker) (cursor : Cursor) (number seq time : ℕ) (payload : List ℕ) (r : ReplicaView) → IsOwed gives size shared w cursor number payload → (number % 64 ≡ 0 → ⊥)
+  pub done_settles : (w : Worker) (cursor : Cursor) (number seq time : ℕ) (payload : List ℕ) (r : ReplicaView) → IsOwed gives size shared w cursor number payload → (number % drop_interval ≡ 0 → ⊥)
       → HasTaken w.replica (Done number seq time) r → IsSettled gives size shared (record w { replica = r }) cursor number
   done_settles w cursor number seq time payload r owed keeps has =
       let is : r ≡ with_plain w.replica (acknowledges w.replica.plain []) = has.is ∙ ap (λ taken. with_plain w.replica taken.replica) (owed_taken w cursor number seq time payload owed) in

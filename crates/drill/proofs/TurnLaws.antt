@@ -3,7 +3,7 @@ use Rattle.std.proofs.Common.{◌≡◌, if◌then◌else◌, ℕ, ◌+◌, ◌-
 use Rattle.tea_base.specs.declared.entry.What.{What}
 use Rattle.tea_base.specs.declared.entry.What.TheVariants.{Join, Event}
 use Rattle.seeded_random.specs.Draw.{word_of, state_after, number_below}
-use Rattle.drill.specs.Drilled.{drawn_numbers, add_payload, joins_behind, own_turns}
+use Rattle.drill.specs.Drilled.{add_payload, drawn_numbers, drop_interval, joins_behind, own_turns}
 use Rattle.drill.specs.Doing.{loss_interval}
 
 -- what is left before turn `number + 1` of a drill with count + 1 more events begins with its event
@@ -14,11 +14,11 @@ turn_begins number count state =
     ap (λ (n : ℕ). own_turns (number + 1) (drawn_numbers state n)) (add-one count)
     ∙ ap (λ (n : ℕ). first ++ own_turns n (drawn_numbers (state_after state) count)) next
 
-pub joins_none : (number : ℕ) → (number % 64 ≡ 0 → ⊥) → joins_behind number ≡ []
-joins_none number other = ap (λ (b : Bool). if b then Join ∷ [] else []) (ne_eqb (number % 64) 0 other)
+pub joins_none : (number : ℕ) → (number % drop_interval ≡ 0 → ⊥) → joins_behind number ≡ []
+joins_none number other = ap (λ (b : Bool). if b then Join ∷ [] else []) (ne_eqb (number % drop_interval) 0 other)
 
-pub joins_once : (number : ℕ) → number % 64 ≡ 0 → joins_behind number ≡ Join ∷ []
-joins_once number multiple = ap (λ (b : Bool). if b then Join ∷ [] else []) (eq-eqb (number % 64) 0 multiple)
+pub joins_once : (number : ℕ) → number % drop_interval ≡ 0 → joins_behind number ≡ Join ∷ []
+joins_once number multiple = ap (λ (b : Bool). if b then Join ∷ [] else []) (eq-eqb (number % drop_interval) 0 multiple)
 
-pub multiple_of_64 : (number : ℕ) → number % loss_interval ≡ 0 → number % 64 ≡ 0
-multiple_of_64 number multiple = omega arith
+pub drop_of_loss : (number : ℕ) → number % loss_interval ≡ 0 → number % drop_interval ≡ 0
+drop_of_loss number multiple = omega arith

@@ -8,7 +8,14 @@ use Rattle.tea_base.specs.Limits.{end_of_time}
 use Rattle.model_value.specs.Plain.{int}
 use Rattle.model_value.specs.Payload.{payload_spelling}
 use Rattle.seeded_random.specs.Draw.{word_of, state_after, number_below}
-use Rattle.run_steps.specs.Limits.{most_drill_views}
+
+-- each seed has so many sources, one for each view
+abbrev pub sources_per_seed : ℕ
+sources_per_seed = 8
+
+-- a view drops its connection and joins once more at each event whose number is a multiple of this
+abbrev pub drop_interval : ℕ
+drop_interval = 64
 
 -- so many numbers below 100, drawn from this state on
 abbrev pub drawn_numbers : ℕ → ℕ → List ℕ
@@ -19,9 +26,9 @@ drawn_numbers state (suc count) = number_below 100 (word_of state) ∷ drawn_num
 abbrev pub add_payload : ℕ → List ℕ
 add_payload number = payload_spelling (record { scope = codes "drill"; event = codes "add"; value = int (pos number) })
 
--- a view joins once more behind each event whose number is a multiple of 64
+-- a view joins once more behind each event at which it dropped its connection
 abbrev pub joins_behind : ℕ → List What
-joins_behind number = if number % 64 == 0 then Join ∷ [] else []
+joins_behind number = if number % drop_interval == 0 then Join ∷ [] else []
 
 -- what a view does from its event of this number on, until it leaves
 abbrev pub own_turns : ℕ → List ℕ → List What
@@ -30,7 +37,7 @@ own_turns number (drawn ∷ rest) = Event number (add_payload drawn) ∷ joins_b
 
 -- all that a view does
 abbrev pub own : ℕ → ℕ → ℕ → List What
-own seed view events = Join ∷ own_turns 1 (drawn_numbers (seed * most_drill_views + view - 1) events)
+own seed view events = Join ∷ own_turns 1 (drawn_numbers (seed * sources_per_seed + view - 1) events)
 
 -- the entries of a view
 abbrev pub entries_by : ℕ → List Entry → List Entry

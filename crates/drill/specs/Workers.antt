@@ -15,13 +15,12 @@ use Rattle.session_lock.specs.declared.knowledge.Item.TheVariants.{Did}
 use Rattle.session_lock.specs.History.{IsSoundThrough, play}
 use Rattle.session_lock.specs.Passes.{PassState, SharedState, numbers_held, own_calls}
 use Rattle.session_lock.specs.Trusts.{IsTrusted}
-use Rattle.run_steps.specs.Limits.{most_drill_views}
 use Rattle.drill.specs.declared.trust.TrustReplay.{TrustReplay}
 use Rattle.drill.specs.declared.size.Size.{Size}
 use Rattle.drill.specs.declared.worker.Worker.{Worker}
 use Rattle.drill.specs.Asking.{IsAskedInDrill, IsDrillHistory, entries_used_by}
 use Rattle.drill.specs.Doing.{KeepsFrom}
-use Rattle.drill.specs.Drilled.{IsOfDrill, entries_by}
+use Rattle.drill.specs.Drilled.{IsOfDrill, entries_by, sources_per_seed}
 use Rattle.drill.specs.Trust.{AllowsReplay}
 
 -- what the drill's session keeps is the snapshot of a replay
@@ -81,4 +80,4 @@ pub record IsFirst (gives : ℕ → Type 0) (size : Size) (shared : SharedState 
   pub calls : own_calls w.pass ≡ []
   pub outbox : w.replica.plain.outbox ≡ []
   pub acknowledged : w.replica.plain.acknowledged ≡ 0
-  pub source : w.source ≡ size.seed * most_drill_views + w.view - 1
+  pub source : w.source ≡ size.seed * sources_per_seed + w.view - 1

@@ -5,6 +5,7 @@ ghost use Rattle.std.specs.Thread.{IsSync};
 ghost use Rattle.session_lock.specs.Passes.{first_pass, numbers_held};
 ghost use Rattle.run_steps.specs.Limits.{most_drill_events, most_drill_views};
 ghost use Rattle.drill.specs.Drill.{HasDrilled};
+ghost use Rattle.drill.specs.Drilled.{sources_per_seed};
 ghost use Rattle.drill.specs.Drilling.{AllAnswer, WorkerAnswers, ComesToEnd, GathersWorkers, HasPass, HaveEnded, IsDrillSession, MayRest, keeper_after, numbers_from, rested_of, views_of_workers};
 ghost use Rattle.drill.specs.Sizes.{IsOfSize};
 ghost use Rattle.drill.specs.Workers.{IsFirst};
@@ -19,7 +20,6 @@ use crate::worker::{Hall, Worker};
 use model_check::{Checked, checked_crosses_threads};
 use reflector_core::Session;
 use replica::{Replica, replica_crosses_threads};
-use run_steps::MOST_DRILL_VIEWS;
 use seeded_random::Source64;
 use session_lock::{Pass, SharedSession};
 use snapshot_codec::session_id;
@@ -28,6 +28,9 @@ use std::sync::{Arc, Wait};
 use std::thread::{Threads, join};
 use tea_base::{SessionId, Text, WantOfMemory};
 use tea_io::{Clock, Gate};
+
+/// Each seed has so many sources, one for each view.
+const SOURCES_PER_SEED: u32 = 8;
 
 /// One more has ended, behind the others.
 fn with_last(
@@ -147,11 +150,11 @@ fn prepare(alloc: Global) -> Result<(DrillSession, Pass), WantOfMemory>
     Ok((prepared, keeper))
 }
 
-/// The source of what a view publishes, by its place among the views. Each seed has a source for each view that a drill may have.
+/// The source of what a view publishes, by its place among the views.
 fn source_of(seed: u32, place: u32) -> Source64
-    ensures { result ≡ seed * most_drill_views + place }
+    ensures { result ≡ seed * sources_per_seed + place }
 {
-    Source64::from_state(u64::from(seed) * u64::from(MOST_DRILL_VIEWS) + u64::from(place))
+    Source64::from_state(u64::from(seed) * u64::from(SOURCES_PER_SEED) + u64::from(place))
 }
 
 /// The workers, by their views. The pass of each is split off the one that is kept.

@@ -3,6 +3,7 @@ ghost use Rattle.std.specs.Prelude.{◌≡◌, ◌-◌, ◌%◌, ◌≤◌, ℕ,
 ghost use Rattle.wire_frames.specs.declared.frame.ServerFrame.TheVariants.{Done};
 ghost use Rattle.reflector_core.specs.declared.request.Reply.{Reply};
 ghost use Rattle.reflector_core.specs.declared.request.Request.TheVariants.{Leave};
+ghost use Rattle.drill.specs.Drilled.{drop_interval};
 ghost use Rattle.drill.specs.Sizes.{IsOfSize};
 ghost use Rattle.drill.specs.Turns.{HasEnded, HasMade, HasResent, IsLost, IsOwed, IsWorkerReady};
 ghost use Rattle.drill.specs.Workers.{ChangesPass, HasAsked, IsFirst, IsWorker};
@@ -17,6 +18,9 @@ use std::sync::Wait;
 use tea_base::WantOfMemory;
 use tea_io::{Clock, Gate};
 use wire_frames::ServerFrame;
+
+/// A worker drops its connection, joins and sends again at each event whose number is a multiple of this.
+const DROP_INTERVAL: u32 = 64;
 
 /// A worker offers a snapshot and loses its world at each event whose number is a multiple of this.
 const LOSS_INTERVAL: u32 = 256;
@@ -92,7 +96,7 @@ impl Worker {
         Ok(Course::Whole)
     }
 
-    /// Takes the Done of its event. At each 64th event it drops its connection instead.
+    /// Takes the Done of its event. At a multiple of `DROP_INTERVAL` it drops its connection instead.
     fn settle<C: Clock, G, R: Wait>(
         &mut self,
         hall: &Hall<'_, C, G, R>,
@@ -106,7 +110,7 @@ impl Worker {
         ensures view { self.new.view ≡ self.old.view }
         ensures settled { IfOk result (λ course. HasResent (C.gives hall.now.clock.now) hall.now.size hall.now.shared.now self.new cursor.new turn course) }
     {
-        if turn % 64 == 0 {
+        if turn % DROP_INTERVAL == 0 {
             return self.drop_connection(hall, cursor, turn);
         }
         take_fine(&mut self.replica, done)?;
@@ -122,7 +126,7 @@ impl Worker {
     ) -> Result<Course, WantOfMemory>
         requires size { IsOfSize hall.now.size }
         requires owed { (payload : List ℕ) × IsOwed (C.gives hall.now.clock.now) hall.now.size hall.now.shared.now self.old cursor.old turn payload }
-        requires multiple { turn % 64 ≡ 0 }
+        requires multiple { turn % drop_interval ≡ 0 }
         ensures view { self.new.view ≡ self.old.view }
         ensures resent { IfOk result (λ course. HasResent (C.gives hall.now.clock.now) hall.now.size hall.now.shared.now self.new cursor.new turn course) }
     {
@@ -147,7 +151,7 @@ impl Worker {
         turn: u32,
     ) -> Result<How, WantOfMemory>
         requires owed { (payload : List ℕ) × IsOwed (C.gives hall.now.clock.now) hall.now.size hall.now.shared.now self.old cursor.now turn payload }
-        requires multiple { turn % 64 ≡ 0 }
+        requires multiple { turn % drop_interval ≡ 0 }
         ensures view { self.new.view ≡ self.old.view }
         ensures lost { IfOk result (λ how. (payload : List ℕ) × IsLost (C.gives hall.now.clock.now) hall.now.size hall.now.shared.now self.new cursor.now turn payload how) }
     {

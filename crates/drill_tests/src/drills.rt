@@ -1,9 +1,10 @@
 //! Drills of a few views and events.
 ghost use Rattle.std.specs.Prelude.{◌≡◌, ◌≤◌};
 
-use crate::gates::SecondAhead;
+use crate::gates::OtherAhead;
 use drill::{DrillReport, Size, drill};
 use std::alloc::Global;
+use std::process::Abort;
 use std::sync::Wait;
 use std::test::Fail;
 use std::thread::Threads;
@@ -88,11 +89,21 @@ fn views_that_lost_their_worlds_have_bases(rt: HostRuntime) -> Result<(), Fail> 
     Ok(())
 }
 
-/// Two views work at one time: the first one is held until the second has come to its second turn.
+/// Two views work at one time, whichever is called first.
 #[test]
 fn two_threads(rt: HostRuntime) -> Result<(), Fail> {
-    let gate = SecondAhead::new();
-    let report = drilled(&rt, rt.alloc(), &gate, size(0, 2, 2))?;
+    two_views(&rt, rt.alloc(), 0)?;
+    two_views(&rt, rt.alloc(), 1)
+}
+
+/// Two views, of which one is held until the other has come to its second turn.
+fn two_views<R: Threads + Wait + Abort + Sync>(
+    rt: &R,
+    alloc: Global,
+    held: u32,
+) -> Result<(), Fail> {
+    let gate = OtherAhead::new(held);
+    let report = drilled(rt, alloc, &gate, size(0, 2, 2))?;
     assert!(rt; gate.held());
     assert_eq!(rt; report.agree, 2);
     Ok(())

@@ -189,12 +189,13 @@ queue_left keeps was ms kept new next weight h is p view =
     ∙ ap (λ (q : QueueRecord). record q { messages = filter keeps q.messages }) view
 
 -- the messages that are gone and those that are left are as many as there were
-pub number_left : (was : QueueRecord) (ms new : List Message) (next gone : ℕ)
+pub number_left : (was : QueueRecord) (ms new : List Message) (next before gone : ℕ)
     → queue_seen ms next ≡ was
-    → gone + length new ≡ length ms
+    → before ≡ length ms
+    → gone + length new ≡ before
     → gone + length (in_order (messages_seen new)) ≡ length was.messages
-number_left was ms new next gone view left =
-    omega (arith, left, length-seen new, length-seen ms, ap (λ (q : QueueRecord). length q.messages) view)
+number_left was ms new next before gone view many left =
+    omega (arith, many, left, length-seen new, length-seen ms, ap (λ (q : QueueRecord). length q.messages) view)
 
 held_kept : (keeps : PlainMessage → Bool) (ms kept new : List Message) (next weight w : ℕ)
     → HoldsQueue ms next weight
@@ -239,19 +240,20 @@ at_most P zero (suc n) most less same = less (omega arith)
 at_most P (suc k) zero most less same = absurd (omega (arith, most))
 at_most P (suc k) (suc n) most less same = at_most P k n (omega (arith, most)) (λ l. less (omega (arith, l))) (λ e. same (ap suc e))
 
--- what is left of the messages, in a heap of its own where some are gone
-pub held_left : (keeps : PlainMessage → Bool) (ms kept new : List Message) (next weight w : ℕ)
+-- what is left of so many messages, in a heap of its own where some are gone
+pub held_left : (keeps : PlainMessage → Bool) (ms kept new : List Message) (next weight w before : ℕ)
     → HoldsQueue ms next weight
     → messages_seen kept ≡ filter keeps (messages_seen ms)
     → IsPermutation kept new
-    → length kept ≤ length ms
-    → (length kept < length ms → IsHeap new × (w ≡ total_weight message_weight (messages_seen new)))
-    → (length kept ≡ length ms → (new ≡ kept) × (w ≡ weight))
+    → before ≡ length ms
+    → length kept ≤ before
+    → (length kept < before → IsHeap new × (w ≡ total_weight message_weight (messages_seen new)))
+    → (length kept ≡ before → (new ≡ kept) × (w ≡ weight))
     → HoldsQueue new next w
-held_left keeps ms kept new next weight w h is p left fewer all =
-    at_most (HoldsQueue new next w) (length kept) (length ms) left
+held_left keeps ms kept new next weight w before h is p many left fewer all =
+    at_most (HoldsQueue new next w) (length kept) before left
     (λ less. held_kept keeps ms kept new next weight w h is p (fewer less).0 (fewer less).1)
     (λ long.
     let same = all long in
     subst (λ (l : List Message). HoldsQueue l next w) (sym same.0)
-    (subst (HoldsQueue kept next) (sym same.1) (held_all keeps ms kept next weight h is long)))
+    (subst (HoldsQueue kept next) (sym same.1) (held_all keeps ms kept next weight h is (long ∙ many))))

@@ -1,5 +1,5 @@
 -- Values as plain trees, with their weight, their depth and their bounds.
-use Rattle.std.specs.Prelude.{◌≡◌, ◌≤◌, ◌<◌, ℕ, ◌+◌, ◌/◌, max, nat_le, ◌&&◌, ℤ, Bool, List, [], ◌∷◌, length, Option, Some, None, encode_utf8_all}
+use Rattle.std.specs.Prelude.{◌≡◌, ◌≤◌, ◌<◌, ℕ, ◌+◌, ◌^◌, ◌/◌, max, nat_le, ◌&&◌, ℤ, Bool, List, [], ◌∷◌, length, Option, Some, None, encode_utf8_all}
 use Rattle.std.specs.List.{AllByRecursion}
 
 mutual
@@ -77,6 +77,10 @@ TextFits characters = text_weight characters ≤ most_weight
 abbrev pub values_weight : List PlainValue → ℕ
 values_weight [] = 0
 values_weight (value ∷ rest) = weight value + values_weight rest
+
+-- They are so few, and each is so light, that their weights can be added.
+abbrev pub AreWeighable : List PlainValue → Type 0
+AreWeighable values = (length values < 2 ^ 32) × AllByRecursion (λ value. weight value < 2 ^ 32) values
 
 abbrev pub AllInBounds : List PlainValue → Type 0
 AllInBounds = AllByRecursion InBounds

@@ -1,6 +1,6 @@
 //! The weight and the depth of values, and their bounds.
 ghost use Rattle.std.specs.Prelude.{◌≡◌, ◌↔◌, ◌^◌, ◌<◌, IsTrue};
-ghost use Rattle.model_value.specs.Plain.{weight as weight_of, weight_of_all, depth as depth_of, greatest_depth, values_weight as weight_of_values, text_weight as weight_of_text, InBounds, AllInBounds, TextFits, LeavesRoom};
+ghost use Rattle.model_value.specs.Plain.{weight as weight_of, weight_of_all, AreWeighable, depth as depth_of, greatest_depth, values_weight as weight_of_values, text_weight as weight_of_text, InBounds, AllInBounds, TextFits, LeavesRoom};
 ghost use Rattle.model_value.specs.Room.{IsRoomBehind};
 ghost use Rattle.model_value.specs.View.{plain, plains, plain_values};
 
@@ -47,13 +47,16 @@ pub fn text_weight(text: &Text) -> u64
     1 + text.bytes().len().div_ceil(16) as u64
 }
 
-/// The weight of values together. It has to be below 2^32.
-#[tactic(auto, using(crate::proofs::Totals::by_weight))]
+/// The weight of values together. They have to be fewer than 2^32, and the weight of each below 2^32.
 pub fn values_weight(values: &[Value]) -> u64
-    requires { weight_of_values (plain_values values.now) < 2 ^ 32 }
+    requires { AreWeighable (plain_values values.now) }
     ensures { result ≡ weight_of_values (plain_values values.now) }
 {
-    u64::from(weight_all(values))
+    let mut sum = 0;
+    for value in values {
+        sum += u64::from(weight(value));
+    }
+    sum
 }
 
 /// How deep lists nest in a value: 1 more than its deepest item of a List, 1 of the empty List, and 0 of any other

@@ -2,7 +2,7 @@
 ghost use Rattle.std.specs.Prelude.{◌≤◌};
 ghost use Rattle.tea_io.specs.MemNet.{HasNoCounts};
 
-use crate::gates::SecondFirst;
+use crate::gates::OtherFirst;
 use crate::links::{FIRST_SEND, LEAVE, link_of};
 use connection::Ended;
 use reflect_server::{Reflected, ServeFault, Server, reflect};
@@ -129,15 +129,21 @@ fn failed_accept<R: Threads + Wait + Abort + Sync>(rt: &R, alloc: Global) -> Res
 
 #[test]
 fn two_views_are_served_at_once(rt: HostRuntime) -> Result<(), Fail> {
-    two_views(&rt, rt.alloc())
+    two_views(&rt, rt.alloc(), 0)?;
+    two_views(&rt, rt.alloc(), 1)
 }
 
-fn two_views<R: Threads + Wait + Abort + Sync>(rt: &R, alloc: Global) -> Result<(), Fail> {
+/// Two views, of which that of one worker is held until the other is through.
+fn two_views<R: Threads + Wait + Abort + Sync>(
+    rt: &R,
+    alloc: Global,
+    held: u32,
+) -> Result<(), Fail> {
     let mut links = MemLinks::new(alloc);
     links.push(link_of(alloc, 7, &[FIRST_SEND], Numbers::new(alloc))?)?;
     links.push(link_of(alloc, 8, &[LEAVE], Numbers::new(alloc))?)?;
     let net = MemNet::new(alloc, links, Numbers::new(alloc));
-    let gate = SecondFirst::new();
+    let gate = OtherFirst::new(held);
     let (net, result) = reflected(rt, alloc, net, 2, &gate)?;
     assert!(rt; gate.held());
     let Ok(reflected) = result else {

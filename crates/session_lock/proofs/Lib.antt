@@ -6,3 +6,4 @@ pub mod StepLaws
 pub mod Shares
 pub mod Closing
 pub mod Contracts
+pub mod Crossings

@@ -1,10 +1,15 @@
 //! What histories tell.
 ghost use Rattle.std.specs.Prelude.{List, ◌++◌};
+ghost use Rattle.std.specs.Thread.{IsSend, IsSync};
 ghost use Rattle.reflector_core.specs.PlainSession.{IsSoundSession};
 ghost use Rattle.reflector_core.specs.Play.{first_session};
 ghost use Rattle.reflector_core.specs.Growth.{GrowsTo};
 ghost use Rattle.session_lock.specs.declared.knowledge.Item.{Item};
 ghost use Rattle.session_lock.specs.History.{play, IsSoundThrough};
+ghost use Rattle.session_lock.specs.contracts.lock.Pass as pass;
+ghost use Rattle.session_lock.specs.contracts.lock.SharedSession as shared;
+
+use crate::trust::Trust;
 
 /// What a pass is told to be sound all the way is sound at each place: each beginning of the history plays to a sound
 /// session, and so does the whole.
@@ -18,4 +23,14 @@ pub fn sound_at_each_place()
 /// beginning leaves.
 pub fn history_goes_on()
     ensures { (beginning rest : List Item) → GrowsTo (play beginning) (play (beginning ++ rest)) }
+{}
+
+/// A pass may move to another thread.
+pub fn pass_crosses_threads()
+    ensures { IsSend pass.the_row }
+{}
+
+/// A session may be shared by threads, if its trust may.
+pub fn session_crosses_threads<T: Trust + Sync>()
+    ensures { IsSync (shared.the_row T.row T.Trust) }
 {}

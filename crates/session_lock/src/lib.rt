@@ -8,6 +8,8 @@ mod lock;
 mod rule;
 mod trust;
 
-pub use laws::{history_goes_on, sound_at_each_place};
+pub use laws::{
+    history_goes_on, pass_crosses_threads, session_crosses_threads, sound_at_each_place,
+};
 pub use lock::{Pass, SharedSession, Unmade};
 pub use trust::{Trust, TrustAll};

@@ -1,5 +1,5 @@
 -- Payloads in two pieces.
-use Rattle.std.proofs.Common.{ℕ, ◌+◌, ◌-◌, ◌≡◌, List, ◌++◌, length, take, drop, sym, ap, ◌∙◌, refl}
+use Rattle.std.proofs.Common.{ℕ, ◌≡◌, List, ◌++◌, length, take, drop, sym, ap, ◌∙◌, refl}
 use Rattle.std.proofs.lemmas.List.{take-append-drop, take_at, drop_at}
 
 pub joined_at : (first second bytes : List ℕ) → take (length first) bytes ≡ first → drop (length first) bytes ≡ second → first ++ second ≡ bytes

@@ -5,6 +5,7 @@ ghost use Rattle.join_sync.specs.Answers.{IsReplyTo};
 use join_sync::{Act, Cursor, Early, open};
 use reflector_core::{Reply, Request, Session, Want};
 use std::alloc::Global;
+use std::process::Abort;
 use std::test::Fail;
 use tea_base::{Blob, SessionId, WantOfMemory};
 use wire_frames::{ClientFrame, ServerFrame, ServerFrames};
@@ -145,53 +146,126 @@ fn pulled(
     Ok(all_numbers(alloc, &frames)?)
 }
 
-/// The event 1 of a view.
-fn event(alloc: Global) -> Result<ClientFrame, WantOfMemory> {
-    Ok(ClientFrame::Send {
+/// What a view sends.
+#[derive(Clone, Copy)]
+enum Sent {
+    /// The event of this number, with so many bytes.
+    Event { number: u32, length: usize },
+    /// A snapshot of this time.
+    Snapshot { time: u64 },
+    Alive,
+    Leave,
+    Join,
+}
+
+/// So many bytes.
+fn bytes_of(alloc: Global, length: usize) -> Result<Blob, WantOfMemory> {
+    let mut bytes = Vec::new(alloc);
+    for _ in 0..length {
+        bytes.push(7)?;
+    }
+    Ok(Blob::from_vec(bytes))
+}
+
+/// The frame by which it is sent.
+fn frame_of(alloc: Global, sent: Sent) -> Result<ClientFrame, WantOfMemory> {
+    match sent {
+        Sent::Event { number, length } => Ok(ClientFrame::Send {
+            number,
+            payload: bytes_of(alloc, length)?,
+        }),
+        Sent::Snapshot { time } => Ok(ClientFrame::Snap {
+            time,
+            bytes: bytes_of(alloc, 5)?,
+        }),
+        Sent::Alive => Ok(ClientFrame::Alive),
+        Sent::Leave => Ok(ClientFrame::Leave),
+        Sent::Join => Ok(ClientFrame::Join {
+            session: ID,
+            view: 7,
+            want: Want::Whole,
+        }),
+    }
+}
+
+/// What is sent on a connection, and the answer to it.
+#[derive(Clone, Copy)]
+struct Exchange {
+    sent: Sent,
+    answer: Option<FrameNumbers>,
+}
+
+/// Sends in order, and compares the answers.
+fn try_all<R: AllocGlobal + Abort>(
+    rt: &R,
+    session: &mut Session,
+    cursor: &Cursor,
+    exchanges: &[Exchange],
+) -> Result<(), Fail> {
+    for Exchange { sent, answer } in exchanges {
+        let frame = frame_of(rt.alloc(), *sent)?;
+        assert_eq!(rt; answered(session, cursor, frame)?, *answer);
+    }
+    Ok(())
+}
+
+/// A frame about this tag was refused with this code.
+const fn refused(about: u8, code: u8, kept: u64) -> FrameNumbers {
+    FrameNumbers::Refused { about, code, kept }
+}
+
+/// The first event of a view, with the stamp that it gets as the second entry.
+const FIRST_EVENT: Exchange = Exchange {
+    sent: Sent::Event {
         number: 1,
-        payload: Blob::copy(alloc, b"hi")?,
-    })
-}
-
-/// A snapshot of the founding.
-fn snapshot(alloc: Global) -> Result<ClientFrame, WantOfMemory> {
-    Ok(ClientFrame::Snap {
-        time: 0,
-        bytes: Blob::copy(alloc, b"world")?,
-    })
-}
-
-#[test]
-fn a_view_is_cut_off_and_comes_back(rt: HostRuntime) -> Result<(), Fail> {
-    let alloc = rt.alloc();
-    let mut session = Session::new(alloc);
-    let (old, sync) = connected(&mut session, Want::Fresh)?;
-    assert_eq!(rt;
-        sync,
-        FrameNumbers::Sync {
-            joined: 1,
-            last: 0,
-            from: 0
-        }
-    );
-    let done = FrameNumbers::Done {
+        length: 2,
+    },
+    answer: Some(FrameNumbers::Done {
         number: 1,
         seq: 2,
         time: 2,
-    };
-    assert_eq!(rt; answered(&mut session, &old, event(alloc)?)?, Some(done));
+    }),
+};
 
-    let (mut new, sync) = connected(&mut session, Want::After(0))?;
-    assert_eq!(rt;
-        sync,
-        FrameNumbers::Sync {
-            joined: 3,
-            last: 1,
-            from: 0
-        }
-    );
-    assert_eq!(rt; answered(&mut session, &new, event(alloc)?)?, Some(done));
-    let frames = pulled(alloc, &mut session, &mut new)?;
+#[test]
+fn a_view_is_cut_off_and_comes_back(rt: HostRuntime) -> Result<(), Fail> {
+    let mut session = Session::new(rt.alloc());
+    let (old, sync) = connected(&mut session, Want::Fresh)?;
+    let founded = FrameNumbers::Sync {
+        joined: 1,
+        last: 0,
+        from: 0,
+    };
+    assert_eq!(rt; sync, founded);
+    try_all(&rt, &mut session, &old, &[FIRST_EVENT])?;
+    let (new, sync) = connected(&mut session, Want::After(0))?;
+    let resumed = FrameNumbers::Sync {
+        joined: 3,
+        last: 1,
+        from: 0,
+    };
+    assert_eq!(rt; sync, resumed);
+    try_all(&rt, &mut session, &new, &[FIRST_EVENT])?;
+    let stale = Exchange {
+        sent: Sent::Leave,
+        answer: Some(refused(4, 1, 3)),
+    };
+    try_all(&rt, &mut session, &old, &[stale])?;
+    let leave = Exchange {
+        sent: Sent::Leave,
+        answer: None,
+    };
+    try_all(&rt, &mut session, &new, &[leave])
+}
+
+#[test]
+fn the_log_is_pulled_once(rt: HostRuntime) -> Result<(), Fail> {
+    let alloc = rt.alloc();
+    let mut session = Session::new(alloc);
+    let (old, _) = connected(&mut session, Want::Fresh)?;
+    try_all(&rt, &mut session, &old, &[FIRST_EVENT])?;
+    let (mut cursor, _) = connected(&mut session, Want::After(0))?;
+    let frames = pulled(alloc, &mut session, &mut cursor)?;
     let log = [
         FrameNumbers::Recv { seq: 1, time: 1 },
         FrameNumbers::Recv { seq: 2, time: 2 },
@@ -199,54 +273,33 @@ fn a_view_is_cut_off_and_comes_back(rt: HostRuntime) -> Result<(), Fail> {
         FrameNumbers::Tick(3),
     ];
     assert_eq!(rt; frames.as_slice(), log.as_slice());
-    assert!(rt; pulled(alloc, &mut session, &mut new)?.is_empty());
-
-    let stale = FrameNumbers::Refused {
-        about: 4,
-        code: 1,
-        kept: 3,
-    };
-    assert_eq!(rt;
-        answered(&mut session, &old, ClientFrame::Leave)?,
-        Some(stale)
-    );
-    assert_eq!(rt; answered(&mut session, &new, ClientFrame::Leave)?, None);
+    assert!(rt; pulled(alloc, &mut session, &mut cursor)?.is_empty());
     Ok(())
 }
 
 #[test]
 fn frames_are_answered(rt: HostRuntime) -> Result<(), Fail> {
-    let alloc = rt.alloc();
-    let mut session = Session::new(alloc);
+    let exchanges = [
+        Exchange {
+            sent: Sent::Snapshot { time: 0 },
+            answer: Some(FrameNumbers::Snapped(0)),
+        },
+        Exchange {
+            sent: Sent::Snapshot { time: 0 },
+            answer: Some(refused(3, 10, 0)),
+        },
+        Exchange {
+            sent: Sent::Alive,
+            answer: Some(FrameNumbers::Alive),
+        },
+        Exchange {
+            sent: Sent::Join,
+            answer: Some(refused(1, 15, 0)),
+        },
+    ];
+    let mut session = Session::new(rt.alloc());
     let (cursor, _) = connected(&mut session, Want::Whole)?;
-    let kept = answered(&mut session, &cursor, snapshot(alloc)?)?;
-    assert_eq!(rt; kept, Some(FrameNumbers::Snapped(0)));
-    let older = answered(&mut session, &cursor, snapshot(alloc)?)?;
-    assert_eq!(rt;
-        older,
-        Some(FrameNumbers::Refused {
-            about: 3,
-            code: 10,
-            kept: 0
-        })
-    );
-    let alive = answered(&mut session, &cursor, ClientFrame::Alive)?;
-    assert_eq!(rt; alive, Some(FrameNumbers::Alive));
-    let join = ClientFrame::Join {
-        session: ID,
-        view: 7,
-        want: Want::Whole,
-    };
-    let joined = answered(&mut session, &cursor, join)?;
-    assert_eq!(rt;
-        joined,
-        Some(FrameNumbers::Refused {
-            about: 1,
-            code: 15,
-            kept: 0
-        })
-    );
-    Ok(())
+    try_all(&rt, &mut session, &cursor, &exchanges)
 }
 
 #[test]
@@ -257,26 +310,12 @@ fn a_first_frame_that_joins_no_session_is_refused(rt: HostRuntime) -> Result<(),
         want: Want::Fresh,
     };
     assert_eq!(rt; open(&other, &ID, 0).err(), Some(Early::OtherSession));
-    let refused = numbers_of(&Early::OtherSession.frame(&other));
-    assert_eq!(rt;
-        refused,
-        FrameNumbers::Refused {
-            about: 1,
-            code: 12,
-            kept: 0
-        }
-    );
-    let event = event(rt.alloc())?;
+    let told = numbers_of(&Early::OtherSession.frame(&other));
+    assert_eq!(rt; told, refused(1, 12, 0));
+    let event = frame_of(rt.alloc(), FIRST_EVENT.sent)?;
     assert_eq!(rt; open(&event, &ID, 0).err(), Some(Early::NotJoined));
-    let refused = numbers_of(&Early::NotJoined.frame(&event));
-    assert_eq!(rt;
-        refused,
-        FrameNumbers::Refused {
-            about: 2,
-            code: 14,
-            kept: 0
-        }
-    );
+    let told = numbers_of(&Early::NotJoined.frame(&event));
+    assert_eq!(rt; told, refused(2, 14, 0));
     Ok(())
 }
 
@@ -285,10 +324,7 @@ fn filled(alloc: Global) -> Result<(Session, Cursor), Fail> {
     let mut session = Session::new(alloc);
     let (cursor, _) = connected(&mut session, Want::Whole)?;
     for number in 1..=256 {
-        let event = ClientFrame::Send {
-            number,
-            payload: Blob::new(alloc),
-        };
+        let event = frame_of(alloc, Sent::Event { number, length: 0 })?;
         answered(&mut session, &cursor, event)?;
     }
     Ok((session, cursor))
@@ -313,49 +349,46 @@ fn a_batch_that_ends_before_the_log_has_no_tick(rt: HostRuntime) -> Result<(), F
     Ok(())
 }
 
-/// A frame about this tag was refused with this code.
-fn refused(about: u8, code: u8, kept: u64) -> FrameNumbers {
-    FrameNumbers::Refused { about, code, kept }
-}
-
 #[test]
 fn refused_events_and_snapshots_are_told_by_codes(rt: HostRuntime) -> Result<(), Fail> {
-    let alloc = rt.alloc();
-    let mut session = Session::new(alloc);
+    let gap = Exchange {
+        sent: Sent::Event {
+            number: 2,
+            length: 0,
+        },
+        answer: Some(refused(2, 4, 1)),
+    };
+    let differs = Exchange {
+        sent: Sent::Event {
+            number: 1,
+            length: 0,
+        },
+        answer: Some(refused(2, 3, 2)),
+    };
+    let long = Exchange {
+        sent: Sent::Event {
+            number: 2,
+            length: 4097,
+        },
+        answer: Some(refused(2, 2, 4097)),
+    };
+    let ahead = Exchange {
+        sent: Sent::Snapshot { time: 3 },
+        answer: Some(refused(3, 9, 2)),
+    };
+    let mut session = Session::new(rt.alloc());
     let (cursor, _) = connected(&mut session, Want::Whole)?;
-    let gap = ClientFrame::Send {
-        number: 2,
-        payload: Blob::new(alloc),
-    };
-    let answer = answered(&mut session, &cursor, gap)?;
-    assert_eq!(rt; answer, Some(refused(2, 4, 1)));
-    answered(&mut session, &cursor, event(alloc)?)?;
-    let differs = ClientFrame::Send {
-        number: 1,
-        payload: Blob::new(alloc),
-    };
-    let answer = answered(&mut session, &cursor, differs)?;
-    assert_eq!(rt; answer, Some(refused(2, 3, 2)));
-    let long = ClientFrame::Send {
-        number: 2,
-        payload: Blob::copy(alloc, &[0; 4097])?,
-    };
-    let answer = answered(&mut session, &cursor, long)?;
-    assert_eq!(rt; answer, Some(refused(2, 2, 4097)));
-    let ahead = ClientFrame::Snap {
-        time: 3,
-        bytes: Blob::new(alloc),
-    };
-    let answer = answered(&mut session, &cursor, ahead)?;
-    assert_eq!(rt; answer, Some(refused(3, 9, 2)));
+    let exchanges = [gap, FIRST_EVENT, differs, long, ahead];
+    try_all(&rt, &mut session, &cursor, &exchanges)?;
     session.call(&Request::Tick { now: u64::MAX })?;
-    let late = ClientFrame::Send {
-        number: 2,
-        payload: Blob::new(alloc),
+    let late = Exchange {
+        sent: Sent::Event {
+            number: 2,
+            length: 0,
+        },
+        answer: Some(refused(2, 6, 9_007_199_254_736_896)),
     };
-    let answer = answered(&mut session, &cursor, late)?;
-    assert_eq!(rt; answer, Some(refused(2, 6, 9_007_199_254_736_896)));
-    Ok(())
+    try_all(&rt, &mut session, &cursor, &[late])
 }
 
 /// A session with as many views as may be here, numbered from 1.
@@ -367,15 +400,32 @@ fn crowded(alloc: Global) -> Result<Session, Fail> {
     Ok(session)
 }
 
+/// The answer to the JOIN of a view.
+fn answer_to_join(session: &mut Session, view: u32, want: Want) -> Result<FrameNumbers, Fail> {
+    let (_, answer) = joined(session, view, want)?;
+    Ok(answer)
+}
+
 #[test]
 fn refused_joins_are_told_by_codes(rt: HostRuntime) -> Result<(), Fail> {
     let mut session = Session::new(rt.alloc());
-    let (_, answer) = joined(&mut session, 0, Want::Fresh)?;
-    assert_eq!(rt; answer, refused(1, 8, 0));
-    let (_, answer) = joined(&mut session, 7, Want::After(1))?;
-    assert_eq!(rt; answer, refused(1, 9, 0));
+    assert_eq!(rt;
+        answer_to_join(&mut session, 0, Want::Fresh)?,
+        refused(1, 8, 0)
+    );
+    assert_eq!(rt;
+        answer_to_join(&mut session, 7, Want::After(1))?,
+        refused(1, 9, 0)
+    );
+    Ok(())
+}
+
+#[test]
+fn a_full_session_takes_no_view(rt: HostRuntime) -> Result<(), Fail> {
     let mut session = crowded(rt.alloc())?;
-    let (_, answer) = joined(&mut session, 1025, Want::Fresh)?;
-    assert_eq!(rt; answer, refused(1, 7, 1024));
+    assert_eq!(rt;
+        answer_to_join(&mut session, 1025, Want::Fresh)?,
+        refused(1, 7, 1024)
+    );
     Ok(())
 }

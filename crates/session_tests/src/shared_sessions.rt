@@ -3,7 +3,7 @@ ghost use Rattle.std.specs.Prelude.{◌≡◌, ◌+◌, ◌<◌};
 ghost use Rattle.std.specs.Thread.{IsSync};
 ghost use Rattle.session_lock.specs.Passes.{numbers_held};
 
-use reflector_core::{Reply, Request, Session, Want};
+use reflector_core::{Refusal, Reply, Request, Session, Want};
 use session_lock::{Pass, SharedSession, Trust, TrustAll};
 use session_log::Log;
 use std::alloc::Global;
@@ -264,15 +264,22 @@ fn offer_and_join<R: Wait + Abort>(
     ensures first_numbers { numbers_held first.new ≡ numbers_held first.old }
     ensures second_numbers { numbers_held second.new ≡ numbers_held second.old }
 {
-    let printed = format!(in alloc; "{:?}", join_fresh(rt, shared, first)?)?;
-    assert_eq!(rt;
-        printed.as_str(),
-        "Joined { seq: 1, time: 5, last: 0, from: 0, base: None }"
+    assert!(rt;
+        matches!(
+            join_fresh(rt, shared, first)?,
+            Reply::Joined {
+                seq: 1,
+                time: 5,
+                last: 0,
+                from: 0,
+                base: None
+            }
+        )
     );
-    let printed = format!(in alloc; "{:?}", offer_world(rt, alloc, shared, second)?)?;
-    assert_eq!(rt; printed.as_str(), "Kept");
-    let printed = format!(in alloc; "{:?}", offer_world(rt, alloc, shared, first)?)?;
-    assert_eq!(rt; printed.as_str(), "Refused(Older { kept: 0 })");
+    let kept = offer_world(rt, alloc, shared, second)?;
+    assert!(rt; matches!(kept, Reply::Kept));
+    let older = offer_world(rt, alloc, shared, first)?;
+    assert!(rt; matches!(older, Reply::Refused(Refusal::Older { kept: 0 })));
     let Reply::Joined {
         base: Some(base),
         ..

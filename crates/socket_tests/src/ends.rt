@@ -1,8 +1,9 @@
 //! How links end and are given back.
 use crate::peers::{
-    ABC, Pair, ends, goes_on, greet, is_quiet, listening, meet, reads, says, sends, shake, tells,
+    ABC, Pair, Step, all_come, ends, goes_on, greet, listening, meet, reads, says, sends, shake,
+    tells,
 };
-use std::net::{Net as Sockets, Shutdown, TcpListener, TcpStream};
+use std::net::{Net as Sockets, TcpListener, TcpStream};
 use std::test::Fail;
 use tea_base::Text;
 use tea_io::Net;
@@ -12,14 +13,17 @@ use ws_link::WsNet;
 fn a_close_is_an_end_and_is_answered(rt: HostRuntime) -> Result<(), Fail> {
     let (mut net, address) = listening(rt.alloc(), rt)?;
     let mut pair = greet(&rt, &mut net, &address)?;
-    assert!(rt; says(&mut pair.peer, ABC));
-    assert!(rt; says(&mut pair.peer, b"\x88\x82\0\0\0\0\x03\xe8"));
-    assert!(rt; tells(&mut pair.link, b"abc"));
-    assert!(rt; ends(&mut pair.link));
-    assert!(rt; ends(&mut pair.link));
-    assert!(rt; !sends(&mut pair.link, b"late"));
-    assert!(rt; reads(&mut pair.peer, b"\x88\x02\x03\xe8"));
-    assert!(rt; reads(&mut pair.peer, b""));
+    let steps = [
+        Step::Says(ABC),
+        Step::Says(b"\x88\x82\0\0\0\0\x03\xe8"),
+        Step::Tells(b"abc"),
+        Step::Ends,
+        Step::Ends,
+        Step::SendsNothing,
+        Step::Reads(b"\x88\x02\x03\xe8"),
+        Step::Reads(b""),
+    ];
+    assert!(rt; all_come(&mut pair, &steps));
     Ok(())
 }
 
@@ -27,10 +31,13 @@ fn a_close_is_an_end_and_is_answered(rt: HostRuntime) -> Result<(), Fail> {
 fn an_orderly_end_of_tcp_is_an_end(rt: HostRuntime) -> Result<(), Fail> {
     let (mut net, address) = listening(rt.alloc(), rt)?;
     let mut pair = greet(&rt, &mut net, &address)?;
-    assert!(rt; says(&mut pair.peer, ABC));
-    assert!(rt; pair.peer.shutdown(Shutdown::Write).is_ok());
-    assert!(rt; tells(&mut pair.link, b"abc"));
-    assert!(rt; ends(&mut pair.link));
+    let steps = [
+        Step::Says(ABC),
+        Step::Shuts,
+        Step::Tells(b"abc"),
+        Step::Ends,
+    ];
+    assert!(rt; all_come(&mut pair, &steps));
     Ok(())
 }
 
@@ -38,10 +45,13 @@ fn an_orderly_end_of_tcp_is_an_end(rt: HostRuntime) -> Result<(), Fail> {
 fn an_end_in_the_midst_of_a_handshake_is_an_end(rt: HostRuntime) -> Result<(), Fail> {
     let (mut net, address) = listening(rt.alloc(), rt)?;
     let mut pair = meet(&rt, &mut net, &address)?;
-    assert!(rt; says(&mut pair.peer, b"GET / HT"));
-    assert!(rt; is_quiet(&mut pair.link));
-    assert!(rt; pair.peer.shutdown(Shutdown::Write).is_ok());
-    assert!(rt; ends(&mut pair.link));
+    let steps = [
+        Step::Says(b"GET / HT"),
+        Step::IsQuiet,
+        Step::Shuts,
+        Step::Ends,
+    ];
+    assert!(rt; all_come(&mut pair, &steps));
     Ok(())
 }
 

@@ -1,6 +1,6 @@
 //! How links fail, and that no other link is hurt.
 use crate::peers::{
-    ABC, Pair, fails, goes_on, greet, is_quiet, listening, reads, says, sends, tells,
+    ABC, Pair, Step, all_come, fails, goes_on, greet, listening, reads, says, sends,
 };
 use std::alloc::{AllocError, Global};
 use std::test::Fail;
@@ -51,13 +51,11 @@ fn half_a_frame_is_quiet(rt: HostRuntime) -> Result<(), Fail> {
     let (mut net, address) = listening(rt.alloc(), rt)?;
     let mut pair = greet(&rt, &mut net, &address)?;
     let mut other = greet(&rt, &mut net, &address)?;
-    assert!(rt; says(&mut pair.peer, &ABC[..7]));
-    assert!(rt; is_quiet(&mut pair.link));
-    assert!(rt; is_quiet(&mut pair.link));
+    let half = [Step::Says(&ABC[..7]), Step::IsQuiet, Step::IsQuiet];
+    assert!(rt; all_come(&mut pair, &half));
     assert!(rt; goes_on(&mut other));
-    assert!(rt; is_quiet(&mut pair.link));
-    assert!(rt; says(&mut pair.peer, b"bc"));
-    assert!(rt; tells(&mut pair.link, b"abc"));
+    let rest = [Step::IsQuiet, Step::Says(b"bc"), Step::Tells(b"abc")];
+    assert!(rt; all_come(&mut pair, &rest));
     Ok(())
 }
 

@@ -3,7 +3,7 @@ ghost use Rattle.std.specs.Prelude.{◌<◌, OnOk};
 
 use std::alloc::Global;
 use std::io::{Read, Write};
-use std::net::{Net as Sockets, TcpListener, TcpStream};
+use std::net::{Net as Sockets, Shutdown, TcpListener, TcpStream};
 use std::random::RandomSource;
 use std::test::Fail;
 use std::time::{Clock, Duration};
@@ -183,4 +183,46 @@ pub fn sends<L: Link>(link: &mut L, frame: &[u8]) -> bool {
 /// Whether a link still carries what its peer says.
 pub fn goes_on<L: Link>(pair: &mut Pair<L>) -> bool {
     says(&mut pair.peer, ABC) && tells(&mut pair.link, b"abc")
+}
+
+/// What comes next between a link and its peer.
+#[derive(Clone, Copy)]
+pub enum Step<'a> {
+    /// The peer says these bytes.
+    Says(&'a [u8]),
+    /// The peer says no more.
+    Shuts,
+    /// The peer reads these bytes.
+    Reads(&'a [u8]),
+    /// The link tells this frame.
+    Tells(&'a [u8]),
+    /// The link tells its end.
+    Ends,
+    /// The link is quiet.
+    IsQuiet,
+    /// The link sends no frame any more.
+    SendsNothing,
+}
+
+/// Whether a step comes.
+fn comes<L: Link>(pair: &mut Pair<L>, step: Step<'_>) -> bool {
+    match step {
+        Step::Says(bytes) => says(&mut pair.peer, bytes),
+        Step::Shuts => pair.peer.shutdown(Shutdown::Write).is_ok(),
+        Step::Reads(bytes) => reads(&mut pair.peer, bytes),
+        Step::Tells(frame) => tells(&mut pair.link, frame),
+        Step::Ends => ends(&mut pair.link),
+        Step::IsQuiet => is_quiet(&mut pair.link),
+        Step::SendsNothing => !sends(&mut pair.link, b"late"),
+    }
+}
+
+/// Whether all steps come in order.
+pub fn all_come<L: Link>(pair: &mut Pair<L>, steps: &[Step<'_>]) -> bool {
+    for step in steps {
+        if !comes(pair, *step) {
+            return false;
+        }
+    }
+    true
 }

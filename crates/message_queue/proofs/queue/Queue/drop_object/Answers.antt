@@ -17,14 +17,12 @@ rebuild-requires-clause-light c =
 
 pub invariant_of-self : goal.invariant_of-self
 invariant_of-self c =
-    held_left (λ (m : PlainMessage). not (nat_eq m.object c.args.object)) c.self.inside.messages.items c.remove_object.new.messages.items c.rebuild.new.messages.items c.self.inside.next c.self.inside.weight c.rebuild.new.weight c.self.invariant c.remove_object.ensures.kept c.rebuild.ensures.held c.remove_object.ensures.fewer
-    (λ less. c.rebuild.ensures.fewer (omega (arith, less, c.len-before.ensures)))
-    (λ long. c.rebuild.ensures.all (omega (arith, long, c.len-before.ensures)))
+    held_left (λ (m : PlainMessage). not (nat_eq m.object c.args.object)) c.self.inside.messages.items c.remove_object.new.messages.items c.rebuild.new.messages.items c.self.inside.next c.self.inside.weight c.rebuild.new.weight c.len-before.result c.self.invariant c.remove_object.ensures.kept c.rebuild.ensures.held (omega (arith, c.len-before.ensures))
+    (omega (arith, c.len-before.ensures, c.remove_object.ensures.fewer)) c.rebuild.ensures.fewer c.rebuild.ensures.all
 
 pub returns-clause-number : goal.returns-clause-number
 returns-clause-number c =
-    number_left c.args.self.now c.self.inside.messages.items c.rebuild.new.messages.items c.self.inside.next c.rebuild.result c.self.view_is
-    (omega (arith, c.len-before.ensures, c.rebuild.ensures.number))
+    number_left c.args.self.now c.self.inside.messages.items c.rebuild.new.messages.items c.self.inside.next c.len-before.result c.rebuild.result c.self.view_is (omega (arith, c.len-before.ensures)) c.rebuild.ensures.number
 
 pub returns-clause-queue : goal.returns-clause-queue
 returns-clause-queue c =

@@ -2,7 +2,7 @@
 ghost use Rattle.std.specs.Prelude.{IfOk};
 ghost use Rattle.tea_io.specs.MemNet.{HasNoCounts};
 
-use crate::case::number_of;
+use crate::words::number_of;
 use case_lines::CaseFault;
 use std::alloc::Global;
 use tea_base::{Blob, Numbers};

@@ -1,6 +1,6 @@
 use Rattle.std.proofs.lemmas.List.Elements.{All-push, All-same}
 use Rattle.tea_io.specs.MemNet.{HasNoCounts}
-use Rattle.view_cases.proofs.link.net_of.Goals as goal
+use Rattle.croquet_cases.proofs.link.net_of.Goals as goal
 
 -- the link behind the others is new too
 pub loop-part-preserved : goal.loop-part-preserved

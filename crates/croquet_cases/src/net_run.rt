@@ -1,17 +1,17 @@
 //! A run of `join` or `reflect` over files, a net and an output in memory.
-use crate::case::{Case, Faults, NetCases};
 use crate::link::net_of;
+use crate::net_case::{NetCase, NetCommand};
 use case_lines::{CaseFault, WantingSink};
 use croquet::{Status, croquet};
 use std::alloc::Global;
 use std::sync::Wait;
 use std::thread::Threads;
 use tea_base::{Blob, Numbers, Text, WantOfMemory, Words};
-use tea_io::{Files, FixedClock, MemFiles, MemNet, MemSink, NamedBlobs, OpenGate};
+use tea_io::{Files, FixedClock, MemFiles, MemNet, NamedBlobs, OpenGate};
 
 /// What a run came to.
 #[derive(Drop)]
-pub(crate) struct Run {
+pub(crate) struct NetRun {
     pub(crate) status: Status,
     pub(crate) text: Blob,
     pub(crate) files: MemFiles,
@@ -21,13 +21,13 @@ pub(crate) struct Run {
 /// Runs a case: the program lies in the file `p`, and the script in the file `s`. A reflector's log is put under `f`.
 pub(crate) fn run_case<R: Threads + Wait + Sync + AllocGlobal>(
     rt: &R,
-    case: &Case,
-) -> Result<Run, CaseFault> {
+    case: &NetCase,
+) -> Result<NetRun, CaseFault> {
     let alloc = rt.alloc();
     let words = words_of(alloc, case)?;
     let mut files = files_of(alloc, case)?;
     let net = net_of(alloc, case.links.as_slice(), case.faults.failing_net)?;
-    let mut output = output_of(alloc, case.faults)?;
+    let mut output = case.faults.output(alloc)?;
     let clock = FixedClock { at: 0 };
     let (net, status) = croquet(
         rt,
@@ -40,7 +40,7 @@ pub(crate) fn run_case<R: Threads + Wait + Sync + AllocGlobal>(
         &mut output,
     );
     let WantingSink { out, .. } = output;
-    Ok(Run {
+    Ok(NetRun {
         status,
         text: out.into_bytes(),
         files,
@@ -48,13 +48,13 @@ pub(crate) fn run_case<R: Threads + Wait + Sync + AllocGlobal>(
     })
 }
 
-fn words_of(alloc: Global, case: &Case) -> Result<Words, WantOfMemory> {
-    match case.kind {
-        NetCases::Views => copy_words(
+fn words_of(alloc: Global, case: &NetCase) -> Result<Words, WantOfMemory> {
+    match case.command {
+        NetCommand::Join => copy_words(
             alloc,
             &["join", "p", case.name, case.address, case.number, "s"],
         ),
-        NetCases::Reflectors => copy_words(
+        NetCommand::Reflect => copy_words(
             alloc,
             &[
                 "reflect",
@@ -79,19 +79,16 @@ fn copy_words(alloc: Global, texts: &[&str]) -> Result<Words, WantOfMemory> {
 }
 
 /// The files, of which one call fails, counted from behind the two writes that put them there.
-fn files_of(alloc: Global, case: &Case) -> Result<MemFiles, WantOfMemory> {
-    let failing = match case.faults.failing_file {
-        0 => 0,
-        number => number.saturating_add(2),
-    };
+fn files_of(alloc: Global, case: &NetCase) -> Result<MemFiles, WantOfMemory> {
+    let failing = case.faults.failing_file_behind(2);
     let failing = Numbers::from_vec(vec![in alloc; failing]?);
     let mut files = MemFiles::new(alloc, NamedBlobs::new(alloc), failing);
-    put_file(alloc, &mut files, "p", case.program)?;
-    put_file(alloc, &mut files, "s", case.script.as_slice())?;
+    write_file(alloc, &mut files, "p", case.program)?;
+    write_file(alloc, &mut files, "s", case.script.as_slice())?;
     Ok(files)
 }
 
-fn put_file(
+fn write_file(
     alloc: Global,
     files: &mut MemFiles,
     name: &str,
@@ -101,15 +98,4 @@ fn put_file(
         Ok(()) => Ok(()),
         Err(_) => Err(WantOfMemory),
     }
-}
-
-/// An output of which one call fails, and one wants memory.
-fn output_of(alloc: Global, faults: Faults) -> Result<WantingSink, WantOfMemory> {
-    let failing = Numbers::from_vec(vec![in alloc; faults.failing_output]?);
-    Ok(WantingSink {
-        out: MemSink::new(alloc, failing),
-        calls: 0,
-        wanting: faults.wanting_output,
-        wants: 0,
-    })
 }

@@ -1,6 +1,6 @@
 //! What a run comes to, in one line of a case.
-use crate::case::{Case, NetCases};
-use crate::run::Run;
+use crate::net_case::{NetCase, NetCommand};
+use crate::net_run::NetRun;
 use case_lines::told_lines;
 use std::alloc::{AllocError, Global};
 use tea_base::{Text, WantOfMemory};
@@ -8,7 +8,11 @@ use tea_io::{MemLink, MemNet, NetCall};
 
 /// What is printed and the status, a reflector's log, what was sent on each link that was given back, and how many were given back
 /// and asked for.
-pub(crate) fn told_run(alloc: Global, case: &Case, run: &Run) -> Result<String, WantOfMemory> {
+pub(crate) fn told_run(
+    alloc: Global,
+    case: &NetCase,
+    run: &NetRun,
+) -> Result<String, WantOfMemory> {
     let mut told = told_lines(alloc, run.text.bytes(), run.status.number())?;
     if let Some(log) = run.files.get(&Text::copy(alloc, "f")?) {
         told.push_str(" f=")?;
@@ -35,7 +39,7 @@ fn put_link(alloc: Global, told: &mut String, link: &MemLink) -> Result<(), Allo
 fn put_calls(
     alloc: Global,
     told: &mut String,
-    case: &Case,
+    case: &NetCase,
     net: &MemNet,
 ) -> Result<(), AllocError> {
     let calls = asked_for_links(case, net.asked());
@@ -52,7 +56,7 @@ fn put_calls(
 }
 
 /// The calls of a net, behind the one by which a reflector listens at its address.
-fn asked_for_links<'a>(case: &Case, calls: &'a [NetCall]) -> &'a [NetCall] {
+fn asked_for_links<'a>(case: &NetCase, calls: &'a [NetCall]) -> &'a [NetCall] {
     match calls {
         [first, rest @ ..] if is_listen(case, first) => rest,
         _ => calls,
@@ -60,18 +64,18 @@ fn asked_for_links<'a>(case: &Case, calls: &'a [NetCall]) -> &'a [NetCall] {
 }
 
 /// Whether a call asks for one of the command's links.
-fn asks_for_link(case: &Case, call: &NetCall) -> bool {
-    match case.kind {
-        NetCases::Views => is_connect(call, case.address),
-        NetCases::Reflectors => matches!(call, NetCall::Accept),
+fn asks_for_link(case: &NetCase, call: &NetCall) -> bool {
+    match case.command {
+        NetCommand::Join => is_connect(call, case.address),
+        NetCommand::Reflect => matches!(call, NetCall::Accept),
     }
 }
 
 /// Whether a call is that by which the command's reflector listens.
-fn is_listen(case: &Case, call: &NetCall) -> bool {
-    match case.kind {
-        NetCases::Views => false,
-        NetCases::Reflectors => match call {
+fn is_listen(case: &NetCase, call: &NetCall) -> bool {
+    match case.command {
+        NetCommand::Join => false,
+        NetCommand::Reflect => match call {
             NetCall::Listen(at) => at.as_str() == case.address,
             _ => false,
         },
