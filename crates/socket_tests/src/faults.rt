@@ -1,61 +1,58 @@
 //! How links fail, and that no other link is hurt.
 use crate::peers::{
-    ABC, Pair, Step, all_come, fails, goes_on, greet, listening, reads, says, sends,
+    ABC, Pair, Step, all_come, fails, goes_on, greet, greet_beside, listening, sends,
 };
 use std::alloc::{AllocError, Global};
 use std::test::Fail;
 use tea_io::Link;
 
-/// Whether a link fails at what its peer says, and from then on.
-fn fails_at<L: Link>(pair: &mut Pair<L>, bytes: &[u8]) -> bool {
-    says(&mut pair.peer, bytes)
-        && fails(&mut pair.link)
-        && fails(&mut pair.link)
-        && !sends(&mut pair.link, b"late")
-}
-
 #[test]
-fn a_text_is_a_fault_of_one_link(rt: HostRuntime) -> Result<(), Fail> {
+fn a_fault_of_one_link_hurts_no_other(rt: HostRuntime) -> Result<(), Fail> {
     let (mut net, address) = listening(rt.alloc(), rt)?;
-    let mut pair = greet(&rt, &mut net, &address)?;
-    let mut other = greet(&rt, &mut net, &address)?;
-    assert!(rt; fails_at(&mut pair, b"\x81\x82\0\0\0\0hi"));
-    assert!(rt; reads(&mut pair.peer, b"\x88\x02\x03\xea"));
-    assert!(rt; goes_on(&mut other));
+    let faults: [&[u8]; 3] = [
+        // A text.
+        b"\x81\x82\0\0\0\0hi",
+        // 8,388,609 bytes are to come. The header is enough.
+        b"\x82\xff\0\0\0\0\0\x80\0\x01\0\0\0\0a",
+        // No mask.
+        b"\x82\x01a",
+    ];
+    for bytes in faults {
+        let mut neighbors = greet_beside(&rt, &mut net, &address)?;
+        let steps = [
+            Step::Says(bytes),
+            Step::Fails,
+            Step::Fails,
+            Step::SendsNothing,
+        ];
+        assert!(rt; all_come(&mut neighbors.first, &steps));
+        assert!(rt; goes_on(&mut neighbors.other));
+    }
     Ok(())
 }
 
 #[test]
-fn a_message_that_is_too_long_is_a_fault_of_one_link(rt: HostRuntime) -> Result<(), Fail> {
+fn a_peer_that_sends_a_text_is_told_so(rt: HostRuntime) -> Result<(), Fail> {
     let (mut net, address) = listening(rt.alloc(), rt)?;
     let mut pair = greet(&rt, &mut net, &address)?;
-    let mut other = greet(&rt, &mut net, &address)?;
-    // 8,388,609 bytes are to come. The header is enough.
-    assert!(rt; fails_at(&mut pair, b"\x82\xff\0\0\0\0\0\x80\0\x01\0\0\0\0a"));
-    assert!(rt; goes_on(&mut other));
-    Ok(())
-}
-
-#[test]
-fn a_frame_without_a_mask_is_a_fault_of_one_link(rt: HostRuntime) -> Result<(), Fail> {
-    let (mut net, address) = listening(rt.alloc(), rt)?;
-    let mut pair = greet(&rt, &mut net, &address)?;
-    let mut other = greet(&rt, &mut net, &address)?;
-    assert!(rt; fails_at(&mut pair, b"\x82\x01a"));
-    assert!(rt; goes_on(&mut other));
+    let steps = [
+        Step::Says(b"\x81\x82\0\0\0\0hi"),
+        Step::Fails,
+        Step::Reads(b"\x88\x02\x03\xea"),
+    ];
+    assert!(rt; all_come(&mut pair, &steps));
     Ok(())
 }
 
 #[test]
 fn half_a_frame_is_quiet(rt: HostRuntime) -> Result<(), Fail> {
     let (mut net, address) = listening(rt.alloc(), rt)?;
-    let mut pair = greet(&rt, &mut net, &address)?;
-    let mut other = greet(&rt, &mut net, &address)?;
+    let mut neighbors = greet_beside(&rt, &mut net, &address)?;
     let half = [Step::Says(&ABC[..7]), Step::IsQuiet, Step::IsQuiet];
-    assert!(rt; all_come(&mut pair, &half));
-    assert!(rt; goes_on(&mut other));
+    assert!(rt; all_come(&mut neighbors.first, &half));
+    assert!(rt; goes_on(&mut neighbors.other));
     let rest = [Step::IsQuiet, Step::Says(b"bc"), Step::Tells(b"abc")];
-    assert!(rt; all_come(&mut pair, &rest));
+    assert!(rt; all_come(&mut neighbors.first, &rest));
     Ok(())
 }
 
@@ -91,9 +88,8 @@ fn send_fails<L: Link>(alloc: Global, link: &mut L) -> Result<bool, AllocError> 
 fn a_peer_that_does_not_read_is_a_fault_of_one_link(rt: HostRuntime) -> Result<(), Fail> {
     let alloc = rt.alloc();
     let (mut net, address) = listening(alloc, rt)?;
-    let mut pair = greet(&rt, &mut net, &address)?;
-    let mut other = greet(&rt, &mut net, &address)?;
-    assert!(rt; matches!(send_fails(alloc, &mut pair.link), Ok(true)));
-    assert!(rt; goes_on(&mut other));
+    let mut neighbors = greet_beside(&rt, &mut net, &address)?;
+    assert!(rt; matches!(send_fails(alloc, &mut neighbors.first.link), Ok(true)));
+    assert!(rt; goes_on(&mut neighbors.other));
     Ok(())
 }

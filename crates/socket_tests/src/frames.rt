@@ -1,5 +1,5 @@
 //! What links carry.
-use crate::peers::{answers, ends, goes_on, greet, listening, says, sends, shake, tells, told};
+use crate::peers::{ABC, Step, all_come, ends, greet, listening, sends, shake, tells, told};
 use std::alloc::Global;
 use std::net::{Net as Sockets, TcpListener, TcpStream};
 use std::random::RandomSource;
@@ -48,18 +48,23 @@ fn a_frame_comes_back_to_another_client(rt: HostRuntime) -> Result<(), Fail> {
     Ok(())
 }
 
+/// Whether two frames go one way, and one goes the other.
+fn go_each_way<L: Link>(client: &mut L, server: &mut L) -> bool {
+    sends(client, b"one")
+        && sends(client, b"")
+        && tells(server, b"one")
+        && tells(server, b"")
+        && sends(server, b"two")
+        && tells(client, b"two")
+}
+
 #[test]
 fn frames_go_each_way(rt: HostRuntime) -> Result<(), Fail> {
     let (mut net, address) = listening(rt.alloc(), rt)?;
     let mut client = net.connect(&address)?;
     let mut server = net.accept()?;
     assert!(rt; shake(&mut client, &mut server));
-    assert!(rt; sends(&mut client, b"one"));
-    assert!(rt; sends(&mut client, b""));
-    assert!(rt; tells(&mut server, b"one"));
-    assert!(rt; tells(&mut server, b""));
-    assert!(rt; sends(&mut server, b"two"));
-    assert!(rt; tells(&mut client, b"two"));
+    assert!(rt; go_each_way(&mut client, &mut server));
     Ok(())
 }
 
@@ -67,16 +72,15 @@ fn frames_go_each_way(rt: HostRuntime) -> Result<(), Fail> {
 fn pings_are_answered_and_fragments_are_one_frame(rt: HostRuntime) -> Result<(), Fail> {
     let (mut net, address) = listening(rt.alloc(), rt)?;
     let mut pair = greet(&rt, &mut net, &address)?;
-    assert!(rt; says(&mut pair.peer, b"\x89\x81\0\0\0\0p"));
-    assert!(rt; answers(&mut pair, b"\x8a\x01p"));
-    assert!(rt;
-        says(
-            &mut pair.peer,
-            b"\x02\x81\0\0\0\0a\x89\x80\0\0\0\0\x80\x82\0\0\0\0bc"
-        )
-    );
-    assert!(rt; tells(&mut pair.link, b"abc"));
-    assert!(rt; goes_on(&mut pair));
+    let steps = [
+        Step::Says(b"\x89\x81\0\0\0\0p"),
+        Step::Answers(b"\x8a\x01p"),
+        Step::Says(b"\x02\x81\0\0\0\0a\x89\x80\0\0\0\0\x80\x82\0\0\0\0bc"),
+        Step::Tells(b"abc"),
+        Step::Says(ABC),
+        Step::Tells(b"abc"),
+    ];
+    assert!(rt; all_come(&mut pair, &steps));
     Ok(())
 }
 

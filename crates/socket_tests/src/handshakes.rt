@@ -1,7 +1,7 @@
 //! How links begin.
 use crate::peers::{
-    ABC, ACCEPT, Pair, REQUEST, answer, fails, free_address, goes_on, greet, is_quiet, listening,
-    meet, read_next, says, tells,
+    ABC, ACCEPT, Neighbors, Pair, REQUEST, Step, all_come, answer, fails, free_address, goes_on,
+    is_quiet, listening, meet, meet_beside, read_next, says,
 };
 use std::net::{Net as Sockets, TcpListener, TcpStream};
 use std::test::Fail;
@@ -25,6 +25,11 @@ fn is_acceptance(bytes: &[u8]) -> bool {
     bytes.starts_with(b"HTTP/1.1 101 ") && bytes.windows(28).any(|part| part == ACCEPT)
 }
 
+/// Whether the peer reads next that the key is accepted.
+fn accepts(peer: &mut TcpStream) -> bool {
+    read_next(peer).is_some_and(|piece| is_acceptance(piece.bytes()))
+}
+
 /// Whether these bytes ask for the root.
 fn is_request(bytes: &[u8]) -> bool {
     bytes.starts_with(b"GET / HTTP/1.1\r\n")
@@ -42,20 +47,23 @@ fn the_key_of_the_standard_is_answered(rt: HostRuntime) -> Result<(), Fail> {
 #[test]
 fn a_bad_handshake_is_a_fault_of_one_link(rt: HostRuntime) -> Result<(), Fail> {
     let (mut net, address) = listening(rt.alloc(), rt)?;
-    let mut other = greet(&rt, &mut net, &address)?;
-    let mut pair = meet(&rt, &mut net, &address)?;
-    assert!(rt; says(&mut pair.peer, b"GET / HTTP/1.1\r\nHost: here\r\n\r\n"));
-    assert!(rt; fails(&mut pair.link));
-    assert!(rt; fails(&mut pair.link));
-    assert!(rt; goes_on(&mut other));
+    let mut neighbors = meet_beside(&rt, &mut net, &address)?;
+    let steps = [
+        Step::Says(b"GET / HTTP/1.1\r\nHost: here\r\n\r\n"),
+        Step::Fails,
+        Step::Fails,
+    ];
+    assert!(rt; all_come(&mut neighbors.first, &steps));
+    assert!(rt; goes_on(&mut neighbors.other));
     assert_eq!(rt; net.faults(), 0);
     Ok(())
 }
 
 /// Whether these bytes are taken one at a time, the link being quiet at each, while another goes on.
-fn takes_each<L: Link>(pair: &mut Pair<L>, other: &mut Pair<L>, bytes: &[u8]) -> bool {
+fn takes_each<L: Link>(neighbors: &mut Neighbors<L>, bytes: &[u8]) -> bool {
     for byte in bytes {
-        if !says(&mut pair.peer, &[*byte]) || !is_quiet(&mut pair.link) || !goes_on(other) {
+        let steps = [Step::Says(&[*byte]), Step::IsQuiet];
+        if !all_come(&mut neighbors.first, &steps) || !goes_on(&mut neighbors.other) {
             return false;
         }
     }
@@ -65,13 +73,12 @@ fn takes_each<L: Link>(pair: &mut Pair<L>, other: &mut Pair<L>, bytes: &[u8]) ->
 #[test]
 fn bytes_may_come_one_at_a_time(rt: HostRuntime) -> Result<(), Fail> {
     let (mut net, address) = listening(rt.alloc(), rt)?;
-    let mut other = greet(&rt, &mut net, &address)?;
-    let mut pair = meet(&rt, &mut net, &address)?;
-    assert!(rt; takes_each(&mut pair, &mut other, REQUEST));
-    assert!(rt; read_next(&mut pair.peer).is_some_and(|piece| is_acceptance(piece.bytes())));
-    assert!(rt; takes_each(&mut pair, &mut other, &ABC[..8]));
-    assert!(rt; says(&mut pair.peer, b"c"));
-    assert!(rt; tells(&mut pair.link, b"abc"));
+    let mut neighbors = meet_beside(&rt, &mut net, &address)?;
+    assert!(rt; takes_each(&mut neighbors, REQUEST));
+    assert!(rt; accepts(&mut neighbors.first.peer));
+    assert!(rt; takes_each(&mut neighbors, &ABC[..8]));
+    let rest = [Step::Says(b"c"), Step::Tells(b"abc")];
+    assert!(rt; all_come(&mut neighbors.first, &rest));
     Ok(())
 }
 

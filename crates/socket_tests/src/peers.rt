@@ -75,6 +75,41 @@ where
     Ok(pair)
 }
 
+/// Two links of one net, each with its peer.
+#[derive(Drop)]
+pub struct Neighbors<L> {
+    pub first: Pair<L>,
+    pub other: Pair<L>,
+}
+
+/// A link to a peer that has said nothing yet, beside one that has answered.
+pub fn meet_beside<R, N: Net>(
+    rt: &R,
+    net: &mut N,
+    address: &Text,
+) -> Result<Neighbors<N::Conn>, Fail>
+where
+    R: Sockets<Listener = TcpListener, Stream = TcpStream>,
+{
+    let other = greet(rt, net, address)?;
+    let first = meet(rt, net, address)?;
+    Ok(Neighbors { first, other })
+}
+
+/// Two links that peers have asked for by hand, and that have answered.
+pub fn greet_beside<R, N: Net>(
+    rt: &R,
+    net: &mut N,
+    address: &Text,
+) -> Result<Neighbors<N::Conn>, Fail>
+where
+    R: Sockets<Listener = TcpListener, Stream = TcpStream>,
+{
+    let other = greet(rt, net, address)?;
+    let first = greet(rt, net, address)?;
+    Ok(Neighbors { first, other })
+}
+
 /// What reads have given.
 #[derive(Drop)]
 pub struct Piece {
@@ -121,7 +156,7 @@ pub fn answer<L: Link>(link: &mut L, peer: &mut TcpStream) -> Option<Piece> {
 }
 
 /// Whether a link answers by these bytes while it is quiet.
-pub fn answers<L: Link>(pair: &mut Pair<L>, bytes: &[u8]) -> bool {
+fn answers<L: Link>(pair: &mut Pair<L>, bytes: &[u8]) -> bool {
     answer(&mut pair.link, &mut pair.peer).is_some_and(|piece| piece.bytes() == bytes)
 }
 
@@ -194,10 +229,14 @@ pub enum Step<'a> {
     Shuts,
     /// The peer reads these bytes.
     Reads(&'a [u8]),
+    /// The link answers by these bytes while it is quiet.
+    Answers(&'a [u8]),
     /// The link tells this frame.
     Tells(&'a [u8]),
     /// The link tells its end.
     Ends,
+    /// The link fails.
+    Fails,
     /// The link is quiet.
     IsQuiet,
     /// The link sends no frame any more.
@@ -210,8 +249,10 @@ fn comes<L: Link>(pair: &mut Pair<L>, step: Step<'_>) -> bool {
         Step::Says(bytes) => says(&mut pair.peer, bytes),
         Step::Shuts => pair.peer.shutdown(Shutdown::Write).is_ok(),
         Step::Reads(bytes) => reads(&mut pair.peer, bytes),
+        Step::Answers(bytes) => answers(pair, bytes),
         Step::Tells(frame) => tells(&mut pair.link, frame),
         Step::Ends => ends(&mut pair.link),
+        Step::Fails => fails(&mut pair.link),
         Step::IsQuiet => is_quiet(&mut pair.link),
         Step::SendsNothing => !sends(&mut pair.link, b"late"),
     }

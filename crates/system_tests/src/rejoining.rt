@@ -2,11 +2,13 @@
 ghost use Rattle.std.specs.Prelude.{IfOk};
 ghost use Rattle.system_core.specs.Schedules.{AreInBounds, IsInBounds};
 
-use crate::systems::{ID, checked, expect, receive, replayed, snapped, take};
+use crate::systems::{ID, checked, expect, expect_replay, receive, take};
+use model_check::Checked;
 use model_value::Value;
 use replica_plain::How;
 use std::alloc::Global;
 use std::process::Abort;
+use std::sync::Arc;
 use std::test::Fail;
 use system_core::{Schedule, ScheduleStep, System, run};
 use tea_base::{Entry, Text, WantOfMemory, What};
@@ -40,14 +42,18 @@ fn act(system: &mut System, connection: u32) -> Result<(), Fail> {
     take(system, ScheduleStep::Take { connection, now: 0 })
 }
 
-/// View 7 joins, and publishes an event whose answer is lost.
-fn lose_an_answer<R: Abort>(rt: &R, alloc: Global, system: &mut System) -> Result<(), Fail> {
+/// View 7 joins.
+fn join<R: Abort>(rt: &R, alloc: Global, system: &mut System) -> Result<(), Fail> {
     expect(rt, alloc, system, 7, " |")?;
     take(system, ScheduleStep::Found { view: 7 })?;
     expect(rt, alloc, system, 7, "time 0 seen 0 settled |")?;
     act(system, 0)?;
     receive(system, 7, 1)?;
-    expect(rt, alloc, system, 7, "time 0 seen 0 settled | Join 1")?;
+    expect(rt, alloc, system, 7, "time 0 seen 0 settled | Join 1")
+}
+
+/// It publishes an event whose answer is lost.
+fn lose_an_answer<R: Abort>(rt: &R, alloc: Global, system: &mut System) -> Result<(), Fail> {
     take(system, publication(alloc)?)?;
     take(system, ScheduleStep::Transmit { view: 7 })?;
     expect(rt, alloc, system, 7, "time 0 seen 0 waits | Join 1")?;
@@ -93,16 +99,26 @@ fn catch_up<R: Abort>(rt: &R, alloc: Global, system: &mut System) -> Result<(), 
     Ok(())
 }
 
+/// The system behind all that.
+fn rejoined<R: Abort>(
+    rt: &R,
+    alloc: Global,
+    program: Arc<Checked, Global>,
+) -> Result<System, Fail> {
+    let mut system = System::first(alloc, program, ID)?;
+    join(rt, alloc, &mut system)?;
+    lose_an_answer(rt, alloc, &mut system)?;
+    rejoin(rt, alloc, &mut system)?;
+    catch_up(rt, alloc, &mut system)?;
+    Ok(system)
+}
+
 #[test]
 fn a_view_gives_its_event_again(rt: HostRuntime) -> Result<(), Fail> {
     let alloc = rt.alloc();
     let program = checked(alloc, SMALL)?;
-    let mut system = System::first(alloc, program.clone()?, ID)?;
-    lose_an_answer(&rt, alloc, &mut system)?;
-    rejoin(&rt, alloc, &mut system)?;
-    catch_up(&rt, alloc, &mut system)?;
-    let replay = replayed(alloc, program, &system, 7)?;
-    assert!(rt; snapped(&system, 7)? == replay);
+    let mut system = rejoined(&rt, alloc, program.clone()?)?;
+    expect_replay(&rt, alloc, program, &system, 7)?;
     // The old connection ends, and its view does not leave.
     act(&mut system, 0)?;
     expect(&rt, alloc, &system, 7, END)?;
@@ -160,7 +176,5 @@ fn a_schedule_is_run(rt: HostRuntime) -> Result<(), Fail> {
     let program = checked(alloc, SMALL)?;
     let system = run(alloc, program.clone()?, ID, &schedule(alloc)?)?;
     expect(&rt, alloc, &system, 7, END)?;
-    let replay = replayed(alloc, program, &system, 7)?;
-    assert!(rt; snapped(&system, 7)? == replay);
-    Ok(())
+    expect_replay(&rt, alloc, program, &system, 7)
 }

@@ -1,8 +1,11 @@
 //! A view that loses its world and begins with a kept snapshot, and another one that has all entries.
-use crate::systems::{ID, checked, expect, receive, replayed, snapped, take};
+use crate::systems::{ID, checked, expect, expect_replay, receive, snapped, take};
+use model_check::Checked;
 use model_value::Value;
 use replica_plain::How;
 use std::alloc::Global;
+use std::process::Abort;
+use std::sync::Arc;
 use std::test::Fail;
 use system_core::{ScheduleStep, System};
 use tea_base::Text;
@@ -62,27 +65,47 @@ fn restart(system: &mut System) -> Result<(), Fail> {
     receive(system, 7, 3)
 }
 
-#[test]
-fn a_kept_snapshot_leads_to_the_same_world(rt: HostRuntime) -> Result<(), Fail> {
-    let alloc = rt.alloc();
-    let program = checked(alloc, COUNTER)?;
-    let mut system = System::first(alloc, program.clone()?, ID)?;
+/// View 8 takes what is new at seven seconds.
+fn go_on(system: &mut System) -> Result<(), Fail> {
+    pump(system, 1, 7_000_000)?;
+    receive(system, 8, 5)
+}
+
+/// The system of which the snapshot of view 7 is kept.
+fn kept<R: Abort>(rt: &R, alloc: Global, program: Arc<Checked, Global>) -> Result<System, Fail> {
+    let mut system = System::first(alloc, program, ID)?;
     found(&mut system, 7, 0, 0)?;
     found(&mut system, 8, 1, 1_000_000)?;
     reset(alloc, &mut system)?;
     keep(&mut system)?;
-    expect(&rt, alloc, &system, 7, KEPT)?;
+    expect(rt, alloc, &system, 7, KEPT)?;
+    Ok(system)
+}
+
+/// The view has come to the end, from this base.
+fn expect_end<R: Abort>(
+    rt: &R,
+    alloc: Global,
+    system: &System,
+    view: u32,
+    base: Option<u64>,
+) -> Result<(), Fail> {
+    expect(rt, alloc, system, view, END)?;
+    let replica = system.replica(view).ok_or("no replica")?;
+    assert_eq!(rt; replica.base(), base);
+    Ok(())
+}
+
+#[test]
+fn a_kept_snapshot_leads_to_the_same_world(rt: HostRuntime) -> Result<(), Fail> {
+    let alloc = rt.alloc();
+    let program = checked(alloc, COUNTER)?;
+    let mut system = kept(&rt, alloc, program.clone()?)?;
     assert_eq!(rt; system.session().kept_time(), Some(4_000_000));
     restart(&mut system)?;
-    pump(&mut system, 1, 7_000_000)?;
-    receive(&mut system, 8, 5)?;
-    for (view, base) in [(7, Some(4_000_000)), (8, None)] {
-        expect(&rt, alloc, &system, view, END)?;
-        let replica = system.replica(view).ok_or("no replica")?;
-        assert_eq!(rt; replica.base(), base);
-    }
-    let restarted = snapped(&system, 7)?;
-    assert!(rt; snapped(&system, 8)? == restarted);
-    assert!(rt; replayed(alloc, program, &system, 8)? == restarted);
-    Ok(())
+    go_on(&mut system)?;
+    expect_end(&rt, alloc, &system, 7, Some(4_000_000))?;
+    expect_end(&rt, alloc, &system, 8, None)?;
+    assert!(rt; snapped(&system, 7)? == snapped(&system, 8)?);
+    expect_replay(&rt, alloc, program, &system, 8)
 }

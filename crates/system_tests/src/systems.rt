@@ -81,6 +81,19 @@ fn put_log(alloc: Global, told: &mut String, log: &Log) -> Result<(), Fail> {
     Ok(())
 }
 
+/// The view's replica has the snapshot of the replay of the log to its time.
+pub(crate) fn expect_replay<R: Abort>(
+    rt: &R,
+    alloc: Global,
+    program: Arc<Checked, Global>,
+    system: &System,
+    view: u32,
+) -> Result<(), Fail> {
+    let replay = replayed(alloc, program, system, view)?;
+    assert!(rt; snapped(system, view)? == replay);
+    Ok(())
+}
+
 /// The snapshot of a view's replica.
 pub(crate) fn snapped(system: &System, view: u32) -> Result<Blob, Fail> {
     let replica = system.replica(view).ok_or("no replica")?;
@@ -88,7 +101,7 @@ pub(crate) fn snapped(system: &System, view: u32) -> Result<Blob, Fail> {
 }
 
 /// The snapshot of the replay of the system's log to the time of a view's replica.
-pub(crate) fn replayed(
+fn replayed(
     alloc: Global,
     program: Arc<Checked, Global>,
     system: &System,
