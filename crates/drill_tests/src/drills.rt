@@ -1,8 +1,8 @@
 //! Drills of a few views and events.
 ghost use Rattle.std.specs.Prelude.{◌≡◌, ◌≤◌};
 
-use crate::gates::OtherAhead;
 use drill::{DrillReport, Size, drill};
+use held_gate::HeldGate;
 use std::alloc::Global;
 use std::process::Abort;
 use std::sync::Wait;
@@ -102,7 +102,7 @@ fn two_views<R: Threads + Wait + Abort + Sync>(
     alloc: Global,
     held: u32,
 ) -> Result<(), Fail> {
-    let gate = OtherAhead::new(held);
+    let gate = HeldGate::new(held, 2);
     let report = drilled(rt, alloc, &gate, size(0, 2, 2))?;
     assert!(rt; gate.held());
     assert_eq!(rt; report.agree, 2);

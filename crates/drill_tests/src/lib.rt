@@ -3,5 +3,3 @@
 
 #[cfg(test)]
 mod drills;
-#[cfg(test)]
-mod gates;

@@ -2,8 +2,6 @@
 #![tactic(auto)]
 
 #[cfg(test)]
-mod gates;
-#[cfg(test)]
 mod links;
 #[cfg(test)]
 mod runs;

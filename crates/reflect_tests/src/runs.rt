@@ -2,9 +2,9 @@
 ghost use Rattle.std.specs.Prelude.{◌≤◌};
 ghost use Rattle.tea_io.specs.MemNet.{HasNoCounts};
 
-use crate::gates::OtherFirst;
 use crate::links::{FIRST_SEND, LEAVE, link_of};
 use connection::Ended;
+use held_gate::HeldGate;
 use reflect_server::{Reflected, ServeFault, Server, reflect};
 use std::alloc::Global;
 use std::process::Abort;
@@ -143,9 +143,11 @@ fn two_views<R: Threads + Wait + Abort + Sync>(
     links.push(link_of(alloc, 7, &[FIRST_SEND], Numbers::new(alloc))?)?;
     links.push(link_of(alloc, 8, &[LEAVE], Numbers::new(alloc))?)?;
     let net = MemNet::new(alloc, links, Numbers::new(alloc));
-    let gate = OtherFirst::new(held);
+    let gate = HeldGate::new(held, 1);
     let (net, result) = reflected(rt, alloc, net, 2, &gate)?;
     assert!(rt; gate.held());
+    // Each came to its first turn alone.
+    assert_eq!(rt; gate.passes(), 2);
     let Ok(reflected) = result else {
         return Err("nothing was reflected")?;
     };
