@@ -15,7 +15,7 @@ use Rattle.world_plain.specs.World.{WorldRecord}
 use Rattle.world.specs.View.{WorldView}
 use Rattle.world.specs.Worlds.{Scene, entries_behind, external, first_scene, replay_from}
 use Rattle.commands.specs.declared.recording.Recording.{Recording}
-use Rattle.commands.specs.Work.{Opens, opened, start_time, world_at}
+use Rattle.commands.specs.Work.{Opens, start_scene, start_time, world_at}
 
 here : (entries : List Entry) (i : ℕ) (entry : Entry) → slice_get entries i ≡ Some entry → drop i entries ≡ entry ∷ drop (i + 1) entries
 here entries i entry got =
@@ -141,7 +141,7 @@ starts_on time entries n w is legal whole early =
 
 -- a world that was opened and went on is that of the replay
 begun_at : (recording : Recording) (start : Option WorldRecord) (time : ℕ) → IsLegal recording.log.entries
-    → (replay_from (program_tree recording.program) time (entries_behind (start_time start) recording.log.entries) (opened (program_tree recording.program) recording.id.0 start)).world ≡ world_at recording time start
+    → (replay_from (program_tree recording.program) time (entries_behind (start_time start) recording.log.entries) (start_scene (program_tree recording.program) recording.id.0 start)).world ≡ world_at recording time start
 begun_at recording None time legal =
     let tree = program_tree recording.program in
     ap (λ (es : List Entry). (replay_from tree time es (first_scene tree recording.id.0)).world) (all_later 0 0 recording.log.entries (omega arith) (TimesRise-legal recording.log.entries legal)).1

@@ -144,9 +144,9 @@ world_at recording time None = (replay (program_tree recording.program) recordin
 world_at recording time (Some w) = (replay_on (program_tree recording.program) w recording.log.entries time).world
 
 -- what a replay begins with: the first world of a session, or one that is taken up
-abbrev pub opened : ProgramTree → List ℕ → Option WorldRecord → Scene
-opened tree id None = first_world tree id
-opened tree id (Some w) = take_up w
+abbrev pub start_scene : ProgramTree → List ℕ → Option WorldRecord → Scene
+start_scene tree id None = first_world tree id
+start_scene tree id (Some w) = take_up w
 
 -- its time
 abbrev pub start_time : Option WorldRecord → ℕ
@@ -155,7 +155,7 @@ start_time (Some w) = w.time
 
 -- a world that is opened, and not broken
 pub record Opens (world : WorldView) (program : List Class) (id : List ℕ) (start : Option WorldRecord) : Type 0 where
-  pub opened : world ≡ record { program = program; scene = opened (program_tree program) id start; broken = false }
+  pub opened : world ≡ record { program = program; scene = start_scene (program_tree program) id start; broken = false }
   pub time : world.scene.world.time ≡ start_time start
 
 -- a world's line and its snapshot

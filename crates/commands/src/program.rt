@@ -7,7 +7,7 @@ ghost use Rattle.commands.specs.Work.{IsUnread, IsUnsound, ProgramEnd};
 
 use model_check::{CheckFault, Checked, check};
 use model_lang::{Bound, LangFault, parse};
-use std::alloc::{AllocError, Global};
+use std::alloc::Global;
 use tea_base::{Blob, Text, WantOfMemory};
 use text_lines::spell_numbers;
 
@@ -17,14 +17,6 @@ pub(crate) enum ProgramFault {
     /// It is refused, with the line that tells why.
     Refused { line: Blob },
     WantOfMemory,
-}
-
-impl From<AllocError> for ProgramFault {
-    ghost from_gives = { λ _ fault. fault ≡ WantOfMemory };
-
-    fn from(_: AllocError) -> Self {
-        ProgramFault::WantOfMemory
-    }
 }
 
 impl From<tea_base::WantOfMemory> for ProgramFault {

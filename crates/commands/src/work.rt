@@ -57,10 +57,10 @@ pub enum Next {
 }
 
 /// The most bytes of a script.
-const SCRIPT_LIMIT: u64 = 16777216;
+const MOST_SCRIPT: u64 = 16_777_216;
 
 /// The most bytes of a log.
-const LOG_LIMIT: u64 = 134217728;
+const MOST_LOG: u64 = 134_217_728;
 
 impl Next {
     /// What a command does first, or the refusal of words that ask for none.
@@ -119,9 +119,9 @@ impl Waiting {
         ensures { result ≡ (ask_of self.now).limit }
     {
         match self.input() {
-            Input::Script => SCRIPT_LIMIT,
+            Input::Script => MOST_SCRIPT,
             Input::Program => MOST_PROGRAM_BYTES as u64,
-            Input::Log => LOG_LIMIT,
+            Input::Log => MOST_LOG,
             Input::Snapshot => MOST_SNAPSHOT as u64,
             Input::Time => 0,
             Input::Address => 0,

@@ -4,7 +4,7 @@ use Rattle.std.specs.List.{AllByRecursion}
 use Rattle.std.proofs.lemmas.List.{append-nil, drop_more}
 use Rattle.tea_base.specs.declared.entry.SessionId.{SessionId}
 use Rattle.tea_base.specs.declared.want.WantOfMemory.{WantOfMemory}
-use Rattle.tea_io.specs.Told.{grown, Rose}
+use Rattle.tea_io.specs.Told.{with_more, Rose}
 use Rattle.tea_io.specs.Links.{CountRises, NoneFalls, SendCause, Sends as LinkSends, most_quiets, note_of}
 use Rattle.tea_io.specs.declared.link.Heard.{Heard}
 use Rattle.tea_io.specs.declared.link.Heard.TheVariants as heard
@@ -48,13 +48,13 @@ use Rattle.connection.proofs.Counting.{count_on, count_one, none_falls}
 
 -- ---- lists that are told
 
-pub grown_none : {A : Type 0} (told : Option (List A)) → grown told [] ≡ told
-grown_none None = refl
-grown_none (Some told) = ap (λ l. Some l) (append-nil told)
+pub with_more_none : {A : Type 0} (told : Option (List A)) → with_more told [] ≡ told
+with_more_none None = refl
+with_more_none (Some told) = ap (λ l. Some l) (append-nil told)
 
-pub grown_twice : {A : Type 0} (told : Option (List A)) (xs ys : List A) → grown (grown told xs) ys ≡ grown told (xs ++ ys)
-grown_twice None xs ys = refl
-grown_twice (Some told) xs ys = ap (λ l. Some l) (append_assoc told xs ys)
+pub with_more_twice : {A : Type 0} (told : Option (List A)) (xs ys : List A) → with_more (with_more told xs) ys ≡ with_more told (xs ++ ys)
+with_more_twice None xs ys = refl
+with_more_twice (Some told) xs ys = ap (λ l. Some l) (append_assoc told xs ys)
 
 map_both : (xs ys : List ServerFrame) → map server_spelling (xs ++ ys) ≡ map server_spelling xs ++ map server_spelling ys
 map_both [] ys = refl
@@ -97,8 +97,8 @@ talks_still gives id p a = record {
   ends = refl;
   asked = sym (append-nil (asked_by a.pass));
   sees = sees_still a.pass.seen;
-  heard = sym (grown_none a.link.heard);
-  sent = sym (grown_none a.link.sent);
+  heard = sym (with_more_none a.link.heard);
+  sent = sym (with_more_none a.link.sent);
   counts = refl;
   spelled = tt;
   timely = tt;
@@ -121,13 +121,13 @@ talks_then gives id p q r a b c f g =
       sees = sees_then a.pass.seen b.pass.seen c.pass.seen f.sees g.sees;
       heard =
           g.heard
-          ∙ (ap (λ (l : Option (List Heard)). grown l (heard_in g.events)) f.heard
-          ∙ (grown_twice a.link.heard (heard_in f.events) (heard_in g.events) ∙ ap (λ (l : List Heard). grown a.link.heard l) (sym (heard_both f.events g.events))));
+          ∙ (ap (λ (l : Option (List Heard)). with_more l (heard_in g.events)) f.heard
+          ∙ (with_more_twice a.link.heard (heard_in f.events) (heard_in g.events) ∙ ap (λ (l : List Heard). with_more a.link.heard l) (sym (heard_both f.events g.events))));
       sent =
           g.sent
-          ∙ (ap (λ (l : Option (List (List ℕ))). grown l (map server_spelling (talk_walk id q g.events).sent)) f.sent
-          ∙ (grown_twice a.link.sent (map server_spelling (talk_walk id p f.events).sent) (map server_spelling (talk_walk id q g.events).sent)
-          ∙ ap (λ (l : List (List ℕ)). grown a.link.sent l) (sym (ap (map server_spelling) sent ∙ map_both (talk_walk id p f.events).sent (talk_walk id q g.events).sent))));
+          ∙ (ap (λ (l : Option (List (List ℕ))). with_more l (map server_spelling (talk_walk id q g.events).sent)) f.sent
+          ∙ (with_more_twice a.link.sent (map server_spelling (talk_walk id p f.events).sent) (map server_spelling (talk_walk id q g.events).sent)
+          ∙ ap (λ (l : List (List ℕ)). with_more a.link.sent l) (sym (ap (map server_spelling) sent ∙ map_both (talk_walk id p f.events).sent (talk_walk id q g.events).sent))));
       counts = count_on f.events g.events a.link.counts b.link.counts c.link.counts f.counts g.counts;
       spelled = subst (AllByRecursion IsServerFrame) (sym sent) (all_both IsServerFrame (talk_walk id p f.events).sent (talk_walk id q g.events).sent f.spelled g.spelled);
       timely = subst (AllByRecursion (IsAskedInTime gives)) (sym asked) (all_both (IsAskedInTime gives) (talk_walk id p f.events).asked (talk_walk id q g.events).asked f.timely g.timely);
@@ -148,8 +148,8 @@ then_either gives id (Err halt) to p q a b c f g = talks_then gives id p q (halt
 -- ---- one event
 
 pub talks_by : (gives : ℕ → Type 0) (id : SessionId) (e : TalkEvent) (p : TalkPhase) (a b : Account)
-    → asked_by b.pass ≡ asked_by a.pass ++ (talk_step id p e).asked → SeesOn a.pass.seen b.pass.seen → b.link.heard ≡ grown a.link.heard (heard_by e)
-    → b.link.sent ≡ grown a.link.sent (map server_spelling (talk_step id p e).sent) → EventCounts e a.link.counts b.link.counts
+    → asked_by b.pass ≡ asked_by a.pass ++ (talk_step id p e).asked → SeesOn a.pass.seen b.pass.seen → b.link.heard ≡ with_more a.link.heard (heard_by e)
+    → b.link.sent ≡ with_more a.link.sent (map server_spelling (talk_step id p e).sent) → EventCounts e a.link.counts b.link.counts
     → AllByRecursion IsServerFrame (talk_step id p e).sent → AllByRecursion (IsAskedInTime gives) (talk_step id p e).asked
     → TalksOn gives id p (talk_step id p e).phase a b
 talks_by gives id e p a b asked sees heard sent counts spelled timely = record {
@@ -157,8 +157,8 @@ talks_by gives id e p a b asked sees heard sent counts spelled timely = record {
   ends = refl;
   asked = asked ∙ ap (λ (l : List Exchange). asked_by a.pass ++ l) (sym (append-nil (talk_step id p e).asked));
   sees = sees;
-  heard = heard ∙ ap (λ (l : List Heard). grown a.link.heard l) (sym (append-nil (heard_by e)));
-  sent = sent ∙ ap (λ (l : List ServerFrame). grown a.link.sent (map server_spelling l)) (sym (append-nil (talk_step id p e).sent));
+  heard = heard ∙ ap (λ (l : List Heard). with_more a.link.heard l) (sym (append-nil (heard_by e)));
+  sent = sent ∙ ap (λ (l : List ServerFrame). with_more a.link.sent (map server_spelling l)) (sym (append-nil (talk_step id p e).sent));
   counts = count_one e a.link.counts b.link.counts counts;
   spelled = all_both IsServerFrame (talk_step id p e).sent [] spelled tt;
   timely = all_both (IsAskedInTime gives) (talk_step id p e).asked [] timely tt;
@@ -170,8 +170,8 @@ pub talks_inwardly : (gives : ℕ → Type 0) (id : SessionId) (e : TalkEvent) (
 talks_inwardly gives id e p a none nothing quiet counts =
     talks_by gives id e p a a
     (sym (append-nil (asked_by a.pass)) ∙ ap (λ (l : List Exchange). asked_by a.pass ++ l) (sym none)) (sees_still a.pass.seen)
-    (sym (grown_none a.link.heard) ∙ ap (λ (l : List Heard). grown a.link.heard l) (sym quiet))
-    (sym (grown_none a.link.sent) ∙ ap (λ (l : List ServerFrame). grown a.link.sent (map server_spelling l)) (sym nothing))
+    (sym (with_more_none a.link.heard) ∙ ap (λ (l : List Heard). with_more a.link.heard l) (sym quiet))
+    (sym (with_more_none a.link.sent) ∙ ap (λ (l : List ServerFrame). with_more a.link.sent (map server_spelling l)) (sym nothing))
     counts (subst (AllByRecursion IsServerFrame) (sym nothing) tt) (subst (AllByRecursion (IsAskedInTime gives)) (sym none) tt)
 
 -- a call was made
@@ -182,8 +182,8 @@ pub talks_asking : (gives : ℕ → Type 0) (id : SessionId) (e : TalkEvent) (p 
 talks_asking gives id e p exchange a b link grew sees one nothing quiet counts timely =
     talks_by gives id e p (account a link) (account b link)
     (grew ∙ ap (λ (l : List Exchange). exchanges_in a.seen (caller a) ++ l) (sym one)) sees
-    (sym (grown_none link.heard) ∙ ap (λ (l : List Heard). grown link.heard l) (sym quiet))
-    (sym (grown_none link.sent) ∙ ap (λ (l : List ServerFrame). grown link.sent (map server_spelling l)) (sym nothing))
+    (sym (with_more_none link.heard) ∙ ap (λ (l : List Heard). with_more link.heard l) (sym quiet))
+    (sym (with_more_none link.sent) ∙ ap (λ (l : List ServerFrame). with_more link.sent (map server_spelling l)) (sym nothing))
     counts (subst (AllByRecursion IsServerFrame) (sym nothing) tt) (subst (AllByRecursion (IsAskedInTime gives)) (sym one) (timely, tt))
 
 -- ---- sends
@@ -205,23 +205,23 @@ pub sends_on : (gives : ℕ → Type 0) (id : SessionId) (r : Result (Unit {0}) 
     → TalksOn gives id (Sending frame rest next fails wants) (phase_behind r (sending_phase rest next fails wants) fails wants) (account pass a) (account pass b)
 sends_on gives id (Ok done) frame rest next fails wants pass a b s =
     talks_by gives id Sends (Sending frame rest next fails wants) (account pass a) (account pass b)
-    (sym (append-nil (asked_by pass))) (sees_still pass.seen) (s.heard ∙ sym (grown_none a.heard)) s.sent.1 s.later (s.sent.0, tt) tt
+    (sym (append-nil (asked_by pass))) (sees_still pass.seen) (s.heard ∙ sym (with_more_none a.heard)) s.sent.1 s.later (s.sent.0, tt) tt
 sends_on gives id (Err fault.Failed) frame rest next fails wants pass a b s = fails_on s.sent
   where
     counts : NoneFalls a.counts b.counts × Rose a.counts.faults b.counts.faults
     counts = (s.later, s.cause refl)
 
-    fails_on : ((b.sent ≡ a.sent) ⊎ (IsServerFrame frame × (b.sent ≡ grown a.sent (server_spelling frame ∷ []))))
+    fails_on : ((b.sent ≡ a.sent) ⊎ (IsServerFrame frame × (b.sent ≡ with_more a.sent (server_spelling frame ∷ []))))
         → TalksOn gives id (Sending frame rest next fails wants) fails (account pass a) (account pass b)
     fails_on (inl same) =
         talks_by gives id Fails (Sending frame rest next fails wants) (account pass a) (account pass b)
-        (sym (append-nil (asked_by pass))) (sees_still pass.seen) (s.heard ∙ sym (grown_none a.heard)) (same ∙ sym (grown_none a.sent)) counts tt tt
+        (sym (append-nil (asked_by pass))) (sees_still pass.seen) (s.heard ∙ sym (with_more_none a.heard)) (same ∙ sym (with_more_none a.sent)) counts tt tt
     fails_on (inr went) =
         talks_by gives id Loses (Sending frame rest next fails wants) (account pass a) (account pass b)
-        (sym (append-nil (asked_by pass))) (sees_still pass.seen) (s.heard ∙ sym (grown_none a.heard)) went.1 counts (went.0, tt) tt
+        (sym (append-nil (asked_by pass))) (sees_still pass.seen) (s.heard ∙ sym (with_more_none a.heard)) went.1 counts (went.0, tt) tt
 sends_on gives id (Err fault.WantOfMemory) frame rest next fails wants pass a b s =
     talks_by gives id Wants (Sending frame rest next fails wants) (account pass a) (account pass b)
-    (sym (append-nil (asked_by pass))) (sees_still pass.seen) (s.heard ∙ sym (grown_none a.heard)) (s.sent ∙ sym (grown_none a.sent)) s.later tt tt
+    (sym (append-nil (asked_by pass))) (sees_still pass.seen) (s.heard ∙ sym (with_more_none a.heard)) (s.sent ∙ sym (with_more_none a.sent)) s.later tt tt
 
 -- the last frame
 pub sends_last : (gives : ℕ → Type 0) (id : SessionId) (r : Result (Unit {0}) LinkFault) (frame : ServerFrame) (how : Ended) (wants : TalkPhase) (pass : PassState) (a b : LinkAccount) → Sent a b frame r
@@ -231,7 +231,7 @@ sends_last gives id r frame how wants pass a b s = sends_on gives id r frame [] 
 -- ---- receives
 
 pub record HeardOnce (a b : LinkAccount) (what : Heard) : Type 0 where
-  pub heard : b.heard ≡ grown a.heard (note_of what)
+  pub heard : b.heard ≡ with_more a.heard (note_of what)
   pub sent : b.sent ≡ a.sent
   pub later : NoneFalls a.counts b.counts
   pub cause : CountRises a.counts b.counts what
@@ -240,13 +240,13 @@ pub hears_in : (gives : ℕ → Type 0) (id : SessionId) (cursor : Cursor) (quie
     → TalksOn gives id (Hearing cursor quiets) (hearing cursor quiets what) (account pass a) (account pass b)
 hears_in gives id cursor quiets what pass a b h =
     talks_by gives id (Hears what) (Hearing cursor quiets) (account pass a) (account pass b)
-    (sym (append-nil (asked_by pass))) (sees_still pass.seen) h.heard (h.sent ∙ sym (grown_none a.sent)) (h.later, h.cause) tt tt
+    (sym (append-nil (asked_by pass))) (sees_still pass.seen) h.heard (h.sent ∙ sym (with_more_none a.sent)) (h.later, h.cause) tt tt
 
 pub hears_first : (gives : ℕ → Type 0) (id : SessionId) (quiets : ℕ) (what : Heard) (pass : PassState) (a b : LinkAccount) → HeardOnce a b what
     → TalksOn gives id (Opening quiets) (opening quiets what) (account pass a) (account pass b)
 hears_first gives id quiets what pass a b h =
     talks_by gives id (Hears what) (Opening quiets) (account pass a) (account pass b)
-    (sym (append-nil (asked_by pass))) (sees_still pass.seen) h.heard (h.sent ∙ sym (grown_none a.sent)) (h.later, h.cause) tt tt
+    (sym (append-nil (asked_by pass))) (sees_still pass.seen) h.heard (h.sent ∙ sym (with_more_none a.sent)) (h.later, h.cause) tt tt
 
 -- a row of Quiets that is not at its end
 pub opening_row_is : (quiets : ℕ) → quiets < most_quiets → opening_row quiets ≡ Opening quiets
@@ -290,10 +290,10 @@ talk_grows gives id history more c heard sent how none talk =
 
 pub spelled_sends : (r : Result (Unit {0}) LinkFault) (before now : Option (List (List ℕ))) (bytes : List ℕ) (frame : ServerFrame) → bytes ≡ server_spelling frame → IsServerFrame frame → LinkSends before now bytes r
     → SendsSpelled before now frame r
-spelled_sends (Ok done) before now bytes frame is spelled s = (spelled, s ∙ ap (λ (b : List ℕ). grown before (b ∷ [])) is)
+spelled_sends (Ok done) before now bytes frame is spelled s = (spelled, s ∙ ap (λ (b : List ℕ). with_more before (b ∷ [])) is)
 spelled_sends (Err fault.Failed) before now bytes frame is spelled s = elim s [
   | inl same ↦ inl same
-  | inr went ↦ inr (spelled, went ∙ ap (λ (b : List ℕ). grown before (b ∷ [])) is)
+  | inr went ↦ inr (spelled, went ∙ ap (λ (b : List ℕ). with_more before (b ∷ [])) is)
 ]
 spelled_sends (Err fault.WantOfMemory) before now bytes frame is spelled s = s
 

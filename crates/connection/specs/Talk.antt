@@ -2,7 +2,7 @@
 use Rattle.std.specs.Prelude.{◌≡◌, ◌⊎◌, ℕ, List, [], ◌∷◌, ◌++◌, map, Option, Result, Ok, Err}
 use Rattle.std.specs.List.{AllByRecursion}
 use Rattle.tea_base.specs.declared.entry.SessionId.{SessionId}
-use Rattle.tea_io.specs.Told.{grown, Rose}
+use Rattle.tea_io.specs.Told.{with_more, Rose}
 use Rattle.tea_io.specs.Links.{Counts, NoneFalls, CountRises}
 use Rattle.tea_io.specs.declared.link.Heard.{Heard}
 use Rattle.tea_io.specs.declared.link.LinkFault.{LinkFault}
@@ -59,8 +59,8 @@ pub record HasTalked (gives : ℕ → Type 0) (id : SessionId) (pass : PassState
   pub heard : List Heard
   pub sent : List (List ℕ)
   pub talk : Talk gives id pass.seen (caller pass) heard sent how
-  pub tells_heard : new.heard ≡ grown old.heard heard
-  pub tells_sent : new.sent ≡ grown old.sent sent
+  pub tells_heard : new.heard ≡ with_more old.heard heard
+  pub tells_sent : new.sent ≡ with_more old.sent sent
   pub counts : EventsCount talk.events old.counts new.counts
   pub served : IsTalkServed (play pass.seen).log heard sent
 
@@ -84,8 +84,8 @@ pub record TalksOn (gives : ℕ → Type 0) (id : SessionId) (from to : TalkPhas
   pub ends : (talk_walk id from events).phase ≡ to
   pub asked : asked_by now.pass ≡ asked_by before.pass ++ (talk_walk id from events).asked
   pub sees : SeesOn before.pass.seen now.pass.seen
-  pub heard : now.link.heard ≡ grown before.link.heard (heard_in events)
-  pub sent : now.link.sent ≡ grown before.link.sent (map server_spelling (talk_walk id from events).sent)
+  pub heard : now.link.heard ≡ with_more before.link.heard (heard_in events)
+  pub sent : now.link.sent ≡ with_more before.link.sent (map server_spelling (talk_walk id from events).sent)
   pub counts : EventsCount events before.link.counts now.link.counts
   pub spelled : AllByRecursion IsServerFrame (talk_walk id from events).sent
   pub timely : AllByRecursion (IsAskedInTime gives) (talk_walk id from events).asked
@@ -97,6 +97,6 @@ TalksOrHalts gives id from to (Err halt) before now = TalksOn gives id from (hal
 
 -- a frame that has a spelling was sent; where the send failed, whole or not at all; for want of memory it was not
 abbrev pub SendsSpelled : Option (List (List ℕ)) → Option (List (List ℕ)) → ServerFrame → Result (Unit {0}) LinkFault → Type 0
-SendsSpelled before now frame (Ok done) = IsServerFrame frame × (now ≡ grown before (server_spelling frame ∷ []))
-SendsSpelled before now frame (Err Failed) = (now ≡ before) ⊎ (IsServerFrame frame × (now ≡ grown before (server_spelling frame ∷ [])))
+SendsSpelled before now frame (Ok done) = IsServerFrame frame × (now ≡ with_more before (server_spelling frame ∷ []))
+SendsSpelled before now frame (Err Failed) = (now ≡ before) ⊎ (IsServerFrame frame × (now ≡ with_more before (server_spelling frame ∷ [])))
 SendsSpelled before now frame (Err WantOfMemory) = now ≡ before

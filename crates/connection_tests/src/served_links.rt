@@ -75,25 +75,40 @@ fn serve_two<R: Wait>(
     Ok((ends, session.log().len()))
 }
 
-#[test]
-fn a_view_joins_again_and_resends(rt: HostRuntime) -> Result<(), Fail> {
-    let alloc = rt.alloc();
-    // Call 6 of the link is its fourth send.
+/// A link whose fourth send fails, which is its call 6.
+fn link_with_a_failed_send(alloc: Global) -> Result<MemLink, WantOfMemory> {
     let fail = Numbers::from_vec(vec![in alloc; 6]?);
-    let mut first = link_of(alloc, &[JOIN, SEND], fail, Numbers::new(alloc))?;
+    link_of(alloc, &[JOIN, SEND], fail, Numbers::new(alloc))
+}
+
+/// A link on which the view joins again and sends what it sent.
+fn link_that_resends(alloc: Global) -> Result<MemLink, WantOfMemory> {
     let none = Numbers::new(alloc);
-    let mut second = link_of(alloc, &[JOIN_AFTER, SEND], none, Numbers::new(alloc))?;
-    let (ends, entries) = serve_two(&rt, alloc, &mut first, &mut second)?;
-    assert_eq!(rt; ends, [Ended::LinkFault, Ended::LinkEnd]);
-    assert_eq!(rt; entries, 5);
-    assert!(rt; is_sent(&first, &[SYNC, RECV, TICK]));
+    link_of(alloc, &[JOIN_AFTER, SEND], none, Numbers::new(alloc))
+}
+
+/// Whether a link was sent what the log then has, and the answer to what was sent again.
+fn is_sent_the_rest(link: &MemLink) -> bool {
     let sync: &[u8] = b"\x41\0\0\0\x04\0\0\0\x01\0\0\0\x01\0";
     let event: &[u8] = b"\x42\0\0\0\x02\0\0\0\0\0\0\0\x02\0\0\0\x07\x03\0\0\0\x01\0\0\0\x02hi";
     let exit: &[u8] = b"\x42\0\0\0\x03\0\0\0\0\0\0\0\x03\0\0\0\x07\x02";
     let again: &[u8] = b"\x42\0\0\0\x04\0\0\0\0\0\0\0\x04\0\0\0\x07\x01";
     let tick: &[u8] = b"\x43\0\0\0\0\0\0\0\x04";
     let done: &[u8] = b"\x44\0\0\0\x01\0\0\0\x02\0\0\0\0\0\0\0\x02";
-    assert!(rt; is_sent(&second, &[sync, event, exit, again, tick, done]));
+    is_sent(link, &[sync, event, exit, again, tick, done])
+}
+
+fn are_sent_all(first: &MemLink, second: &MemLink) -> bool {
+    is_sent(first, &[SYNC, RECV, TICK]) && is_sent_the_rest(second)
+}
+
+#[test]
+fn a_view_joins_again_and_resends(rt: HostRuntime) -> Result<(), Fail> {
+    let mut first = link_with_a_failed_send(rt.alloc())?;
+    let mut second = link_that_resends(rt.alloc())?;
+    let (ends, entries) = serve_two(&rt, rt.alloc(), &mut first, &mut second)?;
+    assert!(rt; ends == [Ended::LinkFault, Ended::LinkEnd] && entries == 5);
+    assert!(rt; are_sent_all(&first, &second));
     Ok(())
 }
 
@@ -106,22 +121,34 @@ fn numbers(alloc: Global, first: u32, last: u32) -> Result<Numbers, WantOfMemory
     Ok(numbers)
 }
 
-#[test]
-fn a_link_that_stays_quiet_ends(rt: HostRuntime) -> Result<(), Fail> {
-    let alloc = rt.alloc();
-    // Behind the JOIN and what answers it, call 5 is the next receive.
+/// A link that is quiet 6,000 times: behind the JOIN and what answers it, call 5 is the next receive.
+fn link_that_stays_quiet(alloc: Global) -> Result<MemLink, WantOfMemory> {
     let quiet = numbers(alloc, 5, 6004)?;
-    let mut first = link_of(alloc, &[JOIN, LEAVE], Numbers::new(alloc), quiet)?;
+    link_of(alloc, &[JOIN, LEAVE], Numbers::new(alloc), quiet)
+}
+
+/// A link that is quiet 5,999 times, and once behind its ALIVE.
+fn link_that_stays_alive(alloc: Global) -> Result<MemLink, WantOfMemory> {
     let mut almost = numbers(alloc, 5, 6003)?;
     almost.push(6006)?;
-    let mut second = link_of(alloc, &[JOIN, ALIVE, LEAVE], Numbers::new(alloc), almost)?;
-    let (ends, entries) = serve_two(&rt, alloc, &mut first, &mut second)?;
-    assert_eq!(rt; ends, [Ended::Idle { quiets: 6000 }, Ended::Left]);
-    assert_eq!(rt; entries, 4);
-    assert!(rt; is_sent(&first, &[SYNC, RECV, TICK]));
-    assert_eq!(rt;
-        second.sent().last().map(|frame| frame.is_bytes(b"\x47")),
-        Some(true)
-    );
+    link_of(alloc, &[JOIN, ALIVE, LEAVE], Numbers::new(alloc), almost)
+}
+
+/// Whether the first of two links was sent what answers its JOIN alone, and the second an ALIVE in the end.
+fn are_sent_until_the_end(first: &MemLink, second: &MemLink) -> bool {
+    is_sent(first, &[SYNC, RECV, TICK])
+        && second
+            .sent()
+            .last()
+            .is_some_and(|frame| frame.is_bytes(b"\x47"))
+}
+
+#[test]
+fn a_link_that_stays_quiet_ends(rt: HostRuntime) -> Result<(), Fail> {
+    let mut first = link_that_stays_quiet(rt.alloc())?;
+    let mut second = link_that_stays_alive(rt.alloc())?;
+    let (ends, entries) = serve_two(&rt, rt.alloc(), &mut first, &mut second)?;
+    assert!(rt; ends == [Ended::Idle { quiets: 6000 }, Ended::Left] && entries == 4);
+    assert!(rt; are_sent_until_the_end(&first, &second));
     Ok(())
 }

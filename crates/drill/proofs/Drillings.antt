@@ -1,16 +1,15 @@
 -- What is left of a drill, once its session is closed.
-use Rattle.std.proofs.Common.{◌≡◌, ◌⊎◌, inl, inr, ℕ, zero, suc, ◌+◌, ◌≤◌, ◌<◌, Bool, true, false, eqb, ◌||◌, List, [], ◌∷◌, if◌then◌else◌, slice_index, All, ne_eqb, refl, sym, ap, ◌∙◌, subst, arith}
+use Rattle.std.proofs.Common.{◌≡◌, ℕ, zero, suc, ◌+◌, ◌≤◌, ◌<◌, Bool, false, List, [], ◌∷◌, slice_index, All, ne_eqb, refl, sym, ap, ◌∙◌, subst, arith}
 use mathlib.Core.Logic.{dite}
 use native.Mathlib.Decide.{ℕ_discrete}
 use Rattle.std.specs.List.{AllByRecursion}
-use Rattle.std.proofs.lemmas.Bool.{eqb-true}
 use Rattle.std.proofs.lemmas.List.Elements.{recursion_from_All}
 use Rattle.reflector_core.specs.PlainSession.{PlainSession}
 use Rattle.reflector_core.specs.Play.{first_session}
 use Rattle.session_lock.specs.declared.knowledge.Item.{Item}
-use Rattle.session_lock.specs.History.{IsSoundThrough, Saw, caller_of, calls_of, has, play}
+use Rattle.session_lock.specs.History.{IsSoundThrough, Saw, calls_of, has, play}
 use Rattle.session_lock.specs.Passes.{PassState, SharedState, own_calls}
-use Rattle.session_lock.proofs.Histories.{saw_own}
+use Rattle.session_lock.proofs.Histories.{none_among, saw_own}
 use Rattle.drill.specs.declared.finished.Finished.{Finished}
 use Rattle.drill.specs.declared.size.Size.{Size}
 use Rattle.drill.specs.declared.trust.TrustReplay.{TrustReplay}
@@ -25,28 +24,6 @@ use Rattle.drill.proofs.Drills.{drilled}
 use Rattle.drill.proofs.Wholes.{IsDoneIn, done_in}
 
 -- ---- who calls
-
-is_or : (a b : Bool) → (a || b) ≡ true → (a ≡ true) ⊎ (b ≡ true)
-is_or true b is = inl refl
-is_or false b is = inr is
-
-alone : (n caller : ℕ) → has n (caller ∷ []) ≡ true → n ≡ caller
-alone n caller is = elim (is_or (eqb n caller) false is) [ inl same ↦ eqb-true n caller same | inr never ↦ absurd (cc (never)) ]
-
--- among the calls of these is none of another
-none_among : (callers : List ℕ) (n : ℕ) (history : List Item) → has n callers ≡ false → calls_of (n ∷ []) (calls_of callers history) ≡ []
-none_among callers n [] other = refl
-none_among callers n (x ∷ xs) other = step (none_among callers n xs other) (has (caller_of x) callers) refl
-  where
-    own_call : calls_of (n ∷ []) (calls_of callers xs) ≡ [] → (b : Bool) → has (caller_of x) (n ∷ []) ≡ b → has (caller_of x) callers ≡ true
-        → (if b then x ∷ calls_of (n ∷ []) (calls_of callers xs) else calls_of (n ∷ []) (calls_of callers xs)) ≡ []
-    own_call rest true is among = absurd (cc (sym (ap (λ (m : ℕ). has m callers) (alone (caller_of x) n is)) ∙ among, other))
-    own_call rest false is among = rest
-
-    step : calls_of (n ∷ []) (calls_of callers xs) ≡ [] → (b : Bool) → has (caller_of x) callers ≡ b
-        → calls_of (n ∷ []) (if b then x ∷ calls_of callers xs else calls_of callers xs) ≡ []
-    step rest true is = own_call rest (has (caller_of x) (n ∷ [])) refl is
-    step rest false is = rest
 
 not_among : (n first count : ℕ) → ((first ≤ n) × (n < first + count) → ⊥) → has n (numbers_from first count) ≡ false
 not_among n first zero other = refl

@@ -30,7 +30,7 @@ use Rattle.drill.specs.Asking.{IsDrillHistory, entries_used_by}
 use Rattle.drill.specs.Doing.{HasDone, HasFinished, IsHereBy}
 use Rattle.drill.specs.Drilled.{drawn_numbers, entries_by, own, own_turns, sources_per_seed}
 use Rattle.drill.specs.Sizes.{IsOfSize}
-use Rattle.drill.specs.Turns.{Does, Ends, HasEnded, HasJoined, IsWorkerReady}
+use Rattle.drill.specs.Turns.{IsAtTurn, Ends, HasEnded, HasJoined, IsWorkerReady}
 use Rattle.drill.specs.Workers.{IsFirst, IsWorker, KeepsSource}
 use Rattle.drill.proofs.Grown.{HasCalled, has_called}
 use Rattle.drill.proofs.Histories.{apart, nothing_done}
@@ -107,7 +107,7 @@ module _ (gives : ℕ → Type 0) (size : Size) (shared : SharedState TrustRepla
   does_if
       : (cursor : Cursor) → (has : HasJoined gives size.views shared w new Fresh (Some cursor))
       → FirstComes w.view (play has.asked.history) (answer (play has.asked.history) (Join w.view has.now want.Fresh))
-      → Does size (play new.pass.seen) new cursor 0
+      → IsAtTurn size (play new.pass.seen) new cursor 0
   does_if cursor has (inl ended) =
       absurd (none_opened w.view (play has.asked.history) cursor has.reply (has.asked.replies ∙ ap (λ (o : SessionOutcome). o.reply) ended.1) has.opened)
   does_if cursor has (inr joined) =

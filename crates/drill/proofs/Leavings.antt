@@ -23,7 +23,7 @@ use Rattle.drill.specs.declared.finished.Course.TheVariants as course
 use Rattle.drill.specs.Asking.{IsDrillHistory, entries_used_by, most_asked}
 use Rattle.drill.specs.Doing.{HasDone, HasFinished, IsHereBy}
 use Rattle.drill.specs.Drilled.{drawn_numbers, own, own_turns}
-use Rattle.drill.specs.Turns.{Ends, HasEnded, HasMade, HasStopped, IsWorkerReady, MayCatchUp, Stops}
+use Rattle.drill.specs.Turns.{Ends, HasEnded, HasMade, HasStopped, IsWorkerReady, MayCatchUp, LeavesUndone}
 use Rattle.drill.specs.Workers.{ChangesPass, HasAsked, IsWorker}
 use Rattle.drill.proofs.Grown.{HasCalled, base_later, has_called}
 use Rattle.drill.proofs.Histories.{done_same, here_same}
@@ -91,7 +91,7 @@ module _ (gives : ℕ → Type 0) (size : Size) (shared : SharedState TrustRepla
       }
 
   -- it was refused
-  ends_early : Stops size (play w.pass.seen) w cursor.joined → IsDrillHistory gives size.views p.seen → Ends size (play p.seen) (record w { pass = p })
+  ends_early : LeavesUndone size (play w.pass.seen) w cursor.joined → IsDrillHistory gives size.views p.seen → Ends size (play p.seen) (record w { pass = p })
   ends_early stops whole =
       let asking = Leave w.view cursor.joined now in
       let s = play asked.history in

@@ -26,7 +26,7 @@ use Rattle.drill.specs.Asking.{IsDrillHistory, entries_used_by}
 use Rattle.drill.specs.Doing.{HasBase, HasDone, IsHereBy, KeepsFrom, WasSentBy, loss_interval}
 use Rattle.drill.specs.Drilled.{own}
 use Rattle.drill.specs.Sizes.{IsOfSize}
-use Rattle.drill.specs.Turns.{HasJoined, HasStopped, IsBack, IsLost, KeepsForJoin, MayJoinBy, Returns, Stops, base_after, base_time, left_behind}
+use Rattle.drill.specs.Turns.{HasJoined, HasStopped, IsBack, IsLost, KeepsForJoin, MayJoinBy, Returns, LeavesUndone, base_after, base_time, left_behind}
 use Rattle.drill.specs.Workers.{IsWorker, KeepsSource}
 use Rattle.drill.proofs.Grown.{HasCalled, base_later, by_horizon, by_later, has_called, sent_later}
 use Rattle.drill.proofs.Histories.{done_same, here_same}
@@ -150,7 +150,7 @@ module _ (gives : ℕ → Type 0) (size : Size) (shared : SharedState TrustRepla
   stops_if
       : (has : HasJoined gives size.views shared w new how None) → IsDrillHistory gives size.views new.pass.seen
       → JoinComesAgain (play has.asked.history) (answer (play has.asked.history) (Join w.view has.now (join_want (worlds_of w.replica) w.replica.plain how)))
-      → Stops size (play new.pass.seen) new cursor.joined
+      → LeavesUndone size (play new.pass.seen) new cursor.joined
   stops_if has whole (inr joined) = absurd (cc (has.opened ∙ ap (first_cursor w.view) (has.asked.replies ∙ joined.reply)))
   stops_if has whole (inl ended) =
       let before = play w.pass.seen in
@@ -164,7 +164,7 @@ module _ (gives : ℕ → Type 0) (size : Size) (shared : SharedState TrustRepla
       let acknowledged : new.replica.plain.acknowledged ≡ w.replica.plain.acknowledged = ap (λ (r : ReplicaView). r.plain.acknowledged) has.taken in
       let outbox : length new.replica.plain.outbox ≡ 1 = ap (λ (r : ReplicaView). length r.plain.outbox) has.taken ∙ ap length lost.waiting.outbox in
       let counted : last_number s.log new.replica.plain.view ≡ number = ap (last_number s.log) (worker.view ∙ view_kept) ∙ done.sent in
-      subst (λ (after : PlainSession). Stops size after new cursor.joined) (sym stays)
+      subst (λ (after : PlainSession). LeavesUndone size after new cursor.joined) (sym stays)
       (record {
         number = number;
         left = left;

@@ -12,8 +12,8 @@ use Rattle.session_lock.specs.Passes.{PassState, SharedState, own_calls}
 use Rattle.join_sync.specs.declared.cursor.Cursor.{Cursor}
 use Rattle.replica_plain.specs.PlainReplica.{published_count}
 use Rattle.replica_plain.specs.Calls as calls
-use Rattle.replica_plain.specs.Taking.{acknowledges, taken, takes}
-use Rattle.replica.specs.View.{IsTimely, ReplicaView, with_plain, worlds_of}
+use Rattle.replica_plain.specs.Taking.{acknowledges, taken, takes, IsTimely}
+use Rattle.replica.specs.View.{ReplicaView, with_plain, worlds_of}
 use Rattle.drill.specs.declared.trust.TrustReplay.{TrustReplay}
 use Rattle.drill.specs.declared.size.Size.{Size}
 use Rattle.drill.specs.declared.worker.Worker.{Worker}

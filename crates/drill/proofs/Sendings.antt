@@ -25,7 +25,7 @@ use Rattle.drill.specs.Asking.{IsDrillHistory, entries_used_by}
 use Rattle.drill.specs.Doing.{HasBase, HasDone, HasSent, IsHereBy, WasSentBy, loss_interval}
 use Rattle.drill.specs.Drilled.{add_payload, joins_behind, own}
 use Rattle.drill.specs.Sizes.{IsOfSize}
-use Rattle.drill.specs.Turns.{HasPublished, HasSentIt, HasStopped, IsOwed, IsWorkerReady, Owes, Stops, done_of, left_behind}
+use Rattle.drill.specs.Turns.{HasPublished, HasSentIt, HasStopped, IsOwed, IsWorkerReady, Owes, LeavesUndone, done_of, left_behind}
 use Rattle.drill.specs.Workers.{HasAsked, IsWorker, KeepsSource}
 use Rattle.drill.specs.Working.{ReplicaWorks}
 use Rattle.drill.proofs.Grown.{HasCalled, base_later, by_later, has_called, works_same}
@@ -143,7 +143,7 @@ module _ (gives : ℕ → Type 0) (size : Size) (shared : SharedState TrustRepla
       rests (inr still) = inr still
 
   -- it was refused
-  stops_if : None ≡ done_of (number + 1) reply → IsDrillHistory gives size.views p.seen → Comes → Stops size (play p.seen) (sender w p) cursor.joined
+  stops_if : None ≡ done_of (number + 1) reply → IsDrillHistory gives size.views p.seen → Comes → LeavesUndone size (play p.seen) (sender w p) cursor.joined
   stops_if is whole (inr stamped) = absurd (cc (is, ap (done_of (number + 1)) (asked.replies ∙ stamped.reply)))
   stops_if is whole (inl ended) =
       let s = play asked.history in
@@ -153,7 +153,7 @@ module _ (gives : ℕ → Type 0) (size : Size) (shared : SharedState TrustRepla
       let does = published.does (call.first whole) in
       let done = done_same before.log s.log w.view number left (own size.seed w.view size.events) same does.done in
       let stays : play p.seen ≡ s = asked.session ∙ ap (λ o. o.session) ended.1 in
-      subst (λ (new : PlainSession). Stops size new (sender w p) cursor.joined) (sym stays)
+      subst (λ (new : PlainSession). LeavesUndone size new (sender w p) cursor.joined) (sym stays)
       (record {
         number = number;
         left = left;

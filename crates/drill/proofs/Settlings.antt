@@ -19,7 +19,7 @@ use Rattle.drill.specs.Doing.{HasBase, HasDone, IsHereBy, WasSentBy, loss_interv
 use Rattle.drill.specs.Drilled.{drop_interval, own}
 use Rattle.drill.specs.Sizes.{IsOfSize}
 use Rattle.drill.specs.Taking.{HasTaken, IsFine}
-use Rattle.drill.specs.Turns.{Does, HasTakenMore, IsOwed, IsWorkerReady, IsSettled, IsSettling, left_behind}
+use Rattle.drill.specs.Turns.{IsAtTurn, HasTakenMore, IsOwed, IsWorkerReady, IsSettled, IsSettling, left_behind}
 use Rattle.drill.specs.Workers.{IsWorker, KeepsSource}
 use Rattle.drill.specs.Working.{IsCaughtUp}
 use Rattle.drill.proofs.Grown.{base_later, by_later, works_same}
@@ -89,7 +89,7 @@ module _ (gives : ℕ → Type 0) (size : Size) (shared : SharedState TrustRepla
 
   caught_does
       : (w new : Worker) (cursor next : Cursor) (number : ℕ) → new.view ≡ w.view → new.source ≡ w.source → HasTakenMore gives size.views w new cursor next → IsCaughtUp (play new.pass.seen) new.replica
-      → IsDrillHistory gives size.views new.pass.seen → IsSettling size (play w.pass.seen) w cursor number → Does size (play new.pass.seen) new next number
+      → IsDrillHistory gives size.views new.pass.seen → IsSettling size (play w.pass.seen) w cursor number → IsAtTurn size (play new.pass.seen) new next number
   caught_does w new cursor next number view source more caught whole settles =
       let s = play w.pass.seen in
       let after = play new.pass.seen in

@@ -19,13 +19,13 @@ use Rattle.join_sync.specs.declared.cursor.Cursor.{Cursor}
 use Rattle.join_sync.specs.Standing as at
 use Rattle.join_sync.proofs.Pulls.{batch_streams, batch_stands}
 use Rattle.replica_plain.specs.Worlds.{AreWorlds}
-use Rattle.replica_plain.specs.Taking.{taken}
+use Rattle.replica_plain.specs.Taking.{taken, IsTimely}
 use Rattle.replica_plain.specs.Following.{IsReadFrame}
 use Rattle.model_lang.specs.Program.{IsProgram}
 use Rattle.model_lang.specs.TreeView.{program_tree}
 use Rattle.replica_plain.proofs.FrameSteps.{StandsAt, behind_frame, tick_rests}
 use Rattle.replica.specs.RealWorlds.{is_at_rest}
-use Rattle.replica.specs.View.{ReplicaView, IsTimely, with_plain, worlds_of}
+use Rattle.replica.specs.View.{ReplicaView, with_plain, worlds_of}
 use Rattle.system_plain.proofs.FactsGrow.{count_stays, follows_log_grows}
 use Rattle.system_plain.proofs.Sessions.{Grows}
 use Rattle.drill.specs.Taking.{AreFine, IsFine, after_frame, after_frames}

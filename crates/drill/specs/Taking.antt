@@ -1,8 +1,8 @@
 -- Frames that a replica has to take.
 use Rattle.std.specs.Prelude.{◌≡◌, List, [], ◌∷◌, None}
 use Rattle.wire_frames.specs.declared.frame.ServerFrame.{ServerFrame}
-use Rattle.replica_plain.specs.Taking.{taken}
-use Rattle.replica.specs.View.{ReplicaView, IsTimely, with_plain, worlds_of}
+use Rattle.replica_plain.specs.Taking.{taken, IsTimely}
+use Rattle.replica.specs.View.{ReplicaView, with_plain, worlds_of}
 
 -- the frame has no fault for the replica
 pub record IsFine (r : ReplicaView) (frame : ServerFrame) : Type 0 where

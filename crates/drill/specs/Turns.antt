@@ -144,7 +144,7 @@ pub record HasOffered (gives : ℕ → Type 0) (views : ℕ) (shared : SharedSta
 
 -- What the view has done, behind so many turns, if nobody but the drill's workers has called. Its last event is not later than its replica's
 -- world.
-pub record Does (size : Size) (s : PlainSession) (w : Worker) (cursor : Cursor) (number : ℕ) : Type 0 where
+pub record IsAtTurn (size : Size) (s : PlainSession) (w : Worker) (cursor : Cursor) (number : ℕ) : Type 0 where
   pub done : HasDone s.log w.view number (own_turns (number + 1) (drawn_numbers w.source (size.events - number))) (own size.seed w.view size.events)
   pub here : IsHereBy s.log w.view cursor.joined
   pub late : (number ≡ 0) ⊎ WasSentBy s.log w.view number w.replica.plain.world.time
@@ -160,7 +160,7 @@ pub record IsWorkerReady (gives : ℕ → Type 0) (size : Size) (shared : Shared
   pub acknowledged : w.replica.plain.acknowledged ≡ number
   pub given : w.replica.plain.given ≡ number
   pub rests : (number ≡ 0) ⊎ (is_at_rest w.replica.plain.world ≡ true)
-  pub does : IsDrillHistory gives size.views w.pass.seen → Does size (play w.pass.seen) w cursor number
+  pub does : IsDrillHistory gives size.views w.pass.seen → IsAtTurn size (play w.pass.seen) w cursor number
 
 -- ---- within a turn
 
@@ -265,7 +265,7 @@ pub record IsSettled (gives : ℕ → Type 0) (size : Size) (shared : SharedStat
 -- ---- the end of the turns
 
 -- a part of it is left undone, and time has ended
-pub record Stops (size : Size) (s : PlainSession) (w : Worker) (joined : ℕ) : Type 0 where
+pub record LeavesUndone (size : Size) (s : PlainSession) (w : Worker) (joined : ℕ) : Type 0 where
   pub number : ℕ
   pub left : List What
   pub done : HasDone s.log w.view number left (own size.seed w.view size.events)
@@ -285,7 +285,7 @@ pub record HasStopped (gives : ℕ → Type 0) (size : Size) (shared : SharedSta
   pub few : entries_used_by (own_calls w.pass) ≤ 1 + 3 * size.events
   pub connection : cursor.view ≡ w.view
   pub catches : MayCatchUp (play w.pass.seen) w.replica synced
-  pub stops : IsDrillHistory gives size.views w.pass.seen → Stops size (play w.pass.seen) w cursor.joined
+  pub stops : IsDrillHistory gives size.views w.pass.seen → LeavesUndone size (play w.pass.seen) w cursor.joined
 
 -- it has settled its event again, or was refused
 abbrev pub HasResent : (ℕ → Type 0) → Size → SharedState TrustReplay → Worker → Cursor → ℕ → Course → Type 0

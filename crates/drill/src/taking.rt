@@ -1,6 +1,6 @@
 //! Frames that a replica takes.
 ghost use Rattle.std.specs.Prelude.{OnOk};
-ghost use Rattle.replica.specs.View.{IsTimely};
+ghost use Rattle.replica_plain.specs.Taking.{IsTimely};
 ghost use Rattle.drill.specs.Taking.{AreFine, HasTaken, HasTakenAll, IsFine};
 
 use replica::Replica;

@@ -11,7 +11,7 @@ use Rattle.std.proofs.lemmas.List.Sums.{sum_by-cons}
 use Rattle.std.proofs.lemmas.List.Sorted.{IsPermutation-refl, IsPermutation-map, All-permutation, sum_by-IsPermutation}
 use Rattle.world_plain.specs.Messages.{PlainMessage, plain_message}
 use Rattle.world_plain.specs.World.{message_weight, total_weight}
-use Rattle.world_plain.specs.Valid.{PrecedesAll, IsUnused, NumbersDiffer, most_pending}
+use Rattle.world_plain.specs.Valid.{PrecedesAll, IsUnused, NumbersDiffer, most_messages}
 use Rattle.world_plain.specs.ValidTest.{is_due_before}
 use Rattle.world_plain.specs.declared.message.Message.{Message}
 use Rattle.message_queue.specs.Heap.{IsHeap, is_sooner, is_later}
@@ -50,7 +50,7 @@ light_before : (ms : List PlainMessage) → AreLightMessages (in_order ms) → A
 light_before [] h = tt
 light_before (m ∷ ms) h = let parts : IsLightMessage m × AreLightMessages (in_order ms) = light_parts m (in_order ms) h in (parts.0, light_before ms parts.1)
 
-pub few_held : (ms : List Message) (next weight : ℕ) → HoldsQueue ms next weight → length ms ≤ most_pending
+pub few_held : (ms : List Message) (next weight : ℕ) → HoldsQueue ms next weight → length ms ≤ most_messages
 few_held ms next weight h = omega (arith, h.queue.few, length-seen ms)
 
 pub weight_bound : (ms : List Message) (next weight : ℕ) → HoldsQueue ms next weight → weight ≤ 2147483648
@@ -70,7 +70,7 @@ pub held_with_one : (ms new : List Message) (m : Message) (next more weight w : 
     → IsUnused (plain_message m).number (in_order (messages_seen ms))
     → (plain_message m).number < more
     → next ≤ more
-    → length ms < most_pending
+    → length ms < most_messages
     → IsLightMessage (plain_message m)
     → w ≡ message_weight (plain_message m)
     → HoldsQueue new more (weight + w)

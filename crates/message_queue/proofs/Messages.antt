@@ -5,7 +5,7 @@ use Rattle.std.specs.Str.{bytes_eq}
 use Rattle.std.specs.Cmp.Lexicographic.{bytes_decides}
 use Rattle.std.proofs.lemmas.List.{length-map}
 use Rattle.world_plain.specs.Messages.{PlainMessage, plain_message}
-use Rattle.world_plain.specs.Valid.{most_pending}
+use Rattle.world_plain.specs.Valid.{most_messages}
 use Rattle.world_plain.specs.declared.message.Message.{Message}
 use Rattle.world_plain.specs.World.{message_weight, total_weight}
 use Rattle.message_queue.specs.Queue.{IsLightMessage, AreLightMessages}
@@ -60,7 +60,7 @@ pub sum_bound : (ms : List Message) (i sum : ℕ) (d m : Message)
     → m ≡ get_or ms i d
     → sum + total_weight message_weight (messages_seen (drop i ms)) ≡ total_weight message_weight (messages_seen ms)
     → AreLightMessages (messages_seen ms)
-    → length ms ≤ most_pending
+    → length ms ≤ most_messages
     → sum + message_weight (plain_message m) ≤ 2147483648
 sum_bound ms i sum d m inside is so_far light few =
     omega (arith, message_at ms i d inside, ap (λ (n : Message). message_weight (plain_message n)) is, so_far, total_bound (messages_seen ms) light, few, length-map ms plain_message)

@@ -5,7 +5,7 @@ use Rattle.model_value.specs.Plain.{values_weight}
 use Rattle.world_plain.specs.World.{total_weight}
 use Rattle.world_plain.specs.Messages.{PlainMessage}
 use Rattle.model_value.specs.Plain.{AllInBounds, TextFits}
-use Rattle.world_plain.specs.Valid.{Precedes, PrecedesAll, AreInOrder, IsUnused, NumbersDiffer, most_parameters, most_pending}
+use Rattle.world_plain.specs.Valid.{Precedes, PrecedesAll, AreInOrder, IsUnused, NumbersDiffer, most_arguments, most_messages}
 use Rattle.message_queue.specs.Queue.{QueueRecord, IsQueue, insert_in_order, IsLightMessage, AreLightMessages, NumbersBelow}
 use Rattle.world_plain.specs.ValidTest.{is_due_before}
 use Rattle.message_queue.proofs.Before.{precedes-true, precedes-false, Precedes-trans}
@@ -86,14 +86,14 @@ values_bound [] h = omega arith
 values_bound (v ∷ vs) h = omega (arith, h.0.0, values_bound vs h.1)
 
 -- a name that fits, and as many arguments as a method may have, each in bounds, weigh no more than a world may
-pub IsLight-fits : (m : PlainMessage) → TextFits m.method → length m.args ≤ most_parameters → AllInBounds m.args → IsLightMessage m
+pub IsLight-fits : (m : PlainMessage) → TextFits m.method → length m.args ≤ most_arguments → AllInBounds m.args → IsLightMessage m
 IsLight-fits m name few bounds = omega (arith, name, few, values_bound m.args bounds)
 
 -- ---- queues
 
 -- a message more of a number that no other has, below the next one from then on
 pub IsQueue-inserted : (m : PlainMessage) (q : QueueRecord) (next : ℕ) → IsQueue q → IsUnused m.number q.messages → m.number < next → q.next ≤ next
-    → length q.messages < most_pending → IsLightMessage m → IsQueue (record { messages = insert_in_order m q.messages; next = next })
+    → length q.messages < most_messages → IsLightMessage m → IsQueue (record { messages = insert_in_order m q.messages; next = next })
 IsQueue-inserted m q next h unused below later few light = record {
   order = AreInOrder-inserted m q.messages unused h.order;
   differ = NumbersDiffer-inserted m q.messages unused h.differ;

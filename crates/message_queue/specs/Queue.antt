@@ -5,7 +5,7 @@ use Rattle.std.specs.Str.{bytes_eq}
 use Rattle.std.specs.Coded.{Coded, code_by, coded×, coded_ℕ, coded_list}
 use Rattle.model_value.specs.Plain.{PlainValue}
 use Rattle.world_plain.specs.Messages.{PlainMessage, coded_message}
-use Rattle.world_plain.specs.Valid.{AreInOrder, NumbersDiffer, most_pending}
+use Rattle.world_plain.specs.Valid.{AreInOrder, NumbersDiffer, most_messages}
 use Rattle.world_plain.specs.ValidTest.{is_due_before}
 use Rattle.world_plain.specs.World.{message_weight, most_world_weight}
 use Rattle.world_plain.specs.declared.refusal.StoreRefusal.{StoreRefusal}
@@ -48,7 +48,7 @@ pub record IsQueue (q : QueueRecord) : Type 0 where
   pub differ : NumbersDiffer q.messages
   pub next : NumbersBelow q.next q.messages
   pub light : AreLightMessages q.messages
-  pub few : length q.messages ≤ most_pending
+  pub few : length q.messages ≤ most_messages
 
 abbrev pub empty_queue : ℕ → QueueRecord
 empty_queue next = record { messages = []; next = next }
@@ -93,11 +93,11 @@ abbrev pub without_messages_to : ℕ → QueueRecord → QueueRecord
 without_messages_to object q = record q { messages = filter (λ m. not (nat_eq m.object object)) q.messages }
 
 abbrev pub IsFullQueue : QueueRecord → Type 0
-IsFullQueue q = length q.messages ≡ most_pending
+IsFullQueue q = length q.messages ≡ most_messages
 
 -- neither full nor spent
 abbrev pub QueueHasRoom : QueueRecord → Type 0
-QueueHasRoom q = (length q.messages < most_pending) × (q.next < last_message_number)
+QueueHasRoom q = (length q.messages < most_messages) × (q.next < last_message_number)
 
 -- what a push answers, and what it makes of the queue
 abbrev pub Pushes : Result ℕ StoreRefusal → ℕ → ℕ → List ℕ → List PlainValue → QueueRecord → QueueRecord → Type 0
@@ -105,5 +105,5 @@ Pushes (Ok number) time object method args old new =
     QueueHasRoom old × (number ≡ old.next) × (new ≡ queue_after_push time object method args old)
 Pushes (Err (Full count)) time object method args old new = IsFullQueue old × (count ≡ length old.messages) × (new ≡ old)
 Pushes (Err Spent) time object method args old new =
-    (length old.messages < most_pending) × (old.next ≡ last_message_number) × (new ≡ old)
+    (length old.messages < most_messages) × (old.next ≡ last_message_number) × (new ≡ old)
 Pushes (Err WantOfMemory) time object method args old new = QueueHasRoom old × (new ≡ old)

@@ -2,7 +2,7 @@
 ghost use Rattle.std.specs.Prelude.{◌≡◌, ◌≤◌, length, not, nat_eq};
 ghost use Rattle.std.specs.List.{filter};
 ghost use Rattle.world_plain.specs.Messages.{plain_message};
-ghost use Rattle.world_plain.specs.Valid.{most_pending};
+ghost use Rattle.world_plain.specs.Valid.{most_messages};
 ghost use Rattle.world_plain.specs.World.{message_weight, total_weight};
 ghost use Rattle.message_queue.specs.Queue.{AreLightMessages, IsLightMessage, calls};
 ghost use Rattle.message_queue.specs.View.{messages_seen};
@@ -38,7 +38,7 @@ pub fn remove_object(messages: &mut Vec<Message>, object: u32)
 /// How much messages weigh together.
 pub fn weight_of(messages: &[Message]) -> u64
     requires light { AreLightMessages (messages_seen messages.now) }
-    requires few { length messages.now ≤ most_pending }
+    requires few { length messages.now ≤ most_messages }
     ensures { result ≡ total_weight message_weight (messages_seen messages.now) }
 {
     let mut sum = 0;

@@ -1,9 +1,9 @@
 //! The queue of a world's messages.
-ghost use Rattle.std.specs.Prelude.{◌≡◌, ◌<◌, ◌≤◌, ◌+◌, ◌↔◌, [], length, map, IsTrue, IfOk, OnOk, OnErr};
+ghost use Rattle.std.specs.Prelude.{◌≡◌, ◌<◌, ◌≤◌, ◌+◌, length, map, IfOk, OnOk, OnErr};
 ghost use Rattle.std.specs.Option.{option_map};
 ghost use Rattle.world_plain.specs.Messages.{plain_message};
 ghost use Rattle.model_value.specs.View.{plain_values};
-ghost use Rattle.world_plain.specs.Valid.{IsUnused, most_pending};
+ghost use Rattle.world_plain.specs.Valid.{IsUnused, most_messages};
 ghost use Rattle.world_plain.specs.World.{message_weight, total_weight};
 ghost use Rattle.std.specs.List.Sorted.{IsPermutation};
 ghost use Rattle.message_queue.specs.Queue.{AreLightMessages, IsLightMessage, IsQueue, TakesLeast, Pushes, empty_queue, least_of, new_message, queue_with, without_calls, without_messages_to};
@@ -73,7 +73,7 @@ impl Queue {
     pub fn put_back(&mut self, m: Message) -> Result<(), WantOfMemory>
         requires below { (plain_message m).number < self.old.next }
         requires unused { IsUnused (plain_message m).number self.old.messages }
-        requires few { length self.old.messages < most_pending }
+        requires few { length self.old.messages < most_messages }
         requires light { IsLightMessage (plain_message m) }
         ensures ok { OnOk result (self.new ≡ queue_with (plain_message m) self.old) }
         ensures err { OnErr result (self.new ≡ self.old) }
@@ -130,20 +130,6 @@ impl Queue {
         ensures { result ≡ self.now.next }
     {
         self.next
-    }
-
-    /// How many messages are held. Takes no memory.
-    pub fn len(&self) -> usize
-        ensures { result ≡ length self.now.messages }
-    {
-        self.messages.len()
-    }
-
-    /// Whether no message is held. Takes no memory.
-    pub fn is_empty(&self) -> bool
-        ensures { IsTrue result ↔ (self.now.messages ≡ []) }
-    {
-        self.messages.is_empty()
     }
 
     /// The messages by rising time and number, in memory of their own.
@@ -218,7 +204,7 @@ impl Queue {
 /// is gone, nothing changes.
 fn rebuild(messages: &mut Vec<Message>, weight: &mut u64, before: usize) -> u32
     requires left { length messages.old.items ≤ before }
-    requires few { before ≤ most_pending }
+    requires few { before ≤ most_messages }
     requires light { AreLightMessages (messages_seen messages.old.items) }
     ensures number { result + length messages.new.items ≡ before }
     ensures held { IsPermutation messages.old.items messages.new.items }

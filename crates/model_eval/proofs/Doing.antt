@@ -8,7 +8,7 @@ use Rattle.model_value.specs.Plain.{PlainValue, nil, bool, int, text, ref, list,
 use Rattle.model_value.specs.View.{plains_of}
 use Rattle.world_plain.specs.Messages.{PlainMessage}
 use Rattle.world_plain.specs.World.{ObjectRecord, WorldRecord, world_weight, most_world_weight}
-use Rattle.world_plain.specs.Valid.{Valid, object_at, IsHeld, SubscriptionFits, most_turns, most_parameters}
+use Rattle.world_plain.specs.Valid.{Valid, object_at, IsHeld, SubscriptionFits, most_turns, most_arguments}
 use Rattle.tea_base.specs.Limits.{time_limit}
 use Rattle.world_plain.specs.declared.message.Subscription.{Subscription}
 use Rattle.model_lang.specs.Tree.{Name}
@@ -74,7 +74,7 @@ module _ (counts : List ℕ) (H : Type 0) where
   -- ---- futures
 
   sent-carries : (object : ℕ) (x : Name) (args : List PlainValue) (ahead : Option ℕ) (r : Running)
-      → (H → Valid counts r.world) → (H → AllInBounds args × (length args ≤ most_parameters)) → IsShortName x → IsHeld r.world.objects object
+      → (H → Valid counts r.world) → (H → AllInBounds args × (length args ≤ most_arguments)) → IsShortName x → IsHeld r.world.objects object
       → ((time : ℕ) → ahead ≡ Some time → (r.world.time ≤ time) × (time < time_limit)) → CarriesIf H counts InBounds r (send_message_at object x args ahead r)
   sent-carries object x args None r v fit short held within = (kept-refl r, v)
   sent-carries object x args (Some time) r v fit short held within =
@@ -92,13 +92,13 @@ module _ (counts : List ℕ) (H : Type 0) where
       (λ _. (kept-refl r, v)))
 
   sent_to-carries : (o : Option ObjectRecord) (object : ℕ) (delay : ℤ) (x : Name) (args : List PlainValue) (r : Running)
-      → (H → Valid counts r.world) → (H → AllInBounds args × (length args ≤ most_parameters)) → IsShortName x → object_at r.world.objects object ≡ o
+      → (H → Valid counts r.world) → (H → AllInBounds args × (length args ≤ most_arguments)) → IsShortName x → object_at r.world.objects object ≡ o
       → CarriesIf H counts InBounds r (send_to o object delay x args r)
   sent_to-carries None object delay x args r v fit short e = (kept-refl r, v)
   sent_to-carries (Some o) object delay x args r v fit short e = sent-carries object x args (ahead r.world.time delay) r v fit short (o, e) (ahead-is r.world.time delay)
 
   pub send-carries : (o d : PlainValue) (x : Name) (args : List PlainValue) (r : Running)
-      → (H → Valid counts r.world) → (H → AllInBounds args × (length args ≤ most_parameters)) → IsShortName x → CarriesIf H counts InBounds r (send o d x args r)
+      → (H → Valid counts r.world) → (H → AllInBounds args × (length args ≤ most_arguments)) → IsShortName x → CarriesIf H counts InBounds r (send o d x args r)
   send-carries (ref object) (int delay) x args r v fit short = sent_to-carries (object_at r.world.objects object) object delay x args r v fit short refl
   send-carries _ _ x args r v fit short = (kept-refl r, v)
 

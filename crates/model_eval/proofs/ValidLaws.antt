@@ -6,7 +6,7 @@ use Rattle.std.proofs.lemmas.List.{length_push, length-replicate}
 use Rattle.model_value.specs.Plain.{PlainValue, nil}
 use Rattle.world_plain.specs.Messages.{PlainMessage}
 use Rattle.world_plain.specs.World.{ObjectRecord, WorldRecord, object_weight, message_weight, subscription_weight, known_weight, world_weight, most_world_weight}
-use Rattle.world_plain.specs.Valid.{Valid, ValidClock, ValidViews, ValidObjects, ValidNames, ValidSubscriptions, ValidMessages, RiseFrom, IsHeld, ObjectFits, SubscriptionFits, SubscriptionsFit, MessageFits, MessagesFit, IsUnused, most_objects, most_subscriptions, most_pending}
+use Rattle.world_plain.specs.Valid.{Valid, ValidClock, ValidViews, ValidObjects, ValidNames, ValidSubscriptions, ValidMessages, RiseFrom, IsHeld, ObjectFits, SubscriptionFits, SubscriptionsFit, MessageFits, MessagesFit, IsUnused, most_objects, most_subscriptions, most_messages}
 use Rattle.model_value.specs.Plain.{AllInBounds, TextFits}
 use Rattle.world_plain.specs.declared.message.Subscription.{Subscription}
 use Rattle.world_plain.specs.declared.world.Known.{Known}
@@ -136,8 +136,8 @@ pub valid-message : (counts : List ℕ) (m : PlainMessage) (r : Running) → m.n
     → Valid counts r.world → Valid counts ((with_message r m).world)
 valid-message counts m r new fits room v =
     let ms = r.world.pending in
-    let parts = and_parts (nat_lt (length ms) most_pending && nat_lt r.world.next_number last_message_number) (nat_le (world_weight r.world + message_weight m) most_world_weight) room in
-    let few : length ms < most_pending = ltb-true (length ms) most_pending (and_parts (nat_lt (length ms) most_pending) (nat_lt r.world.next_number last_message_number) parts.0).0 in
+    let parts = and_parts (nat_lt (length ms) most_messages && nat_lt r.world.next_number last_message_number) (nat_le (world_weight r.world + message_weight m) most_world_weight) room in
+    let few : length ms < most_messages = ltb-true (length ms) most_messages (and_parts (nat_lt (length ms) most_messages) (nat_lt r.world.next_number last_message_number) parts.0).0 in
     let light : world_weight r.world + message_weight m ≤ most_world_weight = leb-true (world_weight r.world + message_weight m) most_world_weight parts.1 in
     let unused : IsUnused m.number ms = subst (λ k. IsUnused k ms) (sym new) (next_number-unused r.world.time r.world.next_number r.world.objects ms v.messages.fit) in
     let messages : ValidMessages r.world.time (r.world.next_number + 1) r.world.objects (insert_in_order m ms) = record {

@@ -3,7 +3,7 @@ use Rattle.std.specs.Prelude.{ℕ, ◌+◌, ◌*◌, ℤ, pos, negsuc, Bool, nat
 use Rattle.model_value.specs.Plain.{PlainValue, nil, int, ref}
 use Rattle.world_plain.specs.Messages.{PlainMessage}
 use Rattle.world_plain.specs.World.{ObjectRecord, WorldRecord, message_weight, world_weight, most_world_weight}
-use Rattle.world_plain.specs.Valid.{object_at, most_turns, most_pending}
+use Rattle.world_plain.specs.Valid.{object_at, most_turns, most_messages}
 use Rattle.tea_base.specs.Limits.{time_limit}
 use Rattle.message_queue.specs.Queue.{insert_in_order, last_message_number}
 use Rattle.model_lang.specs.Tree.{Name}
@@ -16,7 +16,7 @@ ahead time (pos n) = if nat_lt (time + 1000 * n) time_limit then Some (time + 10
 ahead time (negsuc n) = None
 
 abbrev pub has_room : WorldRecord → PlainMessage → Bool
-has_room w m = nat_lt (length w.pending) most_pending && nat_lt w.next_number last_message_number && nat_le (world_weight w + message_weight m) most_world_weight
+has_room w m = nat_lt (length w.pending) most_messages && nat_lt w.next_number last_message_number && nat_le (world_weight w + message_weight m) most_world_weight
 
 abbrev pub with_message : Running → PlainMessage → Running
 with_message r m = with_world r (record (r.world) { pending = insert_in_order m r.world.pending; next_number = r.world.next_number + 1 })

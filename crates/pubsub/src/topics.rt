@@ -1,5 +1,5 @@
 //! The topics of a world.
-ghost use Rattle.std.specs.Prelude.{◌≡◌, ◌↔◌, ◌+◌, ◌++◌, ◌<◌, ◌∷◌, [], length, IfOk, OnOk, OnErr, IsTrue, MatchBool, false};
+ghost use Rattle.std.specs.Prelude.{◌≡◌, ◌+◌, ◌++◌, ◌<◌, ◌∷◌, [], length, IfOk, OnOk, OnErr, MatchBool, false};
 ghost use Rattle.world_plain.specs.World.{subscription_weight, total_weight};
 ghost use Rattle.world_plain.specs.Valid.{most_subscriptions};
 ghost use Rattle.pubsub.specs.Topics.{AreTopics, IsLightSubscription, Subscribes, handlers_of, is_subscribed as holds, without_subscription, without_subscriber};
@@ -96,20 +96,6 @@ impl Topics {
         ensures { MatchBool result (length self.now ≡ most_subscriptions) (length self.now < most_subscriptions) }
     {
         self.held.len() == MOST_SUBSCRIPTIONS
-    }
-
-    /// How many subscriptions are held. Takes no memory.
-    pub fn len(&self) -> usize
-        ensures { result ≡ length self.now }
-    {
-        self.held.len()
-    }
-
-    /// Whether no subscription is held. Takes no memory.
-    pub fn is_empty(&self) -> bool
-        ensures { IsTrue result ↔ (self.now ≡ []) }
-    {
-        self.held.is_empty()
     }
 
     /// The subscriptions in order. Takes no memory.

@@ -2,11 +2,11 @@
 use Rattle.std.proofs.Common.{◌≡◌, List, [], ◌∷◌, ◌++◌, length, map, Option, refl, sym, ap, ◌∙◌, append_assoc}
 use Rattle.std.proofs.lemmas.List.{length-map, length-reverse, reverse-append, reverse-reverse}
 use Rattle.std.specs.Prelude.{reverse}
-use Rattle.tea_io.specs.Told.{grown}
+use Rattle.tea_io.specs.Told.{with_more}
 use Rattle.tea_io.specs.Nets.{plus}
 use Rattle.tea_io.specs.Links.{Counts}
 use Rattle.connection.specs.declared.ending.Ended.{Ended}
-use Rattle.connection.proofs.Talking.{grown_twice}
+use Rattle.connection.proofs.Talking.{with_more_twice}
 use Rattle.reflect_server.specs.declared.accepting.ServedLink.{ServedLink}
 use Rattle.reflect_server.specs.Connections.{ServedConnection, ends_of, returned_links}
 use Rattle.reflect_server.specs.Rounds.{ended_of, links_of, served_back, served_of, with_links}
@@ -29,11 +29,11 @@ module _ {L : Type 0} (all rest : List (ServedLink L)) (link : L) (ended : Ended
       ∙ (append_assoc before (ended ∷ []) (ended_of rest)
       ∙ ap (λ (l : List Ended). before ++ l) (sym first_ended))
 
-  pub over_next : (before now : Option (List L)) → now ≡ grown before (link ∷ []) → grown now (links_of rest) ≡ grown before (links_of all)
+  pub over_next : (before now : Option (List L)) → now ≡ with_more before (link ∷ []) → with_more now (links_of rest) ≡ with_more before (links_of all)
   over_next before now one =
-      ap (λ (o : Option (List L)). grown o (links_of rest)) one
-      ∙ (grown_twice before (link ∷ []) (links_of rest)
-      ∙ ap (grown before) (sym first_link))
+      ap (λ (o : Option (List L)). with_more o (links_of rest)) one
+      ∙ (with_more_twice before (link ∷ []) (links_of rest)
+      ∙ ap (with_more before) (sym first_link))
 
   pub counts_next : (counts : L → Counts) (before now : Counts) → now ≡ plus before (counts link)
       → with_links counts now (links_of rest) ≡ with_links counts before (links_of all)

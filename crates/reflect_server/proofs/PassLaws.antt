@@ -1,9 +1,9 @@
 -- Passes that have made no call: split off, and merged.
 use Rattle.std.proofs.Common.{◌≡◌, ℕ, Bool, true, false, ◌||◌, eqb, List, [], ◌∷◌, ◌++◌, slice_index, refl, sym, ap, ◌∙◌, subst, ◌⊎◌, inl, inr}
-use Rattle.std.proofs.lemmas.Bool.{eqb-true}
 use Rattle.atomic_table.specs.Seated.{TableId}
 use Rattle.session_lock.specs.History.{has, calls_of}
 use Rattle.session_lock.specs.Passes.{PassState, caller, Merged}
+use Rattle.session_lock.proofs.Histories.{only_caller}
 use Rattle.reflect_server.specs.Passes.{HasCalledAs, IsFresh, HasNotCalled}
 
 -- ---- who stands in a list
@@ -50,15 +50,12 @@ called_merged a b m cs ds es merged ca cb not_a not_b n own other =
     ]
 
 -- a pass with one caller
-pub alone : (n c : ℕ) → has n (c ∷ []) ≡ true → n ≡ c
-alone n c is = elim (or_both (eqb n c) false is) [ inl same ↦ eqb-true n c same | inr never ↦ absurd (cc (never)) ]
-
 pub called_alone : (p : PassState) (c : ℕ) → p.callers ≡ c ∷ [] → HasCalledAs (c ∷ []) p
 called_alone p c one n own other = absurd (cc (sym (ap (has n) one) ∙ own, other))
 
 pub fresh_called : (table : TableId) (p : PassState) → IsFresh table p → HasCalledAs [] p
 fresh_called table p fresh n own other =
-    subst (λ (m : ℕ). calls_of (m ∷ []) p.seen ≡ []) (sym (alone n (caller p) (sym (ap (has n) fresh.one) ∙ own))) fresh.calls
+    subst (λ (m : ℕ). calls_of (m ∷ []) p.seen ≡ []) (sym (only_caller n (caller p) (sym (ap (has n) fresh.one) ∙ own))) fresh.calls
 
 pub idle_merged : (table : TableId) (a b m : PassState) → HasNotCalled table a → IsFresh table b → Merged a b m → HasNotCalled table m
 idle_merged table a b m idle fresh merged = record {

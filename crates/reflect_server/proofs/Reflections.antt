@@ -3,7 +3,7 @@ use Rattle.std.proofs.Common.{◌≡◌, ℕ, ◌+◌, ◌≤◌, Bool, true, fa
 use Rattle.std.specs.List.{AllByRecursion}
 use Rattle.std.proofs.lemmas.List.{length-map}
 use Rattle.tea_base.specs.declared.entry.SessionId.{SessionId}
-use Rattle.tea_io.specs.Told.{grown}
+use Rattle.tea_io.specs.Told.{with_more}
 use Rattle.tea_io.specs.Links.{Counts}
 use Rattle.tea_io.specs.Nets.{AsksNet, NetCause}
 use Rattle.tea_io.specs.declared.net.NetCall.{NetCall}
@@ -19,10 +19,10 @@ use Rattle.session_lock.specs.declared.knowledge.Item.{Item}
 use Rattle.session_lock.specs.History.{caller_of, calls_of, has, play, history_requests, IsSoundThrough}
 use Rattle.session_lock.specs.Passes.{PassState, own_calls, HoldsEach}
 use Rattle.session_lock.specs.Rules.{all_numbers}
-use Rattle.session_lock.proofs.Histories.{has_own, none_behind}
+use Rattle.session_lock.proofs.Histories.{has_own, none_among, none_behind}
 use Rattle.connection.specs.declared.ending.Ended.{Ended}
 use Rattle.connection.proofs.TalkLines.{talk_served}
-use Rattle.connection.proofs.Talking.{grown_none, grown_twice}
+use Rattle.connection.proofs.Talking.{with_more_none, with_more_twice}
 use Rattle.reflect_server.specs.Connections.{ServedConnection, HasTalk, IsHistoryOf, AreServed, accepted_links, callers_of, returned_links}
 use Rattle.reflect_server.specs.Passes.{Gathers}
 use Rattle.reflect_server.specs.Rounds.{Accepts, GoesRound, TakesAll, AsksAccepts, CountsStop, CountsLinks, links_of, ended_of, served_back, with_links}
@@ -36,7 +36,6 @@ use Rattle.reflect_server.specs.declared.accepting.ServedLink.{ServedLink}
 use Rattle.reflect_server.proofs.GivingBack.{ends_of_round, links_of_round, round_length}
 use Rattle.reflect_server.specs.Views.{StaysByVoid}
 use Rattle.reflect_server.proofs.StayingViews.{stays_by_void}
-use Rattle.reflect_server.proofs.PassLaws.{alone}
 use Rattle.reflect_server.proofs.RoundLaws.{takes_same}
 
 -- ---- nobody else
@@ -58,21 +57,6 @@ all_calls callers (x ∷ xs) others =
     step : (b : Bool) → has (caller_of x) callers ≡ b → calls_of callers xs ≡ xs → (if b then x ∷ calls_of callers xs else calls_of callers xs) ≡ x ∷ xs
     step true is rest = ap (λ (l : List Item). x ∷ l) rest
     step false is rest = none_first x xs (others (caller_of x) is)
-
--- among the calls of these is none of another
-none_among : (callers : List ℕ) (n : ℕ) (history : List Item) → has n callers ≡ false → calls_of (n ∷ []) (calls_of callers history) ≡ []
-none_among callers n [] other = refl
-none_among callers n (x ∷ xs) other = step (none_among callers n xs other) (has (caller_of x) callers) refl
-  where
-    own : calls_of (n ∷ []) (calls_of callers xs) ≡ [] → (b : Bool) → has (caller_of x) (n ∷ []) ≡ b → has (caller_of x) callers ≡ true
-        → (if b then x ∷ calls_of (n ∷ []) (calls_of callers xs) else calls_of (n ∷ []) (calls_of callers xs)) ≡ []
-    own rest true is among = absurd (cc (sym (ap (λ (m : ℕ). has m callers) (alone (caller_of x) n is)) ∙ among, other))
-    own rest false is among = rest
-
-    step : calls_of (n ∷ []) (calls_of callers xs) ≡ [] → (b : Bool) → has (caller_of x) callers ≡ b
-        → calls_of (n ∷ []) (if b then x ∷ calls_of callers xs else calls_of callers xs) ≡ []
-    step rest true is = own rest (has (caller_of x) (n ∷ [])) refl is
-    step rest false is = rest
 
 -- where the calls of these are all, nobody else has made one
 none_else : (callers : List ℕ) (history : List Item) (n : ℕ) → calls_of callers history ≡ history → has n callers ≡ false → calls_of (n ∷ []) history ≡ []
@@ -122,7 +106,7 @@ module _ (gives : ℕ → Type 0) (id : SessionId) {L : Type 0} (links : LinksTe
 module _ {N L : Type 0} (tells : NetTells N L) (links : LinksTell L) where
   -- what giving these back does
   pub record Returns (before now : N) (served : List (ServedLink L)) (count : ℕ) : Type 0 where
-    pub over : tells.over now ≡ grown (tells.over before) (links_of served)
+    pub over : tells.over now ≡ with_more (tells.over before) (links_of served)
     pub counts : tells.link_counts now ≡ with_links links.counts (tells.link_counts before) (links_of served)
     pub lent : tells.lent now + count ≡ tells.lent before
     pub coming : tells.coming now ≡ tells.coming before
@@ -134,7 +118,7 @@ module _ {N L : Type 0} (tells : NetTells N L) (links : LinksTell L) where
       → ReturnsLinks tells links before now connections
   gives_back before mid now served connections stopped took served_is returns = record {
     coming = subst (λ (o : Option (List L)). TakesAll (tells.coming before) o (accepted_links connections)) (sym returns.coming) took.coming;
-    over = returns.over ∙ (ap (λ (o : Option (List L)). grown o (links_of served)) took.over ∙ ap (grown (tells.over before)) (links_of_round served connections served_is));
+    over = returns.over ∙ (ap (λ (o : Option (List L)). with_more o (links_of served)) took.over ∙ ap (with_more (tells.over before)) (links_of_round served connections served_is));
     lent = omega (arith, returns.lent, took.lent, round_length served connections served_is, length-map connections (λ one. one.accepted));
     counts =
         returns.counts
@@ -146,7 +130,7 @@ module _ {N L : Type 0} (tells : NetTells N L) (links : LinksTell L) where
       → tells.link_counts now ≡ tells.link_counts before → ReturnsLinks tells links before now []
   nothing_back before now coming over lent counts = record {
     coming = takes_same (tells.coming before) (tells.coming now) coming;
-    over = over ∙ sym (grown_none (tells.over before));
+    over = over ∙ sym (with_more_none (tells.over before));
     lent = lent;
     counts = counts;
   }
@@ -180,7 +164,7 @@ module _ (gives : ℕ → Type 0) (id : SessionId) {N L : Type 0} (tells : NetTe
       gives_back tells links before.net mid.net now mid.served.items ends.round.connections mid.stopped ends.round.net ends.round.served
       (subst (Returns tells links mid.net now mid.served.items) ends.length ends.returns)
 
-  reflected_as : (reflected : Reflected) (ends : Ends reflected.session.plain) → tells.asked now ≡ grown (tells.asked before.net) (accepts_for (accepted_links ends.round.connections) reflected.net_failed)
+  reflected_as : (reflected : Reflected) (ends : Ends reflected.session.plain) → tells.asked now ≡ with_more (tells.asked before.net) (accepts_for (accepted_links ends.round.connections) reflected.net_failed)
       → CountsFailure (tells.faults before.net) (tells.faults now) reflected.net_failed → CountsConnections (length ends.round.connections) count reflected.net_failed
       → reflected.ends ≡ ended_of mid.served.items → HasReflected gives id tells links [] count before.net now reflected
   reflected_as reflected ends asked faults number ended = record {
@@ -219,7 +203,7 @@ module _ (gives : ℕ → Type 0) (id : SessionId) {N L : Type 0} (tells : NetTe
       let counts = subst (CountsStop _ _) going (faults_now mid.stopped ends.returns.faults ends.round.net.faults) in
       let number = subst (CountsLinks (length ends.round.connections) count) going ends.round.number in
       reflected_as reflected ends
-      (subst (λ (b : Bool). tells.asked now ≡ grown (tells.asked before.net) (accepts_for (accepted_links ends.round.connections) b)) (sym fine) asks)
+      (subst (λ (b : Bool). tells.asked now ≡ with_more (tells.asked before.net) (accepts_for (accepted_links ends.round.connections) b)) (sym fine) asks)
       (subst (CountsFailure (tells.faults before.net) (tells.faults now)) (sym fine) counts)
       (subst (CountsConnections (length ends.round.connections) count) (sym fine) number) ended
 
@@ -231,7 +215,7 @@ module _ (gives : ℕ → Type 0) (id : SessionId) {N L : Type 0} (tells : NetTe
       let counts = subst (CountsStop _ _) stopped (faults_now mid.stopped ends.returns.faults ends.round.net.faults) in
       let number = subst (CountsLinks (length ends.round.connections) count) stopped ends.round.number in
       reflected_as reflected ends
-      (subst (λ (b : Bool). tells.asked now ≡ grown (tells.asked before.net) (accepts_for (accepted_links ends.round.connections) b)) (sym failed) asks)
+      (subst (λ (b : Bool). tells.asked now ≡ with_more (tells.asked before.net) (accepts_for (accepted_links ends.round.connections) b)) (sym failed) asks)
       (subst (CountsFailure (tells.faults before.net) (tells.faults now)) (sym failed) counts.1)
       (subst (CountsConnections (length ends.round.connections) count) (sym failed) number) ended
 
@@ -294,7 +278,7 @@ module _ (gives : ℕ → Type 0) (id : SessionId) {N L : Type 0} (tells : NetTe
       → ReturnsLinks tells links mid now connections → ReturnsLinks tells links before now connections
   listened_back address value before mid now connections listens back = record {
     coming = subst (λ (o : Option (List L)). TakesAll o (tells.coming now) (accepted_links connections)) listens.coming back.coming;
-    over = back.over ∙ ap (λ (o : Option (List L)). grown o (returned_links connections)) listens.over;
+    over = back.over ∙ ap (λ (o : Option (List L)). with_more o (returned_links connections)) listens.over;
     lent = back.lent ∙ listens.lent;
     counts = back.counts ∙ ap (λ (c : Counts). with_links links.counts c (returned_links connections)) listens.counts;
   }
@@ -312,8 +296,8 @@ module _ (gives : ℕ → Type 0) (id : SessionId) {N L : Type 0} (tells : NetTe
     net = listened_back address value before mid now told.connections listens told.net;
     asked =
         told.asked
-        ∙ (ap (λ (o : Option (List NetCall)). grown o (accepts_for (accepted_links told.connections) reflected.net_failed)) listens.asked
-        ∙ grown_twice (tells.asked before) (Listen address ∷ []) (accepts_for (accepted_links told.connections) reflected.net_failed));
+        ∙ (ap (λ (o : Option (List NetCall)). with_more o (accepts_for (accepted_links told.connections) reflected.net_failed)) listens.asked
+        ∙ with_more_twice (tells.asked before) (Listen address ∷ []) (accepts_for (accepted_links told.connections) reflected.net_failed));
     faults = failure_later (tells.faults before) (tells.faults mid) (tells.faults now) reflected.net_failed listens.cause.later told.faults;
     number = told.number;
     ends = told.ends;
@@ -324,7 +308,7 @@ module _ (gives : ℕ → Type 0) (id : SessionId) {N L : Type 0} (tells : NetTe
   }
   reflects_behind address value count before mid now (Err ListenFault) listens told = record {
     net = listened_back address value before mid now [] listens told.net;
-    asked = told.asked ∙ (grown_none (tells.asked mid) ∙ listens.asked);
+    asked = told.asked ∙ (with_more_none (tells.asked mid) ∙ listens.asked);
     faults = failure_later (tells.faults before) (tells.faults mid) (tells.faults now) true listens.cause.later told.faults;
   }
   reflects_behind address value count before mid now (Err serve_fault.WantOfMemory) listens told = record {

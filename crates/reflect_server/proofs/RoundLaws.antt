@@ -2,7 +2,7 @@
 use Rattle.std.proofs.Common.{◌≡◌, ℕ, ◌+◌, ◌≤◌, ◌<◌, List, [], ◌∷◌, ◌++◌, length, map, Option, Some, None, Ok, Err, refl, sym, ap, ◌∙◌, subst, arith}
 use Rattle.std.proofs.lemmas.List.{reverse-append}
 use Rattle.tea_base.specs.declared.entry.SessionId.{SessionId}
-use Rattle.tea_io.specs.Told.{grown, TakesFirst}
+use Rattle.tea_io.specs.Told.{with_more, TakesFirst}
 use Rattle.tea_io.specs.Links.{no_counts}
 use Rattle.tea_io.specs.Nets.{AsksNet, NetCause}
 use Rattle.tea_io.specs.declared.net.NetCall.{NetCall}
@@ -15,7 +15,7 @@ use Rattle.session_lock.specs.History.{has}
 use Rattle.session_lock.specs.Numbers.{times}
 use Rattle.session_lock.specs.Passes.{PassState, caller, numbers_held, Merged}
 use Rattle.session_lock.proofs.Ranges.{times_append}
-use Rattle.connection.proofs.Talking.{grown_none, grown_twice}
+use Rattle.connection.proofs.Talking.{with_more_none, with_more_twice}
 use Rattle.reflect_server.specs.declared.accepting.Round.{Round}
 use Rattle.reflect_server.specs.declared.accepting.ServedLink.{ServedLink}
 use Rattle.reflect_server.specs.Connections.{ServedConnection, accepted_links, callers_of}
@@ -45,9 +45,9 @@ takes_more (Some told) mid now first rest one all =
 asks_more : {L T : Type 0} (before mid now : Option (List NetCall)) (first : L) (rest : List L) (value : T) (stopped : Option NetFault)
     → AsksNet before mid Accept (Ok value) → AsksAccepts mid now rest stopped → AsksAccepts before now (first ∷ rest) stopped
 asks_more before mid now first rest value None one all =
-    all ∙ (ap (λ (o : Option (List NetCall)). grown o (accepts rest)) one ∙ grown_twice before (Accept ∷ []) (accepts rest))
+    all ∙ (ap (λ (o : Option (List NetCall)). with_more o (accepts rest)) one ∙ with_more_twice before (Accept ∷ []) (accepts rest))
 asks_more before mid now first rest value (Some Failed) one all =
-    all ∙ (ap (λ (o : Option (List NetCall)). grown o (accepts rest ++ Accept ∷ [])) one ∙ grown_twice before (Accept ∷ []) (accepts rest ++ Accept ∷ []))
+    all ∙ (ap (λ (o : Option (List NetCall)). with_more o (accepts rest ++ Accept ∷ [])) one ∙ with_more_twice before (Accept ∷ []) (accepts rest ++ Accept ∷ []))
 asks_more before mid now first rest value (Some WantOfMemory) one all = tt
 
 counts_more : (before mid now : ℕ) (stopped : Option NetFault) → before ≤ mid → CountsStop mid now stopped → CountsStop before now stopped
@@ -77,7 +77,7 @@ module _ (gives : ℕ → Type 0) (id : SessionId) {N L : Type 0} (tells : NetTe
   accepts_none net = record {
     coming = takes_none (tells.coming net);
     over = refl;
-    asked = sym (grown_none (tells.asked net));
+    asked = sym (with_more_none (tells.asked net));
     faults = omega arith;
     lent = omega arith;
     counts = refl;

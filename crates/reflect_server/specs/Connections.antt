@@ -3,7 +3,7 @@ use Rattle.std.specs.Prelude.{◌≡◌, ℕ, ◌≤◌, List, map}
 use Rattle.std.specs.List.{AllByRecursion}
 use Rattle.tea_base.specs.declared.entry.Entry.{Entry}
 use Rattle.tea_base.specs.declared.entry.SessionId.{SessionId}
-use Rattle.tea_io.specs.Told.{grown}
+use Rattle.tea_io.specs.Told.{with_more}
 use Rattle.tea_io.specs.Links.{no_counts}
 use Rattle.tea_io.specs.declared.link.Heard.{Heard}
 use Rattle.run_steps.specs.Outside.{LinksTell}
@@ -44,8 +44,8 @@ ends_of connections = map (λ one. one.ended) connections
 -- answered, or by what its link has counted.
 pub record HasTalk (gives : ℕ → Type 0) (id : SessionId) {L : Type 0} (links : LinksTell L) (history : List Item) (one : ServedConnection L) : Type 0 where
   pub talk : Talk gives id history one.caller one.heard one.sent one.ended
-  pub heard : links.heard one.returned ≡ grown (links.heard one.accepted) one.heard
-  pub sent : links.sent one.returned ≡ grown (links.sent one.accepted) one.sent
+  pub heard : links.heard one.returned ≡ with_more (links.heard one.accepted) one.heard
+  pub sent : links.sent one.returned ≡ with_more (links.sent one.accepted) one.sent
   pub exactly : EndsExactly one.ended (exchanges_in history one.caller)
   pub new : links.counts one.accepted ≡ no_counts
   pub cause : IsCauseCounted no_counts (links.counts one.returned) one.ended

@@ -1,7 +1,7 @@
 -- What a reflector answers, and what it has done to its net by then.
 use Rattle.std.specs.Prelude.{◌≡◌, ℕ, ◌≤◌, ◌<◌, Bool, true, false, List, [], ◌++◌, ◌+◌, length, All, vec_len, vec_capacity, Option, Some, None, Result, Ok, Err}
 use Rattle.tea_base.specs.declared.entry.SessionId.{SessionId}
-use Rattle.tea_io.specs.Told.{grown, Rose}
+use Rattle.tea_io.specs.Told.{with_more, Rose}
 use Rattle.tea_io.specs.declared.net.NetCall.{NetCall}
 use Rattle.run_steps.specs.Outside.{LinksTell, NetTells}
 use Rattle.tea_io.specs.declared.net.NetFault.{NetFault}
@@ -27,7 +27,7 @@ use Rattle.reflect_server.specs.declared.reflecting.Prepared.{Prepared}
 -- the links that the net gave were all given back, in the order in which they were accepted
 pub record ReturnsLinks {N L : Type 0} (tells : NetTells N L) (links : LinksTell L) (before now : N) (connections : List (ServedConnection L)) : Type 0 where
   pub coming : TakesAll (tells.coming before) (tells.coming now) (accepted_links connections)
-  pub over : tells.over now ≡ grown (tells.over before) (returned_links connections)
+  pub over : tells.over now ≡ with_more (tells.over before) (returned_links connections)
   pub lent : tells.lent now ≡ tells.lent before
   pub counts : tells.link_counts now ≡ with_links links.counts (tells.link_counts before) (returned_links connections)
 
@@ -57,7 +57,7 @@ pub record HasReflected (gives : ℕ → Type 0) (id : SessionId) {N L : Type 0}
   pub connections : List (ServedConnection L)
   pub history : List Item
   pub net : ReturnsLinks tells links before now connections
-  pub asked : tells.asked now ≡ grown (tells.asked before) (calls ++ accepts_for (accepted_links connections) reflected.net_failed)
+  pub asked : tells.asked now ≡ with_more (tells.asked before) (calls ++ accepts_for (accepted_links connections) reflected.net_failed)
   pub faults : CountsFailure (tells.faults before) (tells.faults now) reflected.net_failed
   pub number : CountsConnections (length connections) count reflected.net_failed
   pub ends : reflected.ends ≡ ends_of connections
@@ -69,7 +69,7 @@ pub record HasReflected (gives : ℕ → Type 0) (id : SessionId) {N L : Type 0}
 -- the net did not listen
 pub record HasNotListened {N L : Type 0} (tells : NetTells N L) (links : LinksTell L) (calls : List NetCall) (before now : N) : Type 0 where
   pub net : ReturnsLinks tells links before now []
-  pub asked : tells.asked now ≡ grown (tells.asked before) calls
+  pub asked : tells.asked now ≡ with_more (tells.asked before) calls
   pub faults : Rose (tells.faults before) (tells.faults now)
 
 -- No memory was found. Those links that were accepted, fewer than there were to be, were served to their ends, and given back.

@@ -1,7 +1,7 @@
 -- What is done to a net: links are accepted, served and given back.
 use Rattle.std.specs.Prelude.{◌≡◌, ℕ, ⊤, ◌+◌, ◌≤◌, ◌<◌, List, [], ◌∷◌, ◌++◌, length, map, reverse, Option, Some, None}
 use Rattle.tea_base.specs.declared.entry.SessionId.{SessionId}
-use Rattle.tea_io.specs.Told.{grown, Rose}
+use Rattle.tea_io.specs.Told.{with_more, Rose}
 use Rattle.tea_io.specs.Links.{Counts}
 use Rattle.tea_io.specs.Nets.{plus}
 use Rattle.tea_io.specs.declared.net.NetCall.{NetCall}
@@ -36,8 +36,8 @@ accepts_more links = accepts links ++ Accept ∷ []
 
 -- the calls that were made; want of memory leaves them open
 abbrev pub AsksAccepts : {L : Type 0} → Option (List NetCall) → Option (List NetCall) → List L → Option NetFault → Type 0
-AsksAccepts before now links None = now ≡ grown before (accepts links)
-AsksAccepts before now links (Some Failed) = now ≡ grown before (accepts_more links)
+AsksAccepts before now links None = now ≡ with_more before (accepts links)
+AsksAccepts before now links (Some Failed) = now ≡ with_more before (accepts_more links)
 AsksAccepts before now links (Some WantOfMemory) = ⊤
 
 -- the count of faults rose where the net failed

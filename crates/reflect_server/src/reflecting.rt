@@ -2,7 +2,7 @@
 ghost use Rattle.std.specs.Prelude.{◌≡◌, ◌+◌, ◌≤◌, ◌++◌, ◌∷◌, [], IfOk, vec_len, vec_capacity};
 ghost use Rattle.run_steps.specs.Limits.{most_connections};
 ghost use Rattle.run_steps.specs.Outside.{links_tell, net_tells};
-ghost use Rattle.tea_io.specs.Told.{grown};
+ghost use Rattle.tea_io.specs.Told.{with_more};
 ghost use Rattle.tea_io.specs.declared.net.NetCall.TheVariants.{Listen};
 ghost use Rattle.reflect_server.specs.Rounds.{ended_of, links_of, with_links};
 ghost use Rattle.reflect_server.specs.Reflects.{IsPrepared, Reflects, answer_for};
@@ -62,7 +62,7 @@ fn give_back<N: Net>(
     requires lent { vec_len served ≤ N.lent net.old }
     requires room { vec_len ends + vec_len served ≤ vec_capacity ends }
     ensures ends { result.items ≡ ends.items ++ ended_of served.items }
-    ensures over { N.over net.new ≡ grown (N.over net.old) (links_of served.items) }
+    ensures over { N.over net.new ≡ with_more (N.over net.old) (links_of served.items) }
     ensures counts { N.link_counts net.new ≡ with_links N.Conn.counts (N.link_counts net.old) (links_of served.items) }
     ensures lent { N.lent net.new + vec_len served ≡ N.lent net.old }
     ensures coming { N.coming net.new ≡ N.coming net.old }

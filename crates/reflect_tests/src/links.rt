@@ -13,15 +13,17 @@ pub const FIRST_SEND: &[u8] = &[2, 0, 0, 0, 1, 0, 0, 0, 0];
 
 /// A JOIN of the session whose id is 32 sevens; it asks for the whole log.
 pub fn join_frame(alloc: Global, view: u8) -> Result<Blob, WantOfMemory> {
-    let mut bytes = Vec::new(alloc);
-    push(&mut bytes, 1)?;
-    for _ in 0..32 {
-        push(&mut bytes, 7)?;
-    }
-    for byte in [0, 0, 0, view, 1] {
-        push(&mut bytes, byte)?;
-    }
+    let mut bytes = vec![in alloc; 1]?;
+    put_all(&mut bytes, &[7; 32])?;
+    put_all(&mut bytes, &[0, 0, 0, view, 1])?;
     Ok(Blob::from_vec(bytes))
+}
+
+fn put_all(bytes: &mut Vec<u8>, more: &[u8]) -> Result<(), WantOfMemory> {
+    for byte in more {
+        push(bytes, *byte)?;
+    }
+    Ok(())
 }
 
 /// A link of the view, whose JOIN and then these frames come, and whose calls of these numbers fail.
@@ -35,8 +37,13 @@ pub fn link_of(
 {
     let mut coming = Blobs::new(alloc);
     coming.push(join_frame(alloc, view)?)?;
+    put_frames(alloc, &mut coming, frames)?;
+    Ok(MemLink::new(alloc, coming, fail, Numbers::new(alloc)))
+}
+
+fn put_frames(alloc: Global, coming: &mut Blobs, frames: &[&[u8]]) -> Result<(), WantOfMemory> {
     for frame in frames {
         coming.push(Blob::copy(alloc, frame)?)?;
     }
-    Ok(MemLink::new(alloc, coming, fail, Numbers::new(alloc)))
+    Ok(())
 }

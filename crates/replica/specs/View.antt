@@ -1,6 +1,5 @@
 -- What contracts see of a replica.
-use Rattle.std.specs.Prelude.{◌≡◌, ◌<◌, ℕ, true, false, List, []}
-use Rattle.tea_base.specs.Limits.{time_limit}
+use Rattle.std.specs.Prelude.{◌≡◌, ℕ, true, false, List, []}
 use Rattle.model_lang.specs.declared.tree.Class.{Class}
 use Rattle.model_lang.specs.Program.{IsProgram}
 use Rattle.model_lang.specs.TreeView.{program_tree}
@@ -8,12 +7,10 @@ use Rattle.world_plain.specs.Messages.{PlainOutgoing}
 use Rattle.world_plain.specs.World.{WorldRecord}
 use Rattle.world.specs.declared.fault.WorldFault.{WorldFault}
 use Rattle.world.specs.declared.fault.WorldFault.TheVariants as fault
-use Rattle.wire_frames.specs.declared.frame.ServerFrame.{ServerFrame}
-use Rattle.wire_frames.specs.declared.frame.ServerFrame.TheVariants.{Sync, Recv, Tick, Done, Snapped, Refused, Alive}
 use Rattle.replica_plain.specs.declared.fault.ReplicaFault.{ReplicaFault}
 use Rattle.replica_plain.specs.declared.fault.ReplicaFault.TheVariants as cause
 use Rattle.replica_plain.specs.Worlds.{Worlds}
-use Rattle.replica_plain.specs.PlainReplica.{PlainReplica, AreCounted, founded}
+use Rattle.replica_plain.specs.PlainReplica.{PlainReplica, AreCounted, new_replica}
 use Rattle.replica.specs.RealWorlds.{worlds}
 use Rattle.replica.specs.SessionWorlds.{SessionWorldView}
 
@@ -49,17 +46,7 @@ pub record IsSoundReplica (r : ReplicaView) : Type 0 where
 
 -- a view that has the first world of a session, has seen nothing and has not joined
 abbrev pub founded_replica : List Class → List ℕ → ℕ → ReplicaView
-founded_replica program id view = record { program = program; id = id; plain = founded (worlds (program_tree program) id) view }
-
--- the time of an entry or a tick is one of TeaTime
-abbrev pub IsTimely : ServerFrame → Type 0
-IsTimely (Sync joined last from base) = Unit {0}
-IsTimely (Recv entry) = entry.time < time_limit
-IsTimely (Tick t) = t < time_limit
-IsTimely (Done number seq time) = Unit {0}
-IsTimely (Snapped time) = Unit {0}
-IsTimely (Refused about code kept more) = Unit {0}
-IsTimely Alive = Unit {0}
+founded_replica program id view = record { program = program; id = id; plain = new_replica (worlds (program_tree program) id) view }
 
 -- what a replica says of a fault of its world
 abbrev pub cause_of : WorldFault → ReplicaFault

@@ -8,10 +8,10 @@ ghost use Rattle.model_value.specs.View.{plain};
 ghost use Rattle.world_plain.specs.Messages.{plain_outgoing};
 ghost use Rattle.replica_plain.specs.declared.how.How.TheVariants.{Resume};
 ghost use Rattle.replica_plain.specs.PlainReplica.{most_published, published_count, breaks};
-ghost use Rattle.replica_plain.specs.Taking.{IsTaken, begins_anew, begins_with_world, goes_on_from, lost_at, synced_with, take_done, take_entry, take_refused, take_sync, take_tick, taken};
+ghost use Rattle.replica_plain.specs.Taking.{IsTaken, begins_anew, begins_with_world, goes_on_from, lost_at, synced_with, take_done, take_entry, take_refused, take_sync, take_tick, taken, IsTimely};
 ghost use Rattle.replica_plain.specs.Calls.{Publishes, gives, join_frame, joining, loses, publishes, takes_out, unsent};
 ghost use Rattle.replica.specs.SessionWorlds.{Snaps};
-ghost use Rattle.replica.specs.View.{IsSoundReplica, IsTimely, KeepsSession, cause_of, founded_replica, with_plain, world_part, worlds_of};
+ghost use Rattle.replica.specs.View.{IsSoundReplica, KeepsSession, cause_of, founded_replica, with_plain, world_part, worlds_of};
 
 use crate::measure::payload_len;
 use crate::sending::sends;

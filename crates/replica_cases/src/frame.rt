@@ -1,7 +1,7 @@
 //! Frames of a reflector, in words.
 ghost use Rattle.std.specs.Prelude.{◌<◌, IfOk};
 ghost use Rattle.tea_base.specs.Limits.{time_limit};
-ghost use Rattle.replica.specs.View.{IsTimely};
+ghost use Rattle.replica_plain.specs.Taking.{IsTimely};
 
 use case_lines::CaseFault;
 use std::alloc::Global;

@@ -11,7 +11,7 @@ use Rattle.replica_plain.specs.declared.how.How.TheVariants.{Fresh, Whole, Resum
 use Rattle.replica_plain.specs.declared.fault.ReplicaFault.{ReplicaFault}
 use Rattle.replica_plain.specs.declared.fault.ReplicaFault.TheVariants as cause
 use Rattle.replica_plain.specs.Worlds.{Worlds}
-use Rattle.replica_plain.specs.PlainReplica.{PlainReplica, founded, breaks}
+use Rattle.replica_plain.specs.PlainReplica.{PlainReplica, new_replica, breaks}
 use Rattle.replica_plain.specs.Taking.{taken, lost_at, IsTaken}
 use Rattle.replica_plain.specs.Calls.{joining, join_frame, publishes, gives, loses, unsent}
 use Rattle.replica_plain.proofs.CountedWorlds.{Counter, counters_from}
@@ -30,7 +30,7 @@ joined_entry = record { seq = 1; time = 4; view = 7; what = what.Join }
 
 -- a view that published two events joins and takes its Sync
 abbrev synced_view : PlainReplica Counter ℕ
-synced_view = taken_all counters (joining (publishes (publishes (founded counters 7) (5 ∷ [])) (6 ∷ [])) Fresh) (Sync 1 0 0 None ∷ [])
+synced_view = taken_all counters (joining (publishes (publishes (new_replica counters 7) (5 ∷ [])) (6 ∷ [])) Fresh) (Sync 1 0 0 None ∷ [])
 
 both_to_be_given : unsent synced_view ≡ Send 1 (5 ∷ []) ∷ Send 2 (6 ∷ []) ∷ []
 both_to_be_given = refl
@@ -107,7 +107,7 @@ no_tick_mends_it = refl
 it_is_answered_again : fault_at answered_view (Done 1 2 10) ≡ Some (cause.OutOfOrder 2 1)
 it_is_answered_again = refl
 
-nothing_is_to_be_answered : fault_at (taken_all counters (joining (founded counters 7) Whole) (Sync 1 0 0 None ∷ [])) (Done 1 2 10) ≡ Some (cause.OutOfOrder 1 1)
+nothing_is_to_be_answered : fault_at (taken_all counters (joining (new_replica counters 7) Whole) (Sync 1 0 0 None ∷ [])) (Done 1 2 10) ≡ Some (cause.OutOfOrder 1 1)
 nothing_is_to_be_answered = refl
 
 a_refused_snapshot_is_taken : taken counters answered_view (Refused 3 7 12 0) ≡ record { replica = answered_view; fault = None }
@@ -117,7 +117,7 @@ a_refused_event_is_told : taken counters answered_view (Refused 2 5 12 0) ≡ re
 a_refused_event_is_told = refl
 
 -- a frame before any join, and a Sync of a join of each kind, in the order of its tests
-no_tick_before_a_sync : fault_at (founded counters 7) (Tick 9) ≡ Some cause.Unasked
+no_tick_before_a_sync : fault_at (new_replica counters 7) (Tick 9) ≡ Some cause.Unasked
 no_tick_before_a_sync = refl
 
 no_answer_before_a_sync : fault_at (joining answered_view Fresh) (Done 2 3 11) ≡ Some cause.Unasked

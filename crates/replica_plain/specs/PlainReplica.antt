@@ -30,8 +30,8 @@ abbrev pub most_published : ℕ
 most_published = 1048576
 
 -- a view that has the first world, has seen nothing and has not joined
-abbrev pub founded : {W O : Type 0} → Worlds W O → ℕ → PlainReplica W O
-founded m view =
+abbrev pub new_replica : {W O : Type 0} → Worlds W O → ℕ → PlainReplica W O
+new_replica m view =
     record {
       view = view;
       world = m.first;

@@ -1,6 +1,7 @@
 -- What a replica makes of a frame: one row for each.
-use Rattle.std.specs.Prelude.{◌≡◌, ℕ, ◌+◌, ◌-◌, ◌^◌, ◌==◌, min, max, nat_le, nat_lt, true, false, if◌then◌else◌, ⊤, List, [], ◌∷◌, Option, Some, None, Result, Ok, Err}
+use Rattle.std.specs.Prelude.{◌≡◌, ◌<◌, ℕ, ◌+◌, ◌-◌, ◌^◌, ◌==◌, min, max, nat_le, nat_lt, true, false, if◌then◌else◌, ⊤, List, [], ◌∷◌, Option, Some, None, Result, Ok, Err}
 use Rattle.tea_base.specs.declared.entry.Entry.{Entry}
+use Rattle.tea_base.specs.Limits.{time_limit}
 use Rattle.wire_frames.specs.declared.start.Base.{Base}
 use Rattle.wire_frames.specs.declared.frame.ServerFrame.{ServerFrame}
 use Rattle.wire_frames.specs.declared.frame.ServerFrame.TheVariants.{Sync, Recv, Tick, Done, Snapped, Refused, Alive}
@@ -10,6 +11,16 @@ use Rattle.replica_plain.specs.declared.fault.ReplicaFault.{ReplicaFault}
 use Rattle.replica_plain.specs.declared.fault.ReplicaFault.TheVariants as cause
 use Rattle.replica_plain.specs.Worlds.{Worlds}
 use Rattle.replica_plain.specs.PlainReplica.{PlainReplica, published_count, breaks}
+
+-- the time of an entry or a tick, which moves a world, is one of TeaTime
+abbrev pub IsTimely : ServerFrame → Type 0
+IsTimely (Sync joined last from base) = Unit {0}
+IsTimely (Recv entry) = entry.time < time_limit
+IsTimely (Tick t) = t < time_limit
+IsTimely (Done number seq time) = Unit {0}
+IsTimely (Snapped time) = Unit {0}
+IsTimely (Refused about code kept more) = Unit {0}
+IsTimely Alive = Unit {0}
 
 -- the replica after a frame, and what is wrong with the frame, if anything
 pub record Taken (W O : Type 0) : Type 0 where

@@ -10,7 +10,7 @@ ghost use Rattle.wire_frames.specs.declared.frame.ServerFrame.{ServerFrame};
 ghost use Rattle.wire_frames.specs.declared.frame.ServerFrame.TheVariants.{Done, Sync, Tick};
 ghost use Rattle.replica_plain.specs.declared.how.How.{How};
 ghost use Rattle.replica_plain.specs.Worlds.{Worlds, AreWorlds, IsHonest, replay_world};
-ghost use Rattle.replica_plain.specs.PlainReplica.{PlainReplica, AreCounted, founded, most_published, published_count};
+ghost use Rattle.replica_plain.specs.PlainReplica.{PlainReplica, AreCounted, new_replica, most_published, published_count};
 ghost use Rattle.replica_plain.specs.Taking.{lost_at, taken};
 ghost use Rattle.replica_plain.specs.Calls.{gives, joining, loses, publishes, sends_after, takes_out, unsent};
 ghost use Rattle.replica_plain.specs.Following.{AreReadCalls, FollowsLog, IsServedTo, ReplicaCall, ToTake, after_calls, frames_of_calls};
@@ -19,7 +19,7 @@ ghost use Rattle.replica_plain.specs.Following.{AreReadCalls, FollowsLog, IsServ
 /// from the Sync on, follows the log and has seen the entries of its time, whatever it published, gave and handed over between, and no
 /// frame about its world had a fault. W is any type of worlds, O what their models publish.
 pub fn served_is_read<W, O>()
-    ensures founded { (m : Worlds W O) (log : List Entry) (view : ℕ) → AreWorlds m → IsLegal log → FollowsLog m log (founded m view) }
+    ensures founded { (m : Worlds W O) (log : List Entry) (view : ℕ) → AreWorlds m → IsLegal log → FollowsLog m log (new_replica m view) }
     ensures lost { (m : Worlds W O) (log : List Entry) (r : PlainReplica W O) → AreWorlds m → IsLegal log → FollowsLog m log (loses m r) }
     ensures follows { (m : Worlds W O) (log : List Entry) (r : PlainReplica W O) (how : How) (given : List (Option ClientFrame)) (joined last from : ℕ) (base : Option Base) (calls : List ReplicaCall) (rest : List ServerFrame)
         → AreWorlds m → IsLegal log → IsServedTo m log r how given joined last from base (frames_of_calls calls ++ rest)
@@ -47,7 +47,7 @@ pub fn replicas_agree<W, O>()
 /// No more events of a replica are acknowledged than were given, no more were given than published, and no more than 1,048,576 were
 /// published. So it is where it was founded, and each call leaves it so, also one that wants memory.
 pub fn numbers_stand<W, O>()
-    ensures founded { (m : Worlds W O) (view : ℕ) → AreCounted (founded m view) }
+    ensures founded { (m : Worlds W O) (view : ℕ) → AreCounted (new_replica m view) }
     ensures takes { (m : Worlds W O) (r : PlainReplica W O) (frame : ServerFrame) → AreCounted r → AreCounted (taken m r frame).replica }
     ensures wants { (m : Worlds W O) (r new : PlainReplica W O) (frame : ServerFrame) → AreCounted r → lost_at m r frame ≡ Some new → AreCounted new }
     ensures joins { (r : PlainReplica W O) (how : How) → AreCounted r → AreCounted (joining r how) }

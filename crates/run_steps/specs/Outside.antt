@@ -4,7 +4,7 @@ use Rattle.tea_io.specs.Files.{Content, Untold, Absent, Present, MayBe, Holds}
 use Rattle.tea_io.specs.Links.{Counts, no_counts, note_of, TakesFrame, NoneFalls, CountRises, Sends as HasSent, SendCause}
 use Rattle.tea_io.specs.Nets.{plus, AsksNet, NetCause}
 use Rattle.tea_io.specs.Sink.{GrowsWithin}
-use Rattle.tea_io.specs.Told.{grown, Rose, TakesFirst}
+use Rattle.tea_io.specs.Told.{with_more, Rose, TakesFirst}
 use Rattle.tea_io.specs.declared.files.FileCall.{FileCall}
 use Rattle.tea_io.specs.declared.files.FileCall.TheVariants as call
 use Rattle.tea_io.specs.declared.link.Heard.{Heard}
@@ -118,8 +118,8 @@ pub data Came : Type 0 where
 
 -- a call is noted; one that wanted memory may be left out
 abbrev pub Noted : Came → FileCall → Option (List FileCall) → Option (List FileCall) → Type 0
-Noted WantedMemory made old new = (new ≡ old) ⊎ (new ≡ grown old (made ∷ []))
-Noted came made old new = new ≡ grown old (made ∷ [])
+Noted WantedMemory made old new = (new ≡ old) ⊎ (new ≡ with_more old (made ∷ []))
+Noted came made old new = new ≡ with_more old (made ∷ [])
 
 -- a count of faults does not fall, and rises where a call failed
 abbrev pub CountsFault : Came → ℕ → ℕ → Type 0
@@ -170,7 +170,7 @@ pub record PutsFile {F : Type 0} (files : FilesTell F) (came : Came) (name bytes
 
 -- a text is written whole, or a first part of it
 abbrev pub WrittenAfter : Came → List ℕ → Option (List ℕ) → Option (List ℕ) → Type 0
-WrittenAfter Well text old new = new ≡ grown old text
+WrittenAfter Well text old new = new ≡ with_more old text
 WrittenAfter came text old new = GrowsWithin old new text
 
 -- a text is written to the output
@@ -205,7 +205,7 @@ pub record MakesLink {N L : Type 0} (net : NetTells N L) (links : LinksTell L) (
 -- a link is given back: it stands behind those that are over, and its counts are added to their sums
 pub record TakesBack {N L : Type 0} (net : NetTells N L) (links : LinksTell L) (link : L) (old new : N) : Type 0 where
   pub lent : net.lent new + 1 ≡ net.lent old
-  pub over : net.over new ≡ grown (net.over old) (link ∷ [])
+  pub over : net.over new ≡ with_more (net.over old) (link ∷ [])
   pub counts : net.link_counts new ≡ plus (net.link_counts old) (links.counts link)
   pub coming : net.coming new ≡ net.coming old
   pub asked : net.asked new ≡ net.asked old
@@ -214,10 +214,10 @@ pub record TakesBack {N L : Type 0} (net : NetTells N L) (links : LinksTell L) (
 -- ---- the link
 
 -- what a receive answered, by how it came out
-abbrev pub said : Came → Heard → Heard
-said Well what = what
-said Failed what = heard.Failed
-said WantedMemory what = heard.WantOfMemory
+abbrev pub receive_answer : Came → Heard → Heard
+receive_answer Well what = what
+receive_answer Failed what = heard.Failed
+receive_answer WantedMemory what = heard.WantOfMemory
 
 -- what a receive that went well says
 abbrev pub IsSaid : Came → Heard → Type 0
@@ -228,11 +228,11 @@ IsSaid came what = ⊤
 -- the link says what comes next
 pub record HearsLink {L : Type 0} (links : LinksTell L) (came : Came) (what : Heard) (old new : L) : Type 0 where
   pub is_said : IsSaid came what
-  pub heard : links.heard new ≡ grown (links.heard old) (note_of (said came what))
-  pub coming : TakesFrame (links.coming old) (links.coming new) (said came what)
+  pub heard : links.heard new ≡ with_more (links.heard old) (note_of (receive_answer came what))
+  pub coming : TakesFrame (links.coming old) (links.coming new) (receive_answer came what)
   pub sent : links.sent new ≡ links.sent old
   pub later : NoneFalls (links.counts old) (links.counts new)
-  pub cause : CountRises (links.counts old) (links.counts new) (said came what)
+  pub cause : CountRises (links.counts old) (links.counts new) (receive_answer came what)
 
 abbrev pub link_result : Came → Result ⊤ LinkFault
 link_result Well = Ok tt

@@ -1,7 +1,8 @@
 -- Histories that grow.
-use Rattle.std.proofs.Common.{◌≡◌, ℕ, ◌+◌, ◌≤◌, Bool, true, false, ◌||◌, eqb, List, [], ◌∷◌, ◌++◌, length, if◌then◌else◌, sym, refl, ap, ◌∙◌, subst, arith, append_assoc, length-append, eq-eqb, ne_eqb}
+use Rattle.std.proofs.Common.{◌≡◌, ◌⊎◌, inl, inr, ℕ, ◌+◌, ◌≤◌, Bool, true, false, ◌||◌, eqb, List, [], ◌∷◌, ◌++◌, length, if◌then◌else◌, sym, refl, ap, ◌∙◌, subst, arith, append_assoc, length-append, eq-eqb, ne_eqb}
 use mathlib.Core.Logic.{dite}
 use native.Mathlib.Decide.{ℕ_discrete}
+use Rattle.std.proofs.lemmas.Bool.{eqb-true}
 use Rattle.std.proofs.lemmas.List.{append-nil}
 use Rattle.session_lock.specs.declared.knowledge.Item.{Item}
 use Rattle.reflector_core.specs.PlainSession.{PlainSession, IsSoundSession}
@@ -119,6 +120,29 @@ none_of_each n cs (x ∷ xs) own e = dite (ℕ_discrete (caller_of x) n)
 pub saw_each : (cs : List ℕ) (seen history : List Item) → Saw cs seen history → SameCallsOfEach cs seen history
 saw_each cs seen history p n own =
     ap (calls_of (n ∷ [])) (sym p.1) ∙ (calls_append (n ∷ []) seen p.0 ∙ (ap (λ (l : List Item). calls_of (n ∷ []) seen ++ l) (none_of_each n cs p.0 own p.2) ∙ append-nil (calls_of (n ∷ []) seen)))
+
+-- who stands in a list of one caller is that caller
+is_or : (a b : Bool) → (a || b) ≡ true → (a ≡ true) ⊎ (b ≡ true)
+is_or true b is = inl refl
+is_or false b is = inr is
+
+pub only_caller : (n c : ℕ) → has n (c ∷ []) ≡ true → n ≡ c
+only_caller n c is = elim (is_or (eqb n c) false is) [ inl same ↦ eqb-true n c same | inr never ↦ absurd (cc (never)) ]
+
+-- among the calls of these is none of another
+pub none_among : (callers : List ℕ) (n : ℕ) (history : List Item) → has n callers ≡ false → calls_of (n ∷ []) (calls_of callers history) ≡ []
+none_among callers n [] other = refl
+none_among callers n (x ∷ xs) other = step (none_among callers n xs other) (has (caller_of x) callers) refl
+  where
+    own_call : calls_of (n ∷ []) (calls_of callers xs) ≡ [] → (b : Bool) → has (caller_of x) (n ∷ []) ≡ b → has (caller_of x) callers ≡ true
+        → (if b then x ∷ calls_of (n ∷ []) (calls_of callers xs) else calls_of (n ∷ []) (calls_of callers xs)) ≡ []
+    own_call rest true is among = absurd (cc (sym (ap (λ (m : ℕ). has m callers) (only_caller (caller_of x) n is)) ∙ among, other))
+    own_call rest false is among = rest
+
+    step : calls_of (n ∷ []) (calls_of callers xs) ≡ [] → (b : Bool) → has (caller_of x) callers ≡ b
+        → calls_of (n ∷ []) (if b then x ∷ calls_of callers xs else calls_of callers xs) ≡ []
+    step rest true is = own_call rest (has (caller_of x) (n ∷ [])) refl is
+    step rest false is = rest
 
 pub has_own : (n : ℕ) (others : List ℕ) → has n (n ∷ others) ≡ true
 has_own n others = rw (eq-eqb n n refl) refl

@@ -1,5 +1,7 @@
 //! Bytes, texts and entries: each call that can want memory, once.
 use byte_fields::Writer;
+use std::alloc::Global;
+use std::process::Abort;
 use std::test::Fail;
 use tea_base::{Blob, Entries, Entry, Text, TextFault, What};
 
@@ -18,9 +20,12 @@ fn numbers_are_written_big_endian(rt: HostRuntime) -> Result<(), Fail> {
 
 #[test]
 fn texts_are_read_and_copied(rt: HostRuntime) -> Result<(), Fail> {
-    let alloc = rt.alloc();
-    let text = Text::read(alloc, b"\xc3\xa9t\xc3\xa9")?;
+    let text = Text::read(rt.alloc(), b"\xc3\xa9t\xc3\xa9")?;
     assert_eq!(rt; text.as_str(), "été");
+    copy_text(&rt, rt.alloc(), &text)
+}
+
+fn copy_text<R: Abort>(rt: &R, alloc: Global, text: &Text) -> Result<(), Fail> {
     assert!(rt; text.is_text(&Text::copy(alloc, "été")?));
     assert!(rt; text.is_text(&text.clone()?));
     assert_eq!(rt; Text::read(alloc, b"\xc3").err(), Some(TextFault::NotUtf8));

@@ -62,7 +62,7 @@ fn numbers_of(frame: &ServerFrame) -> FrameNumbers {
 }
 
 /// The same of frames in order.
-fn all_numbers(alloc: Global, frames: &ServerFrames) -> Result<Vec<FrameNumbers>, WantOfMemory> {
+fn frame_numbers(alloc: Global, frames: &ServerFrames) -> Result<Vec<FrameNumbers>, WantOfMemory> {
     let mut numbers = Vec::new(alloc);
     for frame in frames.as_slice() {
         numbers.push(numbers_of(frame))?;
@@ -78,7 +78,7 @@ fn reply_to(session: &mut Session, request: &Request) -> Result<Reply, WantOfMem
 }
 
 /// A view joins on a new connection: its cursor, if it has joined, and the answer to its JOIN.
-fn joined(
+fn join(
     session: &mut Session,
     view: u32,
     want: Want,
@@ -100,13 +100,13 @@ fn joined(
 }
 
 /// The view 7 joins on a new connection: its cursor, and the answer to its JOIN.
-fn connected(session: &mut Session, want: Want) -> Result<(Cursor, FrameNumbers), Fail> {
-    let (cursor, answer) = joined(session, 7, want)?;
+fn connect(session: &mut Session, want: Want) -> Result<(Cursor, FrameNumbers), Fail> {
+    let (cursor, answer) = join(session, 7, want)?;
     Ok((cursor.ok_or("refused")?, answer))
 }
 
 /// The answer to a frame.
-fn answered(
+fn answer_to(
     session: &mut Session,
     cursor: &Cursor,
     frame: ClientFrame,
@@ -128,7 +128,7 @@ fn tick(session: &mut Session) -> Result<(), WantOfMemory> {
 }
 
 /// The frames of what stands in the log behind a cursor, once time has gone on.
-fn pulled(
+fn pull(
     alloc: Global,
     session: &mut Session,
     cursor: &mut Cursor,
@@ -137,13 +137,13 @@ fn pulled(
     if session.log().len() < cursor.after() {
         return Err(Fail::from("behind the log"));
     }
-    let pull = Request::Pull {
+    let request = Request::Pull {
         after: cursor.after(),
         limit: 256,
     };
-    let batch = session.call(&pull)?;
+    let batch = session.call(&request)?;
     let frames = cursor.next(alloc, batch)?;
-    Ok(all_numbers(alloc, &frames)?)
+    Ok(frame_numbers(alloc, &frames)?)
 }
 
 /// What a view sends.
@@ -204,15 +204,30 @@ fn try_all<R: AllocGlobal + Abort>(
 ) -> Result<(), Fail> {
     for Exchange { sent, answer } in exchanges {
         let frame = frame_of(rt.alloc(), *sent)?;
-        assert_eq!(rt; answered(session, cursor, frame)?, *answer);
+        assert_eq!(rt; answer_to(session, cursor, frame)?, *answer);
     }
     Ok(())
 }
 
 /// A frame about this tag was refused with this code.
-const fn refused(about: u8, code: u8, kept: u64) -> FrameNumbers {
+const fn refusal(about: u8, code: u8, kept: u64) -> FrameNumbers {
     FrameNumbers::Refused { about, code, kept }
 }
+
+/// A LEAVE by a connection that was replaced: the view is here by the entry 3.
+const STALE_LEAVE: Exchange = Exchange {
+    sent: Sent::Leave,
+    answer: Some(FrameNumbers::Refused {
+        about: 4,
+        code: 1,
+        kept: 3,
+    }),
+};
+
+const LEAVE: Exchange = Exchange {
+    sent: Sent::Leave,
+    answer: None,
+};
 
 /// The first event of a view, with the stamp that it gets as the second entry.
 const FIRST_EVENT: Exchange = Exchange {
@@ -230,50 +245,54 @@ const FIRST_EVENT: Exchange = Exchange {
 #[test]
 fn a_view_is_cut_off_and_comes_back(rt: HostRuntime) -> Result<(), Fail> {
     let mut session = Session::new(rt.alloc());
-    let (old, sync) = connected(&mut session, Want::Fresh)?;
+    cut_off_and_come_back(&rt, &mut session)
+}
+
+fn cut_off_and_come_back<R: AllocGlobal + Abort>(
+    rt: &R,
+    session: &mut Session,
+) -> Result<(), Fail> {
+    let (old, sync) = connect(session, Want::Fresh)?;
     let founded = FrameNumbers::Sync {
         joined: 1,
         last: 0,
         from: 0,
     };
     assert_eq!(rt; sync, founded);
-    try_all(&rt, &mut session, &old, &[FIRST_EVENT])?;
-    let (new, sync) = connected(&mut session, Want::After(0))?;
+    try_all(rt, session, &old, &[FIRST_EVENT])?;
+    let (new, sync) = connect(session, Want::After(0))?;
     let resumed = FrameNumbers::Sync {
         joined: 3,
         last: 1,
         from: 0,
     };
     assert_eq!(rt; sync, resumed);
-    try_all(&rt, &mut session, &new, &[FIRST_EVENT])?;
-    let stale = Exchange {
-        sent: Sent::Leave,
-        answer: Some(refused(4, 1, 3)),
-    };
-    try_all(&rt, &mut session, &old, &[stale])?;
-    let leave = Exchange {
-        sent: Sent::Leave,
-        answer: None,
-    };
-    try_all(&rt, &mut session, &new, &[leave])
+    try_all(rt, session, &new, &[FIRST_EVENT])?;
+    try_all(rt, session, &old, &[STALE_LEAVE])?;
+    try_all(rt, session, &new, &[LEAVE])
 }
 
 #[test]
 fn the_log_is_pulled_once(rt: HostRuntime) -> Result<(), Fail> {
-    let alloc = rt.alloc();
-    let mut session = Session::new(alloc);
-    let (old, _) = connected(&mut session, Want::Fresh)?;
-    try_all(&rt, &mut session, &old, &[FIRST_EVENT])?;
-    let (mut cursor, _) = connected(&mut session, Want::After(0))?;
-    let frames = pulled(alloc, &mut session, &mut cursor)?;
+    let mut session = Session::new(rt.alloc());
+    pull_twice(&rt, &mut session)
+}
+
+fn pull_twice<R: AllocGlobal + Abort>(rt: &R, session: &mut Session) -> Result<(), Fail> {
+    let (old, _) = connect(session, Want::Fresh)?;
+    try_all(rt, session, &old, &[FIRST_EVENT])?;
+    let (mut cursor, _) = connect(session, Want::After(0))?;
     let log = [
         FrameNumbers::Recv { seq: 1, time: 1 },
         FrameNumbers::Recv { seq: 2, time: 2 },
         FrameNumbers::Recv { seq: 3, time: 3 },
         FrameNumbers::Tick(3),
     ];
-    assert_eq!(rt; frames.as_slice(), log.as_slice());
-    assert!(rt; pulled(alloc, &mut session, &mut cursor)?.is_empty());
+    assert_eq!(rt;
+        pull(rt.alloc(), session, &mut cursor)?.as_slice(),
+        log.as_slice()
+    );
+    assert!(rt; pull(rt.alloc(), session, &mut cursor)?.is_empty());
     Ok(())
 }
 
@@ -286,7 +305,7 @@ fn frames_are_answered(rt: HostRuntime) -> Result<(), Fail> {
         },
         Exchange {
             sent: Sent::Snapshot { time: 0 },
-            answer: Some(refused(3, 10, 0)),
+            answer: Some(refusal(3, 10, 0)),
         },
         Exchange {
             sent: Sent::Alive,
@@ -294,11 +313,11 @@ fn frames_are_answered(rt: HostRuntime) -> Result<(), Fail> {
         },
         Exchange {
             sent: Sent::Join,
-            answer: Some(refused(1, 15, 0)),
+            answer: Some(refusal(1, 15, 0)),
         },
     ];
     let mut session = Session::new(rt.alloc());
-    let (cursor, _) = connected(&mut session, Want::Whole)?;
+    let (cursor, _) = connect(&mut session, Want::Whole)?;
     try_all(&rt, &mut session, &cursor, &exchanges)
 }
 
@@ -309,35 +328,42 @@ fn a_first_frame_that_joins_no_session_is_refused(rt: HostRuntime) -> Result<(),
         view: 7,
         want: Want::Fresh,
     };
-    assert_eq!(rt; open(&other, &ID, 0).err(), Some(Early::OtherSession));
-    let told = numbers_of(&Early::OtherSession.frame(&other));
-    assert_eq!(rt; told, refused(1, 12, 0));
+    refuse_first(&rt, &other, Early::OtherSession, refusal(1, 12, 0));
     let event = frame_of(rt.alloc(), FIRST_EVENT.sent)?;
-    assert_eq!(rt; open(&event, &ID, 0).err(), Some(Early::NotJoined));
-    let told = numbers_of(&Early::NotJoined.frame(&event));
-    assert_eq!(rt; told, refused(2, 14, 0));
+    refuse_first(&rt, &event, Early::NotJoined, refusal(2, 14, 0));
     Ok(())
 }
 
+/// A first frame opens nothing, for this cause, and is answered so.
+fn refuse_first<R: Abort>(rt: &R, frame: &ClientFrame, cause: Early, answer: FrameNumbers) {
+    assert_eq!(rt; open(frame, &ID, 0).err(), Some(cause));
+    assert_eq!(rt; numbers_of(&cause.frame(frame)), answer);
+}
+
 /// A view sends 256 events without payloads: its session, whose log has 257 entries, and its cursor.
-fn filled(alloc: Global) -> Result<(Session, Cursor), Fail> {
+fn long_session(alloc: Global) -> Result<(Session, Cursor), Fail> {
     let mut session = Session::new(alloc);
-    let (cursor, _) = connected(&mut session, Want::Whole)?;
+    let (cursor, _) = connect(&mut session, Want::Whole)?;
     for number in 1..=256 {
         let event = frame_of(alloc, Sent::Event { number, length: 0 })?;
-        answered(&mut session, &cursor, event)?;
+        answer_to(&mut session, &cursor, event)?;
     }
     Ok((session, cursor))
 }
 
 #[test]
 fn a_batch_that_ends_before_the_log_has_no_tick(rt: HostRuntime) -> Result<(), Fail> {
-    let alloc = rt.alloc();
-    let (mut session, mut cursor) = filled(alloc)?;
-    let frames = pulled(alloc, &mut session, &mut cursor)?;
-    assert_eq!(rt; frames.len(), 256);
+    let (mut session, mut cursor) = long_session(rt.alloc())?;
+    pull_two_batches(&rt, &mut session, &mut cursor)
+}
+
+fn pull_two_batches<R: AllocGlobal + Abort>(
+    rt: &R,
+    session: &mut Session,
+    cursor: &mut Cursor,
+) -> Result<(), Fail> {
+    assert_eq!(rt; pull(rt.alloc(), session, cursor)?.len(), 256);
     assert_eq!(rt; cursor.after(), 256);
-    let rest = pulled(alloc, &mut session, &mut cursor)?;
     let last = [
         FrameNumbers::Recv {
             seq: 257,
@@ -345,87 +371,79 @@ fn a_batch_that_ends_before_the_log_has_no_tick(rt: HostRuntime) -> Result<(), F
         },
         FrameNumbers::Tick(257),
     ];
-    assert_eq!(rt; rest.as_slice(), last.as_slice());
+    assert_eq!(rt;
+        pull(rt.alloc(), session, cursor)?.as_slice(),
+        last.as_slice()
+    );
     Ok(())
+}
+
+/// An event and its refusal.
+const fn refused_event(number: u32, length: usize, answer: FrameNumbers) -> Exchange {
+    Exchange {
+        sent: Sent::Event { number, length },
+        answer: Some(answer),
+    }
 }
 
 #[test]
 fn refused_events_and_snapshots_are_told_by_codes(rt: HostRuntime) -> Result<(), Fail> {
-    let gap = Exchange {
-        sent: Sent::Event {
-            number: 2,
-            length: 0,
-        },
-        answer: Some(refused(2, 4, 1)),
-    };
-    let differs = Exchange {
-        sent: Sent::Event {
-            number: 1,
-            length: 0,
-        },
-        answer: Some(refused(2, 3, 2)),
-    };
-    let long = Exchange {
-        sent: Sent::Event {
-            number: 2,
-            length: 4097,
-        },
-        answer: Some(refused(2, 2, 4097)),
-    };
+    let mut session = Session::new(rt.alloc());
+    let (cursor, _) = connect(&mut session, Want::Whole)?;
+    refuse_events(&rt, &mut session, &cursor)
+}
+
+fn refuse_events<R: AllocGlobal + Abort>(
+    rt: &R,
+    session: &mut Session,
+    cursor: &Cursor,
+) -> Result<(), Fail> {
     let ahead = Exchange {
         sent: Sent::Snapshot { time: 3 },
-        answer: Some(refused(3, 9, 2)),
+        answer: Some(refusal(3, 9, 2)),
     };
-    let mut session = Session::new(rt.alloc());
-    let (cursor, _) = connected(&mut session, Want::Whole)?;
-    let exchanges = [gap, FIRST_EVENT, differs, long, ahead];
-    try_all(&rt, &mut session, &cursor, &exchanges)?;
+    let exchanges = [
+        refused_event(2, 0, refusal(2, 4, 1)),
+        FIRST_EVENT,
+        refused_event(1, 0, refusal(2, 3, 2)),
+        refused_event(2, 4097, refusal(2, 2, 4097)),
+        ahead,
+    ];
+    try_all(rt, session, cursor, &exchanges)?;
     session.call(&Request::Tick { now: u64::MAX })?;
-    let late = Exchange {
-        sent: Sent::Event {
-            number: 2,
-            length: 0,
-        },
-        answer: Some(refused(2, 6, 9_007_199_254_736_896)),
-    };
-    try_all(&rt, &mut session, &cursor, &[late])
+    let late = refused_event(2, 0, refusal(2, 6, 9_007_199_254_736_896));
+    try_all(rt, session, cursor, &[late])
 }
 
 /// A session with as many views as may be here, numbered from 1.
-fn crowded(alloc: Global) -> Result<Session, Fail> {
+fn full_session(alloc: Global) -> Result<Session, Fail> {
     let mut session = Session::new(alloc);
     for view in 1..=1024 {
-        joined(&mut session, view, Want::Fresh)?;
+        join(&mut session, view, Want::Fresh)?;
     }
     Ok(session)
 }
 
 /// The answer to the JOIN of a view.
 fn answer_to_join(session: &mut Session, view: u32, want: Want) -> Result<FrameNumbers, Fail> {
-    let (_, answer) = joined(session, view, want)?;
+    let (_, answer) = join(session, view, want)?;
     Ok(answer)
 }
 
 #[test]
 fn refused_joins_are_told_by_codes(rt: HostRuntime) -> Result<(), Fail> {
     let mut session = Session::new(rt.alloc());
-    assert_eq!(rt;
-        answer_to_join(&mut session, 0, Want::Fresh)?,
-        refused(1, 8, 0)
-    );
-    assert_eq!(rt;
-        answer_to_join(&mut session, 7, Want::After(1))?,
-        refused(1, 9, 0)
-    );
+    let nobody = answer_to_join(&mut session, 0, Want::Fresh)?;
+    assert_eq!(rt; nobody, refusal(1, 8, 0));
+    let ahead = answer_to_join(&mut session, 7, Want::After(1))?;
+    assert_eq!(rt; ahead, refusal(1, 9, 0));
     Ok(())
 }
 
 #[test]
 fn a_full_session_takes_no_view(rt: HostRuntime) -> Result<(), Fail> {
-    let mut session = crowded(rt.alloc())?;
-    assert_eq!(rt;
-        answer_to_join(&mut session, 1025, Want::Fresh)?,
-        refused(1, 7, 1024)
-    );
+    let mut session = full_session(rt.alloc())?;
+    let answer = answer_to_join(&mut session, 1025, Want::Fresh)?;
+    assert_eq!(rt; answer, refusal(1, 7, 1024));
     Ok(())
 }

@@ -1,5 +1,6 @@
 //! Tests of sessions, by the public calls of their libraries: what is spelled by hand, limits that no script reaches,
-//! fakes that fail, and threads. Without its tests this library is empty.
+//! fakes that fail, and threads. A test makes what it owns, and a function of references looks at it: so its proof is short.
+//! Without its tests this library is empty.
 #![tactic(auto)]
 
 #[cfg(test)]

@@ -3,6 +3,7 @@ ghost use Rattle.std.specs.Prelude.{All, IfOk};
 ghost use Rattle.tea_io.specs.MemNet.{HasNoCounts};
 
 use std::alloc::Global;
+use std::process::Abort;
 use std::test::Fail;
 use tea_base::{Blob, Numbers, Text, WantOfMemory};
 use tea_io::{Blobs, Heard, Link, MemLink, MemLinks, MemNet, Net, NetCall, NetFault, NoNet};
@@ -48,16 +49,22 @@ fn two_links(alloc: Global) -> Result<MemLinks, WantOfMemory>
     Ok(links)
 }
 
+/// A net with both links, whose calls of these numbers fail.
+fn two_link_net(alloc: Global, fail: Numbers) -> Result<MemNet, WantOfMemory> {
+    Ok(MemNet::new(alloc, two_links(alloc)?, fail))
+}
+
 #[test]
 fn a_net_gives_its_links_in_order(rt: HostRuntime) -> Result<(), Fail> {
-    let alloc = rt.alloc();
-    let mut net = MemNet::new(alloc, two_links(alloc)?, Numbers::new(alloc));
-    let address = Text::copy(alloc, "here")?;
-    let first = accept(&mut net)?;
-    assert!(rt; matches!(&first, Heard::Frame(frame) if frame.is_bytes(b"one")));
-    let second = connect(&mut net, &address)?;
-    assert!(rt; matches!(&second, Heard::Frame(frame) if frame.is_bytes(b"two")));
-    assert!(rt; matches!(accept(&mut net), Err(NetFault::Failed)));
+    let mut net = two_link_net(rt.alloc(), Numbers::new(rt.alloc()))?;
+    let address = Text::copy(rt.alloc(), "here")?;
+    take_links(&rt, &mut net, &address)
+}
+
+fn take_links<R: Abort>(rt: &R, net: &mut MemNet, address: &Text) -> Result<(), Fail> {
+    assert!(rt; matches!(accept(net)?, Heard::Frame(frame) if frame.is_bytes(b"one")));
+    assert!(rt; matches!(connect(net, address)?, Heard::Frame(frame) if frame.is_bytes(b"two")));
+    assert!(rt; matches!(accept(net), Err(NetFault::Failed)));
     assert_eq!(rt; net.over().len(), 2);
     assert!(rt; matches!(net.over().get(1), Some(link) if link.heard().len() == 1));
     Ok(())
@@ -65,27 +72,34 @@ fn a_net_gives_its_links_in_order(rt: HostRuntime) -> Result<(), Fail> {
 
 #[test]
 fn calls_of_a_net_are_numbered_together(rt: HostRuntime) -> Result<(), Fail> {
-    let alloc = rt.alloc();
-    let fail = Numbers::from_vec(vec![in alloc; 2, 4]?);
-    let mut net = MemNet::new(alloc, two_links(alloc)?, fail);
-    let address = Text::copy(alloc, "here")?;
-    assert_eq!(rt; listen(&mut net, &address), Ok(()));
-    assert_eq!(rt; listen(&mut net, &address), Err(NetFault::Failed));
-    assert!(rt; accept(&mut net).is_ok());
-    assert!(rt; matches!(connect(&mut net, &address), Err(NetFault::Failed)));
+    let fail = Numbers::from_vec(vec![in rt.alloc(); 2, 4]?);
+    let mut net = two_link_net(rt.alloc(), fail)?;
+    let address = Text::copy(rt.alloc(), "here")?;
+    call_four_times(&rt, &mut net, &address);
+    Ok(())
+}
+
+fn call_four_times<R: Abort>(rt: &R, net: &mut MemNet, address: &Text) {
+    assert_eq!(rt; listen(net, address), Ok(()));
+    assert_eq!(rt; listen(net, address), Err(NetFault::Failed));
+    assert!(rt; accept(net).is_ok());
+    assert!(rt; matches!(connect(net, address), Err(NetFault::Failed)));
     assert_eq!(rt; net.asked().len(), 4);
     assert!(rt; matches!(net.asked().get(2), Some(NetCall::Accept)));
     assert!(rt; matches!(net.asked().get(3), Some(NetCall::Connect(to)) if to.as_str() == "here"));
-    Ok(())
 }
 
 #[test]
 fn no_net_fails_at_each_call(rt: HostRuntime) -> Result<(), Fail> {
     let address = Text::copy(rt.alloc(), "here")?;
-    let mut net = NoNet::new();
-    assert_eq!(rt; listen(&mut net, &address), Err(NetFault::Failed));
-    assert!(rt; matches!(accept(&mut net), Err(NetFault::Failed)));
-    assert!(rt; matches!(connect(&mut net, &address), Err(NetFault::Failed)));
-    assert_eq!(rt; net.faults(), 3);
+    call_no_net(&rt, &address);
     Ok(())
+}
+
+fn call_no_net<R: Abort>(rt: &R, address: &Text) {
+    let mut net = NoNet::new();
+    assert_eq!(rt; listen(&mut net, address), Err(NetFault::Failed));
+    assert!(rt; matches!(accept(&mut net), Err(NetFault::Failed)));
+    assert!(rt; matches!(connect(&mut net, address), Err(NetFault::Failed)));
+    assert_eq!(rt; net.faults(), 3);
 }

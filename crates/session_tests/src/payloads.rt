@@ -1,7 +1,8 @@
 //! Payloads that fill a chunk of a log's memory, 65,536 bytes, and payloads that lie over the end of one.
 use reflector_core::{Reply, Request, Session, Want};
-use session_log::{decode, encode};
+use session_log::{Log, decode, encode};
 use std::alloc::Global;
+use std::process::Abort;
 use std::test::Fail;
 use tea_base::{Blob, Entry, WantOfMemory, What};
 
@@ -39,7 +40,7 @@ fn seq_of(number: u32) -> u32 {
 }
 
 /// The same event as it stands in the log.
-fn stamped(alloc: Global, number: u32, len: u32) -> Result<Entry, WantOfMemory> {
+fn stamped_event(alloc: Global, number: u32, len: u32) -> Result<Entry, WantOfMemory> {
     let seq = seq_of(number);
     Ok(Entry {
         seq,
@@ -65,11 +66,11 @@ fn is_sent(alloc: Global, session: &mut Session, number: u32) -> Result<bool, Wa
 /// Whether the log has the event of this number.
 fn is_logged(alloc: Global, session: &Session, number: u32) -> Result<bool, Fail> {
     let entry = session.log().get(seq_of(number))?;
-    Ok(entry == stamped(alloc, number, 4096)?)
+    Ok(entry == stamped_event(alloc, number, 4096)?)
 }
 
 /// View 7 joins, and has room for 16 events of 4,096 bytes.
-fn prepared(alloc: Global) -> Result<Session, WantOfMemory> {
+fn prepared_session(alloc: Global) -> Result<Session, WantOfMemory> {
     let mut session = Session::new(alloc);
     session.call(&join())?;
     session.prepare(16, 65_536)?;
@@ -79,18 +80,27 @@ fn prepared(alloc: Global) -> Result<Session, WantOfMemory> {
 /// The events that are sent into the room, and one more: each is whole, and so is the first one behind it.
 #[test]
 fn sends_into_prepared_room_move_no_payload(rt: HostRuntime) -> Result<(), Fail> {
-    let alloc = rt.alloc();
-    let mut session = prepared(alloc)?;
+    let mut session = prepared_session(rt.alloc())?;
     for number in 1..=17 {
-        assert!(rt; is_sent(alloc, &mut session, number)?);
-        assert!(rt; is_logged(alloc, &session, 1)?);
-        assert!(rt; is_logged(alloc, &session, number)?);
+        send_whole(&rt, rt.alloc(), &mut session, number)?;
     }
     Ok(())
 }
 
+fn send_whole<R: Abort>(
+    rt: &R,
+    alloc: Global,
+    session: &mut Session,
+    number: u32,
+) -> Result<(), Fail> {
+    assert!(rt; is_sent(alloc, session, number)?);
+    assert!(rt; is_logged(alloc, session, 1)?);
+    assert!(rt; is_logged(alloc, session, number)?);
+    Ok(())
+}
+
 /// View 7 joins, and sends twenty events of 4,000 bytes: the chunk ends within the 17th.
-fn twenty_sent(alloc: Global) -> Result<Session, WantOfMemory> {
+fn session_of_twenty(alloc: Global) -> Result<Session, WantOfMemory> {
     let mut session = Session::new(alloc);
     session.call(&join())?;
     for number in 1..=20 {
@@ -99,30 +109,51 @@ fn twenty_sent(alloc: Global) -> Result<Session, WantOfMemory> {
     Ok(session)
 }
 
+/// Whether the log has the first twenty events, and no other.
+fn has_twenty(alloc: Global, log: &Log) -> Result<bool, Fail> {
+    for number in 1..=20 {
+        let entry = log.get(seq_of(number))?;
+        if entry != stamped_event(alloc, number, 4000)? {
+            return Ok(false);
+        }
+    }
+    Ok(log.len() == 21)
+}
+
+/// Whether each of the first twenty events has its payload.
+fn has_each_payload(alloc: Global, log: &Log) -> Result<bool, Fail> {
+    for number in 1..=20 {
+        let expected = payload(alloc, number, 4000)?;
+        if !log.payload_is(seq_of(number), expected.bytes()) {
+            return Ok(false);
+        }
+    }
+    Ok(true)
+}
+
 #[test]
 fn payloads_over_the_end_of_a_chunk_are_given_whole(rt: HostRuntime) -> Result<(), Fail> {
-    let alloc = rt.alloc();
-    let session = twenty_sent(alloc)?;
-    let log = session.log();
-    assert_eq!(rt; log.len(), 21);
-    for number in 1..=20 {
-        assert!(rt; log.get(seq_of(number))? == stamped(alloc, number, 4000)?);
-        assert!(rt; log.payload_is(seq_of(number), payload(alloc, number, 4000)?.bytes()));
-    }
+    let session = session_of_twenty(rt.alloc())?;
+    look_at_payloads(&rt, rt.alloc(), session.log())
+}
+
+fn look_at_payloads<R: Abort>(rt: &R, alloc: Global, log: &Log) -> Result<(), Fail> {
+    assert!(rt; has_twenty(alloc, log)?);
+    assert!(rt; has_each_payload(alloc, log)?);
     assert!(rt; !log.payload_is(18, payload(alloc, 18, 4000)?.bytes()));
     Ok(())
 }
 
 #[test]
 fn payloads_over_the_end_of_a_chunk_are_spelled_whole(rt: HostRuntime) -> Result<(), Fail> {
-    let alloc = rt.alloc();
-    let session = twenty_sent(alloc)?;
-    let spelled = encode(session.log())?;
-    let read = decode(alloc, spelled.bytes())?;
-    assert_eq!(rt; read.len(), 21);
-    for number in 1..=20 {
-        assert!(rt; read.get(seq_of(number))? == stamped(alloc, number, 4000)?);
-    }
-    assert!(rt; encode(&read)?.is_bytes(spelled.bytes()));
+    let session = session_of_twenty(rt.alloc())?;
+    spell_and_read(&rt, rt.alloc(), session.log())
+}
+
+fn spell_and_read<R: Abort>(rt: &R, alloc: Global, log: &Log) -> Result<(), Fail> {
+    let spelled = encode(log)?;
+    let again = decode(alloc, spelled.bytes())?;
+    assert!(rt; has_twenty(alloc, &again)?);
+    assert!(rt; encode(&again)?.is_bytes(spelled.bytes()));
     Ok(())
 }

@@ -102,12 +102,28 @@ fn events_of(log: &Log, view: u32) -> Result<u32, Fail> {
     Ok(last)
 }
 
-#[test]
-fn two_threads_make_one_history(rt: HostRuntime) -> Result<(), Fail> {
-    two_threads(&rt, rt.alloc())
+/// Each of so many views has joined and sent its events, and nobody else has.
+fn look_at_log<R: Abort>(rt: &R, log: &Log, views: u32) -> Result<(), Fail>
+    requires { views < 100 }
+{
+    assert_eq!(rt; log.len(), views * (SENDS + 1));
+    for view in 1..=views {
+        assert_eq!(rt; events_of(log, view)?, SENDS);
+    }
+    Ok(())
 }
 
-fn two_threads<R: Threads + Wait + Abort + Sync>(rt: &R, alloc: Global) -> Result<(), Fail> {
+#[test]
+fn two_threads_make_one_history(rt: HostRuntime) -> Result<(), Fail> {
+    let session = session_of_two(&rt, rt.alloc())?;
+    look_at_log(&rt, session.log(), 2)
+}
+
+/// The session of two views, while a third pass only looks on.
+fn session_of_two<R: Threads + Wait + Abort + Sync>(
+    rt: &R,
+    alloc: Global,
+) -> Result<Session, Fail> {
     let (shared, mut first) = SharedSession::new(alloc, ID, Session::new(alloc), TrustAll)
         .ok()
         .ok_or("memory")?;
@@ -118,19 +134,20 @@ fn two_threads<R: Threads + Wait + Abort + Sync>(rt: &R, alloc: Global) -> Resul
     shared.merge(&mut first, second);
     shared.merge(&mut first, third);
     assert_eq!(rt; shared.calls_done(&mut first), 2002);
-    let session = shared.close(first);
-    assert_eq!(rt; session.log().len(), 2002);
-    assert_eq!(rt; events_of(session.log(), 1)?, SENDS);
-    assert_eq!(rt; events_of(session.log(), 2)?, SENDS);
-    Ok(())
+    Ok(shared.close(first))
 }
 
 #[test]
 fn four_threads_make_one_history(rt: HostRuntime) -> Result<(), Fail> {
-    four_threads(&rt, rt.alloc())
+    let session = session_of_four(&rt, rt.alloc())?;
+    look_at_log(&rt, session.log(), 4)
 }
 
-fn four_threads<R: Threads + Wait + Abort + Sync>(rt: &R, alloc: Global) -> Result<(), Fail> {
+/// The session of four views.
+fn session_of_four<R: Threads + Wait + Abort + Sync>(
+    rt: &R,
+    alloc: Global,
+) -> Result<Session, Fail> {
     let (shared, mut first) = SharedSession::new(alloc, ID, Session::new(alloc), TrustAll)
         .ok()
         .ok_or("memory")?;
@@ -139,12 +156,7 @@ fn four_threads<R: Threads + Wait + Abort + Sync>(rt: &R, alloc: Global) -> Resu
     let fourth = shared.split(&mut second, 0)?;
     let mut all = four_join_and_send(rt, alloc, &shared, first, second, third, fourth);
     assert_eq!(rt; shared.calls_done(&mut all), 4004);
-    let session = shared.close(all);
-    assert_eq!(rt; session.log().len(), 4004);
-    for view in 1..=4 {
-        assert_eq!(rt; events_of(session.log(), view)?, SENDS);
-    }
-    Ok(())
+    Ok(shared.close(all))
 }
 
 /// Four views, each in a thread of its own. The passes are merged in the end.
@@ -236,17 +248,21 @@ fn offer_world<R: Wait>(
 
 #[test]
 fn a_snapshot_is_kept_for_those_who_join(rt: HostRuntime) -> Result<(), Fail> {
-    let alloc = rt.alloc();
+    let session = session_with_snapshot(&rt, rt.alloc())?;
+    assert_eq!(rt; session.kept_time(), Some(0));
+    assert_eq!(rt; session.horizon(), 6);
+    Ok(())
+}
+
+/// The session of view 7, by two passes.
+fn session_with_snapshot<R: Wait + Abort>(rt: &R, alloc: Global) -> Result<Session, Fail> {
     let (shared, mut first) = SharedSession::new(alloc, ID, Session::new(alloc), TrustFounding)
         .ok()
         .ok_or("memory")?;
     let mut second = shared.split(&mut first, 0)?;
-    offer_and_join(&rt, alloc, &shared, &mut first, &mut second)?;
+    offer_and_join(rt, alloc, &shared, &mut first, &mut second)?;
     shared.merge(&mut first, second);
-    let session = shared.close(first);
-    assert_eq!(rt; session.kept_time(), Some(0));
-    assert_eq!(rt; session.horizon(), 6);
-    Ok(())
+    Ok(shared.close(first))
 }
 
 /// Each pass offers the snapshot once, and the second one joins from it.

@@ -1,6 +1,7 @@
 //! Sessions with ample memory, and a log that is full.
 use reflector_core::{Refusal, Reply, Request, Session, Want, play};
 use std::alloc::Global;
+use std::process::Abort;
 use std::test::Fail;
 use tea_base::{Blob, WantOfMemory};
 
@@ -33,7 +34,7 @@ fn a_play_tells_every_reply(rt: HostRuntime) -> Result<(), Fail> {
 }
 
 /// A session that is prepared for the most payload bytes of a log, and has them: 2^14 events of 2^12 bytes.
-fn filled(alloc: Global) -> Result<Session, WantOfMemory> {
+fn full_session(alloc: Global) -> Result<Session, WantOfMemory> {
     let mut session = Session::new(alloc);
     session.prepare(16_385, 67_108_864)?;
     session.call(&join(7))?;
@@ -45,13 +46,16 @@ fn filled(alloc: Global) -> Result<Session, WantOfMemory> {
 
 #[test]
 fn a_log_has_at_most_2_to_the_26_payload_bytes(rt: HostRuntime) -> Result<(), Fail> {
-    let alloc = rt.alloc();
-    let mut session = filled(alloc)?;
-    let reply = session.call(&event(alloc, 16_385, b"0")?)?;
+    let mut session = full_session(rt.alloc())?;
+    send_to_full(&rt, rt.alloc(), &mut session)
+}
+
+fn send_to_full<R: Abort>(rt: &R, alloc: Global, session: &mut Session) -> Result<(), Fail> {
     let full = Refusal::LogFull {
         entries: 16_385,
         bytes: 67_108_864,
     };
+    let reply = session.call(&event(alloc, 16_385, b"0")?)?;
     assert!(rt; matches!(reply, Reply::Refused(refusal) if refusal == full));
     let reply = session.call(&event(alloc, 16_385, b"")?)?;
     assert!(rt; matches!(reply, Reply::Stamped { seq: 16_386, .. }));

@@ -5,7 +5,7 @@ use Rattle.byte_fields.proofs.Codecs.{FitsText}
 use Rattle.world_plain.specs.Messages.{PlainMessage}
 use Rattle.model_value.specs.Plain.{PlainValue, nil, bool, int, text, ref, list, PlainValues, no_items, item}
 use Rattle.model_value.specs.Spelling.{IsValue, AreValues}
-use Rattle.world_plain.specs.Valid.{Valid, ObjectsFit, KnownFit, SubscriptionsFit, MessagesFit, most_parameters}
+use Rattle.world_plain.specs.Valid.{Valid, ObjectsFit, KnownFit, SubscriptionsFit, MessagesFit, most_arguments}
 use Rattle.model_value.specs.Plain.{AllInBounds, TextFits}
 use Rattle.world_plain.specs.World.{ObjectRecord, WorldRecord}
 use Rattle.world_plain.specs.declared.message.Subscription.{Subscription}
@@ -84,7 +84,7 @@ subscriptions-fit os (s ∷ ss) is fit =
 messages-fit : (time next : ℕ) (os : List ObjectRecord) (ms : List PlainMessage) → AllByRecursion IsMessage ms → MessagesFit time next os ms → AllByRecursion FitsMessage ms
 messages-fit time next os [] is fit = tt
 messages-fit time next os (m ∷ ms) is fit =
-    let few : length m.args ≤ most_parameters = fit.0.5 in
+    let few : length m.args ≤ most_arguments = fit.0.5 in
     ((is.0.0, (is.0.1, (is.0.2, (text-fits m.method is.0.3 fit.0.4, (omega arith, values-fit m.args is.0.4 fit.0.6))))), messages-fit time next os ms is.1 fit.1)
 
 pub world-fits : (counts : List ℕ) (w : WorldRecord) → IsWorld w → Valid counts w → FitsWorld counts w

@@ -196,7 +196,7 @@ fn objects_of<'a>(
     let mut objects = List::new(alloc);
     let mut rest = bytes;
     for _ in 0..count {
-        let (object, after) = object_at(alloc, counts, rest)?;
+        let (object, after) = plain_object_at(alloc, counts, rest)?;
         objects.push(object)?;
         rest = after;
     }
@@ -204,7 +204,7 @@ fn objects_of<'a>(
 }
 
 #[tactic(auto, unfolding(crate::specs::Reading::object_record_at))]
-fn object_at<'a>(
+fn plain_object_at<'a>(
     alloc: Global,
     counts: &[u32],
     bytes: &'a [u8],

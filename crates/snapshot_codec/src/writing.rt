@@ -4,7 +4,7 @@ ghost use Rattle.std.specs.Int.{to_be_bytes, w32, w64};
 ghost use Rattle.std.specs.List.{flat_map, AllByRecursion};
 ghost use Rattle.world_plain.specs.Messages.{plain_message};
 ghost use Rattle.model_value.specs.Spelling.{value_spelling, IsValue};
-ghost use Rattle.world_plain.specs.Valid.{most_parameters};
+ghost use Rattle.world_plain.specs.Valid.{most_arguments};
 ghost use Rattle.model_value.specs.View.{plain_values};
 ghost use Rattle.world_plain.specs.World.{object_record, world_record, object_weight, message_weight, subscription_weight, known_weight, total_weight, most_world_weight};
 ghost use Rattle.model_value.specs.Plain.{values_weight};
@@ -203,7 +203,7 @@ fn put_message(out: &mut Writer, message: &Message) -> Result<(), WantOfMemory>
 }
 
 fn put_arguments(out: &mut Writer, arguments: &Values) -> Result<(), WantOfMemory>
-    requires few { length (plain_values arguments.now) ≤ most_parameters }
+    requires few { length (plain_values arguments.now) ≤ most_arguments }
     requires light { values_weight (plain_values arguments.now) ≤ most_world_weight }
     ensures spelled { OnOk result (out.new ≡ out.old ++ length (plain_values arguments.now) ∷ flat_map value_spelling (plain_values arguments.now)) }
     ensures values { OnOk result (AllByRecursion IsValue (plain_values arguments.now)) }

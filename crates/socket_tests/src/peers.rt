@@ -2,13 +2,13 @@
 ghost use Rattle.std.specs.Prelude.{◌<◌, OnOk};
 
 use std::alloc::Global;
-use std::io::{Read, Write};
+use std::io::{self, Read, Write};
 use std::net::{Net as Sockets, Shutdown, TcpListener, TcpStream};
 use std::random::RandomSource;
 use std::test::Fail;
 use std::time::{Clock, Duration};
-use tea_base::Text;
-use tea_io::{Heard, Link, Net};
+use tea_base::{Text, WantOfMemory};
+use tea_io::{Heard, Link, Net, NetFault};
 use ws_link::WsNet;
 
 /// The request of RFC 6455, 1.3, with its key.
@@ -21,26 +21,49 @@ pub const ACCEPT: &[u8] = b"s3pPLMBiTxaQ9kYGzzhZRbK+xOo=";
 /// A client's binary message with the bytes `abc`, masked by the key 0.
 pub const ABC: &[u8] = b"\x82\x83\0\0\0\0abc";
 
-/// A net that listens at 127.0.0.1, and its address.
-pub fn listening<R>(alloc: Global, rt: R) -> Result<(WsNet<R>, Text), Fail>
+/// A net, and the address at which it listens.
+#[derive(Drop)]
+pub struct Host<N> {
+    pub net: N,
+    pub address: Text,
+}
+
+/// A net that listens nowhere yet, and an address of 127.0.0.1 at which nobody listens.
+pub fn idle_host<R>(alloc: Global, rt: R) -> Result<Host<WsNet<R>>, Fail>
+where
+    R: Sockets<Listener = TcpListener, Stream = TcpStream> + Copy,
+{
+    let port = free_port(&rt)?;
+    let address = address_of(alloc, port)?;
+    Ok(Host {
+        net: WsNet::new(alloc, rt),
+        address,
+    })
+}
+
+/// A net that listens at 127.0.0.1.
+pub fn local_host<R>(alloc: Global, rt: R) -> Result<Host<WsNet<R>>, Fail>
 where
     R: Sockets<Listener = TcpListener, Stream = TcpStream> + Clock + RandomSource + Copy + Send,
 {
-    let address = free_address(alloc, &rt)?;
-    let mut net = WsNet::new(alloc, rt);
-    net.listen(&address)?;
-    Ok((net, address))
+    let mut host = idle_host(alloc, rt)?;
+    host.net.listen(&host.address)?;
+    Ok(host)
 }
 
-/// An address of 127.0.0.1 at which nobody listens.
-pub fn free_address<R>(alloc: Global, rt: &R) -> Result<Text, Fail>
+/// A port of 127.0.0.1 at which nobody listens.
+fn free_port<R>(rt: &R) -> Result<u16, Fail>
 where
     R: Sockets<Listener = TcpListener, Stream = TcpStream>,
 {
     let listener = TcpListener::bind(rt, "127.0.0.1:0")?;
-    let port = listener.local_addr()?.port();
+    Ok(listener.local_addr()?.port())
+}
+
+/// The address of 127.0.0.1 with a port.
+fn address_of(alloc: Global, port: u16) -> Result<Text, WantOfMemory> {
     let text = format!(in alloc; "127.0.0.1:{port}")?;
-    Ok(Text::copy(alloc, text.as_str())?)
+    Text::copy(alloc, text.as_str())
 }
 
 /// A link, and the peer at its other end.
@@ -50,26 +73,40 @@ pub struct Pair<L> {
     pub peer: TcpStream,
 }
 
-/// A link to a peer that has said nothing yet.
-pub fn meet<R, N: Net>(rt: &R, net: &mut N, address: &Text) -> Result<Pair<N::Conn>, Fail>
+/// Has a peer send at once, and wait for no answer longer than 20 milliseconds.
+fn set_options(peer: &TcpStream) -> io::Result<()> {
+    peer.set_nodelay(true)?;
+    peer.set_read_timeout(Some(Duration::from_millis(20)))
+}
+
+/// A peer that connects to an address.
+fn peer_of<R>(rt: &R, address: &Text) -> Result<TcpStream, Fail>
 where
     R: Sockets<Listener = TcpListener, Stream = TcpStream>,
-    ensures { OnOk result (0 < N.lent net.new) }
 {
     let peer = TcpStream::connect(rt, address.as_str())?;
-    peer.set_nodelay(true)?;
-    peer.set_read_timeout(Some(Duration::from_millis(20)))?;
-    let link = net.accept()?;
+    set_options(&peer)?;
+    Ok(peer)
+}
+
+/// A link to a peer that has said nothing yet.
+pub fn meet<R, N: Net>(rt: &R, host: &mut Host<N>) -> Result<Pair<N::Conn>, Fail>
+where
+    R: Sockets<Listener = TcpListener, Stream = TcpStream>,
+    ensures { OnOk result (0 < N.lent host.new.net) }
+{
+    let peer = peer_of(rt, &host.address)?;
+    let link = host.net.accept()?;
     Ok(Pair { link, peer })
 }
 
 /// A link that a peer has asked for by hand, and that has answered.
-pub fn greet<R, N: Net>(rt: &R, net: &mut N, address: &Text) -> Result<Pair<N::Conn>, Fail>
+pub fn greet<R, N: Net>(rt: &R, host: &mut Host<N>) -> Result<Pair<N::Conn>, Fail>
 where
     R: Sockets<Listener = TcpListener, Stream = TcpStream>,
-    ensures { OnOk result (0 < N.lent net.new) }
+    ensures { OnOk result (0 < N.lent host.new.net) }
 {
-    let mut pair = meet(rt, net, address)?;
+    let mut pair = meet(rt, host)?;
     pair.peer.write_all(REQUEST)?;
     let _ = answer(&mut pair.link, &mut pair.peer);
     Ok(pair)
@@ -83,31 +120,37 @@ pub struct Neighbors<L> {
 }
 
 /// A link to a peer that has said nothing yet, beside one that has answered.
-pub fn meet_beside<R, N: Net>(
-    rt: &R,
-    net: &mut N,
-    address: &Text,
-) -> Result<Neighbors<N::Conn>, Fail>
+pub fn meet_beside<R, N: Net>(rt: &R, host: &mut Host<N>) -> Result<Neighbors<N::Conn>, Fail>
 where
     R: Sockets<Listener = TcpListener, Stream = TcpStream>,
 {
-    let other = greet(rt, net, address)?;
-    let first = meet(rt, net, address)?;
+    let other = greet(rt, host)?;
+    let first = meet(rt, host)?;
     Ok(Neighbors { first, other })
 }
 
 /// Two links that peers have asked for by hand, and that have answered.
-pub fn greet_beside<R, N: Net>(
-    rt: &R,
-    net: &mut N,
-    address: &Text,
-) -> Result<Neighbors<N::Conn>, Fail>
+pub fn greet_beside<R, N: Net>(rt: &R, host: &mut Host<N>) -> Result<Neighbors<N::Conn>, Fail>
 where
     R: Sockets<Listener = TcpListener, Stream = TcpStream>,
 {
-    let other = greet(rt, net, address)?;
-    let first = greet(rt, net, address)?;
+    let other = greet(rt, host)?;
+    let first = greet(rt, host)?;
     Ok(Neighbors { first, other })
+}
+
+/// The two ends of one connection.
+#[derive(Drop)]
+pub struct TwoEnds<L> {
+    pub client: L,
+    pub server: L,
+}
+
+/// A link of a net to itself.
+pub fn ends_of<N: Net>(host: &mut Host<N>) -> Result<TwoEnds<N::Conn>, NetFault> {
+    let client = host.net.connect(&host.address)?;
+    let server = host.net.accept()?;
+    Ok(TwoEnds { client, server })
 }
 
 /// What reads have given.
@@ -171,7 +214,7 @@ pub fn says(peer: &mut TcpStream, bytes: &[u8]) -> bool {
 }
 
 /// What a link tells next that is not quiet.
-pub fn told<L: Link>(link: &mut L) -> Heard {
+pub fn next_heard<L: Link>(link: &mut L) -> Heard {
     for _ in 0..500u32 {
         match link.recv() {
             Heard::Quiet => {}
@@ -197,17 +240,17 @@ pub fn shake<L: Link>(client: &mut L, server: &mut L) -> bool {
 
 /// Whether a link tells its end next.
 pub fn ends<L: Link>(link: &mut L) -> bool {
-    matches!(told(link), Heard::End)
+    matches!(next_heard(link), Heard::End)
 }
 
 /// Whether a link tells a failure next.
 pub fn fails<L: Link>(link: &mut L) -> bool {
-    matches!(told(link), Heard::Failed)
+    matches!(next_heard(link), Heard::Failed)
 }
 
 /// Whether a link tells this frame next.
 pub fn tells<L: Link>(link: &mut L, frame: &[u8]) -> bool {
-    matches!(told(link), Heard::Frame(next) if next.is_bytes(frame))
+    matches!(next_heard(link), Heard::Frame(next) if next.is_bytes(frame))
 }
 
 /// Whether a frame could be sent.
@@ -266,4 +309,22 @@ pub fn all_come<L: Link>(pair: &mut Pair<L>, steps: &[Step<'_>]) -> bool {
         }
     }
     true
+}
+
+/// Whether all steps come in order at a new link that a peer has asked for by hand, and that has answered.
+fn all_come_at<R, N: Net>(rt: &R, host: &mut Host<N>, steps: &[Step<'_>]) -> Result<bool, Fail>
+where
+    R: Sockets<Listener = TcpListener, Stream = TcpStream>,
+{
+    let mut pair = greet(rt, host)?;
+    Ok(all_come(&mut pair, steps))
+}
+
+/// The same with a net of its own.
+pub fn all_come_once_greeted<R>(rt: R, alloc: Global, steps: &[Step<'_>]) -> Result<bool, Fail>
+where
+    R: Sockets<Listener = TcpListener, Stream = TcpStream> + Clock + RandomSource + Copy + Send,
+{
+    let mut host = local_host(alloc, rt)?;
+    all_come_at(&rt, &mut host, steps)
 }

@@ -9,7 +9,7 @@ use Rattle.world_plain.specs.Messages.{PlainOutgoing}
 use Rattle.world_plain.specs.World.{WorldRecord}
 use Rattle.wire_frames.specs.declared.frame.ServerFrame.{ServerFrame}
 use Rattle.replica_plain.specs.Worlds.{Worlds}
-use Rattle.replica_plain.specs.PlainReplica.{PlainReplica, founded}
+use Rattle.replica_plain.specs.PlainReplica.{PlainReplica, new_replica}
 use Rattle.replica_plain.specs.Taking.{taken}
 use Rattle.replica_plain.specs.Calls.{gives, join_frame, joining, loses, publishes, snap_frame, unsent}
 use Rattle.replica_plain.specs.declared.how.How.{How}
@@ -257,11 +257,11 @@ restart-takes old lost new view place how m sound at same program name connectio
 
 abbrev pub founded_member : Parts → ℕ → Member
 founded_member p view =
-    record { view = view; replica = with_plain (founded_replica (arc_value p.program) p.id.0 view) (joining (founded (part_worlds p) view) Fresh); newest = length p.connections.items }
+    record { view = view; replica = with_plain (founded_replica (arc_value p.program) p.id.0 view) (joining (new_replica (part_worlds p) view) Fresh); newest = length p.connections.items }
 
 pub found-takes : (old new : Parts) (view : ℕ) → IsSound old → IsTypedStep (Found view) → view ≢ 0 → IsNoneOf view (map member_view old.members.items) → new.program ≡ old.program → new.id ≡ old.id → new.session.plain ≡ old.session.plain
     → new.members.items ≡ old.members.items ++ founded_member old view ∷ []
-    → new.connections.items ≡ old.connections.items ++ connecting view (join_frame (part_worlds old) (founded (part_worlds old) view) Fresh) ∷ [] → Takes old new (Found view)
+    → new.connections.items ≡ old.connections.items ++ connecting view (join_frame (part_worlds old) (new_replica (part_worlds old) view) Fresh) ∷ [] → Takes old new (Found view)
 found-takes old new view sound typed named absent program name session members connections =
     let classes = arc_value old.program in
     record {

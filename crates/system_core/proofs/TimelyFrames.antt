@@ -10,7 +10,7 @@ use Rattle.reflector_core.specs.declared.request.Reply.TheVariants.{Batch}
 use Rattle.reflector_core.specs.declared.request.Refusal.TheVariants.{NoSuchSeq}
 use Rattle.join_sync.specs.declared.cursor.Cursor.{Cursor}
 use Rattle.join_sync.specs.Batches.{entry_frames, newer_tick, next_frames, tick_frames}
-use Rattle.replica.specs.View.{IsTimely}
+use Rattle.replica_plain.specs.Taking.{IsTimely}
 
 -- ---- a fact of each item
 

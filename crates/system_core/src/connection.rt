@@ -1,7 +1,7 @@
 //! Connections of a system.
 ghost use Rattle.std.specs.Prelude.{◌≡◌, take, None, Some, OnOk, IfOk};
 ghost use Rattle.std.specs.List.{AllByRecursion};
-ghost use Rattle.replica.specs.View.{IsTimely};
+ghost use Rattle.replica_plain.specs.Taking.{IsTimely};
 ghost use Rattle.reflector_core.specs.Answer.{answer};
 ghost use Rattle.reflector_core.specs.PlainSession.{IsSoundSession};
 ghost use Rattle.reflector_core.specs.declared.request.Request.TheVariants.{Pull};
@@ -32,7 +32,7 @@ pub(crate) struct Connection {
 
 impl Model for Connection {
     ghost use Rattle.std.specs.List.{AllByRecursion};
-    ghost use Rattle.replica.specs.View.{IsTimely};
+    ghost use Rattle.replica_plain.specs.Taking.{IsTimely};
     ghost use Rattle.system_plain.specs.System.{Connection as PlainConnection};
 
     ghost Value = { PlainConnection };

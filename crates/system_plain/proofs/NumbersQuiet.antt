@@ -12,7 +12,7 @@ use Rattle.reflector_core.specs.PlainSession.{PlainSession}
 use Rattle.replica_plain.specs.declared.how.How.{How}
 use Rattle.replica_plain.specs.declared.how.How.TheVariants.{Fresh}
 use Rattle.replica_plain.specs.Calls.{gives, join_frame, joining, loses, publishes, sends_after, snap_frame, unsent}
-use Rattle.replica_plain.specs.PlainReplica.{PlainReplica, founded}
+use Rattle.replica_plain.specs.PlainReplica.{PlainReplica, new_replica}
 use Rattle.replica_plain.specs.Taking.{Taken, acknowledges, take_done, taken}
 use Rattle.replica_plain.specs.Worlds.{Worlds}
 use Rattle.replica_plain.proofs.Numbers.{SyncAnswers, sync_answers}
@@ -288,11 +288,11 @@ found_if published false a b held fell = fell refl
 pub found_keeps_numbers : {W O : Type 0} (m : Worlds W O) (published : ViewPayloads) (s : System W O) (view : ℕ) → view < 2 ^ 32 → NumbersStand published s → NumbersStand published (found m s view)
 found_keeps_numbers {W = W} {O = O} m published s view bound numbered =
     found_if published (eqb view 0 || is_some (view_client s.clients view)) s _ numbered (λ fresh.
-    let new : Client W O = record { replica = joining (founded m view) Fresh; newest = length s.connections } in
+    let new : Client W O = record { replica = joining (new_replica m view) Fresh; newest = length s.connections } in
     let none = numbered.unknown view (none_of (view_client s.clients view) (grind (arith, fresh))) in
     record {
       prefixes = numbered.prefixes;
-      links = λ k c at. elim (get_push s.connections k (connecting view (join_frame m (founded m view) Fresh)) c at) [
+      links = λ k c at. elim (get_push s.connections k (connecting view (join_frame m (new_replica m view) Fresh)) c at) [
         | inl old ↦ numbered.links k c old
         | inr last ↦ subst (ConnectionNumbers published s.session) (sym last.1) (record { bound = bound; sends = tt; joins = (refl, tt); cursor = tt; dones = tt })
       ];

@@ -12,7 +12,7 @@ use Rattle.wire_frames.specs.declared.frame.ServerFrame.TheVariants.{Alive, Done
 use Rattle.replica_plain.specs.declared.how.How.{How}
 use Rattle.replica_plain.specs.declared.how.How.TheVariants.{Fresh}
 use Rattle.replica_plain.specs.Calls.{gives, join_frame, joining, loses, publishes, sends_after, snap_frame, unsent}
-use Rattle.replica_plain.specs.PlainReplica.{PlainReplica, founded, published_count}
+use Rattle.replica_plain.specs.PlainReplica.{PlainReplica, new_replica, published_count}
 use Rattle.replica_plain.specs.Worlds.{Worlds}
 use Rattle.join_sync.specs.declared.cursor.Cursor.{Cursor}
 use Rattle.system_plain.specs.Schedule.{ViewPayloads}
@@ -343,4 +343,4 @@ founds_order {W = W} {O = O} m published s replica how fine ordered =
     ])
 
 pub found_keeps_order : {W O : Type 0} (m : Worlds W O) (published : ViewPayloads) (s : System W O) (view : ℕ) → WorldsStand m s → OrderStands published s → OrderStands published (found m s view)
-found_keeps_order m published s view fine ordered = order_if published (eqb view 0 || is_some (view_client s.clients view)) s _ (λ h. ordered) (λ fresh. founds_order m published s (founded m view) Fresh fine ordered)
+found_keeps_order m published s view fine ordered = order_if published (eqb view 0 || is_some (view_client s.clients view)) s _ (λ h. ordered) (λ fresh. founds_order m published s (new_replica m view) Fresh fine ordered)

@@ -12,7 +12,7 @@ use Rattle.reflector_core.specs.PlainSession.{IsSoundSession, PlainSession}
 use Rattle.replica_plain.specs.declared.how.How.{How}
 use Rattle.replica_plain.specs.declared.how.How.TheVariants.{Fresh, Resume, Whole}
 use Rattle.replica_plain.specs.Calls.{gives, join_want, joining, loses, publishes, sends_after, snap_frame, unsent}
-use Rattle.replica_plain.specs.PlainReplica.{PlainReplica, founded, published_count}
+use Rattle.replica_plain.specs.PlainReplica.{PlainReplica, new_replica, published_count}
 use Rattle.replica_plain.specs.Worlds.{AreWorlds, IsHonest, Worlds}
 use Rattle.replica_plain.proofs.FrameSteps.{same_stands}
 use Rattle.replica_plain.proofs.SyncSteps.{first_world_follows}
@@ -172,7 +172,7 @@ both_change m s view client c changed replica fine is at same_view lives snaps j
 
 pub found_keeps_worlds : {W O : Type 0} (m : Worlds W O) → AreWorlds m → (s : System W O) (view : ℕ) → WorldsStand m s → WorldsStand m (found m s view)
 found_keeps_worlds m laws s view fine =
-    worlds_if m (eqb view 0 || is_some (view_client s.clients view)) s _ fine (founds m s (founded m view) Fresh fine (lives_first m laws s.session (joining (founded m view) Fresh) fine.sound refl refl refl))
+    worlds_if m (eqb view 0 || is_some (view_client s.clients view)) s _ fine (founds m s (new_replica m view) Fresh fine (lives_first m laws s.session (joining (new_replica m view) Fresh) fine.sound refl refl refl))
 
 published_keeps_worlds : {W O : Type 0} (m : Worlds W O) (s : System W O) (view : ℕ) (client : Client W O) (payload : List ℕ) → WorldsStand m s → view_client s.clients view ≡ Some client → WorldsStand m (with_replica s client (publishes client.replica payload))
 published_keeps_worlds m s view client payload fine is =

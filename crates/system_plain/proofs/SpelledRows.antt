@@ -21,7 +21,7 @@ use Rattle.reflector_core.specs.Answer.{answer}
 use Rattle.replica_plain.specs.declared.how.How.{How}
 use Rattle.replica_plain.specs.declared.how.How.TheVariants.{Fresh, Resume, Whole}
 use Rattle.replica_plain.specs.Calls.{join_frame, joining, loses, sends_after}
-use Rattle.replica_plain.specs.PlainReplica.{PlainReplica, founded, published_count}
+use Rattle.replica_plain.specs.PlainReplica.{PlainReplica, new_replica, published_count}
 use Rattle.replica_plain.specs.Worlds.{Worlds}
 use Rattle.join_sync.specs.declared.act.Act.TheVariants.{Call}
 use Rattle.join_sync.specs.declared.cursor.Cursor.{Cursor}
@@ -79,7 +79,7 @@ replaced_other (first ∷ rest) new other far =
 -- ---- Found
 
 abbrev founded_client : {W O : Type 0} → Worlds W O → System W O → ℕ → Client W O
-founded_client m s view = record { replica = joining (founded m view) Fresh; newest = length s.connections }
+founded_client m s view = record { replica = joining (new_replica m view) Fresh; newest = length s.connections }
 
 pub found_client : {W O : Type 0} (m : Worlds W O) (s : System W O) (view : ℕ) → view ≢ 0 → view_client s.clients view ≡ None → view_client (after_step m s (Found view)).clients view ≡ Some (founded_client m s view)
 found_client m s view named none = ap (λ (x : System _ _). view_client x.clients view) (found_row m s view named none) ∙ pushed_client s.clients (founded_client m s view) view none refl

@@ -17,7 +17,7 @@ use Rattle.reflector_core.specs.Answer.{answer, tick}
 use Rattle.replica_plain.specs.declared.how.How.{How}
 use Rattle.replica_plain.specs.declared.how.How.TheVariants.{Fresh, Resume, Whole}
 use Rattle.replica_plain.specs.Calls.{Publishes, gives, join_frame, joining, loses, publishes, snap_frame, unsent}
-use Rattle.replica_plain.specs.PlainReplica.{PlainReplica, founded, most_published, published_count}
+use Rattle.replica_plain.specs.PlainReplica.{PlainReplica, new_replica, most_published, published_count}
 use Rattle.replica_plain.specs.Taking.{taken}
 use Rattle.replica_plain.specs.Worlds.{Worlds}
 use Rattle.join_sync.specs.declared.act.Act.{Act}
@@ -134,7 +134,7 @@ step_unmade m s (Snap view) is = snap_unmade m s (view_client s.clients view) is
 -- ---- what a step does
 
 pub found_row : {W O : Type 0} (m : Worlds W O) (s : System W O) (view : ℕ) → view ≢ 0 → view_client s.clients view ≡ None
-    → after_step m s (Found view) ≡ record s { clients = s.clients ++ record { replica = joining (founded m view) Fresh; newest = length s.connections } ∷ []; connections = s.connections ++ connecting view (join_frame m (founded m view) Fresh) ∷ [] }
+    → after_step m s (Found view) ≡ record s { clients = s.clients ++ record { replica = joining (new_replica m view) Fresh; newest = length s.connections } ∷ []; connections = s.connections ++ connecting view (join_frame m (new_replica m view) Fresh) ∷ [] }
 found_row m s view named none =
     let nonzero : eqb view 0 ≡ false = grind (arith, nat_tests) in
     let test : (eqb view 0 || is_some (view_client s.clients view)) ≡ false = rw (nonzero, none) refl in

@@ -20,7 +20,7 @@ use Rattle.reflector_core.specs.PlainSession.{IsSoundSession, PlainSession}
 use Rattle.replica_plain.specs.declared.how.How.{How}
 use Rattle.replica_plain.specs.declared.how.How.TheVariants.{Fresh}
 use Rattle.replica_plain.specs.Calls.{join_frame, loses, snap_frame, unsent}
-use Rattle.replica_plain.specs.PlainReplica.{PlainReplica, founded}
+use Rattle.replica_plain.specs.PlainReplica.{PlainReplica, new_replica}
 use Rattle.replica_plain.specs.Worlds.{AreWorlds, Worlds}
 use Rattle.join_sync.specs.declared.cursor.Cursor.{Cursor}
 use Rattle.join_sync.specs.declared.early.Early.{Early}
@@ -101,7 +101,7 @@ pushed_carries s clients before view frame traffics stands same each =
 
 found_carries : {W O : Type 0} (m : Worlds W O) (s : System W O) (view : ℕ) (traffics : Traffics) → TrafficsStand s traffics → TrafficsStand (found m s view) traffics
 found_carries m s view traffics stands =
-    carries_if (eqb view 0 || is_some (view_client s.clients view)) s _ traffics stands (pushed_carries s _ s.connections view (join_frame m (founded m view) Fresh) traffics stands refl stands.each)
+    carries_if (eqb view 0 || is_some (view_client s.clients view)) s _ traffics stands (pushed_carries s _ s.connections view (join_frame m (new_replica m view) Fresh) traffics stands refl stands.each)
 
 -- the newest connection is closed
 connect_carries : {W O : Type 0} (m : Worlds W O) (s : System W O) (newest : ℕ) (replica : PlainReplica W O) (how : How) (traffics : Traffics) → TrafficsStand s traffics → TrafficsStand (connect m s newest replica how) traffics

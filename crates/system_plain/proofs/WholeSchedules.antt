@@ -17,13 +17,13 @@ use Rattle.reflector_core.specs.Answer.{SessionOutcome, answer, is_older, is_sta
 use Rattle.reflector_core.specs.declared.request.Reply.{Reply}
 use Rattle.reflector_core.specs.declared.request.Request.{Request}
 use Rattle.replica_plain.specs.declared.fault.ReplicaFault.{ReplicaFault}
-use Rattle.replica_plain.specs.Taking.{taken}
+use Rattle.replica_plain.specs.Taking.{taken, IsTimely}
 use Rattle.replica_plain.specs.Worlds.{AreWorlds, Worlds}
 use Rattle.join_sync.specs.declared.act.Act.{Act}
 use Rattle.join_sync.specs.declared.act.Act.TheVariants.{Call}
 use Rattle.join_sync.specs.declared.cursor.Cursor.{Cursor}
 use Rattle.join_sync.specs.Requests.{act_on}
-use Rattle.system_plain.specs.Schedule.{AreTypedSteps, IsExpected, IsNoSurprise, IsNotDiffers, IsSchedule, IsTypedStep, MovesInTime, SpellWorlds, SpellsWorld, ViewPayloads, act_replies, after_schedule, client_faults, faults_from, faults_in, faults_of, next_fault, next_fault_of, next_fault_on, next_replies, nothing_published, published_after, step_replies_from, replies_in, replies_on, run_schedule, step_faults, step_replies}
+use Rattle.system_plain.specs.Schedule.{AreTypedSteps, IsExpected, IsNoSurprise, IsNotDiffers, IsSchedule, IsTypedStep, SpellWorlds, SpellsWorld, ViewPayloads, act_replies, after_schedule, client_faults, faults_from, faults_in, faults_of, next_fault, next_fault_of, next_fault_on, next_replies, nothing_published, published_after, step_replies_from, replies_in, replies_on, run_schedule, step_faults, step_replies}
 use Rattle.system_plain.specs.Steps.{Receive, SystemStep, Take, after_step}
 use Rattle.system_plain.specs.System.{Client, Connection, System, first_system, view_client}
 use Rattle.system_plain.specs.Traffic.{traffics_in}
@@ -148,7 +148,7 @@ schedule_agrees m steps is = replies_agree m is.worlds nothing_published first_s
 
 -- ---- times
 
-frame_in_time : (log : List Entry) (place : Place) (frame : ServerFrame) → IsLegal log → ComesAt log place frame → MovesInTime frame
+frame_in_time : (log : List Entry) (place : Place) (frame : ServerFrame) → IsLegal log → ComesAt log place frame → IsTimely frame
 frame_in_time log place (Sync joined last from base) legal comes = tt
 frame_in_time log place (Recv entry) legal comes = (MayFollow-at log place.seen entry legal comes).time_bound
 frame_in_time log place (Tick t) legal comes = comes.1
@@ -157,26 +157,26 @@ frame_in_time log place (Snapped time) legal comes = tt
 frame_in_time log place (Refused about code kept more) legal comes = tt
 frame_in_time log place Alive legal comes = tt
 
-streams_in_time : (log : List Entry) (place : Place) (frames : List ServerFrame) → IsLegal log → Streams log place frames → All MovesInTime frames
-streams_in_time log place [] legal streams = All-nil MovesInTime
-streams_in_time log place (frame ∷ rest) legal streams = All-cons MovesInTime frame rest (frame_in_time log place frame legal streams.0) (streams_in_time log (place_after place frame) rest legal streams.1)
+streams_in_time : (log : List Entry) (place : Place) (frames : List ServerFrame) → IsLegal log → Streams log place frames → All IsTimely frames
+streams_in_time log place [] legal streams = All-nil IsTimely
+streams_in_time log place (frame ∷ rest) legal streams = All-cons IsTimely frame rest (frame_in_time log place frame legal streams.0) (streams_in_time log (place_after place frame) rest legal streams.1)
 
-pub served_in_time : (log : List Entry) (given : List (Option ClientFrame)) (frames : List ServerFrame) → IsLegal log → Served log given frames → All MovesInTime frames
-served_in_time log given [] legal served = All-nil MovesInTime
-served_in_time log given (Refused about code kept more ∷ rest) legal served = All-cons MovesInTime (Refused about code kept more) rest tt (subst (All MovesInTime) (sym served) (All-nil MovesInTime))
+pub served_in_time : (log : List Entry) (given : List (Option ClientFrame)) (frames : List ServerFrame) → IsLegal log → Served log given frames → All IsTimely frames
+served_in_time log given [] legal served = All-nil IsTimely
+served_in_time log given (Refused about code kept more ∷ rest) legal served = All-cons IsTimely (Refused about code kept more) rest tt (subst (All IsTimely) (sym served) (All-nil IsTimely))
 served_in_time log (Some (up.Join session view want) ∷ given) (Sync joined last from base ∷ rest) legal served =
-    All-cons MovesInTime (Sync joined last from base) rest tt (streams_in_time log (record { seen = from; least = served.0 }) rest legal served.2.streams)
+    All-cons IsTimely (Sync joined last from base) rest tt (streams_in_time log (record { seen = from; least = served.0 }) rest legal served.2.streams)
 served_in_time log given (frame ∷ rest) legal served = absurd served
 
-behind_front : (front rest : List ServerFrame) → All MovesInTime (front ++ rest) → All MovesInTime rest
+behind_front : (front rest : List ServerFrame) → All IsTimely (front ++ rest) → All IsTimely rest
 behind_front [] rest all = all
-behind_front (frame ∷ front) rest all = behind_front front rest (All-tail MovesInTime frame (front ++ rest) all)
+behind_front (frame ∷ front) rest all = behind_front front rest (All-tail IsTimely frame (front ++ rest) all)
 
-pub connection_in_time : {W O : Type 0} (m : Worlds W O) (steps : List SystemStep) (number : ℕ) (c : Connection) → IsSchedule m steps → slice_get (after_schedule m steps).connections number ≡ Some c → All MovesInTime c.down
+pub connection_in_time : {W O : Type 0} (m : Worlds W O) (steps : List SystemStep) (number : ℕ) (c : Connection) → IsSchedule m steps → slice_get (after_schedule m steps).connections number ≡ Some c → All IsTimely c.down
 connection_in_time m steps number c is at =
     let traffic = traffics_in m steps number in
     let legal = (sound_after m steps is).legal in
     behind_front traffic.received c.down (served_in_time (after_schedule m steps).session.log traffic.given (traffic.received ++ c.down) legal (traffic_is_served m steps number c is at))
 
-pub next_in_time : {W O : Type 0} (m : Worlds W O) (steps : List SystemStep) (number : ℕ) (c : Connection) (frame : ServerFrame) (rest : List ServerFrame) → IsSchedule m steps → slice_get (after_schedule m steps).connections number ≡ Some c → c.down ≡ frame ∷ rest → MovesInTime frame
-next_in_time m steps number c frame rest is at down = All-head MovesInTime frame rest (subst (All MovesInTime) down (connection_in_time m steps number c is at))
+pub next_in_time : {W O : Type 0} (m : Worlds W O) (steps : List SystemStep) (number : ℕ) (c : Connection) (frame : ServerFrame) (rest : List ServerFrame) → IsSchedule m steps → slice_get (after_schedule m steps).connections number ≡ Some c → c.down ≡ frame ∷ rest → IsTimely frame
+next_in_time m steps number c frame rest is at down = All-head IsTimely frame rest (subst (All IsTimely) down (connection_in_time m steps number c is at))

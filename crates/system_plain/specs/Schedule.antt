@@ -3,10 +3,8 @@ use Rattle.std.specs.Prelude.{◌≡◌, ◌≤◌, ◌<◌, ◌^◌, ℕ, ◌==
 use Rattle.tea_base.specs.declared.entry.Entry.{Entry}
 use Rattle.tea_base.specs.Readings.{event_payload, last_number, view_events}
 use Rattle.tea_base.specs.Legal.{EachCountsItsEvents}
-use Rattle.tea_base.specs.Limits.{time_limit}
 use Rattle.wire_frames.specs.declared.frame.ClientFrame.{ClientFrame}
 use Rattle.wire_frames.specs.declared.frame.ServerFrame.{ServerFrame}
-use Rattle.wire_frames.specs.declared.frame.ServerFrame.TheVariants.{Sync, Recv, Tick, Done, Snapped, Refused, Alive}
 use Rattle.reflector_core.specs.PlainSession.{PlainSession}
 use Rattle.reflector_core.specs.Answer.{answer}
 use Rattle.reflector_core.specs.declared.request.Reply.{Reply}
@@ -176,15 +174,3 @@ step_replies_from m s (step ∷ steps) = step_replies s step ++ step_replies_fro
 
 abbrev pub replies_in : {W O : Type 0} → Worlds W O → List SystemStep → List Reply
 replies_in m steps = step_replies_from m first_system steps
-
--- ---- the times of frames
-
--- the time of an entry or a tick, which moves a world, is one of TeaTime
-abbrev pub MovesInTime : ServerFrame → Type 0
-MovesInTime (Sync joined last from base) = Unit {0}
-MovesInTime (Recv entry) = entry.time < time_limit
-MovesInTime (Tick t) = t < time_limit
-MovesInTime (Done number seq time) = Unit {0}
-MovesInTime (Snapped time) = Unit {0}
-MovesInTime (Refused about code kept more) = Unit {0}
-MovesInTime Alive = Unit {0}

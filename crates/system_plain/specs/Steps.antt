@@ -22,7 +22,7 @@ use Rattle.join_sync.specs.Requests.{act_on, first_request}
 use Rattle.replica_plain.specs.declared.how.How.{How}
 use Rattle.replica_plain.specs.declared.how.How.TheVariants.{Fresh, Whole, Resume}
 use Rattle.replica_plain.specs.Worlds.{Worlds}
-use Rattle.replica_plain.specs.PlainReplica.{PlainReplica, founded, most_published, published_count}
+use Rattle.replica_plain.specs.PlainReplica.{PlainReplica, new_replica, most_published, published_count}
 use Rattle.replica_plain.specs.Taking.{taken}
 use Rattle.replica_plain.specs.Calls.{gives, join_frame, joining, loses, publishes, snap_frame, unsent}
 use Rattle.system_plain.specs.System.{System, Client, Connection, view_client, with_client, with_replica, with_connection, connecting, is_open, put_up, put_down, with_up, with_down, with_cursor, over_if, closing, close}
@@ -46,8 +46,8 @@ found m s view =
     if view == 0 || is_some (view_client s.clients view) then s
     else record {
       session = s.session;
-      clients = s.clients ++ record { replica = joining (founded m view) Fresh; newest = length s.connections } ∷ [];
-      connections = s.connections ++ connecting view (join_frame m (founded m view) Fresh) ∷ [];
+      clients = s.clients ++ record { replica = joining (new_replica m view) Fresh; newest = length s.connections } ∷ [];
+      connections = s.connections ++ connecting view (join_frame m (new_replica m view) Fresh) ∷ [];
     }
 
 -- ---- Publish: the replica takes an event of its view into its outbox

@@ -25,14 +25,14 @@ ghost use Rattle.join_sync.specs.declared.cursor.Cursor.{Cursor};
 ghost use Rattle.join_sync.specs.declared.early.Early.{Early};
 ghost use Rattle.replica_plain.specs.Worlds.{Worlds, AreWorlds, replay_world};
 ghost use Rattle.replica_plain.specs.Calls.{Publishes, gives, join_frame, joining, loses, publishes, snap_frame, unsent};
-ghost use Rattle.replica_plain.specs.PlainReplica.{PlainReplica, founded, published_count};
-ghost use Rattle.replica_plain.specs.Taking.{taken};
+ghost use Rattle.replica_plain.specs.PlainReplica.{PlainReplica, new_replica, published_count};
+ghost use Rattle.replica_plain.specs.Taking.{taken, IsTimely};
 ghost use Rattle.replica_plain.specs.declared.how.How.{How};
 ghost use Rattle.replica_plain.specs.declared.how.How.TheVariants.{Fresh, Resume, Whole};
 ghost use Rattle.replica_plain.specs.Following.{FollowsLog, IsHonestBase};
 ghost use Rattle.system_plain.specs.System.{Client, Connection, System, close, closing, connecting, is_open, over_if, put_down, view_client, with_client, with_connection, with_cursor, with_down, with_replica, with_up};
 ghost use Rattle.system_plain.specs.Steps.{SystemStep, answer_frames, ends_connection, Cut, Found, Publish, Pump, Receive, Reconnect, Restart, Snap, Take, Transmit, after_step, asked_connection, can_be_made, joined_connection, joined_view, may_publish, whole_for};
-ghost use Rattle.system_plain.specs.Schedule.{AreTypedSteps, HasEventsOnce, IsExpected, IsTypedStep, MovesInTime, ViewPayloads, IsNoSurprise, IsNotDiffers, IsSchedule, SpellWorlds, SpellsWorld, after_schedule, faults_from, faults_in, faults_of, next_fault, published_after, published_by, published_in, step_replies_from, replies_in, run_schedule, step_faults, step_replies};
+ghost use Rattle.system_plain.specs.Schedule.{AreTypedSteps, HasEventsOnce, IsExpected, IsTypedStep, ViewPayloads, IsNoSurprise, IsNotDiffers, IsSchedule, SpellWorlds, SpellsWorld, after_schedule, faults_from, faults_in, faults_of, next_fault, published_after, published_by, published_in, step_replies_from, replies_in, run_schedule, step_faults, step_replies};
 ghost use Rattle.system_plain.specs.Traffic.{Traffics, traffics_after, traffics_by, traffics_in};
 ghost use Rattle.system_plain.specs.ConnectionLine.{AreSoundTurns, AreTypedTurns, Hears, LineTurn, Pumps, after_turn, after_turns, first_line, line_on, open_connection, with_line};
 
@@ -115,8 +115,8 @@ pub fn step_table<W, O>()
     ensures unmade { (m : Worlds W O) (s : System W O) (step : SystemStep) → can_be_made s step ≡ false → after_step m s step ≡ s }
     ensures founds { (m : Worlds W O) (s : System W O) (view : ℕ) → view ≢ 0 → view_client s.clients view ≡ None
         → after_step m s (Found view) ≡ record s {
-          clients = s.clients ++ record { replica = joining (founded m view) Fresh; newest = length s.connections } ∷ [];
-          connections = s.connections ++ connecting view (join_frame m (founded m view) Fresh) ∷ [];
+          clients = s.clients ++ record { replica = joining (new_replica m view) Fresh; newest = length s.connections } ∷ [];
+          connections = s.connections ++ connecting view (join_frame m (new_replica m view) Fresh) ∷ [];
         } }
     ensures publishes { (m : Worlds W O) (s : System W O) (view : ℕ) (payload : List ℕ) (client : Client W O) → view_client s.clients view ≡ Some client
         → may_publish client.replica payload ≡ true → after_step m s (Publish view payload) ≡ with_replica s client (publishes client.replica payload) }
@@ -227,8 +227,8 @@ pub fn schedules_grow<W, O>()
 /// The times of entries and ticks are those of TeaTime, below 2^53: in what a legal log serves, and so in what is in flight on each
 /// connection after every schedule.
 pub fn frames_move_in_time<W, O>()
-    ensures served { (log : List Entry) (given : List (Option ClientFrame)) (frames : List ServerFrame) → IsLegal log → Served log given frames → All MovesInTime frames }
-    ensures in_flight { (m : Worlds W O) (steps : List SystemStep) (number : ℕ) (c : Connection) → IsSchedule m steps → slice_get (after_schedule m steps).connections number ≡ Some c → All MovesInTime c.down }
+    ensures served { (log : List Entry) (given : List (Option ClientFrame)) (frames : List ServerFrame) → IsLegal log → Served log given frames → All IsTimely frames }
+    ensures in_flight { (m : Worlds W O) (steps : List SystemStep) (number : ℕ) (c : Connection) → IsSchedule m steps → slice_get (after_schedule m steps).connections number ≡ Some c → All IsTimely c.down }
     ensures next { (m : Worlds W O) (steps : List SystemStep) (number : ℕ) (c : Connection) (frame : ServerFrame) (rest : List ServerFrame) → IsSchedule m steps
-        → slice_get (after_schedule m steps).connections number ≡ Some c → c.down ≡ frame ∷ rest → MovesInTime frame }
+        → slice_get (after_schedule m steps).connections number ≡ Some c → c.down ≡ frame ∷ rest → IsTimely frame }
 {}

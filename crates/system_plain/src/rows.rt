@@ -1,5 +1,6 @@
 //! The rows of the table of steps, each spelled out, without the definitions that the steps are made of.
 ghost use Rattle.std.specs.Prelude.{◌≡◌, ◌≢◌, ◌≤◌, ◌<◌, ◌+◌, ◌-◌, ℕ, true, false, if◌then◌else◌, List, [], ◌∷◌, ◌++◌, Option, Some, None, Result, Err, drop, length, set, slice_get, take};
+ghost use Rattle.tea_base.specs.Limits.{most_payload};
 ghost use Rattle.wire_frames.specs.declared.frame.ClientFrame.{ClientFrame};
 ghost use Rattle.wire_frames.specs.declared.frame.ClientFrame.TheVariants as client_frame;
 ghost use Rattle.wire_frames.specs.declared.frame.ServerFrame.TheVariants as server_frame;
@@ -21,7 +22,7 @@ ghost use Rattle.join_sync.specs.declared.act.Act.TheVariants.{Call};
 ghost use Rattle.join_sync.specs.declared.cursor.Cursor.{Cursor};
 ghost use Rattle.replica_plain.specs.Worlds.{Worlds};
 ghost use Rattle.replica_plain.specs.Calls.{Publishes, publishes, sends_after};
-ghost use Rattle.replica_plain.specs.PlainReplica.{PlainReplica};
+ghost use Rattle.replica_plain.specs.PlainReplica.{PlainReplica, most_published};
 ghost use Rattle.replica_plain.specs.declared.fault.PublishRefusal.{PublishRefusal};
 ghost use Rattle.replica_plain.specs.declared.fault.PublishRefusal.TheVariants.{WantOfMemory};
 ghost use Rattle.replica_plain.specs.declared.how.How.{How};
@@ -167,9 +168,9 @@ pub fn steps_that_rest<W, O>()
     ensures has_client { (m : Worlds W O) (s : System W O) (view : ℕ) (client : Client W O) → view_client s.clients view ≡ Some client → after_step m s (Found view) ≡ s }
     ensures no_client { (m : Worlds W O) (s : System W O) (view : ℕ) (payload : List ℕ) (how : How) → view_client s.clients view ≡ None
         → (after_step m s (Publish view payload) ≡ s) × (after_step m s (Transmit view) ≡ s) × (after_step m s (Receive view) ≡ s) × (after_step m s (Reconnect view how) ≡ s) × (after_step m s (Restart view how) ≡ s) × (after_step m s (Snap view) ≡ s) }
-    ensures too_long { (m : Worlds W O) (s : System W O) (view : ℕ) (payload : List ℕ) (client : Client W O) → view_client s.clients view ≡ Some client → 4096 < length payload
+    ensures too_long { (m : Worlds W O) (s : System W O) (view : ℕ) (payload : List ℕ) (client : Client W O) → view_client s.clients view ≡ Some client → most_payload < length payload
         → after_step m s (Publish view payload) ≡ s }
-    ensures full { (m : Worlds W O) (s : System W O) (view : ℕ) (payload : List ℕ) (client : Client W O) → view_client s.clients view ≡ Some client → 1048576 ≤ client.replica.acknowledged + length client.replica.outbox
+    ensures full { (m : Worlds W O) (s : System W O) (view : ℕ) (payload : List ℕ) (client : Client W O) → view_client s.clients view ≡ Some client → most_published ≤ client.replica.acknowledged + length client.replica.outbox
         → after_step m s (Publish view payload) ≡ s }
     ensures no_connection { (m : Worlds W O) (s : System W O) (number now up down : ℕ) → slice_get s.connections number ≡ None
         → (after_step m s (Take number now) ≡ s) × (after_step m s (Pump number now) ≡ s) × (after_step m s (Cut number up down) ≡ s) }

@@ -2,13 +2,10 @@
 ghost use Rattle.std.specs.Prelude.{IfOk};
 ghost use Rattle.system_core.specs.Schedules.{AreInBounds, IsInBounds};
 
-use crate::systems::{ID, checked, expect, expect_replay, receive, take};
-use model_check::Checked;
+use crate::systems::{ID, Trial, checked_program, first, is_replay, is_told};
 use model_value::Value;
 use replica_plain::How;
 use std::alloc::Global;
-use std::process::Abort;
-use std::sync::Arc;
 use std::test::Fail;
 use system_core::{Schedule, ScheduleStep, System, run};
 use tea_base::{Entry, Text, WantOfMemory, What};
@@ -29,124 +26,29 @@ const PAYLOAD: &[u8] = b"\0\0\0\x01a\0\0\0\x01b\0";
 fn publication(alloc: Global) -> Result<ScheduleStep, WantOfMemory>
     ensures { IfOk result (λ step. IsInBounds step) }
 {
+    let scope = Text::copy(alloc, "a")?;
+    let event = Text::copy(alloc, "b")?;
     Ok(ScheduleStep::Publish {
         view: 7,
-        scope: Text::copy(alloc, "a")?,
-        event: Text::copy(alloc, "b")?,
+        scope,
+        event,
         value: Value::Nil,
     })
 }
 
-/// The reflector acts on the next frame of a connection.
-fn act(system: &mut System, connection: u32) -> Result<(), Fail> {
-    take(system, ScheduleStep::Take { connection, now: 0 })
-}
-
-/// View 7 joins.
-fn join<R: Abort>(rt: &R, alloc: Global, system: &mut System) -> Result<(), Fail> {
-    expect(rt, alloc, system, 7, " |")?;
-    take(system, ScheduleStep::Found { view: 7 })?;
-    expect(rt, alloc, system, 7, "time 0 seen 0 settled |")?;
-    act(system, 0)?;
-    receive(system, 7, 1)?;
-    expect(rt, alloc, system, 7, "time 0 seen 0 settled | Join 1")
-}
-
-/// It publishes an event whose answer is lost.
-fn lose_an_answer<R: Abort>(rt: &R, alloc: Global, system: &mut System) -> Result<(), Fail> {
-    take(system, publication(alloc)?)?;
-    take(system, ScheduleStep::Transmit { view: 7 })?;
-    expect(rt, alloc, system, 7, "time 0 seen 0 waits | Join 1")?;
-    act(system, 0)?;
-    expect(rt, alloc, system, 7, "time 0 seen 0 waits | Join 1 Event 2")?;
-    let (connection, up, down) = (0, 0, 0);
-    take(
-        system,
-        ScheduleStep::Cut {
-            connection,
-            up,
-            down,
-        },
-    )
-}
-
-/// It joins again, and gives the event again, which stands in the log.
-fn rejoin<R: Abort>(rt: &R, alloc: Global, system: &mut System) -> Result<(), Fail> {
-    let how = How::Resume;
-    take(system, ScheduleStep::Reconnect { view: 7, how })?;
-    act(system, 1)?;
-    receive(system, 7, 1)?;
-    expect(rt, alloc, system, 7, WAITS)?;
-    take(system, ScheduleStep::Transmit { view: 7 })?;
-    act(system, 1)?;
-    let (connection, now) = (1, 0);
-    take(system, ScheduleStep::Pump { connection, now })?;
-    expect(rt, alloc, system, 7, WAITS)
-}
-
-/// It takes what is in flight: that the event counts, three entries and a tick.
-fn catch_up<R: Abort>(rt: &R, alloc: Global, system: &mut System) -> Result<(), Fail> {
-    for wanted in [
-        "time 0 seen 0 settled | Join 1 Event 2 Join 3",
-        "time 1 seen 1 settled | Join 1 Event 2 Join 3",
-        "time 2 seen 2 settled | Join 1 Event 2 Join 3",
-        END,
-        END,
-    ] {
-        receive(system, 7, 1)?;
-        expect(rt, alloc, system, 7, wanted)?;
-    }
-    Ok(())
-}
-
-/// The system behind all that.
-fn rejoined<R: Abort>(
-    rt: &R,
-    alloc: Global,
-    program: Arc<Checked, Global>,
-) -> Result<System, Fail> {
-    let mut system = System::first(alloc, program, ID)?;
-    join(rt, alloc, &mut system)?;
-    lose_an_answer(rt, alloc, &mut system)?;
-    rejoin(rt, alloc, &mut system)?;
-    catch_up(rt, alloc, &mut system)?;
-    Ok(system)
-}
-
-#[test]
-fn a_view_gives_its_event_again(rt: HostRuntime) -> Result<(), Fail> {
-    let alloc = rt.alloc();
-    let program = checked(alloc, SMALL)?;
-    let mut system = rejoined(&rt, alloc, program.clone()?)?;
-    expect_replay(&rt, alloc, program, &system, 7)?;
-    // The old connection ends, and its view does not leave.
-    act(&mut system, 0)?;
-    expect(&rt, alloc, &system, 7, END)?;
-    assert_eq!(rt; system.session().horizon(), 3);
-    assert!(rt; is_published(&system.session().log().get(2)?));
-    Ok(())
-}
-
-/// The entry is the event of view 7.
-fn is_published(entry: &Entry) -> bool {
-    match &entry.what {
-        What::Event { number, payload } => {
-            entry.view == 7 && *number == 1 && payload.is_bytes(PAYLOAD)
-        }
-        What::Join | What::Exit => false,
-    }
-}
-
-/// The same as one schedule.
+/// The steps of view 7. It joins, and publishes an event whose answer is lost. It joins again, gives the event again, which
+/// stands in the log, and takes what is in flight: that the event counts, three entries and a tick. Then the old connection
+/// ends.
 fn schedule(alloc: Global) -> Result<Schedule, WantOfMemory>
     ensures { IfOk result (λ steps. AreInBounds steps) }
 {
     let (view, now, how) = (7, 0, How::Resume);
+    let publication = publication(alloc)?;
     let steps = [
         ScheduleStep::Found { view },
         ScheduleStep::Take { connection: 0, now },
         ScheduleStep::Receive { view },
-        publication(alloc)?,
+        publication,
         ScheduleStep::Transmit { view },
         ScheduleStep::Take { connection: 0, now },
         ScheduleStep::Cut {
@@ -170,11 +72,123 @@ fn schedule(alloc: Global) -> Result<Schedule, WantOfMemory>
     Ok(Schedule::from_vec(Vec::from_array(alloc, steps)?))
 }
 
+/// What is wanted of view 7 behind a step.
+#[derive(Clone, Copy)]
+enum Look<'a> {
+    Nothing,
+    /// The view and the log are told so.
+    Told(&'a str),
+    /// They are told so, and the view's replica is the replay of the log.
+    Replayed(&'a str),
+}
+
+/// What is wanted behind each step of the schedule.
+const LOOKS: [Look<'static>; 19] = [
+    // Found, Take and Receive: it joins.
+    Look::Told("time 0 seen 0 settled |"),
+    Look::Nothing,
+    Look::Told("time 0 seen 0 settled | Join 1"),
+    // Publish, Transmit, Take and Cut: the answer to its event is lost.
+    Look::Nothing,
+    Look::Told("time 0 seen 0 waits | Join 1"),
+    Look::Told("time 0 seen 0 waits | Join 1 Event 2"),
+    Look::Nothing,
+    // Reconnect, Take and Receive: it joins again.
+    Look::Nothing,
+    Look::Nothing,
+    Look::Told(WAITS),
+    // Transmit, Take and Pump: it gives the event again.
+    Look::Nothing,
+    Look::Nothing,
+    Look::Told(WAITS),
+    // Five times Receive: it takes what is in flight.
+    Look::Told("time 0 seen 0 settled | Join 1 Event 2 Join 3"),
+    Look::Told("time 1 seen 1 settled | Join 1 Event 2 Join 3"),
+    Look::Told("time 2 seen 2 settled | Join 1 Event 2 Join 3"),
+    Look::Told(END),
+    Look::Replayed(END),
+    // Take: the old connection ends, and its view does not leave.
+    Look::Told(END),
+];
+
+/// Whether what is wanted is so.
+fn is_so(alloc: Global, trial: &Trial, look: Look<'_>) -> bool {
+    match look {
+        Look::Nothing => true,
+        Look::Told(wanted) => is_told(alloc, &trial.system, 7, wanted),
+        Look::Replayed(wanted) => {
+            is_told(alloc, &trial.system, 7, wanted) && is_replay(alloc, trial, 7)
+        }
+    }
+}
+
+/// Whether a step is taken, and what is wanted is then so.
+fn comes(alloc: Global, trial: &mut Trial, step: &ScheduleStep, look: Option<&Look<'_>>) -> bool
+    requires { IsInBounds step.now }
+{
+    match look {
+        Some(look) => trial.system.step(step).is_ok() && is_so(alloc, trial, *look),
+        None => false,
+    }
+}
+
+/// Whether all steps are taken, and behind each what is wanted is so.
+fn all_come(alloc: Global, trial: &mut Trial, steps: &Schedule, looks: &[Look<'_>]) -> bool
+    requires { AreInBounds steps.now }
+{
+    let mut looks = looks.iter();
+    let list = steps.as_slice();
+    for step in list {
+        if !comes(alloc, trial, step, looks.next()) {
+            return false;
+        }
+    }
+    looks.next().is_none()
+}
+
+/// The entry is the event of view 7.
+fn is_published(entry: &Entry) -> bool {
+    match &entry.what {
+        What::Event { number, payload } => {
+            entry.view == 7 && *number == 1 && payload.is_bytes(PAYLOAD)
+        }
+        What::Join | What::Exit => false,
+    }
+}
+
+/// The event of view 7 stands in the log, whose last entry is of the time 3.
+fn is_logged(system: &System) -> bool {
+    system.session().horizon() == 3
+        && matches!(system.session().log().get(2), Ok(entry) if is_published(&entry))
+}
+
+/// Whether view 7, of which nothing is told yet, goes by the schedule.
+fn goes_by_schedule(alloc: Global, trial: &mut Trial) -> Result<bool, WantOfMemory> {
+    let steps = schedule(alloc)?;
+    Ok(is_told(alloc, &trial.system, 7, " |") && all_come(alloc, trial, &steps, &LOOKS))
+}
+
+#[test]
+fn a_view_gives_its_event_again(rt: HostRuntime) -> Result<(), Fail> {
+    let alloc = rt.alloc();
+    let mut trial = first(alloc, SMALL)?;
+    assert!(rt; matches!(goes_by_schedule(alloc, &mut trial), Ok(true)));
+    assert!(rt; is_logged(&trial.system));
+    Ok(())
+}
+
+/// The same as one run.
+fn run_of_schedule(alloc: Global) -> Result<Trial, Fail> {
+    let steps = schedule(alloc)?;
+    let program = checked_program(alloc, SMALL)?;
+    let system = run(alloc, program.clone()?, ID, &steps)?;
+    Ok(Trial { program, system })
+}
+
 #[test]
 fn a_schedule_is_run(rt: HostRuntime) -> Result<(), Fail> {
     let alloc = rt.alloc();
-    let program = checked(alloc, SMALL)?;
-    let system = run(alloc, program.clone()?, ID, &schedule(alloc)?)?;
-    expect(&rt, alloc, &system, 7, END)?;
-    expect_replay(&rt, alloc, program, &system, 7)
+    let trial = run_of_schedule(alloc)?;
+    assert!(rt; is_so(alloc, &trial, Look::Replayed(END)));
+    Ok(())
 }

@@ -1,14 +1,14 @@
 //! A view that loses its world and begins with a kept snapshot, and another one that has all entries.
-use crate::systems::{ID, checked, expect, expect_replay, receive, snapped, take};
-use model_check::Checked;
+ghost use Rattle.std.specs.Prelude.{IfOk};
+ghost use Rattle.system_core.specs.Schedules.{AreInBounds, IsInBounds};
+
+use crate::systems::{Trial, are_same, first, is_replay, is_told, take_all};
 use model_value::Value;
 use replica_plain::How;
 use std::alloc::Global;
-use std::process::Abort;
-use std::sync::Arc;
 use std::test::Fail;
-use system_core::{ScheduleStep, System};
-use tea_base::Text;
+use system_core::{Schedule, ScheduleStep, System};
+use tea_base::{Text, WantOfMemory};
 
 /// A program that counts each second, and begins again at the event `reset`.
 const COUNTER: &str =
@@ -20,92 +20,120 @@ const KEPT: &str = "time 4000000 seen 3 settled | Join 1 Join 1000000 Event 2500
 /// What is told of both views in the end.
 const END: &str = "time 7000000 seen 4 settled | Join 1 Join 1000000 Event 2500000 Join 6000000";
 
-fn act(system: &mut System, connection: u32, now: u64) -> Result<(), Fail> {
-    take(system, ScheduleStep::Take { connection, now })
-}
-
-fn pump(system: &mut System, connection: u32, now: u64) -> Result<(), Fail> {
-    take(system, ScheduleStep::Pump { connection, now })
-}
-
-/// The view joins by this connection, at a time, and takes the Sync.
-fn found(system: &mut System, view: u32, connection: u32, now: u64) -> Result<(), Fail> {
-    take(system, ScheduleStep::Found { view })?;
-    act(system, connection, now)?;
-    receive(system, view, 1)
-}
-
-/// View 7 sets the count, at two and a half seconds.
-fn reset(alloc: Global, system: &mut System) -> Result<(), Fail> {
-    let step = ScheduleStep::Publish {
+/// View 7 sets the count.
+fn reset(alloc: Global) -> Result<ScheduleStep, WantOfMemory>
+    ensures { IfOk result (λ step. IsInBounds step) }
+{
+    let scope = Text::copy(alloc, "counter")?;
+    let event = Text::copy(alloc, "reset")?;
+    Ok(ScheduleStep::Publish {
         view: 7,
-        scope: Text::copy(alloc, "counter")?,
-        event: Text::copy(alloc, "reset")?,
+        scope,
+        event,
         value: Value::Int(40),
-    };
-    take(system, step)?;
-    take(system, ScheduleStep::Transmit { view: 7 })?;
-    act(system, 0, 2_500_000)
+    })
 }
 
-/// At four seconds its snapshot is kept.
-fn keep(system: &mut System) -> Result<(), Fail> {
-    pump(system, 0, 4_000_000)?;
-    receive(system, 7, 5)?;
-    take(system, ScheduleStep::Snap { view: 7 })?;
-    act(system, 0, 4_000_000)
+/// Views 7 and 8 join, at a second from each other, and take the Sync. View 7 sets the count, at two and a half seconds. At four
+/// seconds its snapshot is kept.
+fn steps_to_keep(alloc: Global) -> Result<Schedule, WantOfMemory>
+    ensures { IfOk result (λ steps. AreInBounds steps) }
+{
+    let reset = reset(alloc)?;
+    let now = 4_000_000;
+    let steps = [
+        ScheduleStep::Found { view: 7 },
+        ScheduleStep::Take {
+            connection: 0,
+            now: 0,
+        },
+        ScheduleStep::Receive { view: 7 },
+        ScheduleStep::Found { view: 8 },
+        ScheduleStep::Take {
+            connection: 1,
+            now: 1_000_000,
+        },
+        ScheduleStep::Receive { view: 8 },
+        reset,
+        ScheduleStep::Transmit { view: 7 },
+        ScheduleStep::Take {
+            connection: 0,
+            now: 2_500_000,
+        },
+        ScheduleStep::Pump { connection: 0, now },
+        ScheduleStep::Receive { view: 7 },
+        ScheduleStep::Receive { view: 7 },
+        ScheduleStep::Receive { view: 7 },
+        ScheduleStep::Receive { view: 7 },
+        ScheduleStep::Receive { view: 7 },
+        ScheduleStep::Snap { view: 7 },
+        ScheduleStep::Take { connection: 0, now },
+    ];
+    Ok(Schedule::from_vec(Vec::from_array(alloc, steps)?))
 }
 
-/// It loses its world, begins with the kept snapshot, and takes what is new at seven seconds.
-fn restart(system: &mut System) -> Result<(), Fail> {
-    let how = How::Fresh;
-    take(system, ScheduleStep::Restart { view: 7, how })?;
-    act(system, 2, 6_000_000)?;
-    pump(system, 2, 7_000_000)?;
-    receive(system, 7, 3)
+/// View 7 loses its world, begins with the kept snapshot, and takes what is new at seven seconds. View 8 takes what is new at
+/// seven seconds.
+fn steps_to_restart(alloc: Global) -> Result<Schedule, WantOfMemory>
+    ensures { IfOk result (λ steps. AreInBounds steps) }
+{
+    let (how, now) = (How::Fresh, 7_000_000);
+    let steps = [
+        ScheduleStep::Restart { view: 7, how },
+        ScheduleStep::Take {
+            connection: 2,
+            now: 6_000_000,
+        },
+        ScheduleStep::Pump { connection: 2, now },
+        ScheduleStep::Receive { view: 7 },
+        ScheduleStep::Receive { view: 7 },
+        ScheduleStep::Receive { view: 7 },
+        ScheduleStep::Pump { connection: 1, now },
+        ScheduleStep::Receive { view: 8 },
+        ScheduleStep::Receive { view: 8 },
+        ScheduleStep::Receive { view: 8 },
+        ScheduleStep::Receive { view: 8 },
+        ScheduleStep::Receive { view: 8 },
+    ];
+    Ok(Schedule::from_vec(Vec::from_array(alloc, steps)?))
 }
 
-/// View 8 takes what is new at seven seconds.
-fn go_on(system: &mut System) -> Result<(), Fail> {
-    pump(system, 1, 7_000_000)?;
-    receive(system, 8, 5)
+fn keep(alloc: Global, system: &mut System) -> Result<(), Fail> {
+    let steps = steps_to_keep(alloc)?;
+    Ok(take_all(system, &steps)?)
 }
 
-/// The system of which the snapshot of view 7 is kept.
-fn kept<R: Abort>(rt: &R, alloc: Global, program: Arc<Checked, Global>) -> Result<System, Fail> {
-    let mut system = System::first(alloc, program, ID)?;
-    found(&mut system, 7, 0, 0)?;
-    found(&mut system, 8, 1, 1_000_000)?;
-    reset(alloc, &mut system)?;
-    keep(&mut system)?;
-    expect(rt, alloc, &system, 7, KEPT)?;
-    Ok(system)
+fn restart(alloc: Global, system: &mut System) -> Result<(), Fail> {
+    let steps = steps_to_restart(alloc)?;
+    Ok(take_all(system, &steps)?)
+}
+
+/// The snapshot of view 7 is kept, at four seconds.
+fn is_kept(alloc: Global, system: &System) -> bool {
+    is_told(alloc, system, 7, KEPT) && system.session().kept_time() == Some(4_000_000)
 }
 
 /// The view has come to the end, from this base.
-fn expect_end<R: Abort>(
-    rt: &R,
-    alloc: Global,
-    system: &System,
-    view: u32,
-    base: Option<u64>,
-) -> Result<(), Fail> {
-    expect(rt, alloc, system, view, END)?;
-    let replica = system.replica(view).ok_or("no replica")?;
-    assert_eq!(rt; replica.base(), base);
-    Ok(())
+fn is_at_end(alloc: Global, system: &System, view: u32, base: Option<u64>) -> bool {
+    is_told(alloc, system, view, END)
+        && matches!(system.replica(view), Some(replica) if replica.base() == base)
+}
+
+/// Both views have come to the end, one from the kept snapshot, and have the same world, which is that of the replay.
+fn are_one(alloc: Global, trial: &Trial) -> bool {
+    is_at_end(alloc, &trial.system, 7, Some(4_000_000))
+        && is_at_end(alloc, &trial.system, 8, None)
+        && are_same(&trial.system, 7, 8)
+        && is_replay(alloc, trial, 8)
 }
 
 #[test]
 fn a_kept_snapshot_leads_to_the_same_world(rt: HostRuntime) -> Result<(), Fail> {
     let alloc = rt.alloc();
-    let program = checked(alloc, COUNTER)?;
-    let mut system = kept(&rt, alloc, program.clone()?)?;
-    assert_eq!(rt; system.session().kept_time(), Some(4_000_000));
-    restart(&mut system)?;
-    go_on(&mut system)?;
-    expect_end(&rt, alloc, &system, 7, Some(4_000_000))?;
-    expect_end(&rt, alloc, &system, 8, None)?;
-    assert!(rt; snapped(&system, 7)? == snapped(&system, 8)?);
-    expect_replay(&rt, alloc, program, &system, 8)
+    let mut trial = first(alloc, COUNTER)?;
+    keep(alloc, &mut trial.system)?;
+    assert!(rt; is_kept(alloc, &trial.system));
+    restart(alloc, &mut trial.system)?;
+    assert!(rt; are_one(alloc, &trial));
+    Ok(())
 }

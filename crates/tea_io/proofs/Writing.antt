@@ -1,16 +1,16 @@
 -- Texts that are written piece by piece.
 use Rattle.std.proofs.Common.{◌≡◌, ℕ, List, [], Option, Some, None, refl, ap, sym}
 use Rattle.std.proofs.Common.{append-nil, Result, Ok, Err, OnErr}
-use Rattle.tea_io.specs.Told.{grown}
+use Rattle.tea_io.specs.Told.{with_more}
 use Rattle.tea_io.specs.Sink.{HasWritten, GrowsWithin}
 
-pub grown-nil : (told : Option (List ℕ)) → told ≡ grown told []
-grown-nil None = refl
-grown-nil (Some xs) = ap Some (sym (append-nil xs))
+pub with_more_nil : (told : Option (List ℕ)) → told ≡ with_more told []
+with_more_nil None = refl
+with_more_nil (Some xs) = ap Some (sym (append-nil xs))
 
 -- before the first piece, all is left
 pub HasWritten-start : (old : Option (List ℕ)) (text : List ℕ) → HasWritten old old text text
-HasWritten-start old text = record { front = []; whole = refl; written = grown-nil old }
+HasWritten-start old text = record { front = []; whole = refl; written = with_more_nil old }
 
 -- nothing was written
 pub GrowsWithin-nothing : (told : Option (List ℕ)) (text : List ℕ) → GrowsWithin told told text

@@ -1,7 +1,7 @@
 -- What files hold, as far as they tell it, and what their calls do.
 use Rattle.std.specs.Prelude.{◌≡◌, ℕ, ◌≤◌, ◌<◌, ◌⊎◌, ⊤, List, [], ◌∷◌, length, Option}
 use Rattle.std.specs.Prelude.{Result, Ok, Err, IsErrOf}
-use Rattle.tea_io.specs.Told.{grown, Rose}
+use Rattle.tea_io.specs.Told.{with_more, Rose}
 use Rattle.tea_io.specs.declared.files.FileCall.{FileCall}
 use Rattle.tea_io.specs.declared.files.FileFault.{FileFault}
 use Rattle.tea_io.specs.declared.files.FileFault.TheVariants.{Failed, TooLarge, WantOfMemory}
@@ -46,10 +46,10 @@ Holds (Present held) new bytes = new ≡ Present bytes
 abbrev pub AsksFiles
     : {T : Type 0} → Option (List FileCall) → Option (List FileCall) → FileCall → Result T FileFault
     → Type 0
-AsksFiles old new call (Ok value) = new ≡ grown old (call ∷ [])
-AsksFiles old new call (Err Failed) = new ≡ grown old (call ∷ [])
-AsksFiles old new call (Err (TooLarge len)) = new ≡ grown old (call ∷ [])
-AsksFiles old new call (Err WantOfMemory) = (new ≡ old) ⊎ (new ≡ grown old (call ∷ []))
+AsksFiles old new call (Ok value) = new ≡ with_more old (call ∷ [])
+AsksFiles old new call (Err Failed) = new ≡ with_more old (call ∷ [])
+AsksFiles old new call (Err (TooLarge len)) = new ≡ with_more old (call ∷ [])
+AsksFiles old new call (Err WantOfMemory) = (new ≡ old) ⊎ (new ≡ with_more old (call ∷ []))
 
 -- the count of faults does not fall, and `Failed` comes only where it rose
 pub record FileCause {T : Type 0} (before now : ℕ) (result : Result T FileFault) : Type 0 where

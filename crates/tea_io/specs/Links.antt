@@ -1,6 +1,6 @@
 -- What a link says, what it was sent, and why.
 use Rattle.std.specs.Prelude.{◌≡◌, ℕ, ⊤, ◌≤◌, ◌⊎◌, List, [], ◌∷◌, Option, Result, Ok, Err, IsErrOf}
-use Rattle.tea_io.specs.Told.{grown, TakesFirst, HasNoMore, Rose}
+use Rattle.tea_io.specs.Told.{with_more, TakesFirst, HasNoMore, Rose}
 use Rattle.tea_io.specs.declared.link.Heard.{Heard}
 use Rattle.tea_io.specs.declared.link.Heard.TheVariants.{Frame, Quiet, End, Failed, WantOfMemory}
 use Rattle.tea_io.specs.declared.link.LinkFault.{LinkFault}
@@ -59,8 +59,8 @@ CountRises before now WantOfMemory = ⊤
 abbrev pub Sends
     : Option (List (List ℕ)) → Option (List (List ℕ)) → List ℕ → Result (Unit {0}) LinkFault
     → Type 0
-Sends before now frame (Ok done) = now ≡ grown before (frame ∷ [])
-Sends before now frame (Err fault.Failed) = (now ≡ before) ⊎ (now ≡ grown before (frame ∷ []))
+Sends before now frame (Ok done) = now ≡ with_more before (frame ∷ [])
+Sends before now frame (Err fault.Failed) = (now ≡ before) ⊎ (now ≡ with_more before (frame ∷ []))
 Sends before now frame (Err fault.WantOfMemory) = now ≡ before
 
 -- `Failed` comes only where the count of faults rose

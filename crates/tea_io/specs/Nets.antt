@@ -1,7 +1,7 @@
 -- What a net is asked and gives, and what it adds up.
 use Rattle.std.specs.Prelude.{◌≡◌, ℕ, ◌+◌, ◌-◌, ◌^◌, ◌≤◌, ◌⊎◌, min, List, [], ◌∷◌, Option}
 use Rattle.std.specs.Prelude.{Result, Ok, Err, IsErrOf}
-use Rattle.tea_io.specs.Told.{grown, Rose}
+use Rattle.tea_io.specs.Told.{with_more, Rose}
 use Rattle.tea_io.specs.Links.{Counts}
 use Rattle.tea_io.specs.declared.net.NetCall.{NetCall}
 use Rattle.tea_io.specs.declared.net.NetFault.{NetFault}
@@ -23,9 +23,9 @@ plus a b = record {
 abbrev pub AsksNet
     : {T : Type 0} → Option (List NetCall) → Option (List NetCall) → NetCall → Result T NetFault
     → Type 0
-AsksNet before now call (Ok value) = now ≡ grown before (call ∷ [])
-AsksNet before now call (Err Failed) = now ≡ grown before (call ∷ [])
-AsksNet before now call (Err WantOfMemory) = (now ≡ before) ⊎ (now ≡ grown before (call ∷ []))
+AsksNet before now call (Ok value) = now ≡ with_more before (call ∷ [])
+AsksNet before now call (Err Failed) = now ≡ with_more before (call ∷ [])
+AsksNet before now call (Err WantOfMemory) = (now ≡ before) ⊎ (now ≡ with_more before (call ∷ []))
 
 -- the count of faults does not fall, and `Failed` comes only where it rose
 pub record NetCause {T : Type 0} (before now : ℕ) (result : Result T NetFault) : Type 0 where

@@ -2,9 +2,9 @@
 use Rattle.std.specs.Prelude.{◌≡◌, ℕ, ⊤, ◌+◌, ◌-◌, ◌^◌, ◌≤◌, min, List, [], ◌∷◌, ◌++◌, Option, Some, None}
 
 -- a list that is told, with more behind it; one that is not told stays so
-abbrev pub grown : {A : Type 0} → Option (List A) → List A → Option (List A)
-grown None more = None
-grown (Some told) more = Some (told ++ more)
+abbrev pub with_more : {A : Type 0} → Option (List A) → List A → Option (List A)
+with_more None more = None
+with_more (Some told) more = Some (told ++ more)
 
 -- the first of what is told to come is this one, and the rest is still to come; what is not told
 -- stays so

@@ -2,7 +2,7 @@
 ghost use Rattle.std.specs.Prelude.{◌≡◌, ℕ, List, Option};
 ghost use Rattle.tea_io.specs.declared.link.Heard.{Heard};
 ghost use Rattle.tea_io.specs.declared.link.LinkFault.TheVariants.{WantOfMemory};
-ghost use Rattle.tea_io.specs.Told.{grown};
+ghost use Rattle.tea_io.specs.Told.{with_more};
 ghost use Rattle.tea_io.specs.Links.{Counts, note_of, TakesFrame, NoneFalls, CountRises, Sends, SendCause};
 
 use tea_base::Blob;
@@ -59,7 +59,7 @@ pub trait Link {
 
     /// What comes next.
     fn recv(&mut self) -> Heard
-        ensures heard { heard self.new ≡ grown (heard self.old) (note_of result) }
+        ensures heard { heard self.new ≡ with_more (heard self.old) (note_of result) }
         ensures coming { TakesFrame (coming self.old) (coming self.new) result }
         ensures sent { sent self.new ≡ sent self.old }
         ensures later { NoneFalls (counts self.old) (counts self.new) }

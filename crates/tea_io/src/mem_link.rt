@@ -1,6 +1,6 @@
 //! A link in memory.
 ghost use Rattle.std.specs.Prelude.{◌≡◌, ◌≤◌, [], Some, Err, length};
-ghost use Rattle.tea_io.specs.Told.{grown};
+ghost use Rattle.tea_io.specs.Told.{with_more};
 ghost use Rattle.tea_io.specs.Calls.{IsAnswerOr};
 ghost use Rattle.tea_io.specs.Links.{no_counts, note_of, TakesFrame, NoneFalls, CountRises, Sends, SendCause};
 ghost use Rattle.tea_io.specs.MemLink.{link_recv_answer, after_recv, link_send_answer, after_send};
@@ -126,7 +126,7 @@ impl Link for MemLink {
     ghost counts = { λ link. link.counts };
 
     fn recv(&mut self) -> Heard
-        ensures heard { Some self.new.heard ≡ grown (Some self.old.heard) (note_of result) }
+        ensures heard { Some self.new.heard ≡ with_more (Some self.old.heard) (note_of result) }
         ensures coming { TakesFrame (Some self.old.coming) (Some self.new.coming) result }
         ensures sent { Some self.new.sent ≡ Some self.old.sent }
         ensures later { NoneFalls self.old.counts self.new.counts }

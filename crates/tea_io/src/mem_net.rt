@@ -1,7 +1,7 @@
 //! A net in memory.
 ghost use Rattle.std.specs.Prelude.{◌≡◌, ◌+◌, ◌<◌, ◌≤◌, [], ◌∷◌, All, Some, Err, IfOk, OnOk, OnErr};
 ghost use Rattle.std.specs.Prelude.{vec_len, vec_capacity};
-ghost use Rattle.tea_io.specs.Told.{grown, TakesFirst};
+ghost use Rattle.tea_io.specs.Told.{with_more, TakesFirst};
 ghost use Rattle.tea_io.specs.Calls.{IsAnswerOr};
 ghost use Rattle.tea_io.specs.Links.{no_counts};
 ghost use Rattle.tea_io.specs.Nets.{plus, AsksNet, NetCause};
@@ -199,7 +199,7 @@ impl Net for MemNet {
     fn back(&mut self, conn: MemLink)
         requires lent { 0 < self.old.lent }
         ensures lent { self.new.lent + 1 ≡ self.old.lent }
-        ensures over { Some self.new.over ≡ grown (Some self.old.over) (conn ∷ []) }
+        ensures over { Some self.new.over ≡ with_more (Some self.old.over) (conn ∷ []) }
         ensures counts { self.new.link_counts ≡ plus self.old.link_counts conn.counts }
         ensures coming { Some self.new.coming ≡ Some self.old.coming }
         ensures asked { Some self.new.asked ≡ Some self.old.asked }

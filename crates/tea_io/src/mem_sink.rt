@@ -1,6 +1,6 @@
 //! A sink in memory.
 ghost use Rattle.std.specs.Prelude.{◌≡◌, ◌↔◌, [], Some, OnOk, OnErr, IsErrOf, IsTrue};
-ghost use Rattle.tea_io.specs.Told.{grown};
+ghost use Rattle.tea_io.specs.Told.{with_more};
 ghost use Rattle.tea_io.specs.Sink.{GrowsWithin, SinkCause, SinkWant};
 ghost use Rattle.tea_io.specs.Calls.{fails_at};
 ghost use Rattle.tea_io.specs.MemSink.{sink_after};
@@ -78,7 +78,7 @@ impl Sink for MemSink {
     ghost wants = { λ sink. sink.wants };
 
     fn write(&mut self, bytes: &[u8]) -> Result<(), SinkFault>
-        ensures ok { OnOk result (Some self.new.written ≡ grown (Some self.old.written) bytes.now) }
+        ensures ok { OnOk result (Some self.new.written ≡ with_more (Some self.old.written) bytes.now) }
         ensures part { OnErr result
             (GrowsWithin (Some self.old.written) (Some self.new.written) bytes.now) }
         ensures cause { SinkCause self.old.faults self.new.faults result }

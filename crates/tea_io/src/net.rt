@@ -3,7 +3,7 @@ ghost use Rattle.std.specs.Prelude.{◌≡◌, ℕ, ◌+◌, ◌<◌, [], ◌∷
 ghost use Rattle.tea_io.specs.declared.net.NetCall.{NetCall};
 ghost use Rattle.tea_io.specs.declared.net.NetCall.TheVariants.{Listen, Accept, Connect};
 ghost use Rattle.tea_io.specs.declared.net.NetFault.TheVariants.{WantOfMemory};
-ghost use Rattle.tea_io.specs.Told.{grown, TakesFirst};
+ghost use Rattle.tea_io.specs.Told.{with_more, TakesFirst};
 ghost use Rattle.tea_io.specs.Links.{Counts, no_counts};
 ghost use Rattle.tea_io.specs.Nets.{plus, AsksNet, NetCause};
 
@@ -98,7 +98,7 @@ pub trait Net {
     fn back(&mut self, conn: Self::Conn)
         requires lent { 0 < lent self.old }
         ensures lent { lent self.new + 1 ≡ lent self.old }
-        ensures over { over self.new ≡ grown (over self.old) (conn ∷ []) }
+        ensures over { over self.new ≡ with_more (over self.old) (conn ∷ []) }
         ensures counts { link_counts self.new ≡ plus (link_counts self.old) (Self.Conn.counts conn) }
         ensures coming { coming self.new ≡ coming self.old }
         ensures asked { asked self.new ≡ asked self.old }

@@ -1,7 +1,7 @@
 //! Where bytes are written.
 ghost use Rattle.std.specs.Prelude.{◌≡◌, ℕ, List, Option, OnOk, OnErr};
 ghost use Rattle.tea_io.specs.declared.sink.SinkFault.TheVariants.{WantOfMemory};
-ghost use Rattle.tea_io.specs.Told.{grown};
+ghost use Rattle.tea_io.specs.Told.{with_more};
 ghost use Rattle.tea_io.specs.Sink.{GrowsWithin, SinkCause, SinkWant};
 
 /// Why a piece was not written whole.
@@ -34,7 +34,7 @@ pub trait Sink {
 
     /// Writes all the bytes, or at an error a first part of them.
     fn write(&mut self, bytes: &[u8]) -> Result<(), SinkFault>
-        ensures ok { OnOk result (written self.new ≡ grown (written self.old) bytes.now) }
+        ensures ok { OnOk result (written self.new ≡ with_more (written self.old) bytes.now) }
         ensures part { OnErr result (GrowsWithin (written self.old) (written self.new) bytes.now) }
         ensures cause { SinkCause (faults self.old) (faults self.new) result }
         ensures want { SinkWant (wants self.old) (wants self.new) result };

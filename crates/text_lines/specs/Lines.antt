@@ -52,10 +52,10 @@ pub record IsPlain (word : LineWord) : Type 0 where
   pub no_zero : slice_index word 0 ≡ 48 → length word ≡ 1
 
 -- numbers in decimal, a space before each
-abbrev pub spaced : List ℕ → List ℕ
-spaced [] = []
-spaced (number ∷ numbers) = 32 ∷ (decimal number ++ spaced numbers)
+abbrev pub spaced_numbers : List ℕ → List ℕ
+spaced_numbers [] = []
+spaced_numbers (number ∷ numbers) = 32 ∷ (decimal number ++ spaced_numbers numbers)
 
 -- a word, and numbers
 abbrev pub spell_numbers : LineWord → List ℕ → List ℕ
-spell_numbers word numbers = word ++ spaced numbers
+spell_numbers word numbers = word ++ spaced_numbers numbers

@@ -13,7 +13,7 @@ use Rattle.view_shell.specs.declared.ending.ViewEnd.TheVariants as ending
 use Rattle.view_shell.specs.declared.lines.Departure.{Departure}
 use Rattle.view_shell.specs.declared.hearing.Synced.{Synced}
 use Rattle.view_shell.specs.declared.watcher.Watcher.{Watcher}
-use Rattle.view_shell.specs.Phases.{Viewer, Phase, Receives, Receiving, Sending, Tells, ToJoin, Over, bad_base, enter_session, given, joined, run, send_all}
+use Rattle.view_shell.specs.Phases.{Viewer, Phase, Receives, Receiving, Sending, Tells, ToJoin, Over, bad_base, enter_session, after_giving, after_join, run, send_all}
 use Rattle.view_shell.specs.Viewers.{viewer}
 use Rattle.view_shell.specs.Flows.{bad_base_answer, departure_phase}
 use Rattle.view_shell.specs.Hearing.{rejoined_text, synced_phase}
@@ -42,16 +42,16 @@ base_flows does from v lines how old new answer is goes =
     base_flows_by does from v lines Resume old new goes = reaches_end does from (Over ending.Peer) ending.Peer old new goes refl
 
 -- a view that joined again behind a cut
-pub rejoins : (v : Viewer) (how : How) (found : Synced) → how ≡ Resume → synced_phase v how found ≡ send_all (given v) (unsent v.replica) (Tells (rejoined_text (Some found)))
+pub rejoins : (v : Viewer) (how : How) (found : Synced) → how ≡ Resume → synced_phase v how found ≡ send_all (after_giving v) (unsent v.replica) (Tells (rejoined_text (Some found)))
 rejoins v how found is = ap (λ (h : How). synced_phase v h found) is
 
 -- a view that sent the frame by which it joins
 pub sent_to_join : {L : Type 0} (links : LinksTell L) (address : List ℕ) (lines : List PlainLine) (w w' : Watcher) (replica : ReplicaView) (how : How) (frame : ClientFrame) (old new : L)
     → w' ≡ record w { replica = replica; receives = w'.receives; quiets = 0 } → w'.receives ≡ 0 → replica ≡ with_plain w.replica (joining w.replica.plain how) → frame ≡ join_frame (worlds_of w.replica) w.replica.plain how
-    → Goes (LinkActs links) (Sending (joined (viewer address w lines) how) frame [] (Receives (ToJoin how))) (Receiving (joined (viewer address w lines) how) (ToJoin how)) old new
+    → Goes (LinkActs links) (Sending (after_join (viewer address w lines) how) frame [] (Receives (ToJoin how))) (Receiving (after_join (viewer address w lines) how) (ToJoin how)) old new
     → Goes (LinkActs links) (enter_session (viewer address w lines) how) (Receiving (viewer address w' lines) (ToJoin how)) old new
 sent_to_join links address lines w w' replica how frame old new kept zero joins is goes =
-    let v = joined (viewer address w lines) how in
+    let v = after_join (viewer address w lines) how in
     let u = viewer address w' lines in
     goes_from (LinkActs links) (enter_session (viewer address w lines) how) (Sending v frame [] (Receives (ToJoin how))) (Receiving u (ToJoin how)) old new (ap (λ (f : ClientFrame). Sending v f [] (Receives (ToJoin how))) (sym is))
     (goes_to (LinkActs links) (Sending v frame [] (Receives (ToJoin how))) (Receiving v (ToJoin how)) (Receiving u (ToJoin how)) old new

@@ -20,7 +20,7 @@ use Rattle.view_shell.specs.declared.hearing.Stop.{Stop}
 use Rattle.view_shell.specs.declared.hearing.Stop.TheVariants as stop
 use Rattle.view_shell.specs.declared.hearing.SnapAnswer.{SnapAnswer}
 use Rattle.view_shell.specs.declared.hearing.Synced.{Synced}
-use Rattle.view_shell.specs.Phases.{Viewer, Phase, Aim, ToJoin, ToReach, ToSettle, ToSnap, Task, Begins, Receives, Tells, Receiving, Over, Hearing, bad_base, given, go_on, heard_frame, heard_quiet, quiet, reads, send_all, synced}
+use Rattle.view_shell.specs.Phases.{Viewer, Phase, Aim, ToJoin, ToReach, ToSettle, ToSnap, Task, Begins, Receives, Tells, Receiving, Over, Hearing, bad_base, after_giving, go_on, heard_frame, heard_quiet, quiet, reads, send_all, after_sync}
 use Rattle.view_shell.proofs.Going.{Follows, goes_and_stops, goes_on}
 use Rattle.view_shell.specs.ViewText.{rejoined_line}
 use Rattle.view_shell.specs.ViewRun.{Doing, Goes, Stops, LinkActs}
@@ -56,7 +56,7 @@ answer_phase v (Some server.Alive) = refl
 -- the phase behind a Sync, or behind a frame that is none
 abbrev pub behind_sync : Viewer → How → Option Synced → Phase
 behind_sync v how None = go_on v [] (Receives (ToJoin how))
-behind_sync v how (Some found) = synced v how found.joined found.from
+behind_sync v how (Some found) = after_sync v how found.joined found.from
 
 pub sync_phase : (v : Viewer) (how : How) (frame : Option ServerFrame) → HeardPhase v (ToJoin how) frame ≡ behind_sync v how (sync_in frame)
 sync_phase v how None = refl
@@ -177,13 +177,13 @@ module _ {S : Type 0} (does : Doing S) (v : Viewer) (n : ℕ) (old new : S) wher
   sync_goes how None alive = alive v [] (Receives (ToJoin how)) refl
   sync_goes Fresh (Some found) alive = alive v [] Begins refl
   sync_goes Whole (Some found) alive = alive v [] Begins refl
-  sync_goes Resume (Some found) alive = alive (given v) (unsent v.replica) (Tells (rejoined_line found.joined found.from)) refl
+  sync_goes Resume (Some found) alive = alive (after_giving v) (unsent v.replica) (Tells (rejoined_line found.joined found.from)) refl
 
   pub sync_stops : (how : How) (found : Option Synced) (end : ViewEnd) → StopsAlive end → Stops does (behind_sync v how found) end old new
   sync_stops how None end alive = alive v [] (Receives (ToJoin how)) refl
   sync_stops Fresh (Some found) end alive = alive v [] Begins refl
   sync_stops Whole (Some found) end alive = alive v [] Begins refl
-  sync_stops Resume (Some found) end alive = alive (given v) (unsent v.replica) (Tells (rejoined_line found.joined found.from)) refl
+  sync_stops Resume (Some found) end alive = alive (after_giving v) (unsent v.replica) (Tells (rejoined_line found.joined found.from)) refl
 
 -- a run, and then why it stopped
 pub goes_and_hears : {S : Type 0} (does : Doing S) (follows : Follows does) (why : Stop) (from mid : Phase) (v : Viewer) (aim : Aim) (old now new : S) → Goes does from mid old now → StopsHearing does why mid v aim now new → StopsHearing does why from v aim old new

@@ -1,6 +1,6 @@
 -- Texts that a view prints, on an output beside a link.
 use Rattle.std.proofs.Common.{◌≡◌, inl, inr, ℕ, ◌≤◌, List, [], ◌∷◌, Option, Some, None, refl, sym, ap, subst, arith, append-nil}
-use Rattle.tea_io.specs.Told.{grown}
+use Rattle.tea_io.specs.Told.{with_more}
 use Rattle.run_steps.specs.Steps.{Prints}
 use Rattle.run_steps.specs.Outside.{OutputTells, LinksTell, Well, Failed, WantedMemory, Acts, PrintsText, window, window_tells}
 use Rattle.replica_plain.specs.Calls.{takes_out}
@@ -10,16 +10,16 @@ use Rattle.view_shell.specs.Phases.{Viewer, Phase, Printing, PrintingLast, Over,
 use Rattle.view_shell.specs.ViewRun.{Goes, LinkActs, Stops, StopsPrinting}
 use Rattle.view_shell.proofs.Going.{all_acts_behind, goes_and_stops, goes_in_window, goes_on, wants}
 
-grown_nothing : (told : Option (List ℕ)) → told ≡ grown told []
-grown_nothing None = refl
-grown_nothing (Some text) = ap (λ (t : List ℕ). Some t) (sym (append-nil text))
+with_more_nothing : (told : Option (List ℕ)) → told ≡ with_more told []
+with_more_nothing None = refl
+with_more_nothing (Some text) = ap (λ (t : List ℕ). Some t) (sym (append-nil text))
 
 stays : (n : ℕ) → n ≤ n
 stays n = omega arith
 
 -- nothing is printed of an empty text
 pub prints_nothing : {W : Type 0} (out : OutputTells W) (w : W) → PrintsText out Well [] w w
-prints_nothing out w = record { written = grown_nothing (out.written w); counted = stays (out.faults w); wanted = stays (out.wants w) }
+prints_nothing out w = record { written = with_more_nothing (out.written w); counted = stays (out.faults w); wanted = stays (out.wants w) }
 
 module _ {W L : Type 0} (out : OutputTells W) (links : LinksTell L) (l : L) (w w' : W) where
   pub printed_goes : (v : Viewer) (text : List ℕ) → PrintsText out Well text w w' → Goes (Acts (window_tells out links)) (Printing v text) (run v v.lines) (window w l) (window w' l)

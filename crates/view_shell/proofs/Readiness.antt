@@ -7,7 +7,7 @@ use Rattle.replica_plain.specs.declared.how.How.{How}
 use Rattle.std.specs.Prelude.{⊤, Result, OnOk}
 use Rattle.view_bridge.specs.declared.topic.Topic.{Topic}
 use Rattle.view_shell.specs.declared.ending.ViewEnd.{ViewEnd}
-use Rattle.view_shell.specs.Phases.{joined, published}
+use Rattle.view_shell.specs.Phases.{after_join, after_publish}
 use Rattle.view_script.specs.PlainLine.{PlainLine}
 use Rattle.view_shell.specs.Viewers.{IsReady, KnowsItself, viewer}
 use Rattle.view_shell.proofs.Keeping.{Keeps}
@@ -38,7 +38,7 @@ viewer_after_send address lines w w' kept zero = ap (λ (n : ℕ). record (viewe
 
 -- a view that published an event
 pub viewer_published : (address : List ℕ) (lines : List PlainLine) (w w' : Watcher) (payload : List ℕ) → w' ≡ record w { replica = w'.replica; published = w'.published } → w'.replica ≡ with_plain w.replica (publishes w.replica.plain payload)
-    → published (viewer address w lines) payload ≡ viewer address w' lines
+    → after_publish (viewer address w lines) payload ≡ viewer address w' lines
 viewer_published address lines w w' payload kept is =
     sym (ap (λ (one : Watcher). viewer address one lines) kept ∙ ap (λ (r : ReplicaView). viewer address (record w { replica = r; published = w'.published }) lines) is)
 
@@ -52,7 +52,7 @@ viewer_watched address lines w w' topics (Err end) kept watched is = tt
 
 -- a view that joins, and sent its frame
 pub viewer_joined : (address : List ℕ) (lines : List PlainLine) (w w' : Watcher) (replica : ReplicaView) (how : How) → w' ≡ record w { replica = replica; receives = w'.receives; quiets = 0 } → w'.receives ≡ 0
-    → replica ≡ with_plain w.replica (joining w.replica.plain how) → joined (viewer address w lines) how ≡ viewer address w' lines
+    → replica ≡ with_plain w.replica (joining w.replica.plain how) → after_join (viewer address w lines) how ≡ viewer address w' lines
 viewer_joined address lines w w' replica how kept zero is =
     sym (ap (λ (one : Watcher). viewer address one lines) kept
     ∙ ap (λ (n : ℕ). viewer address (record w { replica = replica; receives = n; quiets = 0 }) lines) zero

@@ -107,15 +107,15 @@ abbrev pub leave_session : Viewer → Phase
 leave_session v = Sending v client.Leave [] Leaves
 
 -- the events that were not given yet count as given: they are sent next
-abbrev pub given : Viewer → Viewer
-given v = record v { replica = gives v.replica }
+abbrev pub after_giving : Viewer → Viewer
+after_giving v = record v { replica = gives v.replica }
 
 -- the view with the rest of its script
 abbrev pub with_lines : Viewer → List PlainLine → Viewer
 with_lines v lines = record v { lines = lines }
 
-abbrev pub published : Viewer → List ℕ → Viewer
-published v payload = record v { replica = publishes v.replica payload }
+abbrev pub after_publish : Viewer → List ℕ → Viewer
+after_publish v payload = record v { replica = publishes v.replica payload }
 
 -- its frames are sent; before its script begins nothing is printed
 abbrev pub begin_task : Viewer → Task → Phase
@@ -132,22 +132,22 @@ send_all v (frame ∷ frames) task = Sending v frame frames task
 abbrev pub run : Viewer → List PlainLine → Phase
 run v [] = leave_session v
 run v (Publish scope event value ∷ rest) =
-    let w = published (with_lines v rest) (payload_spelling (record { scope = scope; event = event; value = value })) in
-    send_all (given w) (unsent w.replica) (Tells [])
+    let w = after_publish (with_lines v rest) (payload_spelling (record { scope = scope; event = event; value = value })) in
+    send_all (after_giving w) (unsent w.replica) (Tells [])
 run v (Watch scope event handling ∷ rest) = finish (record v { lines = rest; topics = subscribes v.topics scope event handling }) []
 run v (Wait time ∷ rest) = receive (with_lines v rest) (ToReach time)
-run v (Settle ∷ rest) = send_all (given (with_lines v rest)) (unsent v.replica) (Receives ToSettle)
+run v (Settle ∷ rest) = send_all (after_giving (with_lines v rest)) (unsent v.replica) (Receives ToSettle)
 run v (Snap ∷ rest) = Sending (with_lines v rest) (snap_frame v.worlds v.replica) [] (Receives ToSnap)
 run v (Cut ∷ rest) = Returning (with_lines v rest) Resume
 run v (Quit ∷ rest) = leave_session (with_lines v rest)
 
 -- ---- joining
 
-abbrev pub joined : Viewer → How → Viewer
-joined v how = record v { replica = joining v.replica how; receives = 0; quiets = 0 }
+abbrev pub after_join : Viewer → How → Viewer
+after_join v how = record v { replica = joining v.replica how; receives = 0; quiets = 0 }
 
 abbrev pub enter_session : Viewer → How → Phase
-enter_session v how = Sending (joined v how) (join_frame v.worlds v.replica how) [] (Receives (ToJoin how))
+enter_session v how = Sending (after_join v how) (join_frame v.worlds v.replica how) [] (Receives (ToJoin how))
 
 -- ---- hearing
 
@@ -159,17 +159,17 @@ abbrev pub go_on : Viewer → List ClientFrame → Task → Phase
 go_on v frames task = send_all v (alive v ++ frames) task
 
 -- a Sync was taken: the script begins, or goes on behind a cut once the events that are not acknowledged were sent again
-abbrev pub synced : Viewer → How → ℕ → ℕ → Phase
-synced v Fresh joined from = go_on v [] Begins
-synced v Whole joined from = go_on v [] Begins
-synced v Resume joined from = go_on (given v) (unsent v.replica) (Tells (rejoined_line joined from))
+abbrev pub after_sync : Viewer → How → ℕ → ℕ → Phase
+after_sync v Fresh joined from = go_on v [] Begins
+after_sync v Whole joined from = go_on v [] Begins
+after_sync v Resume joined from = go_on (after_giving v) (unsent v.replica) (Tells (rejoined_line joined from))
 
 -- a frame was taken
-abbrev pub took : Viewer → Aim → ServerFrame → Phase
-took v (ToJoin how) (server.Sync joined last from base) = synced v how joined from
-took v ToSnap (server.Snapped time) = go_on v [] (Tells (snapped_line time))
-took v ToSnap (server.Refused about code kept more) = go_on v [] (Tells (snap_refused_line code kept))
-took v aim frame = go_on v [] (Receives aim)
+abbrev pub after_frame : Viewer → Aim → ServerFrame → Phase
+after_frame v (ToJoin how) (server.Sync joined last from base) = after_sync v how joined from
+after_frame v ToSnap (server.Snapped time) = go_on v [] (Tells (snapped_line time))
+after_frame v ToSnap (server.Refused about code kept more) = go_on v [] (Tells (snap_refused_line code kept))
+after_frame v aim frame = go_on v [] (Receives aim)
 
 -- a base that is none: a view that joins for the first time asks for the whole log then
 abbrev pub bad_base : Viewer → Aim → Phase
@@ -178,7 +178,7 @@ bad_base v aim = Over ending.Peer
 
 -- What the replica made of a frame. One whose memory ran out is broken from then on.
 abbrev pub phase_behind_frame : Viewer → Aim → ServerFrame → Option ReplicaFault → Phase
-phase_behind_frame v aim frame None = took v aim frame
+phase_behind_frame v aim frame None = after_frame v aim frame
 phase_behind_frame v aim frame (Some (fault.Refused about code kept)) = Over (ending.Refused code kept)
 phase_behind_frame v aim frame (Some fault.BadBase) = bad_base v aim
 phase_behind_frame v aim frame (Some fault.Unasked) = Over ending.Peer

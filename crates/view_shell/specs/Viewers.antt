@@ -2,7 +2,7 @@
 use Rattle.std.specs.Prelude.{◌≡◌, ◌≤◌, ◌<◌, ℕ, ◌+◌, drop, length, List, []}
 use Rattle.model_lang.specs.Tree.{ProgramTree}
 use Rattle.replica_plain.specs.declared.how.How.TheVariants.{Fresh}
-use Rattle.replica_plain.specs.PlainReplica.{founded, published_count}
+use Rattle.replica_plain.specs.PlainReplica.{new_replica, published_count}
 use Rattle.replica.specs.RealWorlds.{worlds}
 use Rattle.replica.specs.View.{worlds_of}
 use Rattle.view_script.specs.PlainLine.{PlainLine, publish_count, most_publishes}
@@ -29,7 +29,7 @@ viewer address w lines =
 abbrev pub first_viewer : ProgramTree → List ℕ → ℕ → List ℕ → List PlainLine → Viewer
 first_viewer tree id view address lines =
     let m = worlds tree id in
-    record { worlds = m; address = address; replica = founded m view; topics = []; lines = lines; receives = 0; quiets = 0 }
+    record { worlds = m; address = address; replica = new_replica m view; topics = []; lines = lines; receives = 0; quiets = 0 }
 
 -- it connects, and joins for the first time
 abbrev pub first_phase : ProgramTree → List ℕ → ℕ → List ℕ → List PlainLine → Phase

@@ -6,7 +6,7 @@ ghost use Rattle.run_steps.specs.Outside.{links_tell};
 ghost use Rattle.replica.specs.View.{KeepsSession};
 ghost use Rattle.replica_plain.specs.declared.how.How.{How};
 ghost use Rattle.view_script.specs.PlainLine.{PlainLine};
-ghost use Rattle.view_shell.specs.Phases.{Aim, ToJoin, ToReach, ToSettle, ToSnap, Receiving, finish, reads, receive, took};
+ghost use Rattle.view_shell.specs.Phases.{Aim, ToJoin, ToReach, ToSettle, ToSnap, Receiving, finish, reads, receive, after_frame};
 ghost use Rattle.view_shell.specs.ViewText.{settled_line, time_line};
 ghost use Rattle.view_shell.specs.Viewers.{HasHeard, IsReady, KnowsItself, viewer};
 ghost use Rattle.view_shell.specs.ViewRun.{Goes, GoesOrStops, LinkActs};
@@ -49,7 +49,7 @@ fn take(watcher: &mut Watcher, bytes: &Blob) -> Result<ServerFrame, Stop>
     ensures session { KeepsSession watcher.old.replica watcher.new.replica }
     ensures knows { KnowsItself watcher.old → KnowsItself watcher.new }
     ensures taken { (address : List ℕ) (lines : List PlainLine) (aim : Aim) → MatchResult result
-        (λ frame. reads (viewer address watcher.old lines) aim (whole server_at bytes.now) ≡ took (viewer address watcher.new lines) aim frame)
+        (λ frame. reads (viewer address watcher.old lines) aim (whole server_at bytes.now) ≡ after_frame (viewer address watcher.new lines) aim frame)
         (λ stop. StopsAt stop (reads (viewer address watcher.old lines) aim (whole server_at bytes.now)) (viewer address watcher.new lines) aim) }
 {
     let frame = match read_server(watcher.alloc, bytes.bytes()) {

@@ -8,7 +8,7 @@ ghost use Rattle.run_steps.specs.Outside.{links_tell};
 ghost use Rattle.replica_plain.specs.Calls.{gives, unsent};
 ghost use Rattle.replica.specs.View.{with_plain};
 ghost use Rattle.view_script.specs.PlainLine.{PlainLine};
-ghost use Rattle.view_shell.specs.Phases.{Sending, Task, Viewer, go_on, send_all, given};
+ghost use Rattle.view_shell.specs.Phases.{Sending, Task, Viewer, go_on, send_all, after_giving};
 ghost use Rattle.view_shell.specs.Viewers.{HasHeard, IsReady, viewer};
 ghost use Rattle.view_shell.specs.ViewRun.{GoesOrStops, LinkActs};
 
@@ -106,7 +106,7 @@ pub fn send_unsent<L: Link>(watcher: &mut Watcher, link: &mut L) -> Result<(), V
     ensures replica { OnOk result (watcher.new.replica ≡ with_plain watcher.old.replica (gives watcher.old.replica.plain)) }
     ensures ready { IsReady watcher.old → OnOk result (IsReady watcher.new) }
     ensures talk { (address : List ℕ) (lines : List PlainLine) (task : Task) → GoesOrStops (LinkActs (links_tell L.coming L.heard L.sent L.counts))
-        (send_all (given (viewer address watcher.old lines)) (unsent watcher.old.replica.plain) task) (λ _. send_all (viewer address watcher.new lines) [] task) result link.old link.new }
+        (send_all (after_giving (viewer address watcher.old lines)) (unsent watcher.old.replica.plain) task) (λ _. send_all (viewer address watcher.new lines) [] task) result link.old link.new }
 {
     let frames = match watcher.replica.unsent() {
         Ok(frames) => frames,

@@ -68,7 +68,6 @@ fn join<R: Wait, L: Link>(
         return Err(Stop::End(ViewEnd::WantOfMemory));
     }
     let frame = watcher.replica.join(how);
-    watcher.receives = 0;
     watcher.quiets = 0;
     match send(watcher, link, &frame) {
         Ok(()) => {}

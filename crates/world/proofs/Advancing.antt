@@ -4,7 +4,7 @@ use Rattle.std.proofs.lemmas.Bool.{leb-true, ltb-true, ltb-false, le-leb, cases_
 use Rattle.std.proofs.lemmas.Option.{none-some}
 use Rattle.world_plain.specs.Messages.{PlainMessage}
 use Rattle.world_plain.specs.World.{WorldRecord}
-use Rattle.world_plain.specs.Valid.{Valid, most_turns, most_pending}
+use Rattle.world_plain.specs.Valid.{Valid, most_turns, most_messages}
 use Rattle.tea_base.specs.Limits.{time_limit}
 use Rattle.model_lang.specs.Tree.{ProgramTree}
 use Rattle.model_eval.specs.Kept.{now_due}
@@ -34,14 +34,14 @@ due-le t (m ∷ ms) = due_le_if t (nat_le m.time t) ms (due-le t ms)
     due_le_if t true ms h = omega (arith, h)
     due_le_if t false ms h = omega (arith, h)
 
-few-due : (counts : List ℕ) (w : WorldRecord) → Valid counts w → now_due w ≤ most_pending
+few-due : (counts : List ℕ) (w : WorldRecord) → Valid counts w → now_due w ≤ most_messages
 few-due counts w v = omega (arith, due-le w.time w.pending, v.messages.few)
 
 -- the bound falls where the time rises, where turns are left, and where at the same time fewer messages are due
 falls_if : (t : ℕ) (m : PlainMessage) (rest : List PlainMessage) (w v : WorldRecord) (later : Bool) → later ≡ nat_lt w.time m.time → w.pending ≡ m ∷ rest → w.time ≤ m.time → m.time ≤ t → w.turns ≤ most_turns
     → (let o : WorldRecord = with_next_turn (if later then record w { pending = rest; time = m.time; turns = 0 } else record w { pending = rest }) in
     (v.time ≡ o.time) × (v.turns ≡ o.turns) × (o.turns ≡ most_turns → now_due v ≤ now_due o))
-    → now_due v ≤ most_pending → enough t v < enough t w
+    → now_due v ≤ most_messages → enough t v < enough t w
 falls_if t m rest w v true e first from le few k due = omega (arith, ltb-true w.time m.time (sym e), le, k.0, k.1, due)
 falls_if t m rest w v false e first from le few k due =
     let same : m.time ≡ w.time = (let le : m.time ≤ w.time = ltb-false w.time m.time (sym e) in omega (arith, le, from)) in

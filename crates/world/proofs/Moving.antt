@@ -4,7 +4,7 @@ use Rattle.std.proofs.lemmas.Bool.{leb-true, leb-false, lt-leb}
 use Rattle.std.proofs.lemmas.Option.{none-some, same_Some}
 use Rattle.world_plain.specs.Messages.{PlainMessage}
 use Rattle.world_plain.specs.World.{ObjectRecord, WorldRecord, total_weight, object_weight, message_weight, subscription_weight, known_weight, most_world_weight}
-use Rattle.world_plain.specs.Valid.{Valid, ValidMessages, most_turns, most_pending, PrecedesAll, AreInOrder, MessageFits, MessagesFit, NumbersDiffer}
+use Rattle.world_plain.specs.Valid.{Valid, ValidMessages, most_turns, most_messages, PrecedesAll, AreInOrder, MessageFits, MessagesFit, NumbersDiffer}
 use Rattle.tea_base.specs.Limits.{time_limit}
 use Rattle.model_eval.proofs.ValidLaws.{valid-beside, valid-around}
 use Rattle.world.specs.View.{AreBehind}
@@ -79,7 +79,7 @@ taken-valid counts w m rest e v =
     let order : AreInOrder (m ∷ rest) = subst AreInOrder e v.messages.order in
     let differ : NumbersDiffer (m ∷ rest) = subst NumbersDiffer e v.messages.differ in
     let fit : MessagesFit w.time w.next_number w.objects (m ∷ rest) = subst (MessagesFit w.time w.next_number w.objects) e v.messages.fit in
-    let few : length (m ∷ rest) ≤ most_pending = subst (λ ms. length ms ≤ most_pending) e v.messages.few in
+    let few : length (m ∷ rest) ≤ most_messages = subst (λ ms. length ms ≤ most_messages) e v.messages.few in
     let light : total_weight object_weight w.objects + total_weight message_weight (m ∷ rest) + total_weight subscription_weight w.subscriptions + total_weight known_weight w.known ≤ most_world_weight =
     subst (λ ms. total_weight object_weight w.objects + total_weight message_weight ms + total_weight subscription_weight w.subscriptions + total_weight known_weight w.known ≤ most_world_weight) e v.weight in
     let messages : ValidMessages w.time w.next_number w.objects rest = record { order = order.1; differ = differ.1; fit = fit.1; few = omega (arith, few) } in

@@ -10,7 +10,7 @@ use Rattle.world_plain.specs.World.{ObjectRecord, WorldRecord, object_weight, to
 use Rattle.world_plain.specs.declared.message.Message.{Message}
 use Rattle.world_plain.specs.declared.message.Subscription.{Subscription}
 use Rattle.world_plain.specs.declared.world.PlainObject.{PlainObject}
-use Rattle.world_plain.specs.Valid.{Valid, RiseFrom, ObjectFits, ObjectsFit, SubscriptionFits, SubscriptionsFit, DiffersFromAll, SubscriptionsDiffer, Precedes, PrecedesAll, AreInOrder, IsUnused, NumbersDiffer, MessageFits, MessagesFit, most_objects, most_subscriptions, most_pending}
+use Rattle.world_plain.specs.Valid.{Valid, RiseFrom, ObjectFits, ObjectsFit, SubscriptionFits, SubscriptionsFit, DiffersFromAll, SubscriptionsDiffer, Precedes, PrecedesAll, AreInOrder, IsUnused, NumbersDiffer, MessageFits, MessagesFit, most_objects, most_subscriptions, most_messages}
 use Rattle.object_store.specs.Store.{IsAboveAll, AreFields}
 use Rattle.object_store.proofs.Objects.{AreFields-light}
 use Rattle.pubsub.specs.Topics.{IsLightSubscription, is_subscribed}
@@ -152,7 +152,7 @@ pub record IsNextMessage (w : WorldRecord) (before behind : List PlainMessage) (
   pub whole : before ++ m ∷ behind ≡ w.pending
   pub below : m.number < w.next_number
   pub unused : IsUnused m.number before
-  pub few : length before < most_pending
+  pub few : length before < most_messages
   pub light : IsLightMessage m
   pub last : insert_in_order m before ≡ before ++ m ∷ []
 
@@ -163,7 +163,7 @@ message-between counts w before behind m v e =
       whole = e;
       below = fits.2;
       unused = not-used before behind m (rw e v.messages.differ);
-      few = few-before before behind m most_pending (rw e v.messages.few);
+      few = few-before before behind m most_messages (rw e v.messages.few);
       light = IsLightMessage-fits m fits.4 fits.5 fits.6;
       last = inserted-last before behind m (rw e v.messages.order);
     }

@@ -12,7 +12,7 @@ use Rattle.model_value.specs.Payload.{PlainPayload, whole_payload}
 use Rattle.world_plain.specs.Messages.{PlainMessage, PlainOutgoing}
 use Rattle.world_plain.specs.World.{WorldRecord}
 use Rattle.tea_base.specs.Limits.{most_here}
-use Rattle.world_plain.specs.Valid.{most_turns, most_pending}
+use Rattle.world_plain.specs.Valid.{most_turns, most_messages}
 use Rattle.model_lang.specs.Tree.{Name, ClassTree, ProgramTree, root_name}
 use Rattle.model_eval.specs.declared.fault.Fault.{Fault}
 use Rattle.model_eval.specs.declared.fault.Fault.TheVariants as fault
@@ -147,7 +147,7 @@ after_message program m rest s =
 -- No more messages than this are due up to t: at one time at most 1,024 of them can add others to it, and the time rises.
 abbrev pub enough : ℕ → WorldRecord → ℕ
 enough t w =
-    let most = most_pending + 1 in
+    let most = most_messages + 1 in
     (t - w.time) * (most_turns * most + most) + (most_turns - w.turns) * most + now_due w
 
 -- the messages that are due, one after the other, and at most so many; then the time becomes this one

@@ -10,7 +10,7 @@ use Rattle.tea_base.specs.Order.{comes_before}
 use Rattle.model_value.specs.Plain.{PlainValue, InBounds, AllInBounds, is_in_bounds, TextFits, text_weight, most_weight, weight, depth, most_depth}
 use Rattle.world_plain.specs.Messages.{PlainMessage}
 use Rattle.world_plain.specs.World.{ObjectRecord, WorldRecord, world_weight, most_world_weight}
-use Rattle.world_plain.specs.Valid.{RiseFrom, EachBefore, object_at, IsHeld, ObjectFits, NameFits, SubscriptionFits, Precedes, MessageFits, ValidClock, ValidViews, ValidObjects, ValidNames, ValidSubscriptions, ValidMessages, Valid, most_turns, most_objects, most_subscriptions, most_pending, most_parameters}
+use Rattle.world_plain.specs.Valid.{RiseFrom, EachBefore, object_at, IsHeld, ObjectFits, NameFits, SubscriptionFits, Precedes, MessageFits, ValidClock, ValidViews, ValidObjects, ValidNames, ValidSubscriptions, ValidMessages, Valid, most_turns, most_objects, most_subscriptions, most_messages, most_arguments}
 use Rattle.tea_base.specs.Limits.{time_limit, most_here}
 use Rattle.world_plain.specs.ValidTest.{is_rising, each_pair, is_fit_text, holds_object, is_number, is_fit_object, is_fit_name, is_fit_subscription, same_subscription, is_due_before, is_fit_message, is_valid_clock, is_valid_views, is_valid_objects, is_valid_names, is_valid_subscriptions, is_valid_messages, is_valid}
 use Rattle.world_plain.specs.declared.message.Subscription.{Subscription}
@@ -105,11 +105,11 @@ message-Decides time next objects m =
     Decides-like (is_fit_message time next objects m)
     (λ h. (h.0.0.0, h.0.0.1, h.0.0.2, h.0.0.3, h.0.1, h.0.2, h.1))
     (λ h. (((h.0, h.1, h.2, h.3), h.4, h.5), h.6))
-    (Decides-and (nat_le time m.time && nat_lt m.time time_limit && nat_lt m.number next && holds_object objects m.object && is_fit_text m.method && nat_le (length m.args) most_parameters) (list_all is_in_bounds m.args)
-    (three (nat_le time m.time && nat_lt m.time time_limit && nat_lt m.number next && holds_object objects m.object) (is_fit_text m.method) (nat_le (length m.args) most_parameters)
+    (Decides-and (nat_le time m.time && nat_lt m.time time_limit && nat_lt m.number next && holds_object objects m.object && is_fit_text m.method && nat_le (length m.args) most_arguments) (list_all is_in_bounds m.args)
+    (three (nat_le time m.time && nat_lt m.time time_limit && nat_lt m.number next && holds_object objects m.object) (is_fit_text m.method) (nat_le (length m.args) most_arguments)
     (four (nat_le time m.time) (nat_lt m.time time_limit) (nat_lt m.number next) (holds_object objects m.object)
     (Decides-le time m.time) (Decides-ltb m.time time_limit) (Decides-ltb m.number next) (held-Decides objects m.object))
-    (text-Decides m.method) (Decides-le (length m.args) most_parameters))
+    (text-Decides m.method) (Decides-le (length m.args) most_arguments))
     (all_in_bounds-Decides m.args))
 
 -- ---- the parts of a world
@@ -153,11 +153,11 @@ messages-Decides : (w : WorldRecord) → Decides (is_valid_messages w) (ValidMes
 messages-Decides w =
     let other : PlainMessage → PlainMessage → Bool = λ m n. not (nat_eq m.number n.number) in
     Decides-like (is_valid_messages w) (λ h. record { order = h.0; differ = h.1; fit = h.2; few = h.3 }) (λ v. (v.order, v.differ, v.fit, v.few))
-    (four (each_pair is_due_before w.pending) (each_pair other w.pending) (list_all (is_fit_message w.time w.next_number w.objects) w.pending) (nat_le (length w.pending) most_pending)
+    (four (each_pair is_due_before w.pending) (each_pair other w.pending) (list_all (is_fit_message w.time w.next_number w.objects) w.pending) (nat_le (length w.pending) most_messages)
     (Decides-pairs is_due_before Precedes before-Decides w.pending)
     (Decides-pairs other (λ m n. ¬ (m.number ≡ n.number)) (λ m n. Decides-not (nat_eq m.number n.number) (Decides-eqb m.number n.number)) w.pending)
     (Decides-all (is_fit_message w.time w.next_number w.objects) (MessageFits w.time w.next_number w.objects) (message-Decides w.time w.next_number w.objects) w.pending)
-    (Decides-le (length w.pending) most_pending))
+    (Decides-le (length w.pending) most_messages))
 
 pub Valid-Decides : (counts : List ℕ) (w : WorldRecord) → Decides (is_valid counts w) (Valid counts w)
 Valid-Decides counts w =

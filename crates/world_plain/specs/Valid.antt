@@ -19,11 +19,11 @@ abbrev pub most_subscriptions : ℕ
 most_subscriptions = 16384
 
 -- messages to come
-abbrev pub most_pending : ℕ
-most_pending = 16384
+abbrev pub most_messages : ℕ
+most_messages = 16384
 
-abbrev pub most_parameters : ℕ
-most_parameters = 16
+abbrev pub most_arguments : ℕ
+most_arguments = 16
 
 -- numbers that rise, each above the one before, the first above this one
 abbrev pub RiseFrom : ℕ → List ℕ → Type 0
@@ -133,7 +133,7 @@ NumbersDiffer = EachBefore (λ m n. ¬ (m.number ≡ n.number))
 -- a message that is still to come, by the world's time, the number that the next message gets and the objects
 abbrev pub MessageFits : ℕ → ℕ → List ObjectRecord → PlainMessage → Type 0
 MessageFits time next objects m =
-    (time ≤ m.time) × (m.time < time_limit) × (m.number < next) × IsHeld objects m.object × TextFits m.method × (length m.args ≤ most_parameters) × AllInBounds m.args
+    (time ≤ m.time) × (m.time < time_limit) × (m.number < next) × IsHeld objects m.object × TextFits m.method × (length m.args ≤ most_arguments) × AllInBounds m.args
 
 abbrev pub MessagesFit : ℕ → ℕ → List ObjectRecord → List PlainMessage → Type 0
 MessagesFit time next objects = AllByRecursion (MessageFits time next objects)
@@ -142,7 +142,7 @@ pub record ValidMessages (time next : ℕ) (objects : List ObjectRecord) (messag
   pub order : AreInOrder messages
   pub differ : NumbersDiffer messages
   pub fit : MessagesFit time next objects messages
-  pub few : length messages ≤ most_pending
+  pub few : length messages ≤ most_messages
 
 -- ---- worlds
 

@@ -5,7 +5,7 @@ use Rattle.tea_base.specs.Order.{comes_before}
 use Rattle.model_value.specs.Plain.{is_in_bounds, text_weight, most_weight}
 use Rattle.world_plain.specs.Messages.{PlainMessage}
 use Rattle.world_plain.specs.World.{ObjectRecord, WorldRecord, world_weight, most_world_weight}
-use Rattle.world_plain.specs.Valid.{object_at, most_turns, most_objects, most_subscriptions, most_pending, most_parameters}
+use Rattle.world_plain.specs.Valid.{object_at, most_turns, most_objects, most_subscriptions, most_messages, most_arguments}
 use Rattle.tea_base.specs.Limits.{time_limit, most_here}
 use Rattle.world_plain.specs.declared.message.Subscription.{Subscription}
 use Rattle.world_plain.specs.declared.world.Known.{Known}
@@ -57,7 +57,7 @@ is_fit_message time next objects m =
     && nat_lt m.number next
     && holds_object objects m.object
     && is_fit_text m.method
-    && nat_le (length m.args) most_parameters
+    && nat_le (length m.args) most_arguments
     && list_all is_in_bounds m.args
 
 -- ---- the parts of a world
@@ -89,7 +89,7 @@ is_valid_messages w =
     each_pair is_due_before w.pending
     && each_pair (λ m n. not (nat_eq m.number n.number)) w.pending
     && list_all (is_fit_message w.time w.next_number w.objects) w.pending
-    && nat_le (length w.pending) most_pending
+    && nat_le (length w.pending) most_messages
 
 -- by the numbers of fields of the classes of a program
 abbrev pub is_valid : List ℕ → WorldRecord → Bool

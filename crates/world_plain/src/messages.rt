@@ -2,7 +2,7 @@
 ghost use Rattle.std.specs.Prelude.{◌≡◌, ◌≤◌, ◌<◌, ◌↔◌, map, length, slice_get, IsTrue};
 ghost use Rattle.std.specs.Option.{option_map};
 ghost use Rattle.world_plain.specs.Messages.{plain_message};
-ghost use Rattle.world_plain.specs.Valid.{most_pending, Precedes, AreInOrder, NumbersDiffer, MessageFits, MessagesFit};
+ghost use Rattle.world_plain.specs.Valid.{most_messages, Precedes, AreInOrder, NumbersDiffer, MessageFits, MessagesFit};
 ghost use Rattle.world_plain.specs.World.{object_record};
 ghost use Rattle.world_plain.specs.Ids.{HaveRisingIds};
 
@@ -35,7 +35,7 @@ fn precedes(message: &Message, other: &Message) -> bool
 
 /// Whether no two messages have the same number. It sorts their places, and takes no memory.
 pub fn numbers_differ(messages: &[Message]) -> bool
-    requires { length messages.now ≤ most_pending }
+    requires { length messages.now ≤ most_messages }
     ensures { IsTrue result ↔ NumbersDiffer (map plain_message messages.now) }
 {
     let mut all = [0; MOST_MESSAGES];

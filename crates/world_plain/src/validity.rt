@@ -2,7 +2,7 @@
 ghost use Rattle.std.specs.Prelude.{◌≡◌, ◌≤◌, ◌<◌, ◌↔◌, length, map, IsTrue};
 ghost use Rattle.world_plain.specs.ValidTest.{is_valid};
 ghost use Rattle.tea_base.specs.Limits.{time_limit, most_here};
-ghost use Rattle.world_plain.specs.Valid.{most_turns, most_objects, most_subscriptions, most_pending, RiseFrom, ObjectsFit, KnownRise, KnownFit, SubscriptionsFit, AreInOrder, MessagesFit, Valid};
+ghost use Rattle.world_plain.specs.Valid.{most_turns, most_objects, most_subscriptions, most_messages, RiseFrom, ObjectsFit, KnownRise, KnownFit, SubscriptionsFit, AreInOrder, MessagesFit, Valid};
 ghost use Rattle.world_plain.specs.Messages.{plain_message};
 ghost use Rattle.world_plain.specs.World.{object_record, world_record, world_weight, most_world_weight};
 ghost use Rattle.world_plain.specs.Ids.{HaveRisingIds};
@@ -55,7 +55,7 @@ fn has_valid_parts(world: &PlainWorld, counts: &[u32]) -> bool
 /// Whether there are no more views, objects, subscriptions and pending messages than there may be.
 fn has_few_parts(world: &PlainWorld) -> bool
     ensures { let w = world_record world.now in
-        IsTrue result ↔ ((length w.views ≤ most_here) × (length w.objects ≤ most_objects) × (length w.subscriptions ≤ most_subscriptions) × (length w.pending ≤ most_pending)) }
+        IsTrue result ↔ ((length w.views ≤ most_here) × (length w.objects ≤ most_objects) × (length w.subscriptions ≤ most_subscriptions) × (length w.pending ≤ most_messages)) }
 {
     world.views.len() <= MOST_VIEWS
         && world.objects.len() <= MOST_OBJECTS

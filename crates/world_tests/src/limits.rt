@@ -5,7 +5,7 @@ ghost use Rattle.pubsub.specs.Topics.{IsLightSubscription};
 
 use message_queue::{Queue, Steps};
 use object_store::Store;
-use pubsub::Topics;
+use pubsub::{Handlers, Topics};
 use std::alloc::Global;
 use std::marker::Brand;
 use std::sync::ledger::{Blank, Ledger};
@@ -13,15 +13,24 @@ use std::test::Fail;
 use tea_base::{List, Text, WantOfMemory};
 use world_plain::{Message, StoreRefusal, Subscription};
 
+/// A store with the object 7 of the class 1, which has one id left to give.
+fn store_of_7(alloc: Global) -> Result<Store, WantOfMemory> {
+    let mut store = Store::resume(alloc, u32::MAX - 1);
+    store.put_back(7, 1, List::new(alloc))?;
+    Ok(store)
+}
+
+fn gives_the_last_id_once(alloc: Global, store: &mut Store) -> bool {
+    store.create(2, List::new(alloc)) == Ok(u32::MAX - 1)
+        && store.create(3, List::new(alloc)) == Err(StoreRefusal::Spent)
+        && store.class(7) == Some(1)
+        && store.class(u32::MAX - 1) == Some(2)
+}
+
 #[test]
 fn the_last_id_is_given_once(rt: HostRuntime) -> Result<(), Fail> {
-    let alloc = rt.alloc();
-    let mut store = Store::resume(alloc, u32::MAX - 1);
-    assert_eq!(rt; store.put_back(7, 1, List::new(alloc)), Ok(()));
-    assert_eq!(rt; store.create(2, List::new(alloc)), Ok(u32::MAX - 1));
-    assert_eq!(rt; store.create(3, List::new(alloc)), Err(StoreRefusal::Spent));
-    assert_eq!(rt; store.class(7), Some(1));
-    assert_eq!(rt; store.class(u32::MAX - 1), Some(2));
+    let mut store = store_of_7(rt.alloc())?;
+    assert!(rt; gives_the_last_id_once(rt.alloc(), &mut store));
     Ok(())
 }
 
@@ -67,53 +76,81 @@ fn take_counted<L: Ledger>(queue: &mut Queue, steps: &mut Steps<L>) -> Option<Me
     queue.take_least(steps)
 }
 
-#[test]
-fn the_last_number_is_given_once(rt: HostRuntime) -> Result<(), Fail> {
-    let alloc = rt.alloc();
+/// Adds a call of the method `a` of an object, and gives its number.
+fn push_call(
+    alloc: Global,
+    queue: &mut Queue,
+    time: u64,
+    object: u32,
+) -> Result<u64, StoreRefusal> {
+    queue.push(time, object, name(alloc, "a")?, List::new(alloc))
+}
+
+/// A queue with the message of the number 7, which has one number left to give.
+fn queue_of_7(alloc: Global) -> Result<Queue, WantOfMemory> {
     let mut queue = Queue::resume(alloc, u64::MAX - 1);
-    let held = Message {
+    queue.put_back(Message {
         time: 3,
         number: 7,
         object: 1,
         method: name(alloc, "a")?,
         args: List::new(alloc),
-    };
-    assert_eq!(rt; queue.put_back(held), Ok(()));
-    let last = queue.push(2, 1, name(alloc, "a")?, List::new(alloc));
-    assert_eq!(rt; last, Ok(u64::MAX - 1));
-    let none = queue.push(1, 1, name(alloc, "a")?, List::new(alloc));
-    assert_eq!(rt; none, Err(StoreRefusal::Spent));
-    assert_eq!(rt; least(&queue), Some((2, u64::MAX - 1)));
-    Ok(())
+    })?;
+    Ok(queue)
+}
+
+fn gives_the_last_number_once(alloc: Global, queue: &mut Queue) -> bool {
+    push_call(alloc, queue, 2, 1) == Ok(u64::MAX - 1)
+        && push_call(alloc, queue, 1, 1) == Err(StoreRefusal::Spent)
+        && least(queue) == Some((2, u64::MAX - 1))
 }
 
 #[test]
-fn a_full_queue_is_emptied_in_order(rt: HostRuntime) -> Result<(), Fail> {
-    let alloc = rt.alloc();
-    let mut queue = Queue::new(alloc);
+fn the_last_number_is_given_once(rt: HostRuntime) -> Result<(), Fail> {
+    let mut queue = queue_of_7(rt.alloc())?;
+    assert!(rt; gives_the_last_number_once(rt.alloc(), &mut queue));
+    Ok(())
+}
+
+/// Whether the numbers from 0 to 16,383 are given. Four calls are due at each time, the last ones first, to the objects 1
+/// and 2 in turn.
+fn takes_16384_calls(alloc: Global, queue: &mut Queue) -> bool {
     for i in 0..16_384u64 {
         let object = 1 + u32::from(i % 2 == 1);
-        let pushed = queue.push(
-            (16_383 - i) / 4,
-            object,
-            name(alloc, "a")?,
-            List::new(alloc),
-        );
-        assert_eq!(rt; pushed, Ok(i));
+        if push_call(alloc, queue, (16_383 - i) / 4, object) != Ok(i) {
+            return false;
+        }
     }
-    assert_eq!(rt; take(&mut queue), Some((0, 16_380)));
-    let last = queue.push(5, 1, name(alloc, "a")?, List::new(alloc));
-    assert_eq!(rt; last, Ok(16_384));
-    assert_eq!(rt; queue.drop_object(2), 8192);
+    true
+}
+
+/// Takes out 8,192 messages and gives the last one's time and number, if each was due behind the one before it.
+fn last_of_8192_in_order(queue: &mut Queue) -> Option<(u64, u64)> {
     let mut before = None;
     for _ in 0..8192 {
-        let next = take(&mut queue);
-        assert!(rt; before < next);
+        let next = take(queue);
+        if before >= next {
+            return None;
+        }
         before = next;
     }
-    assert_eq!(rt; before, Some((4095, 2)));
-    assert!(rt; queue.is_empty());
-    Ok(())
+    before
+}
+
+/// Whether a full queue gives the first message, takes another, drops those to the object 2, and gives the rest in order.
+fn is_emptied_in_order(alloc: Global, queue: &mut Queue) -> bool {
+    take(queue) == Some((0, 16_380))
+        && push_call(alloc, queue, 5, 1) == Ok(16_384)
+        && queue.drop_object(2) == 8192
+        && last_of_8192_in_order(queue) == Some((4095, 2))
+        && least(queue).is_none()
+}
+
+#[test]
+fn a_full_queue_is_emptied_in_order(rt: HostRuntime) {
+    let mut queue = Queue::new(rt.alloc());
+    assert!(rt; takes_16384_calls(rt.alloc(), &mut queue));
+    assert!(rt; is_emptied_in_order(rt.alloc(), &mut queue));
 }
 
 fn subscription(alloc: Global, object: u32) -> Result<Subscription, WantOfMemory>
@@ -127,16 +164,39 @@ fn subscription(alloc: Global, object: u32) -> Result<Subscription, WantOfMemory
     })
 }
 
+/// Adds the subscription of an object, and tells whether it is new.
+fn subscribe(alloc: Global, topics: &mut Topics, object: u32) -> Result<bool, StoreRefusal> {
+    topics.subscribe(subscription(alloc, object)?)
+}
+
+fn takes_each_subscription_once(alloc: Global, topics: &mut Topics) -> bool {
+    subscribe(alloc, topics, 7) == Ok(true)
+        && subscribe(alloc, topics, 3) == Ok(true)
+        && subscribe(alloc, topics, 7) == Ok(false)
+}
+
+/// What handles the event of those subscriptions.
+fn handlers(alloc: Global, topics: &Topics) -> Result<Handlers, WantOfMemory> {
+    topics.handlers(&Text::copy(alloc, "room")?, &Text::copy(alloc, "tick")?)
+}
+
+fn are_of_7_and_3(found: &Handlers) -> bool {
+    found.len() == 2
+        && matches!(found.get(0), Some(handler) if handler.object == 7)
+        && matches!(found.get(1), Some(handler) if handler.object == 3)
+}
+
+/// Whether the object 7 and then the object 3 handle the event.
+fn tells_7_and_3(alloc: Global, topics: &Topics) -> bool {
+    matches!(&handlers(alloc, topics), Ok(found) if are_of_7_and_3(found))
+}
+
+fn keeps_the_order(alloc: Global, topics: &mut Topics) -> bool {
+    takes_each_subscription_once(alloc, topics) && tells_7_and_3(alloc, topics)
+}
+
 #[test]
-fn handlers_stand_in_the_order_of_their_subscriptions(rt: HostRuntime) -> Result<(), Fail> {
-    let alloc = rt.alloc();
-    let mut topics = Topics::new(alloc);
-    assert_eq!(rt; topics.subscribe(subscription(alloc, 7)?), Ok(true));
-    assert_eq!(rt; topics.subscribe(subscription(alloc, 3)?), Ok(true));
-    assert_eq!(rt; topics.subscribe(subscription(alloc, 7)?), Ok(false));
-    let found = topics.handlers(&Text::copy(alloc, "room")?, &Text::copy(alloc, "tick")?)?;
-    assert_eq!(rt; found.len(), 2);
-    assert!(rt; matches!(found.get(0), Some(handler) if handler.object == 7));
-    assert!(rt; matches!(found.get(1), Some(handler) if handler.object == 3));
-    Ok(())
+fn handlers_stand_in_the_order_of_their_subscriptions(rt: HostRuntime) {
+    let mut topics = Topics::new(rt.alloc());
+    assert!(rt; keeps_the_order(rt.alloc(), &mut topics));
 }

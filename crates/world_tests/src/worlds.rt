@@ -9,12 +9,13 @@ use std::sync::Arc;
 use std::test::Fail;
 use tea_base::{Blob, Entry, SessionId, What};
 use world::{World, WorldFault};
-use world_plain::Published;
+use world_plain::{Outgoing, PlainWorld};
 
 /// The first world of a program.
-fn first(alloc: Global, text: &str) -> Result<World, Fail> {
+fn first_world(alloc: Global, text: &str) -> Result<World, Fail> {
     let checked = check(alloc, parse(alloc, text.as_bytes())?)?;
-    Ok(World::first(alloc, Arc::new(alloc, checked)?, SessionId([7; 32]))?)
+    let program = Arc::new(alloc, checked)?;
+    Ok(World::first(alloc, program, SessionId([7; 32]))?)
 }
 
 /// A program that counts each second and begins again at the event `reset`. It publishes each count.
@@ -34,36 +35,51 @@ fn reset(alloc: Global) -> Result<Entry, Fail>
     })
 }
 
-/// Each published number, with its time, its scope and its event.
-fn published_text(alloc: Global, published: &Published) -> Result<String, Fail> {
-    let mut text = String::new(alloc);
-    for one in published.as_slice() {
-        let Value::Int(count) = one.value else {
-            return Err("not a number")?;
-        };
-        let (scope, event) = (one.scope.as_str(), one.event.as_str());
-        text.push_str(format!(in alloc; "{} {scope} {event} {count}; ", one.time)?.as_str())?;
-    }
-    Ok(text)
+/// The event comes, and the world goes on to three seconds.
+fn go_to_3_seconds(alloc: Global, world: &mut World) -> Result<(), Fail> {
+    world.external(&reset(alloc)?)?;
+    Ok(world.advance(3_000_000)?)
+}
+
+/// When the program publishes until then, and which counts.
+const COUNTS: &[(u64, i64)] = &[
+    (1_000_000, 1),
+    (2_000_000, 2),
+    (2_500_000, 0),
+    (3_000_000, 1),
+];
+
+/// Whether this was published at that time: the event `changed` of the scope `counter`, with that count.
+fn is_count(one: &Outgoing, expected: (u64, i64)) -> bool {
+    one.time == expected.0
+        && one.scope.as_str() == "counter"
+        && one.event.as_str() == "changed"
+        && matches!(one.value, Value::Int(count) if count == expected.1)
+}
+
+fn are_the_counts(published: &[Outgoing]) -> bool {
+    published.len() == COUNTS.len()
+        && published
+            .iter()
+            .zip(COUNTS)
+            .all(|(one, expected)| is_count(one, *expected))
+}
+
+/// Whether the counts were published, and are taken only once.
+fn gives_the_counts_once(world: &mut World) -> bool {
+    are_the_counts(world.take_out().as_slice()) && world.take_out().is_empty()
 }
 
 #[test]
 fn what_models_publish_is_taken_once(rt: HostRuntime) -> Result<(), Fail> {
-    let alloc = rt.alloc();
-    let mut world = first(alloc, COUNTER)?;
-    world.external(&reset(alloc)?)?;
-    world.advance(3_000_000)?;
-    assert_eq!(rt;
-        published_text(alloc, &world.take_out())?.as_str(),
-        "1000000 counter changed 1; 2000000 counter changed 2; 2500000 counter changed 0; 3000000 counter changed 1; "
-    );
-    assert!(rt; world.take_out().is_empty());
+    let mut world = first_world(rt.alloc(), COUNTER)?;
+    go_to_3_seconds(rt.alloc(), &mut world)?;
+    assert!(rt; gives_the_counts_once(&mut world));
     Ok(())
 }
 
-/// A world to which the views 1, 2, 3 and so on come, one at a time, each at its number.
-fn crowded(alloc: Global, most: u32) -> Result<World, Fail> {
-    let mut world = first(alloc, "class Root{}")?;
+/// The views 1, 2, 3 and so on come, one at a time, each at its number.
+fn join_views(world: &mut World, most: u32) -> Result<(), WorldFault> {
     for view in 1..=most {
         world.external(&Entry {
             seq: view,
@@ -72,29 +88,51 @@ fn crowded(alloc: Global, most: u32) -> Result<World, Fail> {
             what: What::Join,
         })?;
     }
-    Ok(world)
+    Ok(())
+}
+
+/// Whether 1,024 views are in a plain world, and two faults were counted.
+fn is_crowded(plain: &PlainWorld) -> bool {
+    plain.views.len() == 1024 && plain.faults[12] == 2
+}
+
+/// Whether that is so of a world when 1,026 views came.
+fn holds_1024_views(world: &mut World) -> bool {
+    join_views(world, 1026).is_ok() && is_left_crowded(world)
+}
+
+fn is_left_crowded(world: &World) -> bool {
+    matches!(&world.to_plain(), Ok(plain) if is_crowded(plain))
 }
 
 #[test]
 fn at_most_1024_views_are_in_a_world(rt: HostRuntime) -> Result<(), Fail> {
-    let world = crowded(rt.alloc(), 1026)?;
-    let plain = world.to_plain()?;
-    assert_eq!(rt; plain.views.len(), 1024);
-    assert_eq!(rt; plain.faults[12], 2);
+    let mut world = first_world(rt.alloc(), "class Root{}")?;
+    assert!(rt; holds_1024_views(&mut world));
     Ok(())
 }
 
-#[test]
-fn time_does_not_go_back(rt: HostRuntime) -> Result<(), Fail> {
-    let mut world = crowded(rt.alloc(), 2)?;
-    let again = Entry {
+/// The view 1 leaves at the time 2.
+fn exit_at_2(world: &mut World) -> Result<(), WorldFault> {
+    world.external(&Entry {
         seq: 3,
         time: 2,
         view: 1,
         what: What::Exit,
-    };
-    assert_eq!(rt; world.external(&again), Err(WorldFault::Back { time: 2 }));
-    assert_eq!(rt; world.advance(1), Err(WorldFault::Back { time: 2 }));
-    assert_eq!(rt; world.advance(2), Ok(()));
+    })
+}
+
+/// Whether a world stays at the time 2, when two views came.
+fn does_not_go_back(world: &mut World) -> bool {
+    join_views(world, 2) == Ok(())
+        && exit_at_2(world) == Err(WorldFault::Back { time: 2 })
+        && world.advance(1) == Err(WorldFault::Back { time: 2 })
+        && world.advance(2) == Ok(())
+}
+
+#[test]
+fn time_does_not_go_back(rt: HostRuntime) -> Result<(), Fail> {
+    let mut world = first_world(rt.alloc(), "class Root{}")?;
+    assert!(rt; does_not_go_back(&mut world));
     Ok(())
 }

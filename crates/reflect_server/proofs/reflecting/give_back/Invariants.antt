@@ -1,5 +1,5 @@
 use Rattle.std.proofs.Common.{◌≡◌, ◌+◌, ◌≤◌, ◌++◌, vec_len, vec_capacity}
-use Rattle.tea_io.specs.Told.{grown}
+use Rattle.tea_io.specs.Told.{with_more}
 use Rattle.reflect_server.specs.Rounds.{ended_of, links_of, with_links}
 use Rattle.reflect_server.proofs.reflecting.give_back.Given as goal
 
@@ -8,7 +8,7 @@ invariant-loop-link g l = record {
   within : vec_len l.served ≤ g.N.Net.lent l.net;
   room : vec_len l.ends + vec_len l.served ≤ vec_capacity l.ends;
   ends : l.ends.items ++ ended_of l.served.items ≡ l.fn.ends.items ++ ended_of l.fn.served.items;
-  over : grown (g.N.Net.over l.net) (links_of l.served.items) ≡ grown (g.N.Net.over l.initial.net) (links_of l.fn.served.items);
+  over : with_more (g.N.Net.over l.net) (links_of l.served.items) ≡ with_more (g.N.Net.over l.initial.net) (links_of l.fn.served.items);
   counts :
       with_links g.N.Conn.Link.counts (g.N.Net.link_counts l.net) (links_of l.served.items)
       ≡ with_links g.N.Conn.Link.counts (g.N.Net.link_counts l.initial.net) (links_of l.fn.served.items);

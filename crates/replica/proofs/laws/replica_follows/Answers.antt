@@ -1,7 +1,7 @@
 use Rattle.std.proofs.Common.{refl}
 use Rattle.model_lang.specs.TreeView.{program_tree}
 use Rattle.replica_plain.specs.Calls.{loses}
-use Rattle.replica_plain.specs.PlainReplica.{founded}
+use Rattle.replica_plain.specs.PlainReplica.{new_replica}
 use Rattle.replica_plain.proofs.SyncSteps.{first_world_follows, served_is_taken}
 use Rattle.replica.specs.RealWorlds.{worlds}
 use Rattle.replica.specs.View.{worlds_of}
@@ -11,7 +11,7 @@ pub returns : goal.returns
 returns c = record {
   founded = λ program id view log p legal.
       let m = worlds (program_tree program) id in
-      first_world_follows m log (founded m view) (c.worlds_stand.ensures (program_tree program) id p) legal refl refl refl;
+      first_world_follows m log (new_replica m view) (c.worlds_stand.ensures (program_tree program) id p) legal refl refl refl;
   lost = λ r log p legal. first_world_follows (worlds_of r) log (loses (worlds_of r) r.plain) (c.worlds_stand.ensures (program_tree r.program) r.id p) legal refl refl refl;
   follows = λ r log how given joined last from base calls rest p legal served.
       (served_is_taken (worlds_of r) log r.plain how given joined last from base calls rest (c.worlds_stand.ensures (program_tree r.program) r.id p) legal served).0;

@@ -1,7 +1,7 @@
 use Rattle.std.proofs.Common.{◌≡◌, ◌==◌, false, refl, sym, arith}
 use Rattle.std.proofs.lemmas.Bool.Decides.{nat_tests}
 use Rattle.tea_io.specs.Links.{most_quiets}
-use Rattle.view_shell.specs.Phases.{Over, heard_quiet, took}
+use Rattle.view_shell.specs.Phases.{Over, heard_quiet, after_frame}
 use Rattle.view_shell.specs.declared.ending.ViewEnd.TheVariants as ending
 use Rattle.view_shell.specs.Viewers.{viewer}
 use Rattle.view_shell.proofs.Going.{reaches_end}
@@ -10,7 +10,7 @@ use Rattle.view_shell.proofs.hearing.hear.Goals as goal
 
 pub returns-in-Ok-clause-talk : goal.returns-in-Ok-clause-talk
 returns-in-Ok-clause-talk g c address lines aim =
-    hears_frame _ (viewer address c.args.watcher.now lines) aim c.args.link.now c.recv.new.self c.in-Frame.bytes (took (viewer address c.take.new.watcher lines) aim c.in-Ok.frame)
+    hears_frame _ (viewer address c.args.watcher.now lines) aim c.args.link.now c.recv.new.self c.in-Frame.bytes (after_frame (viewer address c.take.new.watcher lines) aim c.in-Ok.frame)
     (record { is_said = tt; heard = c.in-Frame.ensures.heard; coming = c.in-Frame.ensures.coming; sent = c.in-Frame.ensures.sent; later = c.in-Frame.ensures.later; cause = c.in-Frame.ensures.cause })
     (sym (c.in-Ok.ensures.taken address lines aim))
 

@@ -8,7 +8,7 @@ use Rattle.view_bridge.specs.Topics.{subscribes}
 use Rattle.view_script.specs.PlainLine.{plain_line}
 use Rattle.view_script.specs.declared.line.ViewLine.{ViewLine}
 use Rattle.view_shell.specs.declared.ending.ViewEnd.TheVariants as ending
-use Rattle.view_shell.specs.Phases.{Viewer, Over, Receives, Sending, Tells, ToReach, ToSettle, ToSnap, finish, given, leave_session, published, receive, run, send_all}
+use Rattle.view_shell.specs.Phases.{Viewer, Over, Receives, Sending, Tells, ToReach, ToSettle, ToSnap, finish, after_giving, leave_session, after_publish, receive, run, send_all}
 use Rattle.view_shell.specs.Viewers.{viewer}
 use Rattle.view_shell.proofs.Flowing.{done_behind, done_printing, flow_from}
 use Rattle.view_shell.proofs.Going.{all_acts_behind, goes_from, goes_in_window, stops_from, stops_in_window, wants}
@@ -23,10 +23,10 @@ returns-in-Ok-clause-talk g c address lines =
     let first = run (viewer address old (plain_line c.args.line.now ∷ lines)) (plain_line c.args.line.now ∷ lines) in
     let u = viewer address c.publish.new.watcher lines in
     let payload = payload_spelling (record { scope = c.in-Publish.scope; event = c.in-Publish.event; value = plain c.in-Publish.value }) in
-    let same : published (viewer address old lines) payload ≡ u = viewer_published address lines old c.publish.new.watcher payload c.publish.ensures.kept c.in-Ok.ensures.publishes in
-    flow_from (Acts (window_tells out links)) first (send_all (given u) (unsent u.replica) (Tells [])) (viewer address c.send_and_tell.new.watcher lines) lines (window c.args.out.now c.args.link.now) (window c.send_and_tell.new.out c.send_and_tell.new.link)
+    let same : after_publish (viewer address old lines) payload ≡ u = viewer_published address lines old c.publish.new.watcher payload c.publish.ensures.kept c.in-Ok.ensures.publishes in
+    flow_from (Acts (window_tells out links)) first (send_all (after_giving u) (unsent u.replica) (Tells [])) (viewer address c.send_and_tell.new.watcher lines) lines (window c.args.out.now c.args.link.now) (window c.send_and_tell.new.out c.send_and_tell.new.link)
     c.send_and_tell.result c.flow_of.result c.flow_of.ensures
-    (ap (λ (l : ViewLine). run (viewer address old (plain_line l ∷ lines)) (plain_line l ∷ lines)) c.in-Publish.is ∙ ap (λ (v : Viewer). send_all (given v) (unsent v.replica) (Tells [])) same)
+    (ap (λ (l : ViewLine). run (viewer address old (plain_line l ∷ lines)) (plain_line l ∷ lines)) c.in-Publish.is ∙ ap (λ (v : Viewer). send_all (after_giving v) (unsent v.replica) (Tells [])) same)
     (c.send_and_tell.ensures.talk address lines)
 
 pub returns-in-Err-clause-talk : goal.returns-in-Err-clause-talk
@@ -66,7 +66,7 @@ returns-in-Ok-send_unsent-clause-talk g c address lines =
     let links = links_tell g.L.Link.coming g.L.Link.heard g.L.Link.sent g.L.Link.counts in
     let old = c.args.watcher.now in
     let first = run (viewer address old (plain_line c.args.line.now ∷ lines)) (plain_line c.args.line.now ∷ lines) in
-    let from = send_all (given (viewer address old lines)) (unsent old.replica.plain) (Receives ToSettle) in
+    let from = send_all (after_giving (viewer address old lines)) (unsent old.replica.plain) (Receives ToSettle) in
     let mid = receive (viewer address c.send_unsent.new.watcher lines) ToSettle in
     flow_from (Acts (window_tells out links)) first from (viewer address c.await_settled.new.watcher lines) lines (window c.args.out.now c.args.link.now) (window c.await_settled.new.out c.await_settled.new.link)
     c.await_settled.result c.flow_of-in-Ok-send_unsent.result c.flow_of-in-Ok-send_unsent.ensures (ap (λ (l : ViewLine). run (viewer address old (plain_line l ∷ lines)) (plain_line l ∷ lines)) c.in-Settle.is)
@@ -81,7 +81,7 @@ returns-in-Err-send_unsent-clause-talk g c address lines =
     let links = links_tell g.L.Link.coming g.L.Link.heard g.L.Link.sent g.L.Link.counts in
     let old = c.args.watcher.now in
     let first = run (viewer address old (plain_line c.args.line.now ∷ lines)) (plain_line c.args.line.now ∷ lines) in
-    let from = send_all (given (viewer address old lines)) (unsent old.replica.plain) (Receives ToSettle) in
+    let from = send_all (after_giving (viewer address old lines)) (unsent old.replica.plain) (Receives ToSettle) in
     stops_from (Acts (window_tells out links)) first from c.in-Err-send_unsent.end (window c.args.out.now c.args.link.now) (window c.args.out.now c.send_unsent.new.link) (ap (λ (l : ViewLine). run (viewer address old (plain_line l ∷ lines)) (plain_line l ∷ lines)) c.in-Settle.is)
     (stops_in_window out links c.args.out.now from c.in-Err-send_unsent.end c.args.link.now c.send_unsent.new.link (c.in-Err-send_unsent.ensures.talk address lines (Receives ToSettle)))
 

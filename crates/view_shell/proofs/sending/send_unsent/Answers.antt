@@ -3,7 +3,7 @@ use Rattle.replica.specs.View.{ReplicaView}
 use Rattle.replica_plain.specs.Calls.{unsent}
 use Rattle.wire_frames.specs.declared.frame.ClientFrame.{ClientFrame}
 use Rattle.view_shell.specs.declared.watcher.Watcher.{Watcher}
-use Rattle.view_shell.specs.Phases.{Viewer, given, send_all}
+use Rattle.view_shell.specs.Phases.{Viewer, after_giving, send_all}
 use Rattle.view_shell.specs.Viewers.{viewer}
 use Rattle.view_shell.proofs.Going.{goes_from, goes_to, link_wants}
 use Rattle.view_shell.proofs.sending.send_unsent.Goals as goal
@@ -15,7 +15,7 @@ pub returns-in-Ok-send_all-clause-talk : goal.returns-in-Ok-send_all-clause-talk
 returns-in-Ok-send_all-clause-talk g c address lines task =
     let old = c.args.watcher.now in
     let new = c.send_all.new.watcher in
-    let v = given (viewer address old lines) in
+    let v = after_giving (viewer address old lines) in
     let frames : unsent old.replica.plain ≡ c.as_slice.result.now = sym (c.as_slice.ensures ∙ c.in-Ok.ensures.frames) in
     let same : record v { receives = new.receives } ≡ viewer address new lines =
     sym (ap (λ (w : Watcher). viewer address w lines) c.send_all.ensures.kept ∙ ap (λ (r : ReplicaView). viewer address (record old { replica = r; receives = new.receives }) lines) c.in-Ok.ensures.ok) in

@@ -1,6 +1,6 @@
 use Rattle.std.proofs.Common.{◌≡◌, ◌+◌, ◌<◌, length, refl, sym, ap, ◌∙◌, arith, rules}
 use Rattle.model_value.specs.View.{plain_values}
-use Rattle.world_plain.specs.Valid.{IsUnused, most_pending}
+use Rattle.world_plain.specs.Valid.{IsUnused, most_messages}
 use Rattle.world_plain.specs.declared.message.Message.{Message}
 use Rattle.message_queue.specs.Queue.{QueueRecord, last_message_number, queue_after_push}
 use Rattle.message_queue.specs.View.{in_order, messages_seen, queue_seen}
@@ -10,20 +10,20 @@ use Rattle.message_queue.proofs.queue.Queue.push.Goals as goal
 
 pub returns-then-len-eq-MOST_MESSAGES : goal.returns-then-len-eq-MOST_MESSAGES
 returns-then-len-eq-MOST_MESSAGES c =
-    let full : length c.args.self.now.messages ≡ most_pending = omega (arith, c.if-len-eq-MOST_MESSAGES.true, c.len.ensures, length-seen c.self.inside.messages.items, ap (λ (q : QueueRecord). length q.messages) c.self.view_is) in
+    let full : length c.args.self.now.messages ≡ most_messages = omega (arith, c.if-len-eq-MOST_MESSAGES.true, c.len.ensures, length-seen c.self.inside.messages.items, ap (λ (q : QueueRecord). length q.messages) c.self.view_is) in
     (full, sym full, refl)
 
 pub returns-then-self : goal.returns-then-self
 returns-then-self c =
     let ms = c.self.inside.messages.items in
-    let few : length c.args.self.now.messages < most_pending = omega (arith, c.if-len-eq-MOST_MESSAGES.false, c.len.ensures, few_held ms c.self.inside.next c.self.inside.weight c.self.invariant, length-seen ms, ap (λ (q : QueueRecord). length q.messages) c.self.view_is) in
+    let few : length c.args.self.now.messages < most_messages = omega (arith, c.if-len-eq-MOST_MESSAGES.false, c.len.ensures, few_held ms c.self.inside.next c.self.inside.weight c.self.invariant, length-seen ms, ap (λ (q : QueueRecord). length q.messages) c.self.view_is) in
     let spent : c.args.self.now.next ≡ last_message_number = omega (arith, c.if-self.true, ap (λ (q : QueueRecord). q.next) c.self.view_is) in
     (few, spent, refl)
 
 pub returns-in_err-insert : goal.returns-in_err-insert
 returns-in_err-insert c =
     let ms = c.self.inside.messages.items in
-    let few : length c.args.self.now.messages < most_pending = omega (arith, c.if-len-eq-MOST_MESSAGES.false, c.len.ensures, few_held ms c.self.inside.next c.self.inside.weight c.self.invariant, length-seen ms, ap (λ (q : QueueRecord). length q.messages) c.self.view_is) in
+    let few : length c.args.self.now.messages < most_messages = omega (arith, c.if-len-eq-MOST_MESSAGES.false, c.len.ensures, few_held ms c.self.inside.next c.self.inside.weight c.self.invariant, length-seen ms, ap (λ (q : QueueRecord). length q.messages) c.self.view_is) in
     let unspent : c.args.self.now.next < last_message_number = omega (arith, c.if-self.false, c.self.ranges, ap (λ (q : QueueRecord). q.next) c.self.view_is) in
     let same : queue_seen c.insert.new.messages.items c.self.inside.next ≡ c.args.self.now = ap (λ l. queue_seen l c.self.inside.next) c.in_err-insert.ensures.err ∙ c.self.view_is in
     search rules
@@ -37,7 +37,7 @@ invariant_of-self-2 c =
     let ms = c.self.inside.messages.items in
     let next = c.self.inside.next in
     let m : Message = record { time = c.args.time; number = next; object = c.args.object; method = c.args.method; args = c.args.args } in
-    let few : length ms < most_pending = omega (arith, c.if-len-eq-MOST_MESSAGES.false, c.len.ensures, few_held ms next c.self.inside.weight c.self.invariant) in
+    let few : length ms < most_messages = omega (arith, c.if-len-eq-MOST_MESSAGES.false, c.len.ensures, few_held ms next c.self.inside.weight c.self.invariant) in
     let unused : IsUnused next (in_order (messages_seen ms)) = next-unused next (in_order (messages_seen ms)) c.self.invariant.queue.next in
     held_with_one ms c.insert.new.messages.items m next (next + 1) c.self.inside.weight c.message_weight_of-weight.result c.self.invariant c.in_ok-insert.ensures.held c.in_ok-insert.ensures.heap unused (omega arith) (omega arith) few c.requires c.message_weight_of-weight.ensures
 
@@ -46,7 +46,7 @@ returns c =
     let ms = c.self.inside.messages.items in
     let next = c.self.inside.next in
     let m : Message = record { time = c.args.time; number = next; object = c.args.object; method = c.args.method; args = c.args.args } in
-    let few : length c.args.self.now.messages < most_pending = omega (arith, c.if-len-eq-MOST_MESSAGES.false, c.len.ensures, few_held ms next c.self.inside.weight c.self.invariant, length-seen ms, ap (λ (q : QueueRecord). length q.messages) c.self.view_is) in
+    let few : length c.args.self.now.messages < most_messages = omega (arith, c.if-len-eq-MOST_MESSAGES.false, c.len.ensures, few_held ms next c.self.inside.weight c.self.invariant, length-seen ms, ap (λ (q : QueueRecord). length q.messages) c.self.view_is) in
     let unspent : c.args.self.now.next < last_message_number = omega (arith, c.if-self.false, c.self.ranges, ap (λ (q : QueueRecord). q.next) c.self.view_is) in
     let unused : IsUnused next (in_order (messages_seen ms)) = next-unused next (in_order (messages_seen ms)) c.self.invariant.queue.next in (
       (few, unspent),

@@ -1,6 +1,6 @@
 use Rattle.std.proofs.Common.{◌∙◌, ap, subst, sym}
 use Rattle.std.specs.List.{AllByRecursion}
-use Rattle.replica.specs.View.{IsTimely}
+use Rattle.replica_plain.specs.Taking.{IsTimely}
 use Rattle.join_sync.specs.Batches.{most_pulled, next_frames}
 use Rattle.system_core.proofs.TimelyFrames.{pulled_timely}
 use Rattle.system_core.proofs.connection.Connection.send.Goals as goal

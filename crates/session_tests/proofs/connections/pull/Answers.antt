@@ -1,7 +1,7 @@
 use Rattle.std.proofs.Common.{◌≤◌, length, arith}
 use Rattle.std.proofs.lemmas.Bool.Decides.{nat_tests}
 use Rattle.join_sync.proofs.Pulls.{told_batch}
-use Rattle.session_tests.proofs.connections.pulled.Goals as goal
+use Rattle.session_tests.proofs.connections.pull.Goals as goal
 
 pub next-requires : goal.next-requires
 next-requires c =
