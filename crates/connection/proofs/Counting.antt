@@ -26,7 +26,7 @@ use Rattle.system_plain.specs.Steps.{answer_frames, joined_view}
 use Rattle.connection.specs.declared.ending.Ended.{Ended}
 use Rattle.connection.specs.declared.ending.Ended.TheVariants as ended
 use Rattle.connection.specs.Causes.{IsCauseCounted, RoseBy}
-use Rattle.connection.specs.Phases.{TalkPhase, Opening, Reading, Joining, Ticking, Pulling, Hearing, Taking, Asking, Sending, Leaving, Over, Wrong, TalkEvent, Hears, Reads, Makes, MakesAt, Misses, Sends, Loses, Fails, Wants, acted_phase, ending_phase, entered_phase, greeted_phase, opened_phase, read_phase, refused_phase, reply_phase, sending_phase, talk_step, talk_walk, telling_phase}
+use Rattle.connection.specs.Phases.{TalkPhase, Opening, Beginning, Joining, Ticking, Pulling, Hearing, Taking, Asking, Sending, Leaving, Over, Wrong, TalkEvent, Hears, Reads, MakesRequest, MakesAt, Misses, Sends, Loses, FailsToSend, Wants, acted_phase, ending_phase, entered_phase, greeted_phase, opened_phase, read_phase, refused_phase, reply_phase, sending_phase, talk_step, talk_walk, telling_phase}
 use Rattle.connection.specs.Talk.{Account, EventCounts, EventsCount, TalksOn}
 
 pub none_falls : (a : Counts) → NoneFalls a a
@@ -71,7 +71,7 @@ CountsTo start now other = Unit {0}
 
 counts_on : (start a b : Counts) (p : TalkPhase) → NoneFalls a b → CountsTo start a p → CountsTo start b p
 counts_on start a b (Opening quiets) f h = let le = f.quiets in omega (arith, le, h)
-counts_on start a b (Reading bytes) f h = tt
+counts_on start a b (Beginning bytes) f h = tt
 counts_on start a b (Joining asked) f h = tt
 counts_on start a b (Ticking cursor quiets) f h = let le = f.quiets in omega (arith, le, h)
 counts_on start a b (Pulling cursor quiets) f h = let le = f.quiets in omega (arith, le, h)
@@ -156,13 +156,13 @@ step_counts id (Opening quiets) (Hears heard.Quiet) start a b f h e = opening_qu
 step_counts id (Opening quiets) (Hears heard.End) start a b f h e = ends_from start a b f e.1
 step_counts id (Opening quiets) (Hears heard.Failed) start a b f h e = rose_from start a b f e.1
 step_counts id (Opening quiets) (Hears heard.WantOfMemory) start a b f h e = tt
-step_counts id (Reading bytes) (Reads now) start a b f h e = opened_counts start b id (whole client_at bytes) now
-step_counts id (Reading bytes) Wants start a b f h e = tt
-step_counts id (Joining asked) (Makes given) start a b f h e = greeted_counts start b (first_cursor (joined_view asked) given) (join_answer given) (falls_on start a b f e)
+step_counts id (Beginning bytes) (Reads now) start a b f h e = opened_counts start b id (whole client_at bytes) now
+step_counts id (Beginning bytes) Wants start a b f h e = tt
+step_counts id (Joining asked) (MakesRequest given) start a b f h e = greeted_counts start b (first_cursor (joined_view asked) given) (join_answer given) (falls_on start a b f e)
 step_counts id (Joining asked) Misses start a b f h e = tt
 step_counts id (Ticking cursor quiets) (MakesAt now given) start a b f h e = counts_on start a b (Pulling cursor quiets) e h
 step_counts id (Ticking cursor quiets) Misses start a b f h e = tt
-step_counts id (Pulling cursor quiets) (Makes given) start a b f h e =
+step_counts id (Pulling cursor quiets) (MakesRequest given) start a b f h e =
     telling_counts start b cursor (next_frames cursor given) (Hearing (next_cursor cursor given) quiets) (counts_on start a b (Hearing (next_cursor cursor given) quiets) e h)
 step_counts id (Pulling cursor quiets) Misses start a b f h e = tt
 step_counts id (Hearing cursor quiets) (Hears (heard.Frame bytes)) start a b f h e = tt
@@ -172,12 +172,12 @@ step_counts id (Hearing cursor quiets) (Hears heard.Failed) start a b f h e = ro
 step_counts id (Hearing cursor quiets) (Hears heard.WantOfMemory) start a b f h e = tt
 step_counts id (Taking cursor bytes) (Reads now) start a b f h e = read_counts start b cursor (whole client_at bytes) now (falls_on start a b f e)
 step_counts id (Taking cursor bytes) Wants start a b f h e = tt
-step_counts id (Asking cursor asked) (Makes given) start a b f h e = answered_counts start b cursor asked given (falls_on start a b f e)
+step_counts id (Asking cursor asked) (MakesRequest given) start a b f h e = answered_counts start b cursor asked given (falls_on start a b f e)
 step_counts id (Asking cursor asked) Misses start a b f h e = tt
 step_counts id (Sending frame frames next fails wants) Sends start a b f h e =
     counts_on start a b (sending_phase frames next fails wants) e (sending_counts start a frames next fails wants h.0 h.1 h.2)
 step_counts id (Sending frame frames next fails wants) Loses start a b f h e = h.1 b (rose_from start a b f e.1)
-step_counts id (Sending frame frames next fails wants) Fails start a b f h e = h.1 b (rose_from start a b f e.1)
+step_counts id (Sending frame frames next fails wants) FailsToSend start a b f h e = h.1 b (rose_from start a b f e.1)
 step_counts id (Sending frame frames next fails wants) Wants start a b f h e = counts_on start a b wants e h.2
 step_counts id (Leaving cursor how) (MakesAt now given) start a b f h e = because_on start a b how e h
 step_counts id (Leaving cursor how) Misses start a b f h e = because_on start a b how e h
@@ -186,12 +186,12 @@ step_counts id p event start a b f h e = tt
 event_falls : (event : TalkEvent) (a b : Counts) → EventCounts event a b → NoneFalls a b
 event_falls (Hears what) a b e = e.0
 event_falls (Reads now) a b e = e
-event_falls (Makes given) a b e = e
+event_falls (MakesRequest given) a b e = e
 event_falls (MakesAt now given) a b e = e
 event_falls Misses a b e = e
 event_falls Sends a b e = e
 event_falls Loses a b e = e.0
-event_falls Fails a b e = e.0
+event_falls FailsToSend a b e = e.0
 event_falls Wants a b e = e
 
 walk_counts : (id : SessionId) (events : List TalkEvent) (p : TalkPhase) (start a b : Counts) → NoneFalls start a → CountsTo start a p → EventsCount events a b → CountsTo start b (talk_walk id p events).phase

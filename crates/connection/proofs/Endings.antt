@@ -33,7 +33,7 @@ use Rattle.connection.specs.declared.ending.Ended.{Ended}
 use Rattle.connection.specs.declared.ending.Ended.TheVariants as ended
 use Rattle.connection.specs.Causes.{EndNothing, EndsElse, EndsExactly, EndsByReply, IsLastLeave, IsTurnedDown, LeavesStale, end_of}
 use Rattle.connection.specs.Exchanges.{Exchange, Answered, Unanswered, exchanges_in}
-use Rattle.connection.specs.Phases.{TalkPhase, Opening, Reading, Joining, Ticking, Pulling, Hearing, Taking, Asking, Sending, Leaving, Over, Wrong, TalkEvent, Hears, Reads, Makes, MakesAt, Misses, Sends, Loses, Fails, Wants, acted_phase, code_in, end_in, ending_phase, entered_phase, join_phase, opened_phase, read_phase, refused_phase, reply_phase, sending_phase, talk_step, talk_walk, telling_phase}
+use Rattle.connection.specs.Phases.{TalkPhase, Opening, Beginning, Joining, Ticking, Pulling, Hearing, Taking, Asking, Sending, Leaving, Over, Wrong, TalkEvent, Hears, Reads, MakesRequest, MakesAt, Misses, Sends, Loses, FailsToSend, Wants, acted_phase, code_in, end_in, ending_phase, entered_phase, join_phase, opened_phase, read_phase, refused_phase, reply_phase, sending_phase, talk_step, talk_walk, telling_phase}
 use Rattle.connection.specs.Talk.{Talk}
 use Rattle.connection.proofs.Callers.{first_is_join}
 
@@ -51,7 +51,7 @@ ComesElse other = Unit {0}
 -- what was asked where a connection stands in a phase
 abbrev AskedTo : List Exchange → TalkPhase → Type 0
 AskedTo asked (Opening quiets) = asked ≡ []
-AskedTo asked (Reading bytes) = asked ≡ []
+AskedTo asked (Beginning bytes) = asked ≡ []
 AskedTo asked (Joining request) = (asked ≡ []) × IsJoin request
 AskedTo asked (Ticking cursor quiets) = EndNothing asked
 AskedTo asked (Pulling cursor quiets) = EndNothing asked
@@ -208,18 +208,18 @@ at_first asked more p is h = subst (λ (l : List Exchange). AskedTo (l ++ more) 
 
 -- one event
 step_asked : (id : SessionId) (p : TalkPhase) (event : TalkEvent) (asked : List Exchange) → AskedTo asked p → AskedTo (asked ++ (talk_step id p event).asked) (talk_step id p event).phase
-step_asked id (Opening quiets) (Hears (heard.Frame bytes)) asked h = at_first asked [] (Reading bytes) h refl
+step_asked id (Opening quiets) (Hears (heard.Frame bytes)) asked h = at_first asked [] (Beginning bytes) h refl
 step_asked id (Opening quiets) (Hears heard.Quiet) asked h = opening_row_asked (asked ++ []) (quiets + 1 == most_quiets) (quiets + 1) (append-nil asked ∙ h)
 step_asked id (Opening quiets) (Hears heard.End) asked h = at_first asked [] (Over ended.LinkEnd) h (none_ends [] tt)
 step_asked id (Opening quiets) (Hears heard.Failed) asked h = at_first asked [] (Over ended.LinkFault) h (none_ends [] tt)
 step_asked id (Opening quiets) (Hears heard.WantOfMemory) asked h = at_first asked [] (Over ended.WantOfMemory) h (inl (none_ends [] tt))
-step_asked id (Reading bytes) (Reads now) asked h = at_first asked [] (opened_phase id (whole client_at bytes) now) h (read_first id (whole client_at bytes) now)
-step_asked id (Reading bytes) Wants asked h = at_first asked [] (Over ended.WantOfMemory) h (inl (none_ends [] tt))
-step_asked id (Joining request) (Makes given) asked h = at_first asked (Answered request given ∷ []) (join_phase request given) h.0 (joined_asked request given h.1)
+step_asked id (Beginning bytes) (Reads now) asked h = at_first asked [] (opened_phase id (whole client_at bytes) now) h (read_first id (whole client_at bytes) now)
+step_asked id (Beginning bytes) Wants asked h = at_first asked [] (Over ended.WantOfMemory) h (inl (none_ends [] tt))
+step_asked id (Joining request) (MakesRequest given) asked h = at_first asked (Answered request given ∷ []) (join_phase request given) h.0 (joined_asked request given h.1)
 step_asked id (Joining request) Misses asked h = at_first asked (Unanswered ∷ []) (Over ended.WantOfMemory) h.0 (inl (none_ends (Unanswered ∷ []) (refl, tt)))
 step_asked id (Ticking cursor quiets) (MakesAt now given) asked h = all_both asked (Answered (Tick now) given ∷ []) h (refl, tt)
 step_asked id (Ticking cursor quiets) Misses asked h = left_ends (asked ++ Unanswered ∷ []) ended.WantOfMemory (missed asked h) tt
-step_asked id (Pulling cursor quiets) (Makes given) asked h =
+step_asked id (Pulling cursor quiets) (MakesRequest given) asked h =
     let more : EndNothing (asked ++ Answered (Pull cursor.after most_pulled) given ∷ []) = all_both asked (Answered (Pull cursor.after most_pulled) given ∷ []) h (refl, tt) in
     telling_asked (asked ++ Answered (Pull cursor.after most_pulled) given ∷ []) cursor (next_frames cursor given) (Hearing (next_cursor cursor given) quiets) more more
 step_asked id (Pulling cursor quiets) Misses asked h = left_ends (asked ++ Unanswered ∷ []) ended.WantOfMemory (missed asked h) tt
@@ -230,11 +230,11 @@ step_asked id (Hearing cursor quiets) (Hears heard.Failed) asked h = left_ends (
 step_asked id (Hearing cursor quiets) (Hears heard.WantOfMemory) asked h = left_ends (asked ++ []) ended.WantOfMemory (all_both asked [] h tt) tt
 step_asked id (Taking cursor bytes) (Reads now) asked h = read_asked (asked ++ []) cursor (whole client_at bytes) now (all_both asked [] h tt)
 step_asked id (Taking cursor bytes) Wants asked h = left_ends (asked ++ []) ended.WantOfMemory (all_both asked [] h tt) tt
-step_asked id (Asking cursor request) (Makes given) asked h = answered_asked asked cursor request given h.0 h.1
+step_asked id (Asking cursor request) (MakesRequest given) asked h = answered_asked asked cursor request given h.0 h.1
 step_asked id (Asking cursor request) Misses asked h = left_ends (asked ++ Unanswered ∷ []) ended.WantOfMemory (missed asked h.0) tt
 step_asked id (Sending frame frames next fails wants) Sends asked h = subst (λ (l : List Exchange). AskedTo l (sending_phase frames next fails wants)) (sym (append-nil asked)) (sending_asked asked frames next fails wants h.0 h.1 h.2)
 step_asked id (Sending frame frames next fails wants) Loses asked h = subst (λ (l : List Exchange). AskedTo l fails) (sym (append-nil asked)) h.1
-step_asked id (Sending frame frames next fails wants) Fails asked h = subst (λ (l : List Exchange). AskedTo l fails) (sym (append-nil asked)) h.1
+step_asked id (Sending frame frames next fails wants) FailsToSend asked h = subst (λ (l : List Exchange). AskedTo l fails) (sym (append-nil asked)) h.1
 step_asked id (Sending frame frames next fails wants) Wants asked h = subst (λ (l : List Exchange). AskedTo l wants) (sym (append-nil asked)) h.2
 step_asked id (Leaving cursor how) (MakesAt now given) asked h = h (Answered (Leave cursor.view cursor.joined now) given) tt
 step_asked id (Leaving cursor how) Misses asked h = h Unanswered tt

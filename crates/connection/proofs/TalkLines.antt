@@ -38,7 +38,7 @@ use Rattle.system_plain.proofs.Lines.{served_by}
 use Rattle.connection.specs.declared.ending.Ended.{Ended}
 use Rattle.connection.specs.declared.ending.Ended.TheVariants as ended
 use Rattle.connection.specs.Exchanges.{Answered, Unanswered, exchanges_from}
-use Rattle.connection.specs.Phases.{TalkPhase, Opening, Reading, Joining, Ticking, Pulling, Hearing, Taking, Asking, Sending, Leaving, Over, Wrong, TalkEvent, Hears, Reads, Makes, MakesAt, Misses, Sends, Loses, Fails, Wants, answered_by, acted_phase, code_in, end_in, ending_phase, entered_phase, greeted_phase, heard_in, hearing_row, join_phase, opened_phase, opening_row, pulled_phase, read_phase, reply_phase, sending_phase, talk_walk}
+use Rattle.connection.specs.Phases.{TalkPhase, Opening, Beginning, Joining, Ticking, Pulling, Hearing, Taking, Asking, Sending, Leaving, Over, Wrong, TalkEvent, Hears, Reads, MakesRequest, MakesAt, Misses, Sends, Loses, FailsToSend, Wants, answered_by, acted_phase, code_in, end_in, ending_phase, entered_phase, greeted_phase, heard_in, hearing_row, join_phase, opened_phase, opening_row, pulled_phase, read_phase, reply_phase, sending_phase, talk_walk}
 use Rattle.connection.specs.Talk.{Talk}
 use Rattle.connection.specs.TalkServed.{IsTalkServed, frames_of}
 use Rattle.connection.proofs.Lines.{IsLine, at_session, hears_is, misses, others_end, pull_nothing, pumps_is, reaches, turn_to}
@@ -74,7 +74,7 @@ SaysNothing other = ⊥
 
 abbrev Beside : SessionId → ConnectionLine → List (Option ClientFrame) → List ServerFrame → TalkPhase → Type 0
 Beside id l given sent (Opening quiets) = IsEven l None given sent
-Beside id l given sent (Reading bytes) = IsToHear l None (whole client_at bytes) given sent
+Beside id l given sent (Beginning bytes) = IsToHear l None (whole client_at bytes) given sent
 Beside id l given sent (Joining asked) = (frame : ClientFrame) × (now : ℕ) × (first_request frame id now ≡ Ok asked) × IsToHear l None (Some frame) given sent
 Beside id l given sent (Ticking cursor quiets) = IsEven l (Some cursor) given sent
 Beside id l given sent (Pulling cursor quiets) = IsEven l (Some cursor) given sent
@@ -298,8 +298,8 @@ on : (id : SessionId) (p : TalkPhase) (event : TalkEvent) (events : List TalkEve
     → Onwards id events caller final how → Remains id p (event ∷ events) l.session history caller final how → Beside id l given sent p
     → IsLine id l final (given ++ frames_of (heard_in (event ∷ events))) (sent ++ (talk_walk id p (event ∷ events)).sent)
 on id (Opening quiets) (Hears (heard.Frame bytes)) events caller final how l history given sent next r even =
-    heard_more id l final given (whole client_at bytes) (frames_of (heard_in events)) (sent ++ (talk_walk id (Reading bytes) events).sent)
-    (next (Reading bytes) l history (given ++ whole client_at bytes ∷ []) sent (record { sound = r.sound; ends = r.ends; asked = r.asked; over = r.over }) (to_hear l None (whole client_at bytes) given sent even))
+    heard_more id l final given (whole client_at bytes) (frames_of (heard_in events)) (sent ++ (talk_walk id (Beginning bytes) events).sent)
+    (next (Beginning bytes) l history (given ++ whole client_at bytes ∷ []) sent (record { sound = r.sound; ends = r.ends; asked = r.asked; over = r.over }) (to_hear l None (whole client_at bytes) given sent even))
 on id (Opening quiets) (Hears heard.Quiet) events caller final how l history given sent next r even =
     next (opening_row (quiets + 1)) l history given sent (record { sound = r.sound; ends = r.ends; asked = r.asked; over = r.over }) (opening_quiet id (quiets + 1 == most_quiets) l given sent (quiets + 1) even)
 on id (Opening quiets) (Hears heard.End) events caller final how l history given sent next r even =
@@ -308,12 +308,12 @@ on id (Opening quiets) (Hears heard.Failed) events caller final how l history gi
     next (Over ended.LinkFault) l history given sent (record { sound = r.sound; ends = r.ends; asked = r.asked; over = r.over }) (even_part l None given sent even)
 on id (Opening quiets) (Hears heard.WantOfMemory) events caller final how l history given sent next r even =
     next (Over ended.WantOfMemory) l history given sent (record { sound = r.sound; ends = r.ends; asked = r.asked; over = r.over }) (even_part l None given sent even)
-on id (Reading bytes) (Reads now) events caller final how l history given sent next r hear =
+on id (Beginning bytes) (Reads now) events caller final how l history given sent next r hear =
     reads_on id events caller final how (opened_phase id (whole client_at bytes) now) l history None (whole client_at bytes) now given sent next
     (record { sound = r.sound; ends = r.ends; asked = r.asked; over = r.over }) hear (opened_goes id l (whole client_at bytes) now given sent hear)
-on id (Reading bytes) Wants events caller final how l history given sent next r hear =
+on id (Beginning bytes) Wants events caller final how l history given sent next r hear =
     next (Over ended.WantOfMemory) l history given sent (record { sound = r.sound; ends = r.ends; asked = r.asked; over = r.over }) (hear_part l None (whole client_at bytes) given sent hear)
-on id (Joining asked) (Makes replied) events caller final how l history given sent next r (frame, now, is, hear) =
+on id (Joining asked) (MakesRequest replied) events caller final how l history given sent next r (frame, now, is, hear) =
     answers_on id events caller final how (join_phase asked replied) l history asked replied (line.Hears (Some frame) now) given sent next r.sound r.ends r.asked r.over
     (λ at replied_so. ap (λ (x : ConnectionLine). x.session) (joins_line at))
     (λ at replied_so.
@@ -340,7 +340,7 @@ on id (Ticking cursor quiets) (MakesAt now replied) events caller final how l hi
     (λ at replied_so. refl) (λ at replied_so. record { at = even.at; clear = even.clear; given_is = even.given_is; sent_is = even.sent_is })
 on id (Ticking cursor quiets) Misses events caller final how l history given sent next r even =
     misses_on id events caller final how (Leaving cursor ended.WantOfMemory) l history given sent next r.sound r.ends r.asked r.over tt (even_part l (Some cursor) given sent even)
-on id (Pulling cursor quiets) (Makes replied) events caller final how l history given sent next r even =
+on id (Pulling cursor quiets) (MakesRequest replied) events caller final how l history given sent next r even =
     answers_on id events caller final how (pulled_phase cursor quiets replied) l history (request.Pull cursor.after most_pulled) replied (line.Pumps 0) given sent next r.sound r.ends r.asked r.over
     (λ at replied_so. ap (λ (x : ConnectionLine). x.session) (pumps_is id (at_session l at) cursor even.clear even.at) ∙ sym (pull_nothing at cursor.after most_pulled))
     (λ at replied_so.
@@ -375,7 +375,7 @@ on id (Taking cursor bytes) (Reads now) events caller final how l history given 
     (record { sound = r.sound; ends = r.ends; asked = r.asked; over = r.over }) hear (taken_goes id l cursor (whole client_at bytes) now given sent hear)
 on id (Taking cursor bytes) Wants events caller final how l history given sent next r hear =
     next (Leaving cursor ended.WantOfMemory) l history given sent (record { sound = r.sound; ends = r.ends; asked = r.asked; over = r.over }) (hear_part l (Some cursor) (whole client_at bytes) given sent hear)
-on id (Asking cursor asked) (Makes replied) events caller final how l history given sent next r (frame, now, is, hear) =
+on id (Asking cursor asked) (MakesRequest replied) events caller final how l history given sent next r (frame, now, is, hear) =
     answers_on id events caller final how (reply_phase cursor asked replied) l history asked replied (line.Hears (Some frame) now) given sent next r.sound r.ends r.asked r.over
     (λ at replied_so. ap (λ (x : ConnectionLine). x.session) (asks_line at))
     (λ at replied_so.
@@ -407,7 +407,7 @@ on id (Sending frame frames behind fails wants) Loses events caller final how l 
     (next fails l history given (sent ++ frame ∷ []) (record { sound = r.sound; ends = r.ends; asked = r.asked; over = r.over })
     (part_beside id l given (sent ++ frame ∷ []) fails failing
     (record { unheard = []; given_is = same ∙ sym (append-nil l.given); unsent = frames; sent_is = is ∙ sym (append_assoc sent (frame ∷ []) frames) })))
-on id (Sending frame frames behind fails wants) Fails events caller final how l history given sent next r (is, same, beside, failing, wanting) =
+on id (Sending frame frames behind fails wants) FailsToSend events caller final how l history given sent next r (is, same, beside, failing, wanting) =
     next fails l history given sent (record { sound = r.sound; ends = r.ends; asked = r.asked; over = r.over })
     (part_beside id l given sent fails failing (record { unheard = []; given_is = same ∙ sym (append-nil l.given); unsent = frame ∷ frames; sent_is = is }))
 on id (Sending frame frames behind fails wants) Wants events caller final how l history given sent next r (is, same, beside, failing, wanting) =

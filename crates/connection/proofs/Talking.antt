@@ -41,7 +41,7 @@ use Rattle.connection.specs.declared.ending.Ended.TheVariants as ended
 use Rattle.connection.specs.declared.ending.Halt.{Halt}
 use Rattle.connection.specs.Exchanges.{Exchange, Answered, Unanswered, exchanges_in, IsAskedInTime}
 use Rattle.connection.specs.Standing.{SeesOn, exchange_of}
-use Rattle.connection.specs.Phases.{TalkPhase, Opening, Joining, Ticking, Pulling, Hearing, Asking, Sending, Leaving, Over, TalkEvent, Hears, Reads, Makes, MakesAt, Misses, Sends, Loses, Fails, Wants, answered_by, end_in, ending_phase, greeted_phase, halt_phase, heard_by, heard_in, hearing, hearing_row, join_phase, opening, opening_row, pulled_phase, reply_phase, sending_phase, talk_step, talk_walk, telling_phase}
+use Rattle.connection.specs.Phases.{TalkPhase, Opening, Joining, Ticking, Pulling, Hearing, Asking, Sending, Leaving, Over, TalkEvent, Hears, Reads, MakesRequest, MakesAt, Misses, Sends, Loses, FailsToSend, Wants, answered_by, end_in, ending_phase, greeted_phase, halt_phase, heard_by, heard_in, hearing, hearing_row, join_phase, opening, opening_row, pulled_phase, reply_phase, sending_phase, talk_step, talk_walk, telling_phase}
 use Rattle.connection.specs.Talk.{Account, EventCounts, LinkAccount, SendsSpelled, Talk, TalksOn, TalksOrHalts, account, asked_by}
 use Rattle.connection.proofs.Callers.{exchanges_same, sees_still, sees_then}
 use Rattle.connection.proofs.Counting.{count_on, count_one, none_falls}
@@ -214,7 +214,7 @@ sends_on gives id (Err fault.Failed) frame rest next fails wants pass a b s = fa
     fails_on : ((b.sent ≡ a.sent) ⊎ (IsServerFrame frame × (b.sent ≡ with_more a.sent (server_spelling frame ∷ []))))
         → TalksOn gives id (Sending frame rest next fails wants) fails (account pass a) (account pass b)
     fails_on (inl same) =
-        talks_by gives id Fails (Sending frame rest next fails wants) (account pass a) (account pass b)
+        talks_by gives id FailsToSend (Sending frame rest next fails wants) (account pass a) (account pass b)
         (sym (append-nil (asked_by pass))) (sees_still pass.seen) (s.heard ∙ sym (with_more_none a.heard)) (same ∙ sym (with_more_none a.sent)) counts tt tt
     fails_on (inr went) =
         talks_by gives id Loses (Sending frame rest next fails wants) (account pass a) (account pass b)
@@ -361,7 +361,7 @@ pub asks_join : {T : Type 0} (gives : ℕ → Type 0) (id : SessionId) (request 
     → TalksOrHalts gives id (greeted_phase made (Some frame)) to r (account b link) (account b new) → TalksOrHalts gives id (Joining request) to r (account a link) (account b new)
 asks_join gives id request given made frame r to a b link new grew sees timely cursor_is frame_is rest =
     then_either gives id r to (Joining request) (join_phase request given) (account a link) (account b link) (account b new)
-    (talks_asking gives id (Makes given) (Joining request) (Answered request given) a b link grew sees refl refl refl (none_falls link.counts) timely)
+    (talks_asking gives id (MakesRequest given) (Joining request) (Answered request given) a b link grew sees refl refl refl (none_falls link.counts) timely)
     (subst (λ (o : Option ServerFrame). TalksOrHalts gives id (greeted_phase (first_cursor (joined_view request) given) o) to r (account b link) (account b new)) frame_is
     (subst (λ (o : Option Cursor). TalksOrHalts gives id (greeted_phase o (Some frame)) to r (account b link) (account b new)) cursor_is rest))
 
@@ -370,7 +370,7 @@ pub asks_frame : {T : Type 0} (gives : ℕ → Type 0) (id : SessionId) (cursor 
     → TalksOrHalts gives id (answered_by cursor end (answer_frames frame)) to r (account b link) (account b new) → TalksOrHalts gives id (Asking cursor request) to r (account a link) (account b new)
 asks_frame gives id cursor request given end frame r to a b link new grew sees timely end_is frame_is rest =
     then_either gives id r to (Asking cursor request) (reply_phase cursor request given) (account a link) (account b link) (account b new)
-    (talks_asking gives id (Makes given) (Asking cursor request) (Answered request given) a b link grew sees refl refl refl (none_falls link.counts) timely)
+    (talks_asking gives id (MakesRequest given) (Asking cursor request) (Answered request given) a b link grew sees refl refl refl (none_falls link.counts) timely)
     (subst (λ (o : Option ServerFrame). TalksOrHalts gives id (answered_by cursor (end_in given) (answer_frames o)) to r (account b link) (account b new)) frame_is
     (subst (λ (o : Option Ended). TalksOrHalts gives id (answered_by cursor o (answer_frames frame)) to r (account b link) (account b new)) end_is rest))
 
@@ -379,7 +379,7 @@ pub asks_pull : {T : Type 0} (gives : ℕ → Type 0) (id : SessionId) (cursor :
     → TalksOrHalts gives id (pulled_phase cursor quiets given) to r (account b link) (account b new) → TalksOrHalts gives id (Pulling cursor quiets) to r (account a link) (account b new)
 asks_pull gives id cursor quiets given r to a b link new grew sees rest =
     then_either gives id r to (Pulling cursor quiets) (pulled_phase cursor quiets given) (account a link) (account b link) (account b new)
-    (talks_asking gives id (Makes given) (Pulling cursor quiets) (Answered (Pull cursor.after most_pulled) given) a b link grew sees refl refl refl (none_falls link.counts) tt) rest
+    (talks_asking gives id (MakesRequest given) (Pulling cursor quiets) (Answered (Pull cursor.after most_pulled) given) a b link grew sees refl refl refl (none_falls link.counts) tt) rest
 
 pub asks_tick : (gives : ℕ → Type 0) (id : SessionId) (cursor : Cursor) (quiets now : ℕ) (given : Reply) (a b : PassState) (link : LinkAccount) → gives now
     → exchanges_in b.seen (caller b) ≡ exchanges_in a.seen (caller a) ++ Answered (Tick now) given ∷ [] → SeesOn a.seen b.seen → TalksOn gives id (Ticking cursor quiets) (Pulling cursor quiets) (account a link) (account b link)

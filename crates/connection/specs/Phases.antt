@@ -35,7 +35,7 @@ pub data TalkPhase : Type 0 where
   -- the first frame is waited for, behind so many Quiets
   Opening : ℕ → TalkPhase
   -- the first frame is to be read
-  Reading : List ℕ → TalkPhase
+  Beginning : List ℕ → TalkPhase
   -- its Join is to be made
   Joining : Request → TalkPhase
   -- the Tick of a turn is to be made, behind so many Quiets
@@ -63,7 +63,7 @@ pub data TalkEvent : Type 0 where
   -- the bytes that were heard are read, at this time of the clock
   Reads : ℕ → TalkEvent
   -- the request that is due is made, and answered
-  Makes : Reply → TalkEvent
+  MakesRequest : Reply → TalkEvent
   -- the same of a request that carries the time at which it is made
   MakesAt : ℕ → Reply → TalkEvent
   -- the request that is due is made, and finds no memory
@@ -73,7 +73,7 @@ pub data TalkEvent : Type 0 where
   -- its send fails, and the frame goes all the same
   Loses : TalkEvent
   -- its send fails, and the frame does not go
-  Fails : TalkEvent
+  FailsToSend : TalkEvent
   -- no memory is found
   Wants : TalkEvent
 
@@ -169,7 +169,7 @@ hearing_row cursor quiets = if quiets == most_quiets then Leaving cursor (ended.
 
 -- the link was heard before the first frame
 abbrev pub opening : ℕ → Heard → TalkPhase
-opening quiets (heard.Frame bytes) = Reading bytes
+opening quiets (heard.Frame bytes) = Beginning bytes
 opening quiets heard.Quiet = opening_row (quiets + 1)
 opening quiets heard.End = Over ended.LinkEnd
 opening quiets heard.Failed = Over ended.LinkFault
@@ -187,22 +187,22 @@ hearing cursor quiets heard.WantOfMemory = Leaving cursor ended.WantOfMemory
 
 abbrev pub talk_step : SessionId → TalkPhase → TalkEvent → Move
 talk_step id (Opening quiets) (Hears what) = goes (opening quiets what)
-talk_step id (Reading bytes) (Reads now) = goes (opened_phase id (whole client_at bytes) now)
-talk_step id (Reading bytes) Wants = goes (Over ended.WantOfMemory)
-talk_step id (Joining request) (Makes given) = asks (join_phase request given) (Answered request given)
+talk_step id (Beginning bytes) (Reads now) = goes (opened_phase id (whole client_at bytes) now)
+talk_step id (Beginning bytes) Wants = goes (Over ended.WantOfMemory)
+talk_step id (Joining request) (MakesRequest given) = asks (join_phase request given) (Answered request given)
 talk_step id (Joining request) Misses = asks (Over ended.WantOfMemory) Unanswered
 talk_step id (Ticking cursor quiets) (MakesAt now given) = asks (Pulling cursor quiets) (Answered (Tick now) given)
 talk_step id (Ticking cursor quiets) Misses = asks (Leaving cursor ended.WantOfMemory) Unanswered
-talk_step id (Pulling cursor quiets) (Makes given) = asks (pulled_phase cursor quiets given) (Answered (Pull cursor.after most_pulled) given)
+talk_step id (Pulling cursor quiets) (MakesRequest given) = asks (pulled_phase cursor quiets given) (Answered (Pull cursor.after most_pulled) given)
 talk_step id (Pulling cursor quiets) Misses = asks (Leaving cursor ended.WantOfMemory) Unanswered
 talk_step id (Hearing cursor quiets) (Hears what) = goes (hearing cursor quiets what)
 talk_step id (Taking cursor bytes) (Reads now) = goes (read_phase cursor (whole client_at bytes) now)
 talk_step id (Taking cursor bytes) Wants = goes (Leaving cursor ended.WantOfMemory)
-talk_step id (Asking cursor request) (Makes given) = asks (reply_phase cursor request given) (Answered request given)
+talk_step id (Asking cursor request) (MakesRequest given) = asks (reply_phase cursor request given) (Answered request given)
 talk_step id (Asking cursor request) Misses = asks (Leaving cursor ended.WantOfMemory) Unanswered
 talk_step id (Sending frame frames next fails wants) Sends = sends (sending_phase frames next fails wants) frame
 talk_step id (Sending frame frames next fails wants) Loses = sends fails frame
-talk_step id (Sending frame frames next fails wants) Fails = goes fails
+talk_step id (Sending frame frames next fails wants) FailsToSend = goes fails
 talk_step id (Sending frame frames next fails wants) Wants = goes wants
 talk_step id (Leaving cursor how) (MakesAt now given) = asks (Over how) (Answered (Leave cursor.view cursor.joined now) given)
 talk_step id (Leaving cursor how) Misses = asks (Over how) Unanswered

@@ -18,7 +18,7 @@ use Rattle.connection.specs.declared.ending.Halt.{Halt}
 use Rattle.connection.specs.Exchanges.{Exchange, exchanges_in, IsAskedInTime}
 use Rattle.connection.specs.Standing.{SeesOn}
 use Rattle.connection.specs.TalkServed.{IsTalkServed}
-use Rattle.connection.specs.Phases.{TalkPhase, Opening, Over, TalkEvent, Hears, Loses, Fails, talk_walk, heard_in, halt_phase}
+use Rattle.connection.specs.Phases.{TalkPhase, Opening, Over, TalkEvent, Hears, Loses, FailsToSend, talk_walk, heard_in, halt_phase}
 
 -- A talk from its first frame to its end: what the caller asked in the history, what the link was heard to say and was sent. Some events
 -- lead to just these, each frame that was sent has a spelling, and each time that was asked with is one that the clock may give.
@@ -46,7 +46,7 @@ link_account heard sent counts link = record { heard = heard link; sent = sent l
 abbrev pub EventCounts : TalkEvent → Counts → Counts → Type 0
 EventCounts (Hears what) before now = NoneFalls before now × CountRises before now what
 EventCounts Loses before now = NoneFalls before now × Rose before.faults now.faults
-EventCounts Fails before now = NoneFalls before now × Rose before.faults now.faults
+EventCounts FailsToSend before now = NoneFalls before now × Rose before.faults now.faults
 EventCounts other before now = NoneFalls before now
 
 abbrev pub EventsCount : List TalkEvent → Counts → Counts → Type 0

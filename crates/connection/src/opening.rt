@@ -8,7 +8,7 @@ ghost use Rattle.system_plain.specs.Steps.{joined_view};
 ghost use Rattle.wire_frames.specs.declared.frame.ServerFrame.{ServerFrame};
 ghost use Rattle.reflector_core.specs.declared.request.Reply.{Reply};
 ghost use Rattle.connection.specs.Exchanges.{Answered, IsAskedInTime};
-ghost use Rattle.connection.specs.Phases.{Joining, Opening, Over, Reading, Ticking, greeted_phase};
+ghost use Rattle.connection.specs.Phases.{Joining, Opening, Over, Beginning, Ticking, greeted_phase};
 ghost use Rattle.join_sync.specs.Requests.{IsJoin};
 ghost use Rattle.connection.specs.Standing.{IsStanding};
 ghost use Rattle.connection.specs.Talk.{TalksOn, TalksOrHalts, account, link_account};
@@ -30,7 +30,7 @@ pub fn first_frame<C: Clock, R: Wait, L: Link>(
     link: &mut L,
 ) -> Result<Blob, Ended>
     ensures { (pass : PassState) → MatchResult result
-        (λ bytes. TalksOn (C.gives service.now.clock.now) service.now.id (Opening 0) (Reading bytes)
+        (λ bytes. TalksOn (C.gives service.now.clock.now) service.now.id (Opening 0) (Beginning bytes)
         (account pass (link_account L.heard L.sent L.counts link.old)) (account pass (link_account L.heard L.sent L.counts link.new)))
         (λ ended. TalksOn (C.gives service.now.clock.now) service.now.id (Opening 0) (Over ended)
         (account pass (link_account L.heard L.sent L.counts link.old)) (account pass (link_account L.heard L.sent L.counts link.new))) }
@@ -116,7 +116,7 @@ fn enter<C: Clock, R: Wait, L: Link>(
     ensures kept { pass.new ≡ record pass.old { seen = pass.new.seen } }
     ensures standing { IfOk result (λ cursor. IsStanding (play pass.new.seen) cursor) }
     ensures talk { (bytes : List ℕ) → whole client_at bytes ≡ Some frame.now → TalksOrHalts (C.gives service.now.clock.now) service.now.id
-        (Reading bytes) (λ cursor. Ticking cursor 0) result
+        (Beginning bytes) (λ cursor. Ticking cursor 0) result
         (account pass.old (link_account L.heard L.sent L.counts link.old)) (account pass.new (link_account L.heard L.sent L.counts link.new)) }
 {
     let now = service.clock.now();
@@ -137,7 +137,7 @@ pub fn begin<C: Clock, R: Wait, L: Link>(
     ensures kept { pass.new ≡ record pass.old { seen = pass.new.seen } }
     ensures standing { IfOk result (λ cursor. IsStanding (play pass.new.seen) cursor) }
     ensures talk { TalksOrHalts (C.gives service.now.clock.now) service.now.id
-        (Reading bytes.now) (λ cursor. Ticking cursor 0) result
+        (Beginning bytes.now) (λ cursor. Ticking cursor 0) result
         (account pass.old (link_account L.heard L.sent L.counts link.old)) (account pass.new (link_account L.heard L.sent L.counts link.new)) }
 {
     match read_client(service.alloc, bytes.bytes()) {

@@ -21,7 +21,7 @@ enum Word {
 
 /// A link that is being read.
 #[derive(Drop)]
-struct Reading {
+struct LinkReading {
     alloc: Global,
     frames: Blobs,
     failing: Numbers,
@@ -46,7 +46,7 @@ fn add_numbers(numbers: &mut Numbers, word: &str) -> Result<(), CaseFault> {
     Ok(())
 }
 
-impl Reading {
+impl LinkReading {
     fn take(&mut self, word: &str) -> Result<(), CaseFault> {
         match self.next {
             Word::Any => self.take_any(word),
@@ -74,7 +74,7 @@ impl Reading {
 fn read_link(alloc: Global, part: &str) -> Result<MemLink, CaseFault>
     ensures { IfOk result HasNoCounts }
 {
-    let mut reading = Reading {
+    let mut reading = LinkReading {
         alloc,
         frames: Blobs::new(alloc),
         failing: Numbers::new(alloc),
@@ -86,7 +86,7 @@ fn read_link(alloc: Global, part: &str) -> Result<MemLink, CaseFault>
             reading.take(word)?;
         }
     }
-    let Reading {
+    let LinkReading {
         frames,
         failing,
         quiet,

@@ -45,7 +45,7 @@ pub fn join_closed(replica: &mut Replica, session: &Session) -> Result<(), WantO
 }
 
 /// The entry at a place of the log.
-fn entry_at(log: &Log, place: u32) -> Result<Entry, WantOfMemory>
+fn log_entry(log: &Log, place: u32) -> Result<Entry, WantOfMemory>
     requires { place < length log.now.entries }
     ensures { IfOk result (λ entry. slice_get log.now.entries place ≡ Some entry) }
 {
@@ -70,7 +70,7 @@ pub fn take_rest(replica: &mut Replica, session: &Session) -> Result<(), WantOfM
     let horizon = session.horizon();
     let log = session.log();
     for place in replica.seen()..log.len() {
-        let entry = entry_at(log, place)?;
+        let entry = log_entry(log, place)?;
         take_fine(replica, &ServerFrame::Recv(entry))?;
     }
     take_fine(replica, &ServerFrame::Tick(horizon))

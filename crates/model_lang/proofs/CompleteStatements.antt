@@ -6,7 +6,7 @@ use Rattle.model_tokens.specs.declared.token.Word.{Word}
 use Rattle.model_tokens.specs.declared.token.Word.TheVariants as w
 use Rattle.model_tokens.specs.declared.token.Symbol.TheVariants as s
 use Rattle.model_lang.specs.Tree.{Expression, Statement, declare, assign, set_field, when, while, give, do_, statements_of, statement, no_else, else_block}
-use Rattle.model_lang.specs.Grammar.{Phrase, IsWellFormed, phrase_spelling, tree_of, Action, a_let, an_assignment, a_set_field, choice, choice_else, a_while, a_return, a_do, Block, closed, first, IsWellFormedAction, IsWellFormedBlock, in_round, in_braces, end_spelling, action_spelling, block_spelling, tree_of_action, trees_of_block}
+use Rattle.model_lang.specs.Grammar.{Phrase, IsWellFormed, phrase_spelling, tree_of, Action, a_let, an_assignment, a_set_field, choice, choice_else, a_while, a_return, a_do, Block, closed, action_then, IsWellFormedAction, IsWellFormedBlock, in_round, in_braces, end_spelling, action_spelling, block_spelling, tree_of_action, trees_of_block}
 use Rattle.model_lang.specs.Reader.{ParseResult, on_read, on_rest, either_way, word_number, after_word, after_symbol, assign_head, set_at, read_end, read_test, read_else, read_if, read_while, read_action, read_actions, read_block}
 use Rattle.model_lang.proofs.Phrases.{phrase_no_word, phrase_no_brace, phrase_not_assigned, phrase_not_set}
 use Rattle.model_lang.proofs.CompleteExpressions.{expression_then}
@@ -45,11 +45,11 @@ else_then test body other rest =
 
 abbrev pub list_of_block : Block → List Statement
 list_of_block closed = []
-list_of_block (first a block) = tree_of_action a ∷ list_of_block block
+list_of_block (action_then a block) = tree_of_action a ∷ list_of_block block
 
 pub block-list : (block : Block) → statements_of (list_of_block block) ≡ trees_of_block block
 block-list closed = refl
-block-list (first a block) = ap (statement (tree_of_action a)) (block-list block)
+block-list (action_then a block) = ap (statement (tree_of_action a)) (block-list block)
 
 abbrev pub BlockReader : Type 0
 BlockReader = List Token → ParseResult (List Statement)
@@ -133,7 +133,7 @@ no_else_word (a_return a) rest = refl
 
 no_else_behind : (block : Block) (rest : List Token) → after_word w.Else (block_spelling block ++ symbol s.CloseBrace ∷ rest) ≡ None
 no_else_behind closed rest = refl
-no_else_behind (first a block) rest =
+no_else_behind (action_then a block) rest =
     ap (after_word w.Else) (append_assoc (action_spelling a) (block_spelling block) (symbol s.CloseBrace ∷ rest)) ∙ no_else_word a (block_spelling block ++ symbol s.CloseBrace ∷ rest)
 
 -- ---- lengths
@@ -190,7 +190,7 @@ mutual
   actions_read : (block : Block) → IsWellFormedBlock block → (room turns : ℕ) (found : List Statement) (rest : List Token) → length (block_spelling block) ≤ room → length (block_spelling block) < turns → read_actions (read_block room) turns found (block_spelling block ++ symbol s.CloseBrace ∷ rest) ≡ Some (found ++ list_of_block block, rest)
   actions_read block stands room zero found rest fits many = absurd (omega arith)
   actions_read closed stands room (suc turns) found rest fits many = ap (λ ss. Some (ss, rest)) (sym (append-nil found))
-  actions_read (first a block) stands room (suc turns) found rest fits many =
+  actions_read (action_then a block) stands room (suc turns) found rest fits many =
       let long = length-append (action_spelling a) (block_spelling block) in
       let one = action_long a in
       let ts = block_spelling block ++ symbol s.CloseBrace ∷ rest in

@@ -8,7 +8,7 @@ use Rattle.model_tokens.specs.Spelling.{IsNamed, IsToken}
 use Rattle.model_tokens.specs.Division.{Piece, blank, comment, a_token, ArePieces, tokens_of, Divides}
 use Rattle.model_lang.specs.Tree.{Name, ProgramTree}
 use Rattle.model_lang.specs.Names.{IsShortName, AreShort, HasShortNames, AllHaveShortNames, NamesAreShort, AllNamesAreShort, MethodNamesAreShort, ClassNamesAreShort}
-use Rattle.model_lang.specs.Grammar.{Phrase, a_number, a_text, a_nil, a_bool, a_this, a_field, a_local, a_builtin, a_create, a_list, brackets, a_call, a_future, a_unary, a_binary, Phrases, no_phrases, phrase, in_round, in_braces, op_symbol, phrase_spelling, args_spelling, more_spelling, end_spelling, tree_of, trees_of, Action, a_let, an_assignment, a_set_field, choice, choice_else, a_while, a_return, a_do, Block, closed, first, action_spelling, block_spelling, tree_of_action, trees_of_block, MethodForm, ClassForm, further_spelling, params_spelling, method_spelling, methods_spelling, fields_spelling, class_spelling, classes_spelling, tree_of_method, tree_of_class}
+use Rattle.model_lang.specs.Grammar.{Phrase, a_number, a_text, a_nil, a_bool, a_this, a_field, a_local, a_builtin, a_create, a_list, brackets, a_call, a_future, a_unary, a_binary, Phrases, no_phrases, phrase, in_round, in_braces, op_symbol, phrase_spelling, args_spelling, more_spelling, end_spelling, tree_of, trees_of, Action, a_let, an_assignment, a_set_field, choice, choice_else, a_while, a_return, a_do, Block, closed, action_then, action_spelling, block_spelling, tree_of_action, trees_of_block, MethodForm, ClassForm, further_spelling, params_spelling, method_spelling, methods_spelling, fields_spelling, class_spelling, classes_spelling, tree_of_method, tree_of_class}
 use Rattle.model_lang.specs.Program.{IsRead, IsProgram}
 
 abbrev AreTokens : List Token → Type 0
@@ -115,7 +115,7 @@ mutual
 
   short_block : (block : Block) → AreTokens (block_spelling block) → AllNamesAreShort (trees_of_block block)
   short_block closed h = tt
-  short_block (first a block) h =
+  short_block (action_then a block) h =
       (short_action a (front (action_spelling a) (block_spelling block) h), short_block block (back (action_spelling a) (block_spelling block) h))
 
 short_further : (xs : List Name) → AreTokens (further_spelling xs) → AreShort xs

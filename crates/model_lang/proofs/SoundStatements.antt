@@ -5,7 +5,7 @@ use Rattle.model_tokens.specs.declared.token.Token.TheVariants.{Name as name, Wo
 use Rattle.model_tokens.specs.declared.token.Word.TheVariants as w
 use Rattle.model_tokens.specs.declared.token.Symbol.TheVariants as s
 use Rattle.model_lang.specs.Tree.{Name, Expression, Statement, declare, assign, set_field, when, while, give, do_, statements_of, no_else, else_block}
-use Rattle.model_lang.specs.Grammar.{Phrase, IsWellFormed, phrase_spelling, tree_of, Action, a_let, an_assignment, a_set_field, choice, choice_else, a_while, a_return, a_do, Block, closed, first, IsWellFormedAction, IsWellFormedBlock, in_round, end_spelling, action_spelling, block_spelling, tree_of_action, trees_of_block}
+use Rattle.model_lang.specs.Grammar.{Phrase, IsWellFormed, phrase_spelling, tree_of, Action, a_let, an_assignment, a_set_field, choice, choice_else, a_while, a_return, a_do, Block, closed, action_then, IsWellFormedAction, IsWellFormedBlock, in_round, end_spelling, action_spelling, block_spelling, tree_of_action, trees_of_block}
 use Rattle.model_lang.specs.Reader.{ParseResult, on_read, on_rest, either_way, on_found, after_word, after_symbol, assign_head, set_at, read_expression, read_ended, read_end, read_let, read_simple, read_test, read_else, read_if, read_while, read_action, read_actions, read_block}
 use Rattle.model_lang.proofs.Fronts.{parts, apart, word_then, symbol_then, name_then, word_or, symbol_or, both_spelled, found_or}
 use Rattle.model_lang.proofs.SoundExpressions.{expression_at_front}
@@ -189,7 +189,7 @@ ActionsFound found ts trees rest = (block : Block) × IsWellFormedBlock block ×
 
 one_action : (found : List Statement) (t : Statement) (ts behind : List Token) (trees : List Statement) (rest : List Token) → ActionFound ts t behind → ActionsFound (found ++ t ∷ []) behind trees rest → ActionsFound found ts trees rest
 one_action found t ts behind trees rest f l = (
-  first f.0 l.0,
+  action_then f.0 l.0,
   (f.1, l.1),
   both_spelled (action_spelling f.0) (block_spelling l.0) (symbol s.CloseBrace ∷ rest) behind ts f.2 l.2,
   ap (λ t. found ++ t ∷ list_of_block l.0) f.3 ∙ sym (append_assoc found (t ∷ []) (list_of_block l.0)) ∙ l.3,

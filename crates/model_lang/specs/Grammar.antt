@@ -209,7 +209,7 @@ mutual
   -- block = "{" stmt* "}"
   pub data Block : Type 0 where
     closed : Block
-    first : Action → Block → Block
+    action_then : Action → Block → Block
 
 abbrev mutual
   pub IsWellFormedAction : Action → Type 0
@@ -224,7 +224,7 @@ abbrev mutual
 
   pub IsWellFormedBlock : Block → Type 0
   IsWellFormedBlock closed = Unit {0}
-  IsWellFormedBlock (first a block) = IsWellFormedAction a × IsWellFormedBlock block
+  IsWellFormedBlock (action_then a block) = IsWellFormedAction a × IsWellFormedBlock block
 
 -- an expression with the `;` behind it
 abbrev pub end_spelling : Phrase → List Token
@@ -245,7 +245,7 @@ abbrev mutual
   -- between its braces
   pub block_spelling : Block → List Token
   block_spelling closed = []
-  block_spelling (first a block) = action_spelling a ++ block_spelling block
+  block_spelling (action_then a block) = action_spelling a ++ block_spelling block
 
 abbrev mutual
   pub tree_of_action : Action → Statement
@@ -260,7 +260,7 @@ abbrev mutual
 
   pub trees_of_block : Block → Statements
   trees_of_block closed = no_statements
-  trees_of_block (first a block) = statement (tree_of_action a) (trees_of_block block)
+  trees_of_block (action_then a block) = statement (tree_of_action a) (trees_of_block block)
 
 -- ---- classes
 

@@ -105,7 +105,7 @@ fn above(count: usize, most: usize) -> Option<u64>
 }
 
 // The first of two counts that are above a bound.
-fn first(one: Option<u64>, other: Option<u64>) -> Option<u64>
+fn first_count(one: Option<u64>, other: Option<u64>) -> Option<u64>
     ensures { result ≡ first_found one other }
 {
     match one {
@@ -152,7 +152,7 @@ fn in_methods(methods: &[Method]) -> Option<u64>
 {
     for method in methods {
         let params = above(method.params.len(), MOST_ARGUMENTS);
-        if let Some(count) = first(params, in_statements(&method.body)) {
+        if let Some(count) = first_count(params, in_statements(&method.body)) {
             return Some(count);
         }
     }
@@ -185,16 +185,16 @@ fn in_statement(statement: &Stmt) -> Option<u64>
             test,
             yes,
             no: None,
-        } => first(in_expression(test), first(in_statements(yes), None)),
+        } => first_count(in_expression(test), first_count(in_statements(yes), None)),
         Stmt::If {
             test,
             yes,
             no: Some(no),
-        } => first(
+        } => first_count(
             in_expression(test),
-            first(in_statements(yes), in_statements(no)),
+            first_count(in_statements(yes), in_statements(no)),
         ),
-        Stmt::While { test, body } => first(in_expression(test), in_statements(body)),
+        Stmt::While { test, body } => first_count(in_expression(test), in_statements(body)),
     }
 }
 
@@ -215,7 +215,7 @@ fn in_expressions(expressions: &[Expr]) -> Option<u64>
 fn in_arguments(args: &[Expr]) -> Option<u64>
     ensures { result ≡ first_found (too_many most_arguments (how_many (expression_trees args.now))) (all_many_arguments (expression_trees args.now)) }
 {
-    first(above(args.len(), MOST_ARGUMENTS), in_expressions(args))
+    first_count(above(args.len(), MOST_ARGUMENTS), in_expressions(args))
 }
 
 #[cycle(expressions)]
@@ -232,17 +232,17 @@ fn in_expression(expression: &Expr) -> Option<u64>
         | Expr::Field { .. } => None,
         Expr::List { items } => in_expressions(items),
         Expr::Unary { of, .. } => in_expression(of),
-        Expr::Binary { left, right, .. } => first(in_expression(left), in_expression(right)),
+        Expr::Binary { left, right, .. } => first_count(in_expression(left), in_expression(right)),
         Expr::Builtin { args, .. } => in_expressions(args),
-        Expr::Call { object, args, .. } => first(in_expression(object), in_arguments(args)),
+        Expr::Call { object, args, .. } => first_count(in_expression(object), in_arguments(args)),
         Expr::Future {
             object,
             delay,
             args,
             ..
-        } => first(
+        } => first_count(
             in_expression(object),
-            first(in_expression(delay), in_arguments(args)),
+            first_count(in_expression(delay), in_arguments(args)),
         ),
         Expr::Create { options, .. } => in_expression(options),
     }

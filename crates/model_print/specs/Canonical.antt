@@ -5,7 +5,7 @@ use Rattle.model_tokens.specs.declared.token.Token.{Token}
 use Rattle.model_tokens.specs.declared.token.Token.TheVariants as token
 use Rattle.model_tokens.specs.Spelling.{token_spelling as spelled_token}
 use Rattle.model_lang.specs.Tree.{Expression, nil, bool, int, text, this, local, field, list, unary, binary, builtin, call, future, create, Expressions, no_expressions, expression, Statement, declare, assign, set_field, when, while, give, do_, Statements, no_statements, statement, no_else, else_block, MethodTree, ClassTree, ProgramTree}
-use Rattle.model_lang.specs.Grammar.{Phrase, a_number, a_text, a_nil, a_bool, a_this, a_field, a_local, a_builtin, a_create, a_list, brackets, a_call, a_future, a_unary, a_binary, Phrases, no_phrases, phrase, operator_line, line, left_of, Action, a_let, an_assignment, a_set_field, choice, choice_else, a_while, a_return, a_do, Block, closed, first, MethodForm, ClassForm, classes_spelling}
+use Rattle.model_lang.specs.Grammar.{Phrase, a_number, a_text, a_nil, a_bool, a_this, a_field, a_local, a_builtin, a_create, a_list, brackets, a_call, a_future, a_unary, a_binary, Phrases, no_phrases, phrase, operator_line, line, left_of, Action, a_let, an_assignment, a_set_field, choice, choice_else, a_while, a_return, a_do, Block, closed, action_then, MethodForm, ClassForm, classes_spelling}
 
 -- the phrase where one of this line may stand
 abbrev pub at_line : ℕ → Phrase → Phrase
@@ -45,7 +45,7 @@ abbrev mutual
 
   pub block_of : Statements → Block
   block_of no_statements = closed
-  block_of (statement a more) = first (action_of a) (block_of more)
+  block_of (statement a more) = action_then (action_of a) (block_of more)
 
 abbrev pub method_form : MethodTree → MethodForm
 method_form m = record { name = m.name; params = m.params; body = block_of m.body }

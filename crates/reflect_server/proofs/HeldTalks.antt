@@ -33,7 +33,7 @@ use Rattle.reflector_core.specs.Play.{first_session}
 use Rattle.connection.specs.declared.ending.Ended.{Ended}
 use Rattle.connection.specs.declared.ending.Ended.TheVariants as ended
 use Rattle.connection.specs.Exchanges.{Exchange, Answered, Unanswered, exchanges_from, exchanges_in}
-use Rattle.connection.specs.Phases.{TalkPhase, Opening, Reading, Joining, Ticking, Pulling, Hearing, Taking, Asking, Sending, Leaving, Over, Wrong, TalkEvent, Hears, Reads, Makes, MakesAt, Misses, Sends, Loses, Fails, Wants, acted_phase, ending_phase, entered_phase, join_phase, opened_phase, read_phase, reply_phase, sending_phase, talk_step, talk_walk, telling_phase}
+use Rattle.connection.specs.Phases.{TalkPhase, Opening, Beginning, Joining, Ticking, Pulling, Hearing, Taking, Asking, Sending, Leaving, Over, Wrong, TalkEvent, Hears, Reads, MakesRequest, MakesAt, Misses, Sends, Loses, FailsToSend, Wants, acted_phase, ending_phase, entered_phase, join_phase, opened_phase, read_phase, reply_phase, sending_phase, talk_step, talk_walk, telling_phase}
 use Rattle.connection.specs.Talk.{Talk}
 use Rattle.connection.proofs.Callers.{first_is_join}
 use Rattle.reflect_server.specs.Views.{opens_view, closes_view, ends_view, has_void, holds}
@@ -114,7 +114,7 @@ own_closes cursor (Pull after limit) given own ends = absurd own
 -- what is held where a connection stands in a phase
 abbrev HeldIn : List Exchange → TalkPhase → Type 0
 HeldIn asked (Opening quiets) = asked ≡ []
-HeldIn asked (Reading bytes) = asked ≡ []
+HeldIn asked (Beginning bytes) = asked ≡ []
 HeldIn asked (Joining request) = (asked ≡ []) × IsJoin request
 HeldIn asked (Ticking cursor quiets) = HoldsOwn cursor asked
 HeldIn asked (Pulling cursor quiets) = HoldsOwn cursor asked
@@ -258,18 +258,18 @@ missed_own asked cursor own = own_more cursor asked Unanswered (λ v j. refl) ow
 
 -- one event
 step_held : (id : SessionId) (p : TalkPhase) (event : TalkEvent) (asked : List Exchange) → HeldIn asked p → HeldIn (asked ++ (talk_step id p event).asked) (talk_step id p event).phase
-step_held id (Opening quiets) (Hears (heard.Frame bytes)) asked h = first_held asked [] (Reading bytes) h refl
+step_held id (Opening quiets) (Hears (heard.Frame bytes)) asked h = first_held asked [] (Beginning bytes) h refl
 step_held id (Opening quiets) (Hears heard.Quiet) asked h = opening_row_held (asked ++ []) (quiets + 1 == most_quiets) (quiets + 1) (append-nil asked ∙ h)
 step_held id (Opening quiets) (Hears heard.End) asked h = first_held asked [] (Over ended.LinkEnd) h nothing_held
 step_held id (Opening quiets) (Hears heard.Failed) asked h = first_held asked [] (Over ended.LinkFault) h nothing_held
 step_held id (Opening quiets) (Hears heard.WantOfMemory) asked h = first_held asked [] (Over ended.WantOfMemory) h nothing_held
-step_held id (Reading bytes) (Reads now) asked h = first_held asked [] (opened_phase id (whole client_at bytes) now) h (read_held_first id (whole client_at bytes) now)
-step_held id (Reading bytes) Wants asked h = first_held asked [] (Over ended.WantOfMemory) h nothing_held
-step_held id (Joining request) (Makes given) asked h = first_held asked (Answered request given ∷ []) (join_phase request given) h.0 (joined_held request given h.1)
+step_held id (Beginning bytes) (Reads now) asked h = first_held asked [] (opened_phase id (whole client_at bytes) now) h (read_held_first id (whole client_at bytes) now)
+step_held id (Beginning bytes) Wants asked h = first_held asked [] (Over ended.WantOfMemory) h nothing_held
+step_held id (Joining request) (MakesRequest given) asked h = first_held asked (Answered request given ∷ []) (join_phase request given) h.0 (joined_held request given h.1)
 step_held id (Joining request) Misses asked h = out_missed asked
 step_held id (Ticking cursor quiets) (MakesAt now given) asked h = own_more cursor asked (Answered (Tick now) given) (λ v j. refl) h
 step_held id (Ticking cursor quiets) Misses asked h = missed_own asked cursor h
-step_held id (Pulling cursor quiets) (Makes given) asked h =
+step_held id (Pulling cursor quiets) (MakesRequest given) asked h =
     let more = own_more cursor asked (Answered (Pull cursor.after most_pulled) given) (λ v j. refl) h in
     telling_held (asked ++ Answered (Pull cursor.after most_pulled) given ∷ []) cursor (next_frames cursor given) (Hearing (next_cursor cursor given) quiets) more
     (next_own (asked ++ Answered (Pull cursor.after most_pulled) given ∷ []) cursor given more)
@@ -281,11 +281,11 @@ step_held id (Hearing cursor quiets) (Hears heard.Failed) asked h = same_held as
 step_held id (Hearing cursor quiets) (Hears heard.WantOfMemory) asked h = same_held asked (Leaving cursor ended.WantOfMemory) h
 step_held id (Taking cursor bytes) (Reads now) asked h = read_held (asked ++ []) cursor (whole client_at bytes) now (same_held asked (Ticking cursor 0) h)
 step_held id (Taking cursor bytes) Wants asked h = same_held asked (Leaving cursor ended.WantOfMemory) h
-step_held id (Asking cursor request) (Makes given) asked h = answered_held asked cursor request given h.0 h.1
+step_held id (Asking cursor request) (MakesRequest given) asked h = answered_held asked cursor request given h.0 h.1
 step_held id (Asking cursor request) Misses asked h = missed_own asked cursor h.0
 step_held id (Sending frame frames next fails wants) Sends asked h = same_held asked (sending_phase frames next fails wants) (sending_held asked frames next fails wants h.0 h.1 h.2)
 step_held id (Sending frame frames next fails wants) Loses asked h = same_held asked fails h.1
-step_held id (Sending frame frames next fails wants) Fails asked h = same_held asked fails h.1
+step_held id (Sending frame frames next fails wants) FailsToSend asked h = same_held asked fails h.1
 step_held id (Sending frame frames next fails wants) Wants asked h = same_held asked wants h.2
 step_held id (Leaving cursor how) (MakesAt now given) asked h =
     out_more cursor asked (Answered (Leave cursor.view cursor.joined now) given) (λ v j. refl)

@@ -2,7 +2,7 @@
 ghost use Rattle.std.specs.Prelude.{IfOk};
 ghost use Rattle.system_core.specs.Schedules.{AreInBounds, IsInBounds};
 
-use crate::systems::{ID, Trial, checked_program, first, is_replay, is_told};
+use crate::systems::{ID, Trial, checked_program, first_trial, is_replay, is_told};
 use model_value::Value;
 use replica_plain::How;
 use std::alloc::Global;
@@ -171,7 +171,7 @@ fn goes_by_schedule(alloc: Global, trial: &mut Trial) -> Result<bool, WantOfMemo
 #[test]
 fn a_view_gives_its_event_again(rt: HostRuntime) -> Result<(), Fail> {
     let alloc = rt.alloc();
-    let mut trial = first(alloc, SMALL)?;
+    let mut trial = first_trial(alloc, SMALL)?;
     assert!(rt; matches!(goes_by_schedule(alloc, &mut trial), Ok(true)));
     assert!(rt; is_logged(&trial.system));
     Ok(())

@@ -2,7 +2,7 @@
 ghost use Rattle.std.specs.Prelude.{IfOk};
 ghost use Rattle.system_core.specs.Schedules.{AreInBounds, IsInBounds};
 
-use crate::systems::{Trial, are_same, first, is_replay, is_told, take_all};
+use crate::systems::{Trial, are_same, first_trial, is_replay, is_told, take_all};
 use model_value::Value;
 use replica_plain::How;
 use std::alloc::Global;
@@ -130,7 +130,7 @@ fn are_one(alloc: Global, trial: &Trial) -> bool {
 #[test]
 fn a_kept_snapshot_leads_to_the_same_world(rt: HostRuntime) -> Result<(), Fail> {
     let alloc = rt.alloc();
-    let mut trial = first(alloc, COUNTER)?;
+    let mut trial = first_trial(alloc, COUNTER)?;
     keep(alloc, &mut trial.system)?;
     assert!(rt; is_kept(alloc, &trial.system));
     restart(alloc, &mut trial.system)?;

@@ -31,7 +31,7 @@ pub(crate) fn checked_program(alloc: Global, text: &str) -> Result<Arc<Checked, 
 }
 
 /// The first system of a program.
-pub(crate) fn first(alloc: Global, text: &str) -> Result<Trial, Fail> {
+pub(crate) fn first_trial(alloc: Global, text: &str) -> Result<Trial, Fail> {
     let program = checked_program(alloc, text)?;
     let system = System::first(alloc, program.clone()?, ID)?;
     Ok(Trial { program, system })

@@ -59,7 +59,7 @@ fn value_text_at<'a>(
         return Err(ValueFault::BadValue);
     };
     match *first {
-        b'"' => text_at(alloc, behind),
+        b'"' => text_literal(alloc, behind),
         b'[' => list_value_at(alloc, levels, behind),
         _ => word_at(bytes),
     }
@@ -128,7 +128,7 @@ fn text_items_at<'a>(
 }
 
 /// The text whose literal stands there, all but its first quote, and the bytes behind the literal.
-fn text_at<'a>(alloc: Global, bytes: &'a [u8]) -> Result<(Value, &'a [u8]), ValueFault>
+fn text_literal<'a>(alloc: Global, bytes: &'a [u8]) -> Result<(Value, &'a [u8]), ValueFault>
     ensures { Decodes ValueFault.BadValue (λ x. (plain x.0, x.1.now)) result (made_at text literal_text_at bytes.now) }
 {
     match read_literal(alloc, bytes) {

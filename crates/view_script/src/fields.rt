@@ -42,7 +42,7 @@ pub fn literal(alloc: Global, word: &[u8]) -> Result<Text, ScriptFault>
 }
 
 /// The value in bounds whose text a word is.
-pub fn value_in(alloc: Global, word: &[u8]) -> Result<Value, ScriptFault>
+pub fn word_value(alloc: Global, word: &[u8]) -> Result<Value, ScriptFault>
     ensures read { Decodes ScriptFault.Bad plain result (value_of_text word.now) }
     ensures bounds { IfOk result (λ value. InBounds (plain value)) }
 {

@@ -7,7 +7,7 @@ ghost use Rattle.view_script.specs.PlainLine.{plain_line, LineFits, payload_fits
 ghost use Rattle.view_script.specs.ViewScript.{publish_of, watch_of, wait_of, line_alone, line_of};
 
 use crate::fault::ScriptFault;
-use crate::fields::{handling_in, is_word, literal, time_in, value_in};
+use crate::fields::{handling_in, is_word, literal, time_in, word_value};
 use crate::line::ViewLine;
 use model_value::{Value, payload};
 use std::alloc::Global;
@@ -40,7 +40,7 @@ fn publish(alloc: Global, fields: &[&[u8]]) -> Result<ViewLine, ScriptFault>
     };
     let scope = literal(alloc, scope)?;
     let event = literal(alloc, event)?;
-    let value = value_in(alloc, value)?;
+    let value = word_value(alloc, value)?;
     if !payload_fits(alloc, &scope, &event, &value)? {
         return Err(ScriptFault::Bad);
     }

@@ -13,7 +13,7 @@ use Rattle.view_shell.specs.declared.ending.ViewEnd.TheVariants as ending
 use Rattle.view_shell.specs.declared.lines.Departure.{Departure}
 use Rattle.view_shell.specs.declared.hearing.Synced.{Synced}
 use Rattle.view_shell.specs.declared.watcher.Watcher.{Watcher}
-use Rattle.view_shell.specs.Phases.{Viewer, Phase, Receives, Receiving, Sending, Tells, ToJoin, Over, bad_base, enter_session, after_giving, after_join, run, send_all}
+use Rattle.view_shell.specs.Phases.{Viewer, Phase, Receives, Receiving, Sending, TellsText, ToJoin, Over, bad_base, enter_session, after_giving, after_join, run, send_all}
 use Rattle.view_shell.specs.Viewers.{viewer}
 use Rattle.view_shell.specs.Flows.{bad_base_answer, departure_phase}
 use Rattle.view_shell.specs.Hearing.{rejoined_text, synced_phase}
@@ -42,7 +42,7 @@ base_flows does from v lines how old new answer is goes =
     base_flows_by does from v lines Resume old new goes = reaches_end does from (Over ending.Peer) ending.Peer old new goes refl
 
 -- a view that joined again behind a cut
-pub rejoins : (v : Viewer) (how : How) (found : Synced) → how ≡ Resume → synced_phase v how found ≡ send_all (after_giving v) (unsent v.replica) (Tells (rejoined_text (Some found)))
+pub rejoins : (v : Viewer) (how : How) (found : Synced) → how ≡ Resume → synced_phase v how found ≡ send_all (after_giving v) (unsent v.replica) (TellsText (rejoined_text (Some found)))
 rejoins v how found is = ap (λ (h : How). synced_phase v h found) is
 
 -- a view that sent the frame by which it joins

@@ -20,7 +20,7 @@ use Rattle.view_shell.specs.declared.hearing.Stop.{Stop}
 use Rattle.view_shell.specs.declared.hearing.Stop.TheVariants as stop
 use Rattle.view_shell.specs.declared.hearing.SnapAnswer.{SnapAnswer}
 use Rattle.view_shell.specs.declared.hearing.Synced.{Synced}
-use Rattle.view_shell.specs.Phases.{Viewer, Phase, Aim, ToJoin, ToReach, ToSettle, ToSnap, Task, Begins, Receives, Tells, Receiving, Over, Hearing, bad_base, after_giving, go_on, heard_frame, heard_quiet, quiet, reads, send_all, after_sync}
+use Rattle.view_shell.specs.Phases.{Viewer, Phase, Aim, ToJoin, ToReach, ToSettle, ToSnap, Task, Begins, Receives, TellsText, Receiving, Over, Hearing, bad_base, after_giving, go_on, heard_frame, heard_quiet, quiet, reads, send_all, after_sync}
 use Rattle.view_shell.proofs.Going.{Follows, goes_and_stops, goes_on}
 use Rattle.view_shell.specs.ViewText.{rejoined_line}
 use Rattle.view_shell.specs.ViewRun.{Doing, Goes, Stops, LinkActs}
@@ -41,7 +41,7 @@ goes_on_for v ToSnap frame goes = absurd goes
 -- what is left to do behind an answer, or behind a frame that is none
 abbrev pub behind_answer : Option SnapAnswer → Task
 behind_answer None = Receives ToSnap
-behind_answer (Some answer) = Tells (answer_line answer)
+behind_answer (Some answer) = TellsText (answer_line answer)
 
 pub answer_phase : (v : Viewer) (frame : Option ServerFrame) → HeardPhase v ToSnap frame ≡ go_on v [] (behind_answer (answer_in frame))
 answer_phase v None = refl
@@ -171,19 +171,19 @@ module _ {S : Type 0} (does : Doing S) (v : Viewer) (n : ℕ) (old new : S) wher
 
   pub answer_goes : (found : Option SnapAnswer) → StaysAlive → Goes does (go_on v [] (behind_answer found)) (answered_phase (record v { receives = n }) found) old new
   answer_goes None alive = alive v [] (Receives ToSnap) refl
-  answer_goes (Some answer) alive = alive v [] (Tells (answer_line answer)) refl
+  answer_goes (Some answer) alive = alive v [] (TellsText (answer_line answer)) refl
 
   pub sync_goes : (how : How) (found : Option Synced) → StaysAlive → Goes does (behind_sync v how found) (joined_phase (record v { receives = n }) how found) old new
   sync_goes how None alive = alive v [] (Receives (ToJoin how)) refl
   sync_goes Fresh (Some found) alive = alive v [] Begins refl
   sync_goes Whole (Some found) alive = alive v [] Begins refl
-  sync_goes Resume (Some found) alive = alive (after_giving v) (unsent v.replica) (Tells (rejoined_line found.joined found.from)) refl
+  sync_goes Resume (Some found) alive = alive (after_giving v) (unsent v.replica) (TellsText (rejoined_line found.joined found.from)) refl
 
   pub sync_stops : (how : How) (found : Option Synced) (end : ViewEnd) → StopsAlive end → Stops does (behind_sync v how found) end old new
   sync_stops how None end alive = alive v [] (Receives (ToJoin how)) refl
   sync_stops Fresh (Some found) end alive = alive v [] Begins refl
   sync_stops Whole (Some found) end alive = alive v [] Begins refl
-  sync_stops Resume (Some found) end alive = alive (after_giving v) (unsent v.replica) (Tells (rejoined_line found.joined found.from)) refl
+  sync_stops Resume (Some found) end alive = alive (after_giving v) (unsent v.replica) (TellsText (rejoined_line found.joined found.from)) refl
 
 -- a run, and then why it stopped
 pub goes_and_hears : {S : Type 0} (does : Doing S) (follows : Follows does) (why : Stop) (from mid : Phase) (v : Viewer) (aim : Aim) (old now new : S) → Goes does from mid old now → StopsHearing does why mid v aim now new → StopsHearing does why from v aim old new

@@ -14,7 +14,7 @@ use Rattle.view_shell.specs.declared.hearing.SnapAnswer.{SnapAnswer}
 use Rattle.view_shell.specs.declared.hearing.SnapAnswer.TheVariants as answer
 use Rattle.view_shell.specs.declared.hearing.Synced.{Synced}
 use Rattle.view_shell.specs.ViewText.{snapped_line, snap_refused_line, rejoined_line}
-use Rattle.view_shell.specs.Phases.{Viewer, Phase, Aim, ToJoin, ToReach, ToSettle, ToSnap, Tells, Printing, Receives, Receiving, Over, bad_base, finish, after_giving, go_on, send_all, after_frame}
+use Rattle.view_shell.specs.Phases.{Viewer, Phase, Aim, ToJoin, ToReach, ToSettle, ToSnap, TellsText, Printing, Receives, Receiving, Over, bad_base, finish, after_giving, go_on, send_all, after_frame}
 use Rattle.view_shell.specs.ViewRun.{Doing, Goes, Stops}
 
 -- the phase behind a frame that was taken, or behind a link that was quiet
@@ -72,7 +72,7 @@ rejoined_text (Some found) = rejoined_line found.joined found.from
 abbrev pub synced_phase : Viewer → How → Synced → Phase
 synced_phase v Fresh found = Printing v []
 synced_phase v Whole found = Printing v []
-synced_phase v Resume found = send_all (after_giving v) (unsent v.replica) (Tells (rejoined_line found.joined found.from))
+synced_phase v Resume found = send_all (after_giving v) (unsent v.replica) (TellsText (rejoined_line found.joined found.from))
 
 -- and behind a frame that was heard for a Sync
 abbrev pub joined_phase : Viewer → How → Option Synced → Phase

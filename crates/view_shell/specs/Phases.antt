@@ -63,7 +63,7 @@ pub data Task : Type 0 where
   -- its script begins
   Begins : Task
   -- a line of its script is done, and told so
-  Tells : List ℕ → Task
+  TellsText : List ℕ → Task
   -- it has left
   Leaves : Task
 
@@ -121,7 +121,7 @@ after_publish v payload = record v { replica = publishes v.replica payload }
 abbrev pub begin_task : Viewer → Task → Phase
 begin_task v (Receives aim) = receive v aim
 begin_task v Begins = Printing v []
-begin_task v (Tells text) = finish v text
+begin_task v (TellsText text) = finish v text
 begin_task v Leaves = PrintingLast (view_line v.replica)
 
 abbrev pub send_all : Viewer → List ClientFrame → Task → Phase
@@ -133,7 +133,7 @@ abbrev pub run : Viewer → List PlainLine → Phase
 run v [] = leave_session v
 run v (Publish scope event value ∷ rest) =
     let w = after_publish (with_lines v rest) (payload_spelling (record { scope = scope; event = event; value = value })) in
-    send_all (after_giving w) (unsent w.replica) (Tells [])
+    send_all (after_giving w) (unsent w.replica) (TellsText [])
 run v (Watch scope event handling ∷ rest) = finish (record v { lines = rest; topics = subscribes v.topics scope event handling }) []
 run v (Wait time ∷ rest) = receive (with_lines v rest) (ToReach time)
 run v (Settle ∷ rest) = send_all (after_giving (with_lines v rest)) (unsent v.replica) (Receives ToSettle)
@@ -162,13 +162,13 @@ go_on v frames task = send_all v (alive v ++ frames) task
 abbrev pub after_sync : Viewer → How → ℕ → ℕ → Phase
 after_sync v Fresh joined from = go_on v [] Begins
 after_sync v Whole joined from = go_on v [] Begins
-after_sync v Resume joined from = go_on (after_giving v) (unsent v.replica) (Tells (rejoined_line joined from))
+after_sync v Resume joined from = go_on (after_giving v) (unsent v.replica) (TellsText (rejoined_line joined from))
 
 -- a frame was taken
 abbrev pub after_frame : Viewer → Aim → ServerFrame → Phase
 after_frame v (ToJoin how) (server.Sync joined last from base) = after_sync v how joined from
-after_frame v ToSnap (server.Snapped time) = go_on v [] (Tells (snapped_line time))
-after_frame v ToSnap (server.Refused about code kept more) = go_on v [] (Tells (snap_refused_line code kept))
+after_frame v ToSnap (server.Snapped time) = go_on v [] (TellsText (snapped_line time))
+after_frame v ToSnap (server.Refused about code kept more) = go_on v [] (TellsText (snap_refused_line code kept))
 after_frame v aim frame = go_on v [] (Receives aim)
 
 -- a base that is none: a view that joins for the first time asks for the whole log then

@@ -10,7 +10,7 @@ ghost use Rattle.tea_base.specs.Limits.{most_payload};
 ghost use Rattle.view_bridge.specs.Topics.{subscribes};
 ghost use Rattle.view_script.specs.PlainLine.{LineFits, PlainLine, most_publishes, payload_length, plain_line, plain_lines, line_publishes};
 ghost use Rattle.std.specs.List.{AllByRecursion};
-ghost use Rattle.view_shell.specs.Phases.{Over, Viewer, Receives, Sending, Tells, ToReach, ToSettle, ToSnap, finish, after_giving, leave_session, receive, run, send_all, shown_text};
+ghost use Rattle.view_shell.specs.Phases.{Over, Viewer, Receives, Sending, TellsText, ToReach, ToSettle, ToSnap, finish, after_giving, leave_session, receive, run, send_all, shown_text};
 ghost use Rattle.view_shell.specs.ViewText.{digested_view_line, numbers_line, view_line};
 ghost use Rattle.view_shell.specs.Viewers.{HasRoomBehind, HasRoomFor, IsReady, KnowsItself, viewer};
 ghost use Rattle.view_shell.specs.Flows.{departure_phase, flow_of, flow_phase};
@@ -308,7 +308,7 @@ pub fn send_and_tell<L: Link, W: Sink>(
     ensures kept { watcher.new ≡ record watcher.old { replica = watcher.new.replica; receives = watcher.new.receives; quiets = watcher.new.quiets } }
     ensures ready { OnOk result (IsReady watcher.new) }
     ensures talk { (address : List ℕ) (lines : List PlainLine) → GoesOrStops (Acts (window_tells (output_tells W.written W.faults W.wants) (links_tell L.coming L.heard L.sent L.counts)))
-        (send_all (after_giving (viewer address watcher.old lines)) (unsent watcher.old.replica.plain) (Tells (rejoined_text synced))) (λ _. run (viewer address watcher.new lines) lines) result (window out.old link.old) (window out.new link.new) }
+        (send_all (after_giving (viewer address watcher.old lines)) (unsent watcher.old.replica.plain) (TellsText (rejoined_text synced))) (λ _. run (viewer address watcher.new lines) lines) result (window out.old link.old) (window out.new link.new) }
 {
     match send_unsent(watcher, link) {
         Ok(()) => {}
