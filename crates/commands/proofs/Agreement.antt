@@ -3,9 +3,9 @@ use Rattle.std.proofs.Common.{◌≡◌, ℕ, ◌≤◌, ◌<◌, List, ap, refl
 use Rattle.std.proofs.lemmas.Bool.{lt-ltb, le-ltb}
 use Rattle.tea_base.specs.Legal.{IsLegal}
 use Rattle.tea_base.specs.declared.entry.Entry.{Entry}
-use Rattle.model_lang.specs.Program.{IsProgram}
-use Rattle.model_lang.specs.Tree.{ProgramTree}
-use Rattle.model_check.specs.Methods.{field_counts}
+use Rattle.model_tree.specs.Program.{IsProgram}
+use Rattle.model_tree.specs.Tree.{ProgramTree}
+use Rattle.model_solved.specs.Methods.{field_counts}
 use Rattle.tea_base.specs.Limits.{time_limit}
 use Rattle.world_plain.specs.Valid.{Valid}
 use Rattle.world_plain.specs.World.{WorldRecord}

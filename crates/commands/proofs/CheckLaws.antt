@@ -2,10 +2,10 @@
 use Rattle.std.proofs.Common.{◌≡◌, ℕ, ◌≤◌, ◌<◌, ◌+◌, ◌*◌, List, [], ◌∷◌, length, drop, get_or, ap, ◌∙◌, arith}
 use Rattle.std.proofs.lemmas.List.{at_drop_more, length-map}
 use Rattle.std.proofs.lemmas.List.Sums.{sum_by-cons}
-use Rattle.model_lang.specs.declared.tree.Class.{Class}
-use Rattle.model_lang.specs.Tree.{ClassTree, ProgramTree}
-use Rattle.model_lang.specs.TreeView.{class_tree, method_tree, program_tree}
-use Rattle.model_lang.specs.Bounds.{ClassesFit, ProgramFits}
+use Rattle.model_tree.specs.declared.tree.Class.{Class}
+use Rattle.model_tree.specs.Tree.{ClassTree, ProgramTree}
+use Rattle.model_tree.specs.TreeView.{class_tree, method_tree, program_tree}
+use Rattle.model_tree.specs.Bounds.{ClassesFit, ProgramFits}
 use Rattle.commands.specs.PrintedText.{method_count}
 
 -- those of the first class, and of the others

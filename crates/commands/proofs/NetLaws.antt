@@ -3,7 +3,7 @@ use Rattle.std.proofs.Common.{inl, inr, ℕ, Bool, true, false, cond, nat_lt, Li
 use Rattle.std.specs.Prelude.{⊤}
 use Rattle.tea_base.specs.declared.entry.Entry.{Entry}
 use Rattle.reflector_core.specs.declared.request.Request.{Request}
-use Rattle.model_lang.specs.Tree.{ProgramTree}
+use Rattle.model_tree.specs.Tree.{ProgramTree}
 use Rattle.run_steps.specs.Steps.{Ask, Step}
 use Rattle.commands.specs.declared.outcome.Input.{Input}
 use Rattle.commands.specs.declared.outcome.Input.TheVariants as input

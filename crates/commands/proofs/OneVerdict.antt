@@ -9,11 +9,11 @@ use Rattle.session_log.specs.Reading.{log_at}
 use Rattle.session_log.specs.Spelling.{log_spelling}
 use Rattle.session_log.proofs.LogCodec.{log_codec}
 use Rattle.reflector_core.specs.declared.request.Request.{Request}
-use Rattle.model_lang.specs.Program.{Reading, a_program, no_program, too_large, IsReading}
-use Rattle.model_lang.specs.Tree.{ProgramTree}
-use Rattle.model_check.specs.declared.fault.CheckFault.{CheckFault}
-use Rattle.model_check.specs.Faults.{first_fault}
-use Rattle.model_check.specs.Methods.{field_counts}
+use Rattle.model_tree.specs.Program.{Reading, a_program, no_program, too_large, IsReading}
+use Rattle.model_tree.specs.Tree.{ProgramTree}
+use Rattle.model_solved.specs.declared.fault.CheckFault.{CheckFault}
+use Rattle.model_solved.specs.Faults.{first_fault}
+use Rattle.model_solved.specs.Methods.{field_counts}
 use Rattle.world_plain.specs.World.{WorldRecord}
 use Rattle.snapshot_codec.specs.Answer.{IsSnapshot}
 use Rattle.snapshot_codec.specs.Reading.{world_record_at}

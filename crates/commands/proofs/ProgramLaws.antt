@@ -3,12 +3,12 @@ use Rattle.std.proofs.Common.{◌≡◌, inl, inr, ℕ, List, length, Option, So
 use Rattle.model_lang.specs.Answer.{Parses, IsPlaced}
 use Rattle.model_lang.specs.declared.fault.LangFault.{LangFault}
 use Rattle.model_lang.specs.declared.fault.LangFault.TheVariants as lang
-use Rattle.model_lang.specs.declared.tree.Class.{Class}
-use Rattle.model_lang.specs.Program.{IsRead, a_program, no_program, too_large}
-use Rattle.model_lang.specs.Tree.{ProgramTree}
+use Rattle.model_tree.specs.declared.tree.Class.{Class}
+use Rattle.model_tree.specs.Program.{IsRead, a_program, no_program, too_large}
+use Rattle.model_tree.specs.Tree.{ProgramTree}
 use Rattle.model_check.specs.Answer.{IsFirstFault}
-use Rattle.model_check.specs.Faults.{faults_of_program, first_fault}
-use Rattle.model_check.specs.declared.fault.CheckFault.{CheckFault}
+use Rattle.model_solved.specs.Faults.{faults_of_program, first_fault}
+use Rattle.model_solved.specs.declared.fault.CheckFault.{CheckFault}
 use Rattle.commands.specs.declared.program.ProgramFault.{ProgramFault}
 use Rattle.commands.specs.PrintedText.{check_line}
 use Rattle.commands.specs.Verdict.{Coming, Free, IsFaultless, IsLineOf, OfProgram, Verdict}

@@ -2,10 +2,10 @@
 use Rattle.std.proofs.Common.{◌≡◌, inl, inr, ℕ, Bool, true, false, cond, nat_lt, encode_utf8_all, List, [], ◌∷◌, Option, Some, None, refl, sym, arith, subst}
 use Rattle.tea_base.specs.declared.entry.Entry.{Entry}
 use Rattle.reflector_core.specs.declared.request.Request.{Request}
-use Rattle.model_lang.specs.Program.{Reading, a_program, no_program, too_large, IsReading, IsRead}
-use Rattle.model_lang.specs.Tree.{ProgramTree}
-use Rattle.model_check.specs.declared.fault.CheckFault.{CheckFault}
-use Rattle.model_check.specs.Faults.{first_fault}
+use Rattle.model_tree.specs.Program.{Reading, a_program, no_program, too_large, IsReading, IsRead}
+use Rattle.model_tree.specs.Tree.{ProgramTree}
+use Rattle.model_solved.specs.declared.fault.CheckFault.{CheckFault}
+use Rattle.model_solved.specs.Faults.{first_fault}
 use Rattle.run_steps.specs.Steps.{Ask, Loads}
 use Rattle.commands.specs.declared.outcome.Input.{Input}
 use Rattle.commands.specs.declared.outcome.Input.TheVariants as input

@@ -9,8 +9,8 @@ use Rattle.tea_base.specs.Legal.{IsLegal, TimesRiseAfter}
 use Rattle.tea_base.specs.Readings.{count_until}
 use Rattle.tea_base.proofs.LogLaws.{TimesRise-legal}
 use Rattle.tea_base.specs.declared.entry.Entry.{Entry}
-use Rattle.model_lang.specs.declared.tree.Class.{Class}
-use Rattle.model_lang.specs.TreeView.{program_tree}
+use Rattle.model_tree.specs.declared.tree.Class.{Class}
+use Rattle.model_tree.specs.TreeView.{program_tree}
 use Rattle.world_plain.specs.World.{WorldRecord}
 use Rattle.world.specs.View.{WorldView}
 use Rattle.world.specs.Worlds.{Scene, entries_behind, external, first_scene, replay_from}

@@ -7,11 +7,11 @@ use Rattle.hex.specs.Hex.{encode_lower}
 use Rattle.sha2.specs.Sha256.{sha256}
 use Rattle.snapshot_codec.specs.Spelling.{world_spelling}
 use Rattle.world_plain.specs.World.{WorldRecord}
-use Rattle.model_check.specs.declared.fault.CheckFault.{CheckFault}
-use Rattle.model_lang.specs.Tree.{ProgramTree}
-use Rattle.model_lang.specs.declared.fault.Bound.{Bound}
-use Rattle.model_lang.specs.declared.fault.Bound.TheVariants as bound
-use Rattle.model_check.specs.declared.fault.CheckFault.TheVariants.{Twice, NoName, NoClass, NoField, Count, NoRoot, WantOfMemory}
+use Rattle.model_solved.specs.declared.fault.CheckFault.{CheckFault}
+use Rattle.model_tree.specs.Tree.{ProgramTree}
+use Rattle.model_tree.specs.declared.bound.Bound.{Bound}
+use Rattle.model_tree.specs.declared.bound.Bound.TheVariants as bound
+use Rattle.model_solved.specs.declared.fault.CheckFault.TheVariants.{Twice, NoName, NoClass, NoField, Count, NoRoot, WantOfMemory}
 use Rattle.wire_frames.specs.declared.start.Base.{Base}
 use Rattle.commands.specs.declared.words.DrillRequest.{DrillRequest}
 use Rattle.connection.specs.declared.ending.Ended.{Ended}

@@ -8,12 +8,12 @@ use Rattle.reflector_core.specs.PlainSession.{PlainSession}
 use Rattle.session_log.specs.Spelling.{log_spelling}
 use Rattle.reflector_core.specs.declared.request.Request.{Request}
 use Rattle.reflector_core.specs.Play.{first_session, after_all, replies_from, TellsItsEvents}
-use Rattle.model_lang.specs.Bounds.{most_program_bytes}
-use Rattle.model_lang.specs.Program.{IsProgram, IsRead, Reading, a_program, no_program, too_large, IsReading}
-use Rattle.model_lang.specs.Tree.{ProgramTree}
-use Rattle.model_check.specs.declared.fault.CheckFault.{CheckFault}
-use Rattle.model_check.specs.Faults.{first_fault}
-use Rattle.model_check.specs.Methods.{field_counts}
+use Rattle.model_tree.specs.Bounds.{most_program_bytes}
+use Rattle.model_tree.specs.Program.{IsProgram, IsRead, Reading, a_program, no_program, too_large, IsReading}
+use Rattle.model_tree.specs.Tree.{ProgramTree}
+use Rattle.model_solved.specs.declared.fault.CheckFault.{CheckFault}
+use Rattle.model_solved.specs.Faults.{first_fault}
+use Rattle.model_solved.specs.Methods.{field_counts}
 use Rattle.byte_fields.specs.Fields.{text_field}
 use Rattle.sha2.specs.Sha256.{sha256}
 use Rattle.tea_base.specs.Limits.{most_snapshot, time_limit}

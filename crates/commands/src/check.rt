@@ -1,7 +1,7 @@
 //! The command `check`: how many classes and methods a program has, or its first fault.
 ghost use Rattle.std.specs.Prelude.{◌≡◌, ◌<◌, IfOk, string_bytes};
-ghost use Rattle.model_lang.specs.Bounds.{ProgramFits};
-ghost use Rattle.model_lang.specs.TreeView.{program_tree};
+ghost use Rattle.model_tree.specs.Bounds.{ProgramFits};
+ghost use Rattle.model_tree.specs.TreeView.{program_tree};
 ghost use Rattle.commands.specs.PrintedText.{counts_line, method_count};
 ghost use Rattle.commands.specs.Verdict.{Free, OfProgram, Only, count_verdict};
 ghost use Rattle.commands.specs.Work.{IsBoundedNext, Leads, reads_left};
@@ -9,8 +9,8 @@ ghost use Rattle.commands.specs.Work.{IsBoundedNext, Leads, reads_left};
 use crate::outcome::{CommandRefusal, Outcome, Puts};
 use crate::program::{ProgramFault, read_program};
 use crate::work::Next;
-use model_check::Checked;
-use model_lang::Class;
+use model_solved::Checked;
+use model_tree::Class;
 use std::alloc::Global;
 use tea_base::{Blob, WantOfMemory};
 use text_lines::spell_numbers;

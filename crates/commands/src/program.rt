@@ -5,8 +5,10 @@ ghost use Rattle.commands.specs.PrintedText.{bound_word, named_line};
 ghost use Rattle.commands.specs.declared.program.ProgramFault.TheVariants.{WantOfMemory};
 ghost use Rattle.commands.specs.Work.{IsUnread, IsUnsound, ProgramEnd};
 
-use model_check::{CheckFault, Checked, check};
-use model_lang::{Bound, LangFault, parse};
+use model_check::check;
+use model_solved::{CheckFault, Checked};
+use model_lang::{LangFault, parse};
+use model_tree::Bound;
 use std::alloc::Global;
 use tea_base::{Blob, Text, WantOfMemory};
 use text_lines::spell_numbers;

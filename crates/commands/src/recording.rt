@@ -1,8 +1,8 @@
 //! What a replay has read: a session's program and its log.
 ghost use Rattle.std.specs.Prelude.{◌≡◌, ◌<◌, ◌≤◌, IfOk};
 ghost use Rattle.std.specs.Option.{IfSome, option_map};
-ghost use Rattle.model_check.specs.Methods.{field_counts};
-ghost use Rattle.model_lang.specs.TreeView.{program_tree};
+ghost use Rattle.model_solved.specs.Methods.{field_counts};
+ghost use Rattle.model_tree.specs.TreeView.{program_tree};
 ghost use Rattle.tea_base.specs.Limits.{time_limit};
 ghost use Rattle.world_plain.specs.Valid.{Valid};
 ghost use Rattle.world_plain.specs.World.{world_record};
@@ -15,7 +15,7 @@ use crate::program::{ProgramFault, read_program};
 use crate::words::ReplayRequest;
 use crate::work::{Next, Waiting};
 use crate::world_run::tell_replay;
-use model_check::Checked;
+use model_solved::Checked;
 use session_log::{Log, LogFault, decode};
 use snapshot_codec::{SnapFault, session_id, unsnap};
 use std::alloc::Global;

@@ -1,6 +1,6 @@
 //! The visit of a view to a session: the command `join`.
 ghost use Rattle.std.specs.Prelude.{◌<◌, IfOk};
-ghost use Rattle.model_lang.specs.TreeView.{program_tree};
+ghost use Rattle.model_tree.specs.TreeView.{program_tree};
 ghost use Rattle.view_script.specs.ViewScript.{view_script_of};
 ghost use Rattle.commands.specs.CommandWords.{IsBoundedJoin};
 ghost use Rattle.commands.specs.Verdict.{Free, OfJoin, OfProgram, OfViewScript, session_of};
@@ -11,7 +11,7 @@ use crate::outcome::{CommandRefusal, Input};
 use crate::program::{ProgramFault, read_program};
 use crate::words::JoinRequest;
 use crate::work::{Next, Waiting};
-use model_check::Checked;
+use model_solved::Checked;
 use snapshot_codec::session_id;
 use std::alloc::Global;
 use tea_base::{SessionId, Text, WantOfMemory};

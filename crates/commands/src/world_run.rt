@@ -2,18 +2,18 @@
 ghost use Rattle.std.specs.Prelude.{◌≡◌, ◌<◌, ◌≤◌, ◌-◌, length, slice_get, false, Some, IfOk, OnOk};
 ghost use Rattle.std.specs.Option.{IfSome, option_map};
 ghost use Rattle.tea_base.specs.Legal.{IsLegal};
-ghost use Rattle.model_check.specs.Methods.{field_counts};
+ghost use Rattle.model_solved.specs.Methods.{field_counts};
 ghost use Rattle.world_plain.specs.Valid.{Valid};
 ghost use Rattle.tea_base.specs.Limits.{time_limit};
 ghost use Rattle.world_plain.specs.World.{world_record};
-ghost use Rattle.model_lang.specs.TreeView.{program_tree};
+ghost use Rattle.model_tree.specs.TreeView.{program_tree};
 ghost use Rattle.snapshot_codec.specs.Conditions.{IsValid};
 ghost use Rattle.world.specs.Worlds.{advance as advanced, entries_behind, external as entered_by, replay_from};
 ghost use Rattle.commands.specs.Work.{Opens, TellsWorld, world_at};
 
 use crate::recording::Recording;
 use crate::world_text::world_line;
-use model_check::Checked;
+use model_solved::Checked;
 use session_log::{GetRefusal, Log};
 use snapshot_codec::{digest, snapshot};
 use std::alloc::Global;

@@ -1,7 +1,7 @@
 -- What is told of a drill, and a command that goes on as one.
 use Rattle.std.proofs.Common.{◌≡◌, inl, inr, ℕ, ◌+◌, List, [], ◌∷◌, length, map, replicate, None, Result, Ok, Err, IfOk, refl, ap, ◌∙◌}
 use Rattle.tea_base.specs.declared.want.WantOfMemory.{WantOfMemory}
-use Rattle.model_lang.specs.Tree.{ProgramTree}
+use Rattle.model_tree.specs.Tree.{ProgramTree}
 use Rattle.reflector_core.specs.PlainSession.{PlainSession}
 use Rattle.snapshot_codec.specs.Spelling.{world_spelling}
 use Rattle.world.specs.Worlds.{replay}

@@ -8,9 +8,9 @@ use Rattle.tea_base.proofs.LogLaws.{TimesRise-legal}
 use Rattle.wire_frames.specs.declared.frame.ServerFrame.TheVariants.{Recv, Tick}
 use Rattle.wire_frames.proofs.Times.{all_until, count_until-at, count_until-cons, early_as_last, later_than_counted}
 use Rattle.reflector_core.specs.PlainSession.{PlainSession, IsSoundSession}
-use Rattle.model_lang.specs.Tree.{ProgramTree}
-use Rattle.model_lang.specs.Program.{IsProgram}
-use Rattle.model_lang.specs.TreeView.{program_tree}
+use Rattle.model_tree.specs.Tree.{ProgramTree}
+use Rattle.model_tree.specs.Program.{IsProgram}
+use Rattle.model_tree.specs.TreeView.{program_tree}
 use Rattle.world.specs.Worlds.{replay}
 use Rattle.replica_plain.specs.Worlds.{Worlds, AreWorlds, replay_world}
 use Rattle.replica_plain.specs.PlainReplica.{PlainReplica}

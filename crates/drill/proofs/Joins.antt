@@ -23,8 +23,8 @@ use Rattle.join_sync.specs.declared.cursor.Cursor.{Cursor}
 use Rattle.join_sync.specs.Answers.{first_cursor}
 use Rattle.join_sync.specs.Standing as at
 use Rattle.join_sync.proofs.Openings.{joined_stands}
-use Rattle.model_lang.specs.Program.{IsProgram}
-use Rattle.model_lang.specs.TreeView.{program_tree}
+use Rattle.model_tree.specs.Program.{IsProgram}
+use Rattle.model_tree.specs.TreeView.{program_tree}
 use Rattle.world.specs.Worlds.{replay}
 use Rattle.session_lock.specs.Passes.{SharedState}
 use Rattle.replica_plain.specs.declared.how.How.{How}

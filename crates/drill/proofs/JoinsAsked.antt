@@ -16,9 +16,9 @@ use Rattle.reflector_core.specs.declared.request.Reply.{Reply}
 use Rattle.reflector_core.specs.declared.request.Reply.TheVariants.{Again, Batch, Joined, Kept, Left, Refused, Stamped, Ticked}
 use Rattle.join_sync.specs.declared.cursor.Cursor.{Cursor}
 use Rattle.join_sync.specs.Answers.{IsJoinReply, IsReplyTo, first_cursor, join_answer}
-use Rattle.model_lang.specs.Program.{IsProgram}
-use Rattle.model_lang.specs.Tree.{ProgramTree}
-use Rattle.model_lang.specs.TreeView.{program_tree}
+use Rattle.model_tree.specs.Program.{IsProgram}
+use Rattle.model_tree.specs.Tree.{ProgramTree}
+use Rattle.model_tree.specs.TreeView.{program_tree}
 use Rattle.world.specs.Worlds.{replay}
 use Rattle.session_lock.specs.History.{play}
 use Rattle.session_lock.specs.Passes.{PassState, SharedState}

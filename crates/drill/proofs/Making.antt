@@ -5,8 +5,8 @@ use Rattle.std.specs.Arc.{arc_value}
 use Rattle.std.proofs.lemmas.Bool.{le-leb}
 use Rattle.std.proofs.lemmas.List.{map-append}
 use Rattle.std.specs.Str.{chars}
-use Rattle.model_lang.specs.declared.tree.Class.{Class}
-use Rattle.model_lang.specs.TreeView.{program_tree}
+use Rattle.model_tree.specs.declared.tree.Class.{Class}
+use Rattle.model_tree.specs.TreeView.{program_tree}
 use Rattle.reflector_core.specs.Play.{first_session}
 use Rattle.reflector_core.proofs.SoundLaws.{IsSoundSession-first}
 use Rattle.session_lock.specs.declared.knowledge.Item.{Item}

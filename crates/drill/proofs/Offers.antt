@@ -12,7 +12,7 @@ use Rattle.reflector_core.specs.declared.request.Reply.{Reply}
 use Rattle.session_lock.specs.History.{IsSoundThrough}
 use Rattle.session_lock.specs.Passes.{PassState, Replied, SharedState}
 use Rattle.join_sync.specs.declared.cursor.Cursor.{Cursor}
-use Rattle.model_lang.specs.TreeView.{program_tree}
+use Rattle.model_tree.specs.TreeView.{program_tree}
 use Rattle.world.specs.Worlds.{replay}
 use Rattle.replica.specs.RealWorlds.{is_at_rest}
 use Rattle.replica.specs.View.{ReplicaView, worlds_of}

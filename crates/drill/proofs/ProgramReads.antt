@@ -7,14 +7,14 @@ use Rattle.model_tokens.specs.declared.token.Token.{Token}
 use Rattle.model_tokens.specs.Division.{Piece, token_of, Divides}
 use Rattle.model_tokens.specs.Reader.{TokenRead, next_piece}
 use Rattle.model_tokens.proofs.Steps.{piece_before}
-use Rattle.model_lang.specs.Tree.{ProgramTree}
+use Rattle.model_tree.specs.Tree.{ProgramTree}
 use Rattle.model_lang.specs.Reader.{read_operator_line, read_program}
-use Rattle.model_lang.specs.Bounds.{most_nested, greatest, brackets_after, operators_after, first_excess}
+use Rattle.model_tree.specs.Bounds.{most_nested, greatest, brackets_after, operators_after, first_excess}
 use Rattle.model_lang.proofs.Whole.{are_spelled}
 use Rattle.model_check.specs.Answer.{IsFirstFault}
-use Rattle.model_check.specs.Faults.{first_of, faults_of_program}
-use Rattle.model_check.specs.declared.fault.CheckFault.{CheckFault}
-use Rattle.model_check.specs.declared.fault.CheckFault.TheVariants.{WantOfMemory}
+use Rattle.model_solved.specs.Faults.{first_of, faults_of_program}
+use Rattle.model_solved.specs.declared.fault.CheckFault.{CheckFault}
+use Rattle.model_solved.specs.declared.fault.CheckFault.TheVariants.{WantOfMemory}
 use Rattle.drill.specs.Program.{drill_text, IsDrillProgram}
 
 abbrev with_tokens : List Token → Option (List Token) → Option (List Token)

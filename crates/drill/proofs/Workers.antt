@@ -21,8 +21,8 @@ use Rattle.join_sync.proofs.Pulls.{batch_streams, batch_stands}
 use Rattle.replica_plain.specs.Worlds.{AreWorlds}
 use Rattle.replica_plain.specs.Taking.{taken, IsTimely}
 use Rattle.replica_plain.specs.Following.{IsReadFrame}
-use Rattle.model_lang.specs.Program.{IsProgram}
-use Rattle.model_lang.specs.TreeView.{program_tree}
+use Rattle.model_tree.specs.Program.{IsProgram}
+use Rattle.model_tree.specs.TreeView.{program_tree}
 use Rattle.replica_plain.proofs.FrameSteps.{StandsAt, behind_frame, tick_rests}
 use Rattle.replica.specs.RealWorlds.{is_at_rest}
 use Rattle.replica.specs.View.{ReplicaView, with_plain, worlds_of}

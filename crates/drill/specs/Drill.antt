@@ -3,8 +3,8 @@ use Rattle.std.specs.Prelude.{◌≡◌, ◌≤◌, ◌<◌, ℕ, ◌+◌, true,
 use Rattle.byte_fields.specs.Fields.{text_field}
 use Rattle.sha2.specs.Sha256.{sha256}
 use Rattle.tea_base.specs.Limits.{end_of_time}
-use Rattle.model_lang.specs.Tree.{ProgramTree}
-use Rattle.model_lang.specs.TreeView.{program_tree}
+use Rattle.model_tree.specs.Tree.{ProgramTree}
+use Rattle.model_tree.specs.TreeView.{program_tree}
 use Rattle.reflector_core.specs.PlainSession.{PlainSession}
 use Rattle.replica.specs.View.{ReplicaView}
 use Rattle.world.specs.Worlds.{replay}

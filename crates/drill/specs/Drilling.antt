@@ -2,7 +2,7 @@
 use Rattle.std.specs.Prelude.{IfOk, Result, Vec, ◌≡◌, ℕ, zero, suc, ◌+◌, ◌-◌, true, List, [], ◌∷◌, map}
 use Rattle.std.specs.List.{All, AllByRecursion}
 use Rattle.std.specs.Arc.{arc_value}
-use Rattle.model_lang.specs.TreeView.{program_tree}
+use Rattle.model_tree.specs.TreeView.{program_tree}
 use Rattle.session_lock.specs.History.{Saw, calls_of}
 use Rattle.session_lock.specs.Passes.{PassState, SharedState, first_pass, numbers_held}
 use Rattle.reflector_core.specs.PlainSession.{PlainSession}

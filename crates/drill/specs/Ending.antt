@@ -2,8 +2,8 @@
 use Rattle.std.specs.Prelude.{◌≡◌, ◌≤◌, ℤ, pos, true, false, List, [], ◌∷◌, length}
 use Rattle.tea_base.specs.Readings.{last_number}
 use Rattle.reflector_core.specs.PlainSession.{PlainSession}
-use Rattle.model_lang.specs.Program.{IsProgram}
-use Rattle.model_lang.specs.TreeView.{program_tree}
+use Rattle.model_tree.specs.Program.{IsProgram}
+use Rattle.model_tree.specs.TreeView.{program_tree}
 use Rattle.model_value.specs.Plain.{PlainValue, int}
 use Rattle.world_plain.specs.World.{ObjectRecord, WorldRecord}
 use Rattle.world.specs.Worlds.{replay}

@@ -1,7 +1,7 @@
 -- The program of the drill.
 use Rattle.std.specs.Prelude.{ℕ, List, codes}
-use Rattle.model_lang.specs.Tree.{ProgramTree}
-use Rattle.model_lang.specs.Program.{IsRead}
+use Rattle.model_tree.specs.Tree.{ProgramTree}
+use Rattle.model_tree.specs.Program.{IsRead}
 
 -- the name of the session
 abbrev pub drill_name : List ℕ

@@ -2,7 +2,7 @@
 use Rattle.std.proofs.Common.{if◌then◌else◌, ℕ, ◌≡◌, ◌≤◌, Bool, false, List, [], ◌∷◌, ◌++◌, Some, ap, sym, ◌∙◌, nat_le, refl, arith}
 use Rattle.std.proofs.lemmas.Bool.Decides.{nat_tests}
 use Rattle.tea_base.specs.declared.entry.Entry.{Entry}
-use Rattle.model_lang.specs.Tree.{ProgramTree}
+use Rattle.model_tree.specs.Tree.{ProgramTree}
 use Rattle.world.specs.Worlds.{Scene, external, first_scene, replay, replay_from}
 use Rattle.reflector_core.specs.PlainSession.{PlainSession}
 use Rattle.reflector_core.specs.Answer.{answer}

@@ -1,8 +1,8 @@
 -- What a drill reports of its replicas.
 use Rattle.std.specs.Prelude.{◌≡◌, ℕ, false, List, length, Some}
-use Rattle.model_lang.specs.declared.tree.Class.{Class}
-use Rattle.model_lang.specs.Tree.{ProgramTree}
-use Rattle.model_lang.specs.TreeView.{program_tree}
+use Rattle.model_tree.specs.declared.tree.Class.{Class}
+use Rattle.model_tree.specs.Tree.{ProgramTree}
+use Rattle.model_tree.specs.TreeView.{program_tree}
 use Rattle.world_plain.specs.World.{WorldRecord}
 use Rattle.world.specs.Worlds.{field_counts, replay}
 use Rattle.snapshot_codec.specs.Answer.{IsSnapshot}

@@ -1,7 +1,7 @@
 -- Which snapshots the session of a drill keeps.
 use Rattle.std.specs.Prelude.{◌≡◌, ◌≤◌, ℕ, true, List, Some}
 use Rattle.tea_base.specs.declared.entry.Entry.{Entry}
-use Rattle.model_lang.specs.Tree.{ProgramTree}
+use Rattle.model_tree.specs.Tree.{ProgramTree}
 use Rattle.world.specs.Worlds.{replay}
 use Rattle.replica.specs.RealWorlds.{is_at_rest, worlds}
 

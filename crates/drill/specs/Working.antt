@@ -5,8 +5,8 @@ use Rattle.reflector_core.specs.PlainSession.{PlainSession}
 use Rattle.wire_frames.specs.Served.{Place}
 use Rattle.join_sync.specs.declared.cursor.Cursor.{Cursor}
 use Rattle.join_sync.specs.Standing.{StandsAt}
-use Rattle.model_lang.specs.Program.{IsProgram}
-use Rattle.model_lang.specs.TreeView.{program_tree}
+use Rattle.model_tree.specs.Program.{IsProgram}
+use Rattle.model_tree.specs.TreeView.{program_tree}
 use Rattle.replica_plain.specs.Following.{FollowsLog}
 use Rattle.replica.specs.RealWorlds.{is_at_rest}
 use Rattle.replica.specs.View.{ReplicaView, worlds_of}

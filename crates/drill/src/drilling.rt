@@ -17,7 +17,7 @@ use crate::report::{DrillReport, Replicas};
 use crate::size::Size;
 use crate::trust::TrustReplay;
 use crate::worker::{Hall, Worker};
-use model_check::{Checked, checked_crosses_threads};
+use model_solved::{Checked, checked_crosses_threads};
 use reflector_core::Session;
 use replica::{Replica, replica_crosses_threads};
 use seeded_random::Source64;

@@ -1,7 +1,7 @@
 //! How a drill ends: each replica comes to the end of the closed log.
 ghost use Rattle.std.specs.Prelude.{◌≡◌, ◌<◌, ◌≤◌, Some, IfOk, OnOk, length, slice_get, count_by, bytes_eq};
 ghost use Rattle.std.specs.List.{All, AllZip};
-ghost use Rattle.model_lang.specs.TreeView.{program_tree};
+ghost use Rattle.model_tree.specs.TreeView.{program_tree};
 ghost use Rattle.world_plain.specs.World.{WorldRecord, world_record};
 ghost use Rattle.replica.specs.RealWorlds.{worlds};
 ghost use Rattle.run_steps.specs.Limits.{most_drill_views};
@@ -10,7 +10,7 @@ ghost use Rattle.drill.specs.Reports.{IsAtEnd, IsSnapshotOf, IsWhole, Reports, I
 
 use crate::report::{DrillReport, Replicas};
 use crate::taking::take_fine;
-use model_check::Checked;
+use model_solved::Checked;
 use model_value::Value;
 use reflector_core::Session;
 use replica::{Replica, worlds_replay, worlds_stand};

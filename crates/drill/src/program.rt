@@ -1,9 +1,10 @@
 //! The program of the drill.
 ghost use Rattle.std.specs.Prelude.{IfOk};
-ghost use Rattle.model_lang.specs.TreeView.{program_tree};
+ghost use Rattle.model_tree.specs.TreeView.{program_tree};
 ghost use Rattle.drill.specs.Program.{IsDrillProgram};
 
-use model_check::{CheckFault, Checked, check};
+use model_check::check;
+use model_solved::{CheckFault, Checked};
 use model_lang::{LangFault, one_reading, one_tree, parse};
 use std::alloc::Global;
 use tea_base::WantOfMemory;

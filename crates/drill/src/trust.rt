@@ -1,5 +1,5 @@
 //! Which snapshots the session of a drill keeps.
-use model_check::Checked;
+use model_solved::Checked;
 use session_lock::Trust;
 use std::alloc::Global;
 use std::sync::Arc;
@@ -12,7 +12,7 @@ pub struct TrustReplay {
 
 impl Trust for TrustReplay {
     ghost use Rattle.std.specs.Arc.{arc_value};
-    ghost use Rattle.model_lang.specs.TreeView.{program_tree};
+    ghost use Rattle.model_tree.specs.TreeView.{program_tree};
     ghost use Rattle.drill.specs.Trust.{AllowsReplay};
     ghost use Rattle.drill.specs.Replays.{allows_stays};
 

@@ -1,5 +1,6 @@
 //! Canonical texts of programs.
-use model_lang::{Bound, LangFault, parse};
+use model_lang::{LangFault, parse};
+use model_tree::Bound;
 use model_print::print;
 use std::alloc::Global;
 use tea_base::{Blob, WantOfMemory};

@@ -2,7 +2,7 @@
 use crate::stopped::Stopped;
 use known_names::Names;
 use message_queue::Queue;
-use model_check::Checked;
+use model_solved::Checked;
 use model_eval::State;
 use model_value::{Values, nils};
 use object_store::Store;

@@ -1,5 +1,5 @@
 //! Why a program gave no value.
-use model_check::CheckFault;
+use model_solved::CheckFault;
 use model_eval::{EvalStop, Fault};
 use model_lang::LangFault;
 use std::alloc::AllocError;

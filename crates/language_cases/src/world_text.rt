@@ -1,6 +1,6 @@
 //! What models can change in a world but its random numbers, and what they published, as text.
 use crate::spelling::{write_text, write_value, write_values};
-use model_check::Checked;
+use model_solved::Checked;
 use model_eval::State;
 use object_store::Object;
 use std::alloc::Global;

@@ -2,16 +2,16 @@
 use Rattle.std.proofs.Common.{◌≡◌, ◌≤◌, ◌<◌, ℕ, ◌+◌, List, [], ◌∷◌, ◌++◌, length, map, take, drop, get_or, None, refl, sym, ap, ◌∙◌, arith, subst}
 use Rattle.std.specs.Prelude.{max}
 use Rattle.std.proofs.lemmas.List.{drop_more, at_drop_all, map-append}
-use Rattle.model_lang.specs.Tree.{Name, Statement, Statements, no_statements, statement, MethodTree}
-use Rattle.model_lang.specs.TreeView.{statement_tree, statement_trees}
-use Rattle.model_lang.specs.declared.tree.Stmt.{Stmt}
-use Rattle.model_check.specs.declared.fault.CheckFault.{CheckFault}
-use Rattle.model_check.specs.declared.solved.SolvedStmt.{SolvedStmt}
-use Rattle.model_check.specs.SolvedView.{solved_statement, solved_statements}
+use Rattle.model_tree.specs.Tree.{Name, Statement, Statements, no_statements, statement, MethodTree}
+use Rattle.model_tree.specs.TreeView.{statement_tree, statement_trees}
+use Rattle.model_tree.specs.declared.tree.Stmt.{Stmt}
+use Rattle.model_solved.specs.declared.fault.CheckFault.{CheckFault}
+use Rattle.model_solved.specs.declared.solved.SolvedStmt.{SolvedStmt}
+use Rattle.model_solved.specs.SolvedView.{solved_statement, solved_statements}
 use Rattle.model_check.specs.Answer.{IsFirstFault}
-use Rattle.model_check.specs.Faults.{first_of, faults_of_names, faults_of_statement, faults_of_statements, faults_of_method}
-use Rattle.model_check.specs.Scopes.{scope_behind, slots_of_statement, slots_of_statements}
-use Rattle.model_check.specs.SolvedTree.{SolvedStatement, SolvedStatements, SolvedMethod, solved_statements_of}
+use Rattle.model_solved.specs.Faults.{first_of, faults_of_names, faults_of_statement, faults_of_statements, faults_of_method}
+use Rattle.model_solved.specs.Scopes.{scope_behind, slots_of_statement, slots_of_statements}
+use Rattle.model_solved.specs.SolvedTree.{SolvedStatement, SolvedStatements, SolvedMethod, solved_statements_of}
 use Rattle.model_check.specs.Solving.{solve_statement, solve_statements, solve_method}
 use Rattle.model_check.proofs.First.{first_behind, first_before}
 use Rattle.model_check.proofs.Scopes.{scope_grows, scope_kept, slots_hold}

@@ -1,23 +1,15 @@
 -- What is made of a tree without faults stands for it.
 use Rattle.std.proofs.Common.{◌≡◌, List, [], ◌∷◌, ◌++◌, map, None, refl, sym}
-use Rattle.std.proofs.lemmas.Option.{none-some}
-use Rattle.model_lang.specs.Tree.{Name, Expression, nil, bool, int, text, this, local, field, list, unary, binary, builtin, call, future, create, Expressions, no_expressions, expression, Statement, declare, assign, set_field, when, while, give, do_, Statements, no_statements, statement, Otherwise, no_else, else_block, MethodTree, ProgramTree}
-use Rattle.model_lang.specs.Bounds.{how_many}
-use Rattle.model_check.specs.declared.fault.CheckFault.{CheckFault}
-use Rattle.model_check.specs.declared.fault.CheckFault.TheVariants.{NoName, NoClass, NoField}
-use Rattle.model_check.specs.Scopes.{scope_behind}
-use Rattle.model_check.specs.Faults.{first_of, faults_of_name, faults_of_names, faults_of_field, faults_of_local, faults_of_creation, faults_of_builtin, faults_of_expression, faults_of_expressions, faults_of_statement, faults_of_statements, faults_of_else, faults_of_method, faults_of_methods, faults_of_class, faults_of_classes}
+use Rattle.model_tree.specs.Tree.{Name, Expression, nil, bool, int, text, this, local, field, list, unary, binary, builtin, call, future, create, Expressions, no_expressions, expression, Statement, declare, assign, set_field, when, while, give, do_, Statements, no_statements, statement, Otherwise, no_else, else_block, MethodTree, ProgramTree}
+use Rattle.model_tree.specs.Bounds.{how_many}
+use Rattle.model_solved.specs.declared.fault.CheckFault.{CheckFault}
+use Rattle.model_solved.specs.declared.fault.CheckFault.TheVariants.{NoName, NoClass, NoField}
+use Rattle.model_solved.specs.Scopes.{scope_behind}
+use Rattle.model_solved.specs.Faults.{first_of, faults_of_name, faults_of_names, faults_of_field, faults_of_local, faults_of_creation, faults_of_builtin, faults_of_expression, faults_of_expressions, faults_of_statement, faults_of_statements, faults_of_else, faults_of_method, faults_of_methods, faults_of_class, faults_of_classes}
 use Rattle.model_check.specs.Solving.{solve_expression, solve_expressions, solve_statement, solve_statements, solve_else, solve_method, solve_methods}
-use Rattle.model_check.specs.Resolution.{Resolves, ResolvesAll, ResolvesStatement, ResolvesBlock, ResolvesElse, ResolvesMethod, ResolvesMethods, ResolvesClasses}
+use Rattle.model_solved.specs.Resolution.{Resolves, ResolvesAll, ResolvesStatement, ResolvesBlock, ResolvesElse, ResolvesMethod, ResolvesMethods, ResolvesClasses}
+use Rattle.model_solved.proofs.NoFaults.{none-left, none-right}
 use Rattle.model_check.proofs.Places.{placed, builtin_placed}
-
-pub none-left : (a b : List CheckFault) → first_of (a ++ b) ≡ None → first_of a ≡ None
-none-left [] b e = refl
-none-left (f ∷ a) b e = e
-
-pub none-right : (a b : List CheckFault) → first_of (a ++ b) ≡ None → first_of b ≡ None
-none-right [] b e = e
-none-right (f ∷ a) b e = absurd (none-some f (sym e))
 
 mutual
   solved-expression : (classes fields scope : List Name) (e : Expression) → first_of (faults_of_expression classes fields scope e) ≡ None → Resolves classes fields scope e (solve_expression classes fields scope e)

@@ -1,9 +1,9 @@
 -- The first of faults that follow each other.
 use Rattle.std.proofs.Common.{◌≡◌, List, [], ◌∷◌, ◌++◌, Option, Some, None, refl, sym, ap, ◌∙◌, subst}
 use Rattle.std.specs.Prelude.{Result, Err}
-use Rattle.model_check.specs.declared.fault.CheckFault.{CheckFault}
+use Rattle.model_solved.specs.declared.fault.CheckFault.{CheckFault}
 use Rattle.model_check.specs.Answer.{Solves, IsFirstFault}
-use Rattle.model_check.specs.Faults.{first_of}
+use Rattle.model_solved.specs.Faults.{first_of}
 
 abbrev pub else_first : Option CheckFault → Option CheckFault → Option CheckFault
 else_first None other = other

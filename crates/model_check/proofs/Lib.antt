@@ -5,5 +5,4 @@ pub mod Words
 pub mod Scopes
 pub mod Blocks
 pub mod Faultless
-pub mod Resolving
 pub mod Programs

@@ -3,15 +3,15 @@ use Rattle.std.proofs.Common.{◌≡◌, ℕ, ◌+◌, Bool, true, false, cond, 
 use Rattle.std.specs.Prelude.{◌||◌, bytes_eq, is_some, unwrap_or}
 use Rattle.std.specs.List.{position_from}
 use Rattle.std.proofs.lemmas.Option.{none-some}
-use Rattle.model_lang.specs.Tree.{Name}
-use Rattle.model_check.specs.declared.builtin.Builtin.{Builtin}
-use Rattle.model_check.specs.declared.builtin.Builtin.TheVariants.{Now}
-use Rattle.model_check.specs.declared.fault.CheckFault.{CheckFault}
-use Rattle.model_check.specs.declared.fault.CheckFault.TheVariants.{NoName}
-use Rattle.model_check.specs.Builtins.{builtin_named}
-use Rattle.model_check.specs.Faults.{is_among, missing_from, faults_of_count, faults_of_builtin, first_of}
+use Rattle.model_tree.specs.Tree.{Name}
+use Rattle.model_solved.specs.declared.builtin.Builtin.{Builtin}
+use Rattle.model_solved.specs.declared.builtin.Builtin.TheVariants.{Now}
+use Rattle.model_solved.specs.declared.fault.CheckFault.{CheckFault}
+use Rattle.model_solved.specs.declared.fault.CheckFault.TheVariants.{NoName}
+use Rattle.model_solved.specs.Builtins.{builtin_named}
+use Rattle.model_solved.specs.Faults.{is_among, missing_from, faults_of_count, faults_of_builtin, first_of}
 use Rattle.model_check.specs.Solving.{place_of, builtin_of}
-use Rattle.model_check.specs.Resolution.{IsPlace}
+use Rattle.model_solved.specs.Resolution.{IsPlace}
 
 among_front : (is_here among : Bool) (n : ℕ) (place : Option ℕ) → among ≡ is_some place → (is_here || among) ≡ is_some (cond is_here (Some n) place)
 among_front true among n place e = refl

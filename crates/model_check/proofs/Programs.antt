@@ -4,18 +4,18 @@ use Rattle.std.specs.Prelude.{◌||◌, slice_get, bytes_eq, option_map}
 use Rattle.std.proofs.lemmas.List.{length-map}
 use Rattle.std.proofs.lemmas.Option.{none-some, same_Some, slice_get-map}
 use Rattle.std.proofs.lemmas.Slice.Eq.{bytes_eq-Decides}
-use Rattle.model_lang.specs.Tree.{Name, MethodTree, ClassTree, ProgramTree, root_name}
-use Rattle.model_lang.specs.TreeView.{class_tree}
-use Rattle.model_lang.specs.Bounds.{most_members, MethodsFit, ClassesFit, ProgramFits}
-use Rattle.model_lang.specs.declared.tree.Class.{Class}
-use Rattle.model_check.specs.declared.fault.CheckFault.{CheckFault}
-use Rattle.model_check.specs.declared.fault.CheckFault.TheVariants.{NoRoot}
+use Rattle.model_tree.specs.Tree.{Name, MethodTree, ClassTree, ProgramTree, root_name}
+use Rattle.model_tree.specs.TreeView.{class_tree}
+use Rattle.model_tree.specs.Bounds.{most_members, MethodsFit, ClassesFit, ProgramFits}
+use Rattle.model_tree.specs.declared.tree.Class.{Class}
+use Rattle.model_solved.specs.declared.fault.CheckFault.{CheckFault}
+use Rattle.model_solved.specs.declared.fault.CheckFault.TheVariants.{NoRoot}
 use Rattle.model_check.specs.Answer.{IsFirstFault}
-use Rattle.model_check.specs.Faults.{class_names, is_among, missing_from, first_of, faults_of_classes, faults_of_program}
-use Rattle.model_check.specs.Methods.{IsChecked, IsClass}
-use Rattle.model_check.specs.SolvedTree.{SolvedMethod}
+use Rattle.model_solved.specs.Faults.{class_names, is_among, missing_from, first_of, faults_of_classes, faults_of_program}
+use Rattle.model_solved.specs.Methods.{IsChecked, IsClass}
+use Rattle.model_solved.specs.SolvedTree.{SolvedMethod}
 use Rattle.model_check.specs.Solving.{solve_methods, solve_program, HaveFewParameters, AreSolvable}
-use Rattle.model_check.specs.Resolution.{ResolvesProgram}
+use Rattle.model_solved.specs.Resolution.{ResolvesProgram}
 use Rattle.model_check.proofs.Faultless.{solved-classes}
 use Rattle.model_check.proofs.First.{first_behind, refuses_before, refuses_behind}
 use Rattle.model_check.proofs.Trees.{map-names}

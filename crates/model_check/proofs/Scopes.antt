@@ -1,8 +1,8 @@
 -- What is in scope behind statements, and how many slots they take.
 use Rattle.std.proofs.Common.{◌≡◌, ◌≤◌, ℕ, List, [], ◌∷◌, length, take, refl, arith, length-append}
 use Rattle.std.proofs.lemmas.List.{take-append-le}
-use Rattle.model_lang.specs.Tree.{Name, Statement, declare, assign, set_field, when, while, give, do_, Statements, no_statements, statement}
-use Rattle.model_check.specs.Scopes.{scope_behind, slots_of_statements}
+use Rattle.model_tree.specs.Tree.{Name, Statement, declare, assign, set_field, when, while, give, do_, Statements, no_statements, statement}
+use Rattle.model_solved.specs.Scopes.{scope_behind, slots_of_statements}
 
 pub scope_grows : (scope : List Name) (s : Statement) → length scope ≤ length (scope_behind scope s)
 scope_grows scope (declare x e) = omega (arith, length-append scope (x ∷ []))

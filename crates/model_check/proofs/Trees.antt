@@ -1,13 +1,13 @@
 -- What is made of each item of a list, as a list of parts.
 use Rattle.std.proofs.Common.{◌≡◌, List, [], ◌∷◌, ◌++◌, length, map, refl, ap, arith}
 use Rattle.std.proofs.lemmas.List.{map-append}
-use Rattle.model_lang.specs.Tree.{Name}
-use Rattle.model_lang.specs.TreeView.{expression_tree, expression_trees, method_tree, class_tree}
-use Rattle.model_lang.specs.Bounds.{how_many}
-use Rattle.model_lang.specs.declared.tree.Expr.{Expr}
-use Rattle.model_lang.specs.declared.tree.Method.{Method}
-use Rattle.model_lang.specs.declared.tree.Class.{Class}
-use Rattle.model_check.specs.SolvedTree.{solved_expressions_of, expression, SolvedStatement, SolvedStatements, no_statements, statement, solved_statements_of}
+use Rattle.model_tree.specs.Tree.{Name}
+use Rattle.model_tree.specs.TreeView.{expression_tree, expression_trees, method_tree, class_tree}
+use Rattle.model_tree.specs.Bounds.{how_many}
+use Rattle.model_tree.specs.declared.tree.Expr.{Expr}
+use Rattle.model_tree.specs.declared.tree.Method.{Method}
+use Rattle.model_tree.specs.declared.tree.Class.{Class}
+use Rattle.model_solved.specs.SolvedTree.{solved_expressions_of, expression, SolvedStatement, SolvedStatements, no_statements, statement, solved_statements_of}
 use Rattle.model_check.specs.Solving.{solve_expression, solve_expressions, solve_method, solve_methods}
 
 pub solved_expressions_of-map : (classes fields scope : List Name) (es : List Expr) → solved_expressions_of (map (λ e. solve_expression classes fields scope (expression_tree e)) es) ≡ solve_expressions classes fields scope (expression_trees es)

@@ -1,16 +1,16 @@
 -- The bytes of the words that the language gives a meaning: the names of the builtins, and `Root`.
 use Rattle.std.proofs.Common.{◌≡◌, ◌↔◌, ℕ, zero, suc, Bool, true, IsTrue, List, [], ◌∷◌, encode_utf8_all, refl, sym, ap, ◌∙◌, arith}
 use Rattle.std.specs.Prelude.{nat_lt, ◌&&◌}
-use Rattle.std.specs.Bool.{one_answer}
 use Rattle.std.proofs.lemmas.Bool.{and_parts}
 use Rattle.std.proofs.lemmas.Bool.Decides.{Decides-ltb}
 use Rattle.std.proofs.lemmas.Slice.Eq.{bytes_eq-Decides}
 use Rattle.std.proofs.lemmas.Str.{encodes_same, encodes-IsAscii}
 use Rattle.std.specs.Str.{bytes_eq, IsAscii}
-use Rattle.model_lang.specs.Tree.{Name, root_name}
-use Rattle.model_check.specs.declared.builtin.Builtin.{Builtin}
-use Rattle.model_check.specs.declared.builtin.Builtin.TheVariants as builtin
-use Rattle.model_check.specs.Builtins.{builtin_spelling}
+use Rattle.model_tree.specs.Tree.{Name, root_name}
+use Rattle.model_solved.specs.declared.builtin.Builtin.{Builtin}
+use Rattle.model_solved.specs.declared.builtin.Builtin.TheVariants as builtin
+use Rattle.model_solved.specs.Builtins.{builtin_spelling}
+use Rattle.model_solved.proofs.Compared.{compared}
 
 abbrev is_ascii : List ℕ → Bool
 is_ascii [] = true
@@ -32,13 +32,6 @@ spells word plain same bytes name is told =
 
 pub root_named : (same : Bool) (bytes : List ℕ) (name : Name) → same ≡ bytes_eq bytes root_name → bytes ≡ encode_utf8_all name → IsTrue same ↔ name ≡ root_name
 root_named = spells root_name refl
-
--- a test for a name says whether it is that name, from either side
-pub compared : (same : Bool) (x word : Name) → (IsTrue same ↔ x ≡ word) → same ≡ bytes_eq x word
-compared same x word h = one_answer same (bytes_eq x word) h (bytes_eq-Decides x word)
-
-pub compared_back : (same : Bool) (x word : Name) → (IsTrue same ↔ x ≡ word) → same ≡ bytes_eq word x
-compared_back same x word h = one_answer same (bytes_eq word x) (λ e. sym (h.0 e), λ e. h.1 (sym e)) (bytes_eq-Decides word x)
 
 plain_word : (b : Builtin) → is_ascii (builtin_spelling b) ≡ true
 plain_word builtin.Now = refl

@@ -1,10 +1,10 @@
 -- What a check answers, beside the faults.
 use Rattle.std.specs.Prelude.{◌≡◌, ◌≢◌, List, Some, None, Result, Ok, Err}
-use Rattle.model_lang.specs.declared.tree.Class.{Class}
-use Rattle.model_lang.specs.TreeView.{program_tree}
-use Rattle.model_check.specs.declared.fault.CheckFault.{CheckFault}
-use Rattle.model_check.specs.declared.fault.CheckFault.TheVariants.{WantOfMemory}
-use Rattle.model_check.specs.Faults.{first_of, faults_of_program}
+use Rattle.model_tree.specs.declared.tree.Class.{Class}
+use Rattle.model_tree.specs.TreeView.{program_tree}
+use Rattle.model_solved.specs.declared.fault.CheckFault.{CheckFault}
+use Rattle.model_solved.specs.declared.fault.CheckFault.TheVariants.{WantOfMemory}
+use Rattle.model_solved.specs.Faults.{first_of, faults_of_program}
 
 -- it is the first of these faults, unless memory ran out
 abbrev pub IsFirstFault : CheckFault → List CheckFault → Type 0

@@ -1,9 +1,2 @@
-pub mod Builtins
-pub mod Scopes
-pub mod Faults
-pub mod SolvedTree
-pub mod SolvedView
-pub mod Resolution
 pub mod Answer
 pub mod Solving
-pub mod Methods

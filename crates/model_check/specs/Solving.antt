@@ -1,15 +1,15 @@
 -- The resolved tree that the check makes of a tree without faults.
 use Rattle.std.specs.Prelude.{ℕ, ◌≤◌, List, [], ◌∷◌, length, map, bytes_eq, unwrap_or}
 use Rattle.std.specs.List.{position_from}
-use Rattle.model_lang.specs.Tree.{Name, Expression, nil, bool, int, text, this, local, field, list, unary, binary, builtin, call, future, create, Expressions, no_expressions, expression, Statement, declare, assign, set_field, when, while, give, do_, Statements, no_statements, statement, Otherwise, no_else, else_block, MethodTree, ClassTree, ProgramTree}
-use Rattle.model_lang.specs.Bounds.{most_members, most_arguments}
-use Rattle.model_check.specs.declared.builtin.Builtin.{Builtin}
-use Rattle.model_check.specs.declared.builtin.Builtin.TheVariants.{Now}
-use Rattle.model_check.specs.Builtins.{builtin_named}
-use Rattle.model_check.specs.Faults.{class_names}
-use Rattle.model_check.specs.Scopes.{scope_behind, slots_of_statements}
-use Rattle.model_check.specs.SolvedTree.{SolvedExpression, SolvedExpressions, SolvedStatement, SolvedStatements, SolvedOtherwise, SolvedMethod}
-use Rattle.model_check.specs.SolvedTree as solved
+use Rattle.model_tree.specs.Tree.{Name, Expression, nil, bool, int, text, this, local, field, list, unary, binary, builtin, call, future, create, Expressions, no_expressions, expression, Statement, declare, assign, set_field, when, while, give, do_, Statements, no_statements, statement, Otherwise, no_else, else_block, MethodTree, ClassTree, ProgramTree}
+use Rattle.model_tree.specs.Bounds.{most_members, most_arguments}
+use Rattle.model_solved.specs.declared.builtin.Builtin.{Builtin}
+use Rattle.model_solved.specs.declared.builtin.Builtin.TheVariants.{Now}
+use Rattle.model_solved.specs.Builtins.{builtin_named}
+use Rattle.model_solved.specs.Faults.{class_names}
+use Rattle.model_solved.specs.Scopes.{scope_behind, slots_of_statements}
+use Rattle.model_solved.specs.SolvedTree.{SolvedExpression, SolvedExpressions, SolvedStatement, SolvedStatements, SolvedOtherwise, SolvedMethod}
+use Rattle.model_solved.specs.SolvedTree as solved
 
 -- the first place of a name among names, where it is among them
 abbrev pub place_of : List Name → Name → ℕ

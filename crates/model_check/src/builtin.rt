@@ -1,61 +1,12 @@
 //! The builtins of the language.
 ghost use Rattle.std.specs.Prelude.{◌≡◌, find, bytes_eq};
 ghost use Rattle.model_check.specs.Answer.{Solves};
-ghost use Rattle.model_check.specs.Builtins.{builtin_spelling, arguments_of, builtin_named};
-ghost use Rattle.model_check.specs.Faults.{faults_of_builtin};
+ghost use Rattle.model_solved.specs.Builtins.{builtin_spelling, arguments_of, builtin_named};
+ghost use Rattle.model_solved.specs.Faults.{faults_of_builtin};
 ghost use Rattle.model_check.specs.Solving.{builtin_of};
 
-use crate::fault::CheckFault;
+use model_solved::{Builtin, CheckFault};
 use tea_base::Text;
-
-/// A builtin, named for its word in the language.
-#[derive(Clone, Copy, Debug, PartialEq, Eq)]
-pub enum Builtin {
-    /// `now()`
-    Now,
-    /// `random(a)`
-    Random,
-    /// `viewCount()`
-    ViewCount,
-    /// `views()`
-    Views,
-    /// `sessionId()`
-    SessionId,
-    /// `known(a)`
-    Known,
-    /// `beKnown(a)`
-    BeKnown,
-    /// `exists(a)`
-    Exists,
-    /// `destroy(a)`
-    Destroy,
-    /// `publish(a, b, c)`
-    Publish,
-    /// `subscribe(a, b, c)`
-    Subscribe,
-    /// `unsubscribe(a, b, c)`
-    Unsubscribe,
-    /// `cancel(a)`
-    Cancel,
-    /// `length(a)`
-    Length,
-    /// `at(a, b)`
-    At,
-    /// `put(a, b, c)`
-    Put,
-    /// `push(a, b)`
-    Push,
-    /// `slice(a, b, c)`
-    Slice,
-    /// `concat(a, b)`
-    Concat,
-    /// `text(a)`
-    Text,
-    /// `number(a)`
-    Number,
-    /// `compare(a, b)`
-    Compare,
-}
 
 const BUILTINS: [Builtin; 22] = [
     Builtin::Now,

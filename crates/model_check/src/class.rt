@@ -1,21 +1,20 @@
 //! Methods and classes: their first fault, or what stands for them.
 ghost use Rattle.std.specs.Prelude.{◌≡◌, ◌≤◌, ◌++◌, [], length, map};
-ghost use Rattle.model_lang.specs.Bounds.{most_members, most_arguments};
-ghost use Rattle.model_lang.specs.Tree.{root_name};
-ghost use Rattle.model_lang.specs.TreeView.{method_tree, class_tree, program_tree};
-ghost use Rattle.model_check.specs.declared.fault.CheckFault.TheVariants.{NoRoot};
+ghost use Rattle.model_tree.specs.Bounds.{most_members, most_arguments};
+ghost use Rattle.model_tree.specs.Tree.{root_name};
+ghost use Rattle.model_tree.specs.TreeView.{method_tree, class_tree, program_tree};
+ghost use Rattle.model_solved.specs.declared.fault.CheckFault.TheVariants.{NoRoot};
 ghost use Rattle.model_check.specs.Answer.{Solves};
-ghost use Rattle.model_check.specs.Faults.{is_among, missing_from, faults_of_name, faults_of_method, faults_of_methods, faults_of_class, faults_of_classes};
-ghost use Rattle.model_check.specs.Methods.{IsClass};
-ghost use Rattle.model_check.specs.SolvedView.{solved_method};
+ghost use Rattle.model_solved.specs.Faults.{is_among, missing_from, faults_of_name, faults_of_method, faults_of_methods, faults_of_class, faults_of_classes};
+ghost use Rattle.model_solved.specs.Methods.{IsClass};
+ghost use Rattle.model_solved.specs.SolvedView.{solved_method};
 ghost use Rattle.model_check.specs.Solving.{solve_method, solve_methods, HaveFewParameters, IsSolvable, AreSolvable};
 
-use crate::fault::CheckFault;
-use crate::names::{all_once, is_name, is_root, once};
+use crate::names::{all_once, is_root, once};
 use crate::scope::Scope;
-use crate::solved::Solved;
 use crate::statement::block;
-use model_lang::{Class, Method};
+use model_solved::{CheckFault, Solved, is_name};
+use model_tree::{Class, Method};
 use std::alloc::Global;
 use tea_base::{Text, push};
 

@@ -1,20 +1,19 @@
 //! Expressions: their first fault, or what stands for them.
 ghost use Rattle.std.specs.Prelude.{◌≡◌, ◌≤◌, length, map, IfOk};
-ghost use Rattle.model_lang.specs.Bounds.{most_members};
-ghost use Rattle.model_lang.specs.Tree.{unary as unary_tree, builtin as builtin_tree, create as create_tree};
-ghost use Rattle.model_lang.specs.TreeView.{expression_tree, expression_trees};
+ghost use Rattle.model_tree.specs.Bounds.{most_members};
+ghost use Rattle.model_tree.specs.Tree.{unary as unary_tree, builtin as builtin_tree, create as create_tree};
+ghost use Rattle.model_tree.specs.TreeView.{expression_tree, expression_trees};
 ghost use Rattle.model_check.specs.Answer.{Solves};
-ghost use Rattle.model_check.specs.Faults.{faults_of_expression, faults_of_expressions};
-ghost use Rattle.model_check.specs.SolvedTree as solved;
-ghost use Rattle.model_check.specs.SolvedView.{solved_expression, solved_expressions};
+ghost use Rattle.model_solved.specs.Faults.{faults_of_expression, faults_of_expressions};
+ghost use Rattle.model_solved.specs.SolvedTree as solved;
+ghost use Rattle.model_solved.specs.SolvedView.{solved_expression, solved_expressions};
 ghost use Rattle.model_check.specs.Solving.{solve_expression, solve_expressions};
 
 use crate::builtin::called_builtin;
-use crate::fault::CheckFault;
 use crate::names::{class_number, field, local};
 use crate::scope::Scope;
-use crate::solved::SolvedExpr;
-use model_lang::{BinaryOp, Class, Expr, UnaryOp};
+use model_solved::{CheckFault, SolvedExpr};
+use model_tree::{BinaryOp, Class, Expr, UnaryOp};
 use std::alloc::Global;
 use tea_base::{Text, WantOfMemory, push};
 

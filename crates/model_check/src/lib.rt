@@ -3,18 +3,11 @@
 #![tactic(auto)]
 
 mod builtin;
-mod checked;
+mod checking;
 mod class;
 mod expression;
-mod fault;
-mod laws;
 mod names;
 mod scope;
-mod solved;
 mod statement;
 
-pub use builtin::Builtin;
-pub use checked::{Checked, check};
-pub use fault::CheckFault;
-pub use laws::checked_crosses_threads;
-pub use solved::{Solved, SolvedExpr, SolvedStmt};
+pub use checking::check;

@@ -1,23 +1,16 @@
 //! Names: which are equal, and where each stands.
 ghost use Rattle.std.specs.Prelude.{◌≡◌, ◌↔◌, IsTrue, [], map, length, ◌<◌, ◌≤◌, ◌^◌, bytes_eq};
 ghost use Rattle.std.specs.List.{position_from};
-ghost use Rattle.model_lang.specs.Bounds.{most_members};
-ghost use Rattle.model_lang.specs.Tree.{root_name};
+ghost use Rattle.model_tree.specs.Bounds.{most_members};
+ghost use Rattle.model_tree.specs.Tree.{root_name};
 ghost use Rattle.model_check.specs.Answer.{Solves};
-ghost use Rattle.model_check.specs.Faults.{is_among as among, twice_where, faults_of_names, faults_of_field, faults_of_local, faults_of_creation};
+ghost use Rattle.model_solved.specs.Faults.{is_among as among, twice_where, faults_of_names, faults_of_field, faults_of_local, faults_of_creation};
 ghost use Rattle.model_check.specs.Solving.{place_of};
 
-use crate::fault::CheckFault;
 use crate::scope::Scope;
-use model_lang::Class;
+use model_solved::{CheckFault, is_name};
+use model_tree::Class;
 use tea_base::Text;
-
-/// Whether two names are the same.
-pub fn is_name(name: &Text, other: &Text) -> bool
-    ensures { result ≡ bytes_eq name.now other.now }
-{
-    name.is_text(other)
-}
 
 /// Whether a class is named `Root`.
 pub fn is_root(class: &Class) -> bool

@@ -1,19 +1,18 @@
 //! Statements: their first fault, or what stands for them.
 ghost use Rattle.std.specs.Prelude.{◌≡◌, ◌≤◌, max, length, map, OnOk};
-ghost use Rattle.model_lang.specs.Bounds.{most_members};
-ghost use Rattle.model_lang.specs.TreeView.{statement_tree, statement_trees};
+ghost use Rattle.model_tree.specs.Bounds.{most_members};
+ghost use Rattle.model_tree.specs.TreeView.{statement_tree, statement_trees};
 ghost use Rattle.model_check.specs.Answer.{Solves};
-ghost use Rattle.model_check.specs.Faults.{faults_of_statement, faults_of_statements};
-ghost use Rattle.model_check.specs.Scopes.{scope_behind, slots_of_statement, slots_of_statements};
-ghost use Rattle.model_check.specs.SolvedView.{solved_statement, solved_statements};
+ghost use Rattle.model_solved.specs.Faults.{faults_of_statement, faults_of_statements};
+ghost use Rattle.model_solved.specs.Scopes.{scope_behind, slots_of_statement, slots_of_statements};
+ghost use Rattle.model_solved.specs.SolvedView.{solved_statement, solved_statements};
 ghost use Rattle.model_check.specs.Solving.{solve_statement, solve_statements};
 
 use crate::expression::expression;
-use crate::fault::CheckFault;
 use crate::names::{field, is_among, local, once};
 use crate::scope::Scope;
-use crate::solved::SolvedStmt;
-use model_lang::{Class, Stmt};
+use model_solved::{CheckFault, SolvedStmt};
+use model_tree::{Class, Stmt};
 use std::alloc::Global;
 use tea_base::{Text, push};
 

@@ -11,10 +11,10 @@ use Rattle.world_plain.specs.World.{ObjectRecord, WorldRecord, world_weight, mos
 use Rattle.world_plain.specs.Valid.{Valid, object_at, IsHeld, SubscriptionFits, most_turns, most_arguments}
 use Rattle.tea_base.specs.Limits.{time_limit}
 use Rattle.world_plain.specs.declared.message.Subscription.{Subscription}
-use Rattle.model_lang.specs.Tree.{Name}
-use Rattle.model_lang.specs.Names.{IsShortName}
-use Rattle.model_check.specs.declared.builtin.Builtin.{Builtin}
-use Rattle.model_check.specs.declared.builtin.Builtin.TheVariants as builtin
+use Rattle.model_tree.specs.Tree.{Name}
+use Rattle.model_tree.specs.Names.{IsShortName}
+use Rattle.model_solved.specs.declared.builtin.Builtin.{Builtin}
+use Rattle.model_solved.specs.declared.builtin.Builtin.TheVariants as builtin
 use Rattle.model_builtin.specs.declared.builtin.Pure.{Pure}
 use Rattle.model_builtin.specs.Builtins.{apply}
 use Rattle.model_builtin.specs.Builtins as without_world

@@ -6,7 +6,7 @@ use Rattle.world_plain.specs.Valid.{object_at, if_same, IsHeld, ObjectFits, Obje
 use Rattle.model_value.specs.Plain.{AllInBounds}
 use Rattle.world_plain.specs.declared.message.Subscription.{Subscription}
 use Rattle.world_plain.specs.declared.world.Known.{Known}
-use Rattle.model_lang.specs.Tree.{Name}
+use Rattle.model_tree.specs.Tree.{Name}
 use Rattle.model_eval.specs.Objects.{value_named, with_named, with_fields}
 
 -- what holds in either branch holds of a test

@@ -2,9 +2,9 @@
 use Rattle.std.proofs.Common.{◌≡◌, ◌∙◌, ℕ, true, false, Option, Some, None, [], ◌∷◌, sym, ap, rules}
 use Rattle.std.specs.Prelude.{is_some, slice_get, option_and_then}
 use Rattle.std.specs.Borrow.{Bor}
-use Rattle.model_lang.specs.Tree.{Name, MethodTree, ClassTree, ProgramTree}
-use Rattle.model_check.specs.declared.solved.Solved.{Solved}
-use Rattle.model_check.specs.Methods.{FindsMethod, method_of, method_named}
+use Rattle.model_tree.specs.Tree.{Name, MethodTree, ClassTree, ProgramTree}
+use Rattle.model_solved.specs.declared.solved.Solved.{Solved}
+use Rattle.model_solved.specs.Methods.{FindsMethod, method_of, method_named}
 use Rattle.model_value.specs.Plain.{PlainValue, nil, ref}
 use Rattle.model_value.specs.View.{plain}
 use Rattle.model_value.specs.declared.value.Value.{the_lemmas}

@@ -7,7 +7,7 @@ use Rattle.world_plain.specs.Valid.{IsHeld, KnownFit}
 use Rattle.world_plain.specs.declared.world.Known.{Known}
 use Rattle.known_names.specs.Names.{object_known, with_known}
 use Rattle.known_names.proofs.KnownOrder.{with_known-cases}
-use Rattle.model_lang.specs.Tree.{Name}
+use Rattle.model_tree.specs.Tree.{Name}
 use Rattle.model_eval.specs.Objects.{known_by}
 
 pub KnownFit-with_known : (os : List ObjectRecord) (x : Name) (object : ℕ) (ks : List Known) → TextFits x → IsHeld os object → KnownFit os ks → KnownFit os (with_known x object ks)

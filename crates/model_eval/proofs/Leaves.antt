@@ -6,7 +6,7 @@ use Rattle.model_value.specs.Plain.{PlainValue, nil, int}
 use Rattle.world_plain.specs.World.{ObjectRecord}
 use Rattle.world_plain.specs.Valid.{object_at}
 use Rattle.object_store.specs.Store.{field_of}
-use Rattle.model_check.specs.SolvedTree.{field}
+use Rattle.model_solved.specs.SolvedTree.{field}
 use Rattle.model_eval.specs.declared.state.State.{State}
 use Rattle.model_eval.specs.Running.{PureOutcome, value, give_pure}
 use Rattle.model_eval.specs.Slots.{slot_value}

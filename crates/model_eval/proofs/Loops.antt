@@ -1,13 +1,13 @@
 -- The bound on the turns of a loop is never met: each test takes a step of fuel.
 use Rattle.std.proofs.Common.{◌≡◌, ℕ, zero, suc, ◌-◌, ◌≤◌, Bool, true, false, List, Option, Some, None, nat_eq, refl, sym, ap, ◌∙◌, arith, if◌then◌else◌}
 use Rattle.model_value.specs.Plain.{InBounds}
-use Rattle.model_lang.specs.Tree.{Expression, Statements, while, ProgramTree}
-use Rattle.model_lang.specs.Bounds.{FewArguments, HasFewArguments, ClassesFit}
-use Rattle.model_lang.specs.Names.{HasShortNames, NamesAreShort, ClassNamesAreShort}
+use Rattle.model_tree.specs.Tree.{Expression, Statements, while, ProgramTree}
+use Rattle.model_tree.specs.Bounds.{FewArguments, HasFewArguments, ClassesFit}
+use Rattle.model_tree.specs.Names.{HasShortNames, NamesAreShort, ClassNamesAreShort}
 use Rattle.model_eval.specs.declared.fault.Fault.TheVariants.{Fuel, Depth}
 use Rattle.model_eval.specs.Running.{Running, Outcome, Gives, Faults, and_then, truth, decide}
 use Rattle.model_eval.specs.Meaning.{Here, Local, Flow, next, return_with, follow, block, loop_turns, expression_row, start_by, evaluate, execute, goes_round}
-use Rattle.model_check.specs.Methods.{field_counts}
+use Rattle.model_solved.specs.Methods.{field_counts}
 use Rattle.model_eval.specs.Kept.{CarriesIf}
 use Rattle.model_eval.proofs.ValueBounds.{FlowFits}
 use Rattle.model_eval.proofs.KeptLaws.{Ready, expression-carries, starting-begins, row-kept, block-carries}

@@ -7,8 +7,8 @@ use Rattle.world_plain.specs.Messages.{PlainMessage}
 use Rattle.model_value.specs.Plain.{TextFits}
 use Rattle.world_plain.specs.Valid.{IsUnused, MessageFits, MessagesFit}
 use Rattle.tea_base.specs.Limits.{time_limit}
-use Rattle.model_lang.specs.Tree.{Name}
-use Rattle.model_lang.specs.Names.{IsShortName}
+use Rattle.model_tree.specs.Tree.{Name}
+use Rattle.model_tree.specs.Names.{IsShortName}
 use Rattle.model_eval.specs.Kept.{count_due}
 pub use Rattle.message_queue.proofs.Order.{if_either, AreInOrder-inserted, NumbersDiffer-inserted, length-inserted, total-inserted}
 use Rattle.message_queue.specs.Queue.{insert_in_order}

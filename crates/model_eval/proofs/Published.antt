@@ -6,9 +6,9 @@ use Rattle.model_value.specs.Plain.{PlainValue, nil}
 use Rattle.model_value.specs.View.{plain}
 use Rattle.model_value.specs.declared.value.Value.{Value}
 use Rattle.model_value.specs.declared.value.Value.TheVariants.{Nil}
-use Rattle.model_check.specs.declared.builtin.Builtin.{Builtin}
-use Rattle.model_check.specs.declared.builtin.Builtin.TheVariants as builtin
-use Rattle.model_lang.specs.Tree.{Name}
+use Rattle.model_solved.specs.declared.builtin.Builtin.{Builtin}
+use Rattle.model_solved.specs.declared.builtin.Builtin.TheVariants as builtin
+use Rattle.model_tree.specs.Tree.{Name}
 use Rattle.model_eval.specs.declared.fault.EvalStop.{EvalStop}
 use Rattle.model_eval.specs.declared.fault.EvalStop.TheVariants.{Fault, WantOfMemory}
 use Rattle.model_eval.specs.declared.state.State.{State}

@@ -12,18 +12,18 @@ use Rattle.model_value.specs.Plain.{PlainValue}
 use Rattle.model_value.specs.Plain as plain
 use Rattle.world_plain.specs.World.{ObjectRecord}
 use Rattle.world_plain.specs.Valid.{object_at}
-use Rattle.model_lang.specs.Tree.{Name, Expression, nil, bool, int, text, this, local, field, list, unary, binary, builtin, call, future, create, Expressions, no_expressions, expression, Statement, declare, assign, set_field, when, while, give, do_, Statements, no_statements, statement, Otherwise, no_else, else_block, MethodTree, ClassTree, ProgramTree}
-use Rattle.model_lang.specs.declared.tree.UnaryOp.{UnaryOp}
-use Rattle.model_lang.specs.declared.tree.BinaryOp.{BinaryOp}
-use Rattle.model_check.specs.declared.builtin.Builtin.{Builtin}
-use Rattle.model_check.specs.declared.solved.Solved.{Solved}
-use Rattle.model_check.specs.Faults.{class_names}
-use Rattle.model_check.specs.Scopes.{scope_behind}
-use Rattle.model_check.specs.SolvedTree.{SolvedExpression, SolvedExpressions, SolvedStatement, SolvedStatements, SolvedOtherwise, SolvedMethod}
-use Rattle.model_check.specs.SolvedTree as solved
-use Rattle.model_check.specs.SolvedView.{solved_method}
-use Rattle.model_check.specs.Methods.{method_named, FindsMethod}
-use Rattle.model_check.specs.Resolution.{IsPlace, Resolves, ResolvesAll, ResolvesStatement, ResolvesBlock, ResolvesElse, ResolvesMethod}
+use Rattle.model_tree.specs.Tree.{Name, Expression, nil, bool, int, text, this, local, field, list, unary, binary, builtin, call, future, create, Expressions, no_expressions, expression, Statement, declare, assign, set_field, when, while, give, do_, Statements, no_statements, statement, Otherwise, no_else, else_block, MethodTree, ClassTree, ProgramTree}
+use Rattle.model_tree.specs.declared.tree.UnaryOp.{UnaryOp}
+use Rattle.model_tree.specs.declared.tree.BinaryOp.{BinaryOp}
+use Rattle.model_solved.specs.declared.builtin.Builtin.{Builtin}
+use Rattle.model_solved.specs.declared.solved.Solved.{Solved}
+use Rattle.model_solved.specs.Faults.{class_names}
+use Rattle.model_solved.specs.Scopes.{scope_behind}
+use Rattle.model_solved.specs.SolvedTree.{SolvedExpression, SolvedExpressions, SolvedStatement, SolvedStatements, SolvedOtherwise, SolvedMethod}
+use Rattle.model_solved.specs.SolvedTree as solved
+use Rattle.model_solved.specs.SolvedView.{solved_method}
+use Rattle.model_solved.specs.Methods.{method_named, FindsMethod}
+use Rattle.model_solved.specs.Resolution.{IsPlace, Resolves, ResolvesAll, ResolvesStatement, ResolvesBlock, ResolvesElse, ResolvesMethod}
 use Rattle.model_eval.specs.declared.fault.Fault.{Fault}
 use Rattle.model_eval.specs.declared.fault.Fault.TheVariants.{Depth}
 use Rattle.model_eval.specs.Running.{Running, Outcome, Gives, Faults, and_then, spend_step, give_in_bounds, truth, decide, give_pure}

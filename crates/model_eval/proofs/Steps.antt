@@ -3,8 +3,8 @@ use Rattle.std.proofs.Common.{◌≡◌, ℕ, zero, suc, ◌+◌, ◌-◌, ◌<�
 use Rattle.std.specs.Prelude.{nat_eq}
 use Rattle.std.proofs.lemmas.List.{map-append, take-map, length-map}
 use Rattle.model_value.specs.Plain.{PlainValue}
-use Rattle.model_lang.specs.Tree.{ProgramTree}
-use Rattle.model_check.specs.SolvedTree.{SolvedExpression, SolvedStatement, SolvedStatements}
+use Rattle.model_tree.specs.Tree.{ProgramTree}
+use Rattle.model_solved.specs.SolvedTree.{SolvedExpression, SolvedStatement, SolvedStatements}
 use Rattle.model_eval.specs.Running.{Running, Outcome, Gives, Faults, and_then, spend_step}
 use Rattle.model_eval.specs.Meaning.{starts}
 use Rattle.model_eval.specs.declared.fault.Fault.TheVariants.{Fuel, Depth}

@@ -10,7 +10,7 @@ use Rattle.world_plain.specs.Valid.{Valid, ValidClock, ValidViews, ValidObjects,
 use Rattle.model_value.specs.Plain.{AllInBounds, TextFits}
 use Rattle.world_plain.specs.declared.message.Subscription.{Subscription}
 use Rattle.world_plain.specs.declared.world.Known.{Known}
-use Rattle.model_lang.specs.Tree.{Name}
+use Rattle.model_tree.specs.Tree.{Name}
 use Rattle.model_eval.specs.Running.{Running}
 use Rattle.model_eval.specs.Objects.{with_fields, with_objects, new_object, has_room_for, with_object, without_object}
 use Rattle.object_store.specs.Store.{last_object_id}

@@ -7,11 +7,11 @@ use Rattle.hex.proofs.HexLemmas.{length-encode_with}
 use Rattle.model_value.specs.Plain.{PlainValue, bool, int, text, ref, weight, depth, InBounds, most_weight, most_depth, is_in_bounds}
 use Rattle.model_value.specs.Plain.{AllInBounds}
 use Rattle.world_plain.specs.declared.world.Known.{Known}
-use Rattle.model_lang.specs.Tree.{Name}
-use Rattle.model_lang.specs.declared.tree.UnaryOp.{UnaryOp}
-use Rattle.model_lang.specs.declared.tree.UnaryOp.TheVariants as unary_op
-use Rattle.model_lang.specs.declared.tree.BinaryOp.{BinaryOp}
-use Rattle.model_lang.specs.declared.tree.BinaryOp.TheVariants as op
+use Rattle.model_tree.specs.Tree.{Name}
+use Rattle.model_tree.specs.declared.tree.UnaryOp.{UnaryOp}
+use Rattle.model_tree.specs.declared.tree.UnaryOp.TheVariants as unary_op
+use Rattle.model_tree.specs.declared.tree.BinaryOp.{BinaryOp}
+use Rattle.model_tree.specs.declared.tree.BinaryOp.TheVariants as op
 use Rattle.model_builtin.specs.Builtins.{in_64_bits}
 use Rattle.model_builtin.specs.Builtins as without_world
 use Rattle.model_builtin.specs.declared.builtin.Pure.{Pure}

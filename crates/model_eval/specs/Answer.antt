@@ -19,12 +19,12 @@ use Rattle.model_eval.specs.declared.state.State.{State}
 use Rattle.model_eval.specs.declared.state.Budget.{Budget}
 use Rattle.model_eval.specs.Running.{Running, Outcome, Gives, Faults, and_then, PureOutcome, value, fails, give_pure}
 use Rattle.model_eval.specs.Operators.{on_ints, apply_binary, binary_outcome}
-use Rattle.model_lang.specs.declared.tree.BinaryOp.{BinaryOp}
-use Rattle.model_lang.specs.Tree.{Name, ClassTree, ProgramTree}
-use Rattle.model_check.specs.Methods.{method_named}
-use Rattle.model_lang.specs.TreeView.{program_tree}
+use Rattle.model_tree.specs.declared.tree.BinaryOp.{BinaryOp}
+use Rattle.model_tree.specs.Tree.{Name, ClassTree, ProgramTree}
+use Rattle.model_solved.specs.Methods.{method_named}
+use Rattle.model_tree.specs.TreeView.{program_tree}
 use Rattle.model_eval.specs.Meaning.{Start, Flow, next, return_with, init, starts}
-use Rattle.model_check.specs.SolvedTree.{SolvedExpression}
+use Rattle.model_solved.specs.SolvedTree.{SolvedExpression}
 use Rattle.model_eval.specs.Slots.{Evaluate, Execute, evaluate, execute, expression_row}
 use Rattle.model_eval.specs.declared.here.Starter.{Starter}
 

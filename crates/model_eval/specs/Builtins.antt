@@ -2,8 +2,8 @@
 use Rattle.std.specs.Prelude.{ℕ, ◌/◌, ℤ, pos, negsuc, Bool, true, false, nat_eq, if◌then◌else◌, List, [], ◌∷◌, Option, Some, None}
 use Rattle.hex.specs.Hex.{encode_lower}
 use Rattle.model_value.specs.Plain.{PlainValue, bool, int, text, ref, weight}
-use Rattle.model_check.specs.declared.builtin.Builtin.{Builtin}
-use Rattle.model_check.specs.declared.builtin.Builtin.TheVariants as builtin
+use Rattle.model_solved.specs.declared.builtin.Builtin.{Builtin}
+use Rattle.model_solved.specs.declared.builtin.Builtin.TheVariants as builtin
 use Rattle.model_builtin.specs.declared.builtin.Pure.{Pure}
 use Rattle.model_builtin.specs.declared.builtin.Pure.TheVariants as pure
 use Rattle.model_builtin.specs.Builtins.{apply}

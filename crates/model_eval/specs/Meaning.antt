@@ -5,11 +5,11 @@ use Rattle.model_value.specs.Plain.{PlainValue, nil, bool, int, text, ref, list}
 use Rattle.model_value.specs.View.{plains_of}
 use Rattle.world_plain.specs.World.{ObjectRecord}
 use Rattle.world_plain.specs.Valid.{object_at}
-use Rattle.model_lang.specs.Tree.{Name, Expression, this, local, field, unary, binary, builtin, call, future, create, Expressions, no_expressions, expression, Statement, declare, assign, set_field, when, while, give, do_, Statements, no_statements, statement, Otherwise, no_else, else_block, MethodTree, ClassTree, ProgramTree}
-use Rattle.model_lang.specs.Tree as tree
-use Rattle.model_check.specs.Builtins.{builtin_named}
-use Rattle.model_check.specs.Faults.{class_names}
-use Rattle.model_check.specs.Methods.{method_named}
+use Rattle.model_tree.specs.Tree.{Name, Expression, this, local, field, unary, binary, builtin, call, future, create, Expressions, no_expressions, expression, Statement, declare, assign, set_field, when, while, give, do_, Statements, no_statements, statement, Otherwise, no_else, else_block, MethodTree, ClassTree, ProgramTree}
+use Rattle.model_tree.specs.Tree as tree
+use Rattle.model_solved.specs.Builtins.{builtin_named}
+use Rattle.model_solved.specs.Faults.{class_names}
+use Rattle.model_solved.specs.Methods.{method_named}
 use Rattle.model_eval.specs.declared.fault.Fault.TheVariants.{BadKind, NoObject, NoMethod, Arity, Fuel, Depth}
 pub use Rattle.model_eval.specs.Running.{Start}
 use Rattle.model_eval.specs.Running.{Running, Outcome, Gives, Faults, and_then, spend_step, give_in_bounds, give_by_weight, give_pure, truth, decide}

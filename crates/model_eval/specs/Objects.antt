@@ -7,7 +7,7 @@ use Rattle.world_plain.specs.Valid.{object_at, most_objects}
 use Rattle.world_plain.specs.declared.world.Known.{Known}
 use Rattle.object_store.specs.Store.{last_object_id}
 use Rattle.known_names.specs.Names.{with_known}
-use Rattle.model_lang.specs.Tree.{Name}
+use Rattle.model_tree.specs.Tree.{Name}
 use Rattle.model_eval.specs.declared.fault.Fault.TheVariants.{NoObject, Full}
 use Rattle.model_eval.specs.Running.{Running, with_world, Outcome, Gives, Faults}
 

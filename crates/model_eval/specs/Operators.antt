@@ -3,10 +3,10 @@ use Rattle.std.specs.Prelude.{ℤ, pos, ◌+ℤ◌, ◌-ℤ◌, ◌*ℤ◌, neg_
 use Rattle.std.specs.Ordering.{int_eq}
 use Rattle.model_value.specs.Plain.{PlainValue, nil, bool, int, text, ref, list, PlainValues, no_items, item}
 use Rattle.model_builtin.specs.Builtins.{in_64_bits}
-use Rattle.model_lang.specs.declared.tree.UnaryOp.{UnaryOp}
-use Rattle.model_lang.specs.declared.tree.UnaryOp.TheVariants as unary_op
-use Rattle.model_lang.specs.declared.tree.BinaryOp.{BinaryOp}
-use Rattle.model_lang.specs.declared.tree.BinaryOp.TheVariants as op
+use Rattle.model_tree.specs.declared.tree.UnaryOp.{UnaryOp}
+use Rattle.model_tree.specs.declared.tree.UnaryOp.TheVariants as unary_op
+use Rattle.model_tree.specs.declared.tree.BinaryOp.{BinaryOp}
+use Rattle.model_tree.specs.declared.tree.BinaryOp.TheVariants as op
 use Rattle.model_eval.specs.declared.fault.Fault.TheVariants.{Overflow, ZeroDivisor, BadKind}
 use Rattle.model_eval.specs.Running.{Running, Outcome, Gives, and_then, PureOutcome, value, fails, give_pure, truth, decide}
 

@@ -5,9 +5,9 @@ use Rattle.model_value.specs.Plain.{PlainValue, nil, bool, int, text, ref, list}
 use Rattle.model_value.specs.View.{plains_of}
 use Rattle.world_plain.specs.World.{ObjectRecord}
 use Rattle.world_plain.specs.Valid.{object_at}
-use Rattle.model_lang.specs.Tree.{ProgramTree}
-use Rattle.model_check.specs.SolvedTree.{SolvedExpression, this, local, field, unary, binary, builtin, call, future, create, SolvedExpressions, no_expressions, expression, SolvedStatement, declare, assign, set_field, when, while, give, do_, SolvedStatements, no_statements, statement, SolvedOtherwise, no_else, else_block, SolvedMethod}
-use Rattle.model_check.specs.SolvedTree as solved
+use Rattle.model_tree.specs.Tree.{ProgramTree}
+use Rattle.model_solved.specs.SolvedTree.{SolvedExpression, this, local, field, unary, binary, builtin, call, future, create, SolvedExpressions, no_expressions, expression, SolvedStatement, declare, assign, set_field, when, while, give, do_, SolvedStatements, no_statements, statement, SolvedOtherwise, no_else, else_block, SolvedMethod}
+use Rattle.model_solved.specs.SolvedTree as solved
 use Rattle.model_eval.specs.declared.fault.Fault.TheVariants.{NoObject, Fuel, Depth, Arity}
 use Rattle.model_eval.specs.Running.{Running, Outcome, Gives, Faults, and_then, spend_step, give_in_bounds, give_by_weight, PureOutcome, value, fails, give_pure, truth, decide, Start}
 use Rattle.model_eval.specs.Operators.{binary_outcome, apply_unary}

@@ -18,7 +18,7 @@ use crate::objects::{destroy, is_held};
 use crate::state::{Budget, State};
 use crate::values::{list_of, weigh};
 use model_builtin::{Pure, apply};
-use model_check::Builtin;
+use model_solved::Builtin;
 use model_value::{Value, Values};
 use seeded_random::Source64;
 use std::alloc::Global;

@@ -1,8 +1,8 @@
 //! Expressions and statements, form by form.
 ghost use Rattle.std.specs.Prelude.{[], ◌∷◌, ◌<◌, ◌≡◌, IfOk, Some, slice_get};
-ghost use Rattle.model_lang.specs.Tree.{ClassTree};
-ghost use Rattle.model_lang.specs.TreeView.{program_tree};
-ghost use Rattle.model_check.specs.SolvedView.{solved_expression, solved_expressions, solved_statement, solved_statements, solved_method};
+ghost use Rattle.model_tree.specs.Tree.{ClassTree};
+ghost use Rattle.model_tree.specs.TreeView.{program_tree};
+ghost use Rattle.model_solved.specs.SolvedView.{solved_expression, solved_expressions, solved_statement, solved_statements, solved_method};
 ghost use Rattle.model_value.specs.Plain.{ref};
 ghost use Rattle.model_value.specs.View.{plain, plain_values};
 ghost use Rattle.model_eval.specs.Running.{and_then, Gives};
@@ -26,7 +26,7 @@ use crate::operation::Operation;
 use crate::operator::{operate_on_one, truth};
 use crate::state::{Budget, State};
 use crate::values::{list_of, literal, only};
-use model_check::{Builtin, Solved, SolvedExpr, SolvedStmt};
+use model_solved::{Builtin, Solved, SolvedExpr, SolvedStmt};
 use model_value::{Value, Values, copy};
 use pubsub::Handler;
 use tea_base::{List, Text};

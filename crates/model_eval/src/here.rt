@@ -1,7 +1,7 @@
 //! Where a method runs, and what starts one.
 ghost use Rattle.std.specs.Prelude.{◌≡◌};
 
-use model_check::Checked;
+use model_solved::Checked;
 use std::alloc::Global;
 
 /// What starts methods: a program, and how many more statements and expressions may be open.

@@ -1,7 +1,7 @@
 //! Methods, started on objects.
 ghost use Rattle.std.specs.Prelude.{◌≡◌};
 ghost use Rattle.model_value.specs.View.{plain, plain_values};
-ghost use Rattle.model_lang.specs.TreeView.{program_tree};
+ghost use Rattle.model_tree.specs.TreeView.{program_tree};
 ghost use Rattle.model_eval.specs.Meaning.{starts};
 ghost use Rattle.model_eval.specs.Publishing.{tell_handlers};
 ghost use Rattle.model_eval.specs.Answer.{Answers, Did, running};
@@ -10,7 +10,7 @@ use crate::calls::{Call, Event};
 use crate::fault::EvalStop;
 use crate::here::Starter;
 use crate::state::{Budget, State};
-use model_check::Checked;
+use model_solved::Checked;
 use model_value::{Value, Values};
 use std::alloc::Global;
 use tea_base::Text;

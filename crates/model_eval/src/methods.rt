@@ -1,11 +1,11 @@
 //! The method that a new object starts with.
 ghost use Rattle.std.specs.Prelude.{◌≡◌, IfOk, Some, slice_get};
-ghost use Rattle.model_lang.specs.Tree.{ClassTree};
-ghost use Rattle.model_lang.specs.TreeView.{program_tree};
+ghost use Rattle.model_tree.specs.Tree.{ClassTree};
+ghost use Rattle.model_tree.specs.TreeView.{program_tree};
 ghost use Rattle.model_eval.specs.Meaning.{init as init_name};
 ghost use Rattle.model_eval.specs.Answer.{HasInit};
 
-use model_check::Checked;
+use model_solved::Checked;
 use std::alloc::Global;
 use tea_base::{Text, WantOfMemory};
 

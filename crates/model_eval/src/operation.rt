@@ -1,7 +1,7 @@
 //! Operators of two sides.
 ghost use Rattle.std.specs.Prelude.{◌≡◌, IfSome, Some};
 ghost use Rattle.std.specs.Option.{option_copied, option_map};
-ghost use Rattle.model_check.specs.SolvedView.{solved_expression};
+ghost use Rattle.model_solved.specs.SolvedView.{solved_expression};
 ghost use Rattle.model_value.specs.Plain.{int};
 ghost use Rattle.model_value.specs.View.{plain, plain_values};
 ghost use Rattle.model_eval.specs.Operators.{truly as truth_of_right};
@@ -12,8 +12,8 @@ use crate::fault::EvalStop;
 use crate::here::Here;
 use crate::operator::{operate, operate_on_ints, truth};
 use crate::state::{Budget, State};
-use model_check::SolvedExpr;
-use model_lang::BinaryOp;
+use model_solved::SolvedExpr;
+use model_tree::BinaryOp;
 use model_value::Value;
 
 /// An operator with its two sides.

@@ -7,7 +7,7 @@ ghost use Rattle.model_eval.specs.Operators.{apply_binary, apply_unary, same as 
 ghost use Rattle.model_eval.specs.Answer.{AreInts, Decides, Replies};
 
 use crate::fault::{EvalStop, Fault};
-use model_lang::{BinaryOp, UnaryOp};
+use model_tree::{BinaryOp, UnaryOp};
 use model_value::{Value, same};
 
 /// What an operator gives of one value.

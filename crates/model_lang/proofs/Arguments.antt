@@ -5,10 +5,10 @@ use Rattle.model_tokens.specs.declared.token.Token.TheVariants.{Name as name, Wo
 use Rattle.model_tokens.specs.declared.token.Word.TheVariants as w
 use Rattle.model_tokens.specs.declared.token.Symbol.{Symbol}
 use Rattle.model_tokens.specs.declared.token.Symbol.TheVariants as s
-use Rattle.model_lang.specs.declared.tree.UnaryOp.{UnaryOp}
-use Rattle.model_lang.specs.declared.tree.UnaryOp.TheVariants as sign
-use Rattle.model_lang.specs.Tree.{Expression}
-use Rattle.model_lang.specs.Grammar.{Phrase, a_bool, a_list, brackets, a_call, a_future, a_unary, a_binary, Phrases, no_phrases, phrase, in_round, truth_word, sign_symbol, op_symbol, phrase_spelling, args_spelling, more_spelling, tree_of}
+use Rattle.model_tree.specs.declared.tree.UnaryOp.{UnaryOp}
+use Rattle.model_tree.specs.declared.tree.UnaryOp.TheVariants as sign
+use Rattle.model_tree.specs.Tree.{Expression}
+use Rattle.model_tree.specs.Grammar.{Phrase, a_bool, a_list, brackets, a_call, a_future, a_unary, a_binary, Phrases, no_phrases, phrase, in_round, truth_word, sign_symbol, op_symbol, phrase_spelling, args_spelling, more_spelling, tree_of}
 use Rattle.model_lang.specs.Reader.{ParseResult, ExpressionReader, on_read, on_rest, either_way, after_symbol, read_more, read_args}
 use Rattle.model_lang.proofs.GoesOn.{front_line}
 use Rattle.model_lang.proofs.Phrases.{list_of}

@@ -6,10 +6,10 @@ use Rattle.model_tokens.specs.declared.token.Token.{Token}
 use Rattle.model_tokens.specs.declared.token.Token.TheVariants.{Name as name, Word as word, Symbol as symbol}
 use Rattle.model_tokens.specs.declared.token.Word.TheVariants as w
 use Rattle.model_tokens.specs.declared.token.Symbol.TheVariants as s
-use Rattle.model_lang.specs.declared.tree.UnaryOp.{UnaryOp}
-use Rattle.model_lang.specs.declared.tree.BinaryOp.{BinaryOp}
-use Rattle.model_lang.specs.Tree.{Name, Expression, unary}
-use Rattle.model_lang.specs.Grammar.{Phrase, a_number, a_text, a_nil, a_bool, a_this, a_field, a_local, a_builtin, a_create, a_list, brackets, a_call, a_future, a_unary, a_binary, Phrases, no_phrases, phrase, IsWellFormed, AreWellFormed, line, operator_line, left_of, in_round, sign_symbol, op_symbol, phrase_spelling, args_spelling, more_spelling, tree_of}
+use Rattle.model_tree.specs.declared.tree.UnaryOp.{UnaryOp}
+use Rattle.model_tree.specs.declared.tree.BinaryOp.{BinaryOp}
+use Rattle.model_tree.specs.Tree.{Name, Expression, unary}
+use Rattle.model_tree.specs.Grammar.{Phrase, a_number, a_text, a_nil, a_bool, a_this, a_field, a_local, a_builtin, a_create, a_list, brackets, a_call, a_future, a_unary, a_binary, Phrases, no_phrases, phrase, IsWellFormed, AreWellFormed, line, operator_line, left_of, in_round, sign_symbol, op_symbol, phrase_spelling, args_spelling, more_spelling, tree_of}
 use Rattle.model_lang.specs.Reader.{ParseResult, ExpressionReader, on_read, on_found, sign_at, read_operator_line, read_unary, read_post, read_expression}
 use Rattle.model_lang.proofs.GoesOn.{front_line, sign_found, line_of-two, line_of-le, left_of-le, left_of-relation}
 use Rattle.model_lang.proofs.Turns.{read_line-one}

@@ -4,8 +4,8 @@ use Rattle.model_tokens.specs.declared.token.Token.{Token}
 use Rattle.model_tokens.specs.declared.token.Token.TheVariants.{Name as name, Symbol as symbol}
 use Rattle.model_tokens.specs.declared.token.Word.TheVariants as w
 use Rattle.model_tokens.specs.declared.token.Symbol.TheVariants as s
-use Rattle.model_lang.specs.Tree.{Name, Statement, statements_of, MethodTree, ClassTree}
-use Rattle.model_lang.specs.Grammar.{Block, IsWellFormedBlock, MethodForm, ClassForm, AreWellFormedMethods, AreWellFormedClasses, in_braces, block_spelling, further_spelling, params_spelling, method_spelling, methods_spelling, fields_spelling, class_spelling, classes_spelling, trees_of_block, tree_of_method, tree_of_class}
+use Rattle.model_tree.specs.Tree.{Name, Statement, statements_of, MethodTree, ClassTree}
+use Rattle.model_tree.specs.Grammar.{Block, IsWellFormedBlock, MethodForm, ClassForm, AreWellFormedMethods, AreWellFormedClasses, in_braces, block_spelling, further_spelling, params_spelling, method_spelling, methods_spelling, fields_spelling, class_spelling, classes_spelling, trees_of_block, tree_of_method, tree_of_class}
 use Rattle.model_lang.specs.Reader.{ParseResult, on_read, on_rest, either_way, after_word, after_symbol, name_at, read_further, read_params, read_body, read_method, read_fields, read_methods, read_members, read_class, read_classes, read_program}
 use Rattle.model_lang.proofs.CompleteStatements.{braces_then, block-list, block_read}
 

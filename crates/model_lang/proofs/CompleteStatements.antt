@@ -5,8 +5,8 @@ use Rattle.model_tokens.specs.declared.token.Token.TheVariants.{Word as word, Sy
 use Rattle.model_tokens.specs.declared.token.Word.{Word}
 use Rattle.model_tokens.specs.declared.token.Word.TheVariants as w
 use Rattle.model_tokens.specs.declared.token.Symbol.TheVariants as s
-use Rattle.model_lang.specs.Tree.{Expression, Statement, declare, assign, set_field, when, while, give, do_, statements_of, statement, no_else, else_block}
-use Rattle.model_lang.specs.Grammar.{Phrase, IsWellFormed, phrase_spelling, tree_of, Action, a_let, an_assignment, a_set_field, choice, choice_else, a_while, a_return, a_do, Block, closed, action_then, IsWellFormedAction, IsWellFormedBlock, in_round, in_braces, end_spelling, action_spelling, block_spelling, tree_of_action, trees_of_block}
+use Rattle.model_tree.specs.Tree.{Expression, Statement, declare, assign, set_field, when, while, give, do_, statements_of, statement, no_else, else_block}
+use Rattle.model_tree.specs.Grammar.{Phrase, IsWellFormed, phrase_spelling, tree_of, Action, a_let, an_assignment, a_set_field, choice, choice_else, a_while, a_return, a_do, Block, closed, action_then, IsWellFormedAction, IsWellFormedBlock, in_round, in_braces, end_spelling, action_spelling, block_spelling, tree_of_action, trees_of_block}
 use Rattle.model_lang.specs.Reader.{ParseResult, on_read, on_rest, either_way, word_number, after_word, after_symbol, assign_head, set_at, read_end, read_test, read_else, read_if, read_while, read_action, read_actions, read_block}
 use Rattle.model_lang.proofs.Phrases.{phrase_no_word, phrase_no_brace, phrase_not_assigned, phrase_not_set}
 use Rattle.model_lang.proofs.CompleteExpressions.{expression_then}

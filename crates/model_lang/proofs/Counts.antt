@@ -2,9 +2,9 @@
 use Rattle.std.proofs.Common.{◌≡◌, ℕ, ◌≤◌, List, [], ◌∷◌, length, refl, arith}
 use Rattle.model_tokens.specs.declared.token.Token.{Token}
 use Rattle.model_tokens.specs.declared.token.Symbol.{Symbol}
-use Rattle.model_lang.specs.declared.tree.Expr.{Expr}
-use Rattle.model_lang.specs.TreeView.{expression_trees}
-use Rattle.model_lang.specs.Bounds.{greatest, how_many}
+use Rattle.model_tree.specs.declared.tree.Expr.{Expr}
+use Rattle.model_tree.specs.TreeView.{expression_trees}
+use Rattle.model_tree.specs.Bounds.{greatest, how_many}
 
 pub greatest-le : (after : ℕ → Symbol → ℕ) (count : ℕ) (ts : List Token) → count ≤ greatest after count ts
 greatest-le after count [] = omega arith

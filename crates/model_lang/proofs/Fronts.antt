@@ -8,7 +8,7 @@ use Rattle.model_tokens.specs.declared.token.Word.{Word}
 use Rattle.model_tokens.specs.declared.token.Word.TheVariants as w
 use Rattle.model_tokens.specs.declared.token.Symbol.{Symbol}
 use Rattle.model_tokens.specs.declared.token.Symbol.TheVariants as s
-use Rattle.model_lang.specs.Tree.{Name}
+use Rattle.model_tree.specs.Tree.{Name}
 use Rattle.model_lang.specs.Reader.{ParseResult, on_read, on_rest, either_way, on_found, word_number, symbol_number, only_where, after_word, after_symbol, name_at, class_name_at}
 
 -- ---- what gave something had parts that did

@@ -7,11 +7,11 @@ use Rattle.model_tokens.specs.declared.token.Token.TheVariants as token
 use Rattle.model_tokens.specs.declared.token.Token.TheVariants.{Symbol as symbol}
 use Rattle.model_tokens.specs.declared.token.Symbol.{Symbol}
 use Rattle.model_tokens.specs.declared.token.Symbol.TheVariants as s
-use Rattle.model_lang.specs.declared.tree.UnaryOp.{UnaryOp}
-use Rattle.model_lang.specs.declared.tree.UnaryOp.TheVariants as sign
-use Rattle.model_lang.specs.declared.tree.BinaryOp.{BinaryOp}
-use Rattle.model_lang.specs.declared.tree.BinaryOp.TheVariants as op
-use Rattle.model_lang.specs.Grammar.{operator_line, left_of, sign_symbol, op_symbol}
+use Rattle.model_tree.specs.declared.tree.UnaryOp.{UnaryOp}
+use Rattle.model_tree.specs.declared.tree.UnaryOp.TheVariants as sign
+use Rattle.model_tree.specs.declared.tree.BinaryOp.{BinaryOp}
+use Rattle.model_tree.specs.declared.tree.BinaryOp.TheVariants as op
+use Rattle.model_tree.specs.Grammar.{operator_line, left_of, sign_symbol, op_symbol}
 use Rattle.model_lang.specs.Reader.{on_read, on_rest, either_way, only_where, symbol_number, after_symbol, name_at, field_at, unary_of_symbol, operator_of, with_rest, sign_at, of_line, operator_at}
 
 abbrev pub line_if : Option BinaryOp → ℕ

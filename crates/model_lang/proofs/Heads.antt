@@ -3,7 +3,7 @@ use Rattle.std.proofs.Common.{◌≡◌, List, Option, Some, None, refl}
 use Rattle.model_tokens.specs.declared.token.Token.{Token}
 use Rattle.model_tokens.specs.declared.token.Symbol.{Symbol}
 use Rattle.model_tokens.specs.declared.token.Symbol.TheVariants as s
-use Rattle.model_lang.specs.Tree.{Name, Expression, call, future, create, expressions_of}
+use Rattle.model_tree.specs.Tree.{Name, Expression, call, future, create, expressions_of}
 use Rattle.model_lang.specs.Reader.{ParseResult, ExpressionReader, on_read, on_rest, after_symbol, name_at, class_name_at, read_args, call_head, message_head, create_head, read_call, read_message, read_create}
 
 behind_then : {A B : Type 0} (o : Option (List Token)) (x : A) (next : A → List Token → Option B) → on_rest o (next x) ≡ on_read (on_rest o (λ ts. Some (x, ts))) next

@@ -13,10 +13,8 @@ pub mod Posts
 pub mod LineTurns
 pub mod SoundArguments
 pub mod SoundPosts
-pub mod Names
 pub mod SoundStatements
 pub mod SoundPrograms
-pub mod Fitting
 pub mod Whole
 pub mod Readings
 pub mod Elses

@@ -3,9 +3,9 @@ use Rattle.std.proofs.Common.{◌≡◌, ◌⊎◌, ⊎_elim, ℕ, zero, suc, �
 use Rattle.std.proofs.lemmas.Bool.Decides.{nat_tests}
 use Rattle.model_tokens.specs.declared.token.Token.{Token}
 use Rattle.model_tokens.specs.declared.token.Token.TheVariants.{Symbol as symbol}
-use Rattle.model_lang.specs.declared.tree.BinaryOp.{BinaryOp}
-use Rattle.model_lang.specs.Tree.{Expression, binary}
-use Rattle.model_lang.specs.Grammar.{Phrase, a_binary, operator_line, op_symbol, phrase_spelling, tree_of}
+use Rattle.model_tree.specs.declared.tree.BinaryOp.{BinaryOp}
+use Rattle.model_tree.specs.Tree.{Expression, binary}
+use Rattle.model_tree.specs.Grammar.{Phrase, a_binary, operator_line, op_symbol, phrase_spelling, tree_of}
 use Rattle.model_lang.specs.Reader.{ParseResult, ExpressionReader, on_read, on_found, operator_at, more_of, turns_of, read_operator_line}
 use Rattle.model_lang.proofs.GoesOn.{front_line, no_operator, operator_found, operator-front_line}
 use Rattle.model_lang.proofs.Arguments.{IsReadBy}

@@ -4,8 +4,8 @@ use Rattle.model_tokens.specs.declared.token.Token.{Token}
 use Rattle.model_tokens.specs.declared.token.Token.TheVariants.{Name as name, Word as word, Symbol as symbol}
 use Rattle.model_tokens.specs.declared.token.Word.TheVariants as w
 use Rattle.model_tokens.specs.declared.token.Symbol.TheVariants as s
-use Rattle.model_lang.specs.Tree.{Name, Expression, this, field, list, builtin, call, future, create, expressions_of}
-use Rattle.model_lang.specs.Grammar.{Phrase, a_number, a_text, a_nil, a_bool, a_this, a_field, a_local, a_builtin, a_create, a_list, brackets, a_call, a_future, a_unary, a_binary, Phrases, line, operator_line, IsWellFormed, in_round, phrase_spelling, args_spelling, tree_of, trees_of}
+use Rattle.model_tree.specs.Tree.{Name, Expression, this, field, list, builtin, call, future, create, expressions_of}
+use Rattle.model_tree.specs.Grammar.{Phrase, a_number, a_text, a_nil, a_bool, a_this, a_field, a_local, a_builtin, a_create, a_list, brackets, a_call, a_future, a_unary, a_binary, Phrases, line, operator_line, IsWellFormed, in_round, phrase_spelling, args_spelling, tree_of, trees_of}
 use Rattle.model_lang.specs.Reader.{ParseResult, ExpressionReader, on_read, on_rest, either_way, on_found, after_symbol, field_at, sign_at, read_prim, read_suffix, read_message, suffixes_of, read_post}
 use Rattle.model_lang.proofs.GoesOn.{no_dot, no_round, no_field, line_of-two}
 use Rattle.model_lang.proofs.Phrases.{list_of-trees}

@@ -2,12 +2,12 @@
 use Rattle.std.proofs.Common.{◌≡◌, inl, inr, ℕ, ◌+◌, ◌<◌, ◌≤◌, List, length, Option, Some, None, refl, sym, ap, ◌∙◌, subst, arith}
 use Rattle.model_tokens.specs.declared.token.Token.{Token}
 use Rattle.model_tokens.specs.Division.{Divides}
-use Rattle.model_lang.specs.declared.fault.Bound.{Bound}
-use Rattle.model_lang.specs.declared.fault.Bound.TheVariants as bound
-use Rattle.model_lang.specs.Tree.{ProgramTree}
-use Rattle.model_lang.specs.Grammar.{Derives}
-use Rattle.model_lang.specs.Bounds.{most_program_bytes, most_nested, greatest, brackets_after, operators_after, first_excess}
-use Rattle.model_lang.specs.Program.{FewBrackets, FewOperators, IsSpelled, IsRead, ArePast, IsTooLarge, AreNoProgram, IsNoProgram, Reading, a_program, no_program, too_large, IsReading}
+use Rattle.model_tree.specs.declared.bound.Bound.{Bound}
+use Rattle.model_tree.specs.declared.bound.Bound.TheVariants as bound
+use Rattle.model_tree.specs.Tree.{ProgramTree}
+use Rattle.model_tree.specs.Grammar.{Derives}
+use Rattle.model_tree.specs.Bounds.{most_program_bytes, most_nested, greatest, brackets_after, operators_after, first_excess}
+use Rattle.model_tree.specs.Program.{FewBrackets, FewOperators, IsSpelled, IsRead, ArePast, IsTooLarge, AreNoProgram, IsNoProgram, Reading, a_program, no_program, too_large, IsReading}
 use Rattle.model_lang.proofs.Whole.{OneDivision, one_derived, one_read, many_members, too_long, tokens_past}
 
 -- ---- tokens

@@ -4,8 +4,8 @@ use Rattle.model_tokens.specs.declared.token.Token.{Token}
 use Rattle.model_tokens.specs.declared.token.Token.TheVariants.{Symbol as symbol}
 use Rattle.model_tokens.specs.declared.token.Symbol.{Symbol}
 use Rattle.model_tokens.specs.declared.token.Symbol.TheVariants as s
-use Rattle.model_lang.specs.Tree.{Expression}
-use Rattle.model_lang.specs.Grammar.{Phrase, Phrases, no_phrases, phrase, IsWellFormed, AreWellFormed, line, in_round, phrase_spelling, args_spelling, more_spelling, tree_of}
+use Rattle.model_tree.specs.Tree.{Expression}
+use Rattle.model_tree.specs.Grammar.{Phrase, Phrases, no_phrases, phrase, IsWellFormed, AreWellFormed, line, in_round, phrase_spelling, args_spelling, more_spelling, tree_of}
 use Rattle.model_lang.specs.Reader.{ParseResult, ExpressionReader, on_read, on_rest, after_symbol, read_more, read_args}
 use Rattle.model_lang.proofs.Fronts.{parts, apart, symbol_or, symbol_then, both_spelled}
 use Rattle.model_lang.proofs.Phrases.{list_of}

@@ -2,10 +2,10 @@
 use Rattle.std.proofs.Common.{◌≡◌, ⊎_elim, ℕ, zero, suc, ◌+◌, ◌≤◌, List, ◌∷◌, ◌++◌, length, Option, Some, refl, sym, ap, ◌∙◌, arith}
 use Rattle.model_tokens.specs.declared.token.Token.{Token}
 use Rattle.model_tokens.specs.declared.token.Token.TheVariants.{Symbol as symbol}
-use Rattle.model_lang.specs.declared.tree.UnaryOp.{UnaryOp}
-use Rattle.model_lang.specs.declared.tree.BinaryOp.{BinaryOp}
-use Rattle.model_lang.specs.Tree.{Expression, unary, binary}
-use Rattle.model_lang.specs.Grammar.{Phrase, a_unary, a_binary, IsWellFormed, line, sign_symbol, op_symbol, phrase_spelling, tree_of}
+use Rattle.model_tree.specs.declared.tree.UnaryOp.{UnaryOp}
+use Rattle.model_tree.specs.declared.tree.BinaryOp.{BinaryOp}
+use Rattle.model_tree.specs.Tree.{Expression, unary, binary}
+use Rattle.model_tree.specs.Grammar.{Phrase, a_unary, a_binary, IsWellFormed, line, sign_symbol, op_symbol, phrase_spelling, tree_of}
 use Rattle.model_lang.specs.Reader.{ParseResult, ExpressionReader, on_read, sign_at, operator_at, more_of, turns_of, read_operator_line, read_unary, read_post, read_expression}
 use Rattle.model_lang.proofs.Fronts.{parts, apart, found_or, both_spelled}
 use Rattle.model_lang.proofs.GoesOn.{operator_front, sign_front, left_of-fits}

@@ -7,8 +7,8 @@ use Rattle.model_tokens.specs.declared.token.Word.{Word}
 use Rattle.model_tokens.specs.declared.token.Word.TheVariants as w
 use Rattle.model_tokens.specs.declared.token.Symbol.{Symbol}
 use Rattle.model_tokens.specs.declared.token.Symbol.TheVariants as s
-use Rattle.model_lang.specs.Tree.{Name, Expression, nil, bool, int, text, this, local, field, list, builtin, call, future, create, expressions_of}
-use Rattle.model_lang.specs.Grammar.{Phrase, a_number, a_text, a_nil, a_bool, a_this, a_field, a_local, a_builtin, a_create, a_list, brackets, a_call, a_future, IsWellFormed, line, in_round, phrase_spelling, args_spelling, tree_of}
+use Rattle.model_tree.specs.Tree.{Name, Expression, nil, bool, int, text, this, local, field, list, builtin, call, future, create, expressions_of}
+use Rattle.model_tree.specs.Grammar.{Phrase, a_number, a_text, a_nil, a_bool, a_this, a_field, a_local, a_builtin, a_create, a_list, brackets, a_call, a_future, IsWellFormed, line, in_round, phrase_spelling, args_spelling, tree_of}
 use Rattle.model_lang.specs.Reader.{ParseResult, ExpressionReader, on_read, on_rest, either_way, after_symbol, name_at, class_name_at, field_at, read_args, read_named, read_this, read_create, read_word, read_opened, read_prim, read_call, read_message, read_future, read_suffix, suffixes_of, read_post}
 use Rattle.model_lang.proofs.Fronts.{parts, apart, word_or, symbol_or, symbol_then, name_then, class_name_front, found_or, both_spelled}
 use Rattle.model_lang.proofs.Phrases.{list_of, list_of-trees}

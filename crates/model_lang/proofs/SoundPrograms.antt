@@ -4,8 +4,8 @@ use Rattle.model_tokens.specs.declared.token.Token.{Token}
 use Rattle.model_tokens.specs.declared.token.Token.TheVariants.{Name as name, ClassName as class_name, Word as word, Symbol as symbol}
 use Rattle.model_tokens.specs.declared.token.Word.TheVariants as w
 use Rattle.model_tokens.specs.declared.token.Symbol.TheVariants as s
-use Rattle.model_lang.specs.Tree.{Name, Statement, Statements, statements_of, MethodTree, ClassTree}
-use Rattle.model_lang.specs.Grammar.{IsWellFormedBlock, MethodForm, ClassForm, AreWellFormedMethods, AreWellFormedClasses, block_spelling, further_spelling, params_spelling, method_spelling, methods_spelling, fields_spelling, class_spelling, classes_spelling, tree_of_method, tree_of_class, Derives}
+use Rattle.model_tree.specs.Tree.{Name, Statement, Statements, statements_of, MethodTree, ClassTree}
+use Rattle.model_tree.specs.Grammar.{IsWellFormedBlock, MethodForm, ClassForm, AreWellFormedMethods, AreWellFormedClasses, block_spelling, further_spelling, params_spelling, method_spelling, methods_spelling, fields_spelling, class_spelling, classes_spelling, tree_of_method, tree_of_class, Derives}
 use Rattle.model_lang.specs.Reader.{ParseResult, on_read, on_rest, after_symbol, name_at, class_name_at, read_block, read_further, read_params, read_body, read_method, read_fields, read_methods, read_members, read_class, read_classes, read_program}
 use Rattle.model_lang.proofs.Fronts.{parts, apart, class_name_front, word_then, symbol_then, name_then, word_or, symbol_or, both_spelled}
 use Rattle.model_lang.proofs.CompleteStatements.{list_of_block, block-list}

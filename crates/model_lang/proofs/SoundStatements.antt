@@ -4,8 +4,8 @@ use Rattle.model_tokens.specs.declared.token.Token.{Token}
 use Rattle.model_tokens.specs.declared.token.Token.TheVariants.{Name as name, Word as word, Symbol as symbol}
 use Rattle.model_tokens.specs.declared.token.Word.TheVariants as w
 use Rattle.model_tokens.specs.declared.token.Symbol.TheVariants as s
-use Rattle.model_lang.specs.Tree.{Name, Expression, Statement, declare, assign, set_field, when, while, give, do_, statements_of, no_else, else_block}
-use Rattle.model_lang.specs.Grammar.{Phrase, IsWellFormed, phrase_spelling, tree_of, Action, a_let, an_assignment, a_set_field, choice, choice_else, a_while, a_return, a_do, Block, closed, action_then, IsWellFormedAction, IsWellFormedBlock, in_round, end_spelling, action_spelling, block_spelling, tree_of_action, trees_of_block}
+use Rattle.model_tree.specs.Tree.{Name, Expression, Statement, declare, assign, set_field, when, while, give, do_, statements_of, no_else, else_block}
+use Rattle.model_tree.specs.Grammar.{Phrase, IsWellFormed, phrase_spelling, tree_of, Action, a_let, an_assignment, a_set_field, choice, choice_else, a_while, a_return, a_do, Block, closed, action_then, IsWellFormedAction, IsWellFormedBlock, in_round, end_spelling, action_spelling, block_spelling, tree_of_action, trees_of_block}
 use Rattle.model_lang.specs.Reader.{ParseResult, on_read, on_rest, either_way, on_found, after_word, after_symbol, assign_head, set_at, read_expression, read_ended, read_end, read_let, read_simple, read_test, read_else, read_if, read_while, read_action, read_actions, read_block}
 use Rattle.model_lang.proofs.Fronts.{parts, apart, word_then, symbol_then, name_then, word_or, symbol_or, both_spelled, found_or}
 use Rattle.model_lang.proofs.SoundExpressions.{expression_at_front}

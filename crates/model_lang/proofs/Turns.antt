@@ -8,7 +8,7 @@ use Rattle.model_tokens.specs.declared.token.Word.TheVariants as w
 use Rattle.model_lang.specs.declared.operators.Line.{Line}
 use Rattle.model_lang.specs.declared.operators.Line.TheVariants as line
 use Rattle.model_lang.specs.Lines.{line_number, tighter_of}
-use Rattle.model_lang.specs.Tree.{Name, Expression, unary, binary, Statement, MethodTree, ClassTree}
+use Rattle.model_tree.specs.Tree.{Name, Expression, unary, binary, Statement, MethodTree, ClassTree}
 use Rattle.model_lang.specs.Reader.{ParseResult, ExpressionReader, on_read, on_rest, either_way, on_found, operator_at, more_of, turns_of, suffixes_of, read_suffix, read_more, read_operator_line, read_unary, read_post, sign_at, after_symbol, after_word, name_at, read_actions, read_action, read_block, read_fields, read_methods, read_method, read_further, read_classes, read_class}
 
 pub more_of-turn : (k : ℕ) (inner : ExpressionReader) (turns i : ℕ) (left : Expression) (ts : List Token) → i < turns → more_of k inner (turns - i) left ts ≡ on_found (operator_at k ts) (λ o rest. on_read (inner rest) (λ e. more_of k inner (turns - (i + 1)) (binary o left e))) (Some (left, ts))

@@ -2,14 +2,14 @@
 use Rattle.std.proofs.Common.{◌≡◌, inl, inr, ℕ, ◌<◌, ◌≤◌, List, length, Option, Some, None, Err, refl, sym, ap, ◌∙◌, subst}
 use Rattle.model_tokens.specs.declared.token.Token.{Token}
 use Rattle.model_tokens.specs.Division.{Divides}
-use Rattle.model_lang.specs.declared.fault.Bound.{Bound}
-use Rattle.model_lang.specs.declared.fault.Bound.TheVariants as bound
+use Rattle.model_tree.specs.declared.bound.Bound.{Bound}
+use Rattle.model_tree.specs.declared.bound.Bound.TheVariants as bound
 use Rattle.model_lang.specs.declared.fault.LangFault.{LangFault}
 use Rattle.model_lang.specs.declared.fault.LangFault.TheVariants.{Syntax, TooLarge, WantOfMemory}
-use Rattle.model_lang.specs.Tree.{ProgramTree}
-use Rattle.model_lang.specs.Grammar.{Derives}
-use Rattle.model_lang.specs.Bounds.{most_program_bytes, first_excess}
-use Rattle.model_lang.specs.Program.{FewBrackets, FewOperators, IsSpelled, IsRead, ArePast, IsTooLarge, AreNoProgram, IsNoProgram}
+use Rattle.model_tree.specs.Tree.{ProgramTree}
+use Rattle.model_tree.specs.Grammar.{Derives}
+use Rattle.model_tree.specs.Bounds.{most_program_bytes, first_excess}
+use Rattle.model_tree.specs.Program.{FewBrackets, FewOperators, IsSpelled, IsRead, ArePast, IsTooLarge, AreNoProgram, IsNoProgram}
 use Rattle.model_lang.specs.Reader.{read_program}
 use Rattle.model_lang.specs.Answer.{ParsesTokens, Parses}
 use Rattle.model_lang.proofs.CompletePrograms.{program_read}

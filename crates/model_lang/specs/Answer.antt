@@ -4,15 +4,15 @@ use Rattle.std.specs.Borrow.{Bor}
 use Rattle.std.specs.declared.alloc.Global.{Global}
 use Rattle.tea_base.specs.declared.want.WantOfMemory.{WantOfMemory as NoMemory}
 use Rattle.model_tokens.specs.declared.token.Token.{Token}
-use Rattle.model_lang.specs.declared.tree.Class.{Class}
-use Rattle.model_lang.specs.declared.tree.Expr.{Expr}
+use Rattle.model_tree.specs.declared.tree.Class.{Class}
+use Rattle.model_tree.specs.declared.tree.Expr.{Expr}
 use Rattle.model_lang.specs.declared.fault.LangFault.{LangFault}
 use Rattle.model_lang.specs.declared.fault.LangFault.TheVariants.{Syntax, TooLarge, WantOfMemory}
 use Rattle.model_lang.specs.declared.fault.ParseStop.{ParseStop}
 use Rattle.model_lang.specs.declared.fault.ParseStop.TheVariants as stop
-use Rattle.model_lang.specs.Tree.{Name, Expression, ClassTree}
-use Rattle.model_lang.specs.TreeView.{program_tree, expression_tree}
-use Rattle.model_lang.specs.Program.{IsSpelled, IsRead, ArePast, IsTooLarge, AreNoProgram, IsNoProgram}
+use Rattle.model_tree.specs.Tree.{Name, Expression, ClassTree}
+use Rattle.model_tree.specs.TreeView.{program_tree, expression_tree}
+use Rattle.model_tree.specs.Program.{IsSpelled, IsRead, ArePast, IsTooLarge, AreNoProgram, IsNoProgram}
 use Rattle.model_lang.specs.Reader.{ParseResult}
 
 -- the tree that the text is read as, or the refusal that it meets

@@ -1,9 +1,4 @@
-pub mod Tree
-pub mod TreeView
-pub mod Bounds
-pub mod Grammar
-pub mod Names
-pub mod Program
 pub mod Reader
 pub mod Lines
+pub mod Counts
 pub mod Answer

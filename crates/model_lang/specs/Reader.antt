@@ -6,12 +6,12 @@ use Rattle.model_tokens.specs.declared.token.Word.{Word}
 use Rattle.model_tokens.specs.declared.token.Word.TheVariants as w
 use Rattle.model_tokens.specs.declared.token.Symbol.{Symbol}
 use Rattle.model_tokens.specs.declared.token.Symbol.TheVariants as s
-use Rattle.model_lang.specs.declared.tree.UnaryOp.{UnaryOp}
-use Rattle.model_lang.specs.declared.tree.UnaryOp.TheVariants as sign
-use Rattle.model_lang.specs.declared.tree.BinaryOp.{BinaryOp}
-use Rattle.model_lang.specs.declared.tree.BinaryOp.TheVariants as op
-use Rattle.model_lang.specs.Tree.{Name, Expression, nil, bool, int, text, this, local, field, list, unary, binary, builtin, call, future, create, expressions_of, Statement, declare, assign, set_field, when, while, give, do_, statements_of, no_else, else_block, MethodTree, ClassTree}
-use Rattle.model_lang.specs.Grammar.{operator_line}
+use Rattle.model_tree.specs.declared.tree.UnaryOp.{UnaryOp}
+use Rattle.model_tree.specs.declared.tree.UnaryOp.TheVariants as sign
+use Rattle.model_tree.specs.declared.tree.BinaryOp.{BinaryOp}
+use Rattle.model_tree.specs.declared.tree.BinaryOp.TheVariants as op
+use Rattle.model_tree.specs.Tree.{Name, Expression, nil, bool, int, text, this, local, field, list, unary, binary, builtin, call, future, create, expressions_of, Statement, declare, assign, set_field, when, while, give, do_, statements_of, no_else, else_block, MethodTree, ClassTree}
+use Rattle.model_tree.specs.Grammar.{operator_line}
 
 -- what was read, and the tokens behind it
 abbrev pub ParseResult : Type 0 → Type 0

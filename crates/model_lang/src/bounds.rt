@@ -1,11 +1,11 @@
 //! The bounds of a program.
 ghost use Rattle.std.specs.Prelude.{◌≡◌, ◌↔◌, ◌≤◌, IsTrue, map};
-ghost use Rattle.model_lang.specs.TreeView.{expression_tree, expression_trees, statement_tree, statement_trees, method_tree, program_tree};
-ghost use Rattle.model_lang.specs.Bounds.{greatest, count_symbol, count_after, most_nested, most_arguments, how_many, above as too_many, first_found, many_arguments as many_in_expression, all_many_arguments, many_in_statement, many_in_block, many_in_methods, many_parameters, many_fields as too_many_fields, many_methods as too_many_methods, first_excess as first_passed};
+ghost use Rattle.model_tree.specs.TreeView.{expression_tree, expression_trees, statement_tree, statement_trees, method_tree, program_tree};
+ghost use Rattle.model_tree.specs.Bounds.{greatest, count_after, most_nested, most_arguments, how_many, above as too_many, first_found, many_arguments as many_in_expression, all_many_arguments, many_in_statement, many_in_block, many_in_methods, many_parameters, many_fields as too_many_fields, many_methods as too_many_methods, first_excess as first_passed};
+ghost use Rattle.model_lang.specs.Counts.{count_symbol};
 
-use crate::fault::Bound;
-use crate::tree::{Class, Expr, Method, Stmt};
 use model_tokens::{Symbol, Token};
+use model_tree::{Bound, Class, Expr, Method, Stmt};
 
 /// The most bytes of a program's text.
 pub const MOST_PROGRAM_BYTES: usize = 65_536;

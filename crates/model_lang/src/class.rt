@@ -1,14 +1,14 @@
 //! Classes, read from the front of the tokens.
 ghost use Rattle.std.specs.Prelude.{[], length, map};
 ghost use Rattle.model_lang.specs.Answer.{ParsesPart, ReadsAll};
-ghost use Rattle.model_lang.specs.TreeView.{class_tree, method_tree};
+ghost use Rattle.model_tree.specs.TreeView.{class_tree, method_tree};
 ghost use Rattle.model_lang.specs.Reader.{read_class, read_members, read_fields, read_methods, read_method, read_body, read_params, read_further, read_program};
 
 use crate::fault::ParseStop;
 use crate::front::{class_name, expect_symbol, expect_word, name, symbol, word};
 use crate::statement::block;
-use crate::tree::{Class, Method};
 use model_tokens::{Symbol, Token, Word};
+use model_tree::{Class, Method};
 use std::alloc::Global;
 use tea_base::{Text, push};
 

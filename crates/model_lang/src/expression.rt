@@ -1,16 +1,16 @@
 //! Expressions, read from tokens.
 ghost use Rattle.std.specs.Prelude.{◌-◌, [], map, Result, Ok, Err};
 ghost use Rattle.model_lang.specs.Answer.{ParsesPart, FindsName, Makes};
-ghost use Rattle.model_lang.specs.Tree.{binary, call, create, expressions_of, future, unary};
-ghost use Rattle.model_lang.specs.TreeView.{expression_tree};
+ghost use Rattle.model_tree.specs.Tree.{binary, call, create, expressions_of, future, unary};
+ghost use Rattle.model_tree.specs.TreeView.{expression_tree};
 ghost use Rattle.model_lang.specs.Lines.{line_number};
 ghost use Rattle.model_lang.specs.Reader.{read_expression, read_operator_line, read_unary, read_post, read_suffix, read_call, read_future, read_prim, read_word, read_opened, read_named, read_this, field_at as read_field, read_create, read_args, read_more};
 
 use crate::fault::ParseStop;
 use crate::front::{call_head, create_head, expect_symbol, message_head, name_at, symbol, word};
 use crate::operators::{Line, operator_at, sign_at};
-use crate::tree::{BinaryOp, Expr, UnaryOp};
 use model_tokens::{Symbol, Token, Word};
+use model_tree::{BinaryOp, Expr, UnaryOp};
 use std::alloc::Global;
 use tea_base::{Text, WantOfMemory, push};
 

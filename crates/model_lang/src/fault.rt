@@ -2,6 +2,7 @@
 ghost use Rattle.std.specs.Prelude.{ℕ, ◌≡◌, length};
 
 use model_tokens::Token;
+use model_tree::Bound;
 use tea_base::WantOfMemory;
 
 /// Why a text was not read as a program.
@@ -15,25 +16,6 @@ pub enum LangFault {
     /// parameters or arguments that is above the bound; of brackets and operators it is 33.
     TooLarge { what: Bound, count: u64 },
     WantOfMemory,
-}
-
-/// What is bounded in a program, in the order in which it is looked at.
-#[derive(Clone, Copy, Debug, PartialEq, Eq)]
-pub enum Bound {
-    /// Bytes of the text: at most 65,536.
-    Bytes,
-    /// Brackets that are open at a token: at most 32.
-    Brackets,
-    /// Operators since the last `,`, `;`, `{` or `}`: at most 32.
-    Operators,
-    /// Classes: at most 256.
-    Classes,
-    /// Fields of a class: at most 256.
-    Fields,
-    /// Methods of a class: at most 256.
-    Methods,
-    /// Parameters of a method, and arguments of a call or a future: at most 16.
-    Parameters,
 }
 
 /// Why tokens were not read on.

@@ -1,12 +1,12 @@
 //! The operators, and the lines of the grammar that they stand on.
 ghost use Rattle.std.specs.Prelude.{◌≡◌, Some};
-ghost use Rattle.model_lang.specs.Grammar.{operator_line as number_of};
+ghost use Rattle.model_tree.specs.Grammar.{operator_line as number_of};
 ghost use Rattle.model_lang.specs.Lines.{line_number, tighter_of};
 ghost use Rattle.model_lang.specs.Answer.{Finds};
 ghost use Rattle.model_lang.specs.Reader.{operator_of, unary_of_symbol, sign_at as read_sign, operator_at as read_operator, of_line, turns_of};
 
-use crate::tree::{BinaryOp, UnaryOp};
 use model_tokens::{Symbol, Token};
+use model_tree::{BinaryOp, UnaryOp};
 
 /// A line of the grammar whose operators have two sides, from the tightest.
 #[derive(Clone, Copy, Debug, PartialEq, Eq)]

@@ -1,17 +1,16 @@
 //! A text, read as a program.
 ghost use Rattle.std.specs.Prelude.{◌≡◌, ℕ, List, length};
 ghost use Rattle.model_tokens.specs.declared.token.Token.{Token as Held};
-ghost use Rattle.model_lang.specs.Tree.{ProgramTree};
-ghost use Rattle.model_lang.specs.Grammar.{Derives};
-ghost use Rattle.model_lang.specs.Program.{IsRead, Reading, IsReading};
+ghost use Rattle.model_tree.specs.Tree.{ProgramTree};
+ghost use Rattle.model_tree.specs.Grammar.{Derives};
+ghost use Rattle.model_tree.specs.Program.{IsRead, Reading, IsReading};
 ghost use Rattle.model_lang.specs.Answer.{Parses, ParsesTokens, IsPlaced};
 
 use crate::bounds::{MOST_NESTED, MOST_PROGRAM_BYTES, TokenCount, first_excess, stays_low};
 use crate::class::program;
-use crate::fault::{Bound, LangFault, ParseStop};
-use crate::program::Program;
-use crate::tree::Class;
+use crate::fault::{LangFault, ParseStop};
 use model_tokens::{Token, TokenFault, one_division, place_of_fault, place_of_token, tokens};
+use model_tree::{Bound, Class, Program};
 use std::alloc::Global;
 
 // The first count of brackets or operators that is above the bound.

@@ -1,14 +1,14 @@
 //! Statements and blocks, read from tokens.
 ghost use Rattle.std.specs.Prelude.{[], length, map};
 ghost use Rattle.model_lang.specs.Answer.{ParsesPart, FindsName};
-ghost use Rattle.model_lang.specs.TreeView.{statement_tree, expression_tree};
+ghost use Rattle.model_tree.specs.TreeView.{statement_tree, expression_tree};
 ghost use Rattle.model_lang.specs.Reader.{read_block, read_actions, read_action, read_if, read_else, read_while, read_test, read_simple, read_let, read_ended, assign_head as read_assigned, set_at as read_set};
 
 use crate::expression::expression;
 use crate::fault::ParseStop;
 use crate::front::{expect_symbol, name, name_at, symbol, word};
-use crate::tree::{Expr, Stmt};
 use model_tokens::{Symbol, Token, Word};
+use model_tree::{Expr, Stmt};
 use std::alloc::Global;
 use tea_base::{Text, push};
 

@@ -5,9 +5,9 @@ use Rattle.model_tokens.specs.declared.token.Token.{Token}
 use Rattle.model_tokens.specs.declared.token.Token.TheVariants.{Symbol as symbol}
 use Rattle.model_tokens.specs.declared.token.Symbol.TheVariants as s
 use Rattle.model_tokens.specs.Division.{Piece, blank, comment, a_token, ArePieces, tokens_of, Divides}
-use Rattle.model_lang.specs.Tree.{ProgramTree}
-use Rattle.model_lang.specs.Grammar.{tree_of_class, classes_spelling, Derives}
-use Rattle.model_lang.specs.Program.{IsSpelled, IsRead, IsProgram}
+use Rattle.model_tree.specs.Tree.{ProgramTree}
+use Rattle.model_tree.specs.Grammar.{tree_of_class, classes_spelling, Derives}
+use Rattle.model_tree.specs.Program.{IsSpelled, IsRead, IsProgram}
 use Rattle.model_print.specs.Canonical.{class_form, canonical_tokens, canonical_text}
 use Rattle.model_print.proofs.Written.{classes-stand, trees-classes}
 use Rattle.model_print.proofs.Shedding.{Sheds, classes_shed}

@@ -10,8 +10,8 @@ use Rattle.model_tokens.specs.Bytes.{goes_on_name, begins_name, begins_class_nam
 use Rattle.model_tokens.specs.Spelling.{token_spelling, spelled_text, IsNamed, IsToken}
 use Rattle.model_tokens.proofs.Lists.{from_both}
 use Rattle.model_tokens.proofs.NameLaws.{ascii_at}
-use Rattle.model_lang.specs.Tree.{ProgramTree}
-use Rattle.model_lang.specs.Program.{IsProgram}
+use Rattle.model_tree.specs.Tree.{ProgramTree}
+use Rattle.model_tree.specs.Program.{IsProgram}
 use Rattle.model_print.specs.Canonical.{is_worded, token_gap, text_behind, canonical_tokens, canonical_text}
 use Rattle.model_print.specs.Printing.{PrintState, token_text, with_token, with_tokens}
 use Rattle.model_print.proofs.ShedCounts.{AreTokens}

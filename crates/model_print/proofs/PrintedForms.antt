@@ -5,12 +5,12 @@ use Rattle.model_tokens.specs.declared.token.Token.TheVariants.{Name as name, Cl
 use Rattle.model_tokens.specs.declared.token.Word.TheVariants as w
 use Rattle.model_tokens.specs.declared.token.Symbol.{Symbol}
 use Rattle.model_tokens.specs.declared.token.Symbol.TheVariants as s
-use Rattle.model_lang.specs.declared.tree.BinaryOp.{BinaryOp}
-use Rattle.model_lang.specs.declared.tree.Class.{Class}
-use Rattle.model_lang.specs.Tree.{Name, Expression, Expressions, binary, call, future, create, Statement, Statements, when, else_block}
-use Rattle.model_lang.specs.TreeView.{program_tree}
-use Rattle.model_lang.specs.Grammar.{operator_line, left_of, op_symbol, in_round, in_braces, phrase_spelling, args_spelling, action_spelling, block_spelling}
-use Rattle.model_lang.specs.Program.{IsRead, IsProgram}
+use Rattle.model_tree.specs.declared.tree.BinaryOp.{BinaryOp}
+use Rattle.model_tree.specs.declared.tree.Class.{Class}
+use Rattle.model_tree.specs.Tree.{Name, Expression, Expressions, binary, call, future, create, Statement, Statements, when, else_block}
+use Rattle.model_tree.specs.TreeView.{program_tree}
+use Rattle.model_tree.specs.Grammar.{operator_line, left_of, op_symbol, in_round, in_braces, phrase_spelling, args_spelling, action_spelling, block_spelling}
+use Rattle.model_tree.specs.Program.{IsRead, IsProgram}
 use Rattle.model_print.specs.Canonical.{at_line, phrase_of, phrases_of, action_of, block_of, canonical_tokens, canonical_text}
 use Rattle.model_print.specs.Printing.{PrintState, with_token, with_tokens}
 use Rattle.model_print.proofs.Canonical.{canonical-reads}

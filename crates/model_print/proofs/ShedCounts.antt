@@ -5,7 +5,7 @@ use Rattle.model_tokens.specs.declared.token.Token.TheVariants.{Name as name, Cl
 use Rattle.model_tokens.specs.declared.token.Symbol.{Symbol}
 use Rattle.model_tokens.specs.declared.token.Symbol.TheVariants as s
 use Rattle.model_tokens.specs.Spelling.{IsToken}
-use Rattle.model_lang.specs.Bounds.{brackets_after, operators_after, count_after, greatest}
+use Rattle.model_tree.specs.Bounds.{brackets_after, operators_after, count_after, greatest}
 use Rattle.model_lang.proofs.Counts.{greatest-le}
 use Rattle.model_print.proofs.Shedding.{is_bracket, Sheds}
 

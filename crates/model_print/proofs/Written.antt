@@ -2,10 +2,10 @@
 use Rattle.std.proofs.Common.{◌≡◌, ℕ, ◌-◌, ◌<◌, ◌≤◌, Bool, true, false, cond, List, [], ◌∷◌, map, refl, ap, ◌∙◌, arith}
 use Rattle.std.specs.Prelude.{nat_le}
 use Rattle.std.proofs.lemmas.Bool.Decides.{nat_tests}
-use Rattle.model_lang.specs.declared.tree.BinaryOp.{BinaryOp}
-use Rattle.model_lang.specs.declared.tree.BinaryOp.TheVariants as op
-use Rattle.model_lang.specs.Tree.{Expression, nil, bool, int, text, this, local, field, list, unary, binary, builtin, call, future, create, Expressions, no_expressions, expression, Statement, declare, assign, set_field, when, while, give, do_, Statements, no_statements, statement, no_else, else_block, MethodTree, ProgramTree}
-use Rattle.model_lang.specs.Grammar.{Phrase, brackets, a_binary, operator_line, line, left_of, IsWellFormed, AreWellFormed, tree_of, trees_of, IsWellFormedAction, IsWellFormedBlock, AreWellFormedMethods, AreWellFormedClasses, tree_of_action, trees_of_block, tree_of_method, tree_of_class}
+use Rattle.model_tree.specs.declared.tree.BinaryOp.{BinaryOp}
+use Rattle.model_tree.specs.declared.tree.BinaryOp.TheVariants as op
+use Rattle.model_tree.specs.Tree.{Expression, nil, bool, int, text, this, local, field, list, unary, binary, builtin, call, future, create, Expressions, no_expressions, expression, Statement, declare, assign, set_field, when, while, give, do_, Statements, no_statements, statement, no_else, else_block, MethodTree, ProgramTree}
+use Rattle.model_tree.specs.Grammar.{Phrase, brackets, a_binary, operator_line, line, left_of, IsWellFormed, AreWellFormed, tree_of, trees_of, IsWellFormedAction, IsWellFormedBlock, AreWellFormedMethods, AreWellFormedClasses, tree_of_action, trees_of_block, tree_of_method, tree_of_class}
 use Rattle.model_print.specs.Canonical.{at_line, phrase_of, phrases_of, action_of, block_of, method_form, class_form}
 
 -- ---- a phrase where one of a line may stand

@@ -6,11 +6,11 @@ use Rattle.model_tokens.specs.declared.token.Token.TheVariants as token
 use Rattle.model_tokens.specs.Spelling.{spelled_text, token_spelling}
 use Rattle.model_print.specs.declared.printing.Level.{Level}
 use Rattle.model_print.specs.declared.printing.Level.TheVariants as level
-use Rattle.model_lang.specs.declared.tree.Class.{Class}
+use Rattle.model_tree.specs.declared.tree.Class.{Class}
 use Rattle.model_lang.specs.declared.fault.LangFault.{LangFault}
 use Rattle.model_lang.specs.declared.fault.LangFault.TheVariants.{Syntax, TooLarge, WantOfMemory}
-use Rattle.model_lang.specs.Tree.{ProgramTree}
-use Rattle.model_lang.specs.TreeView.{program_tree}
+use Rattle.model_tree.specs.Tree.{ProgramTree}
+use Rattle.model_tree.specs.TreeView.{program_tree}
 use Rattle.model_print.specs.Canonical.{is_worded, token_gap}
 
 abbrev pub PrintState : Type 0

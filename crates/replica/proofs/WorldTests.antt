@@ -5,7 +5,7 @@ use Rattle.std.proofs.lemmas.Bool.{and_parts}
 use Rattle.std.proofs.lemmas.Option.{none-some, same_Some}
 use Rattle.std.proofs.lemmas.Slice.Eq.{bytes_eq-Decides}
 use Rattle.byte_fields.specs.Fields.{◌>>=◌, whole}
-use Rattle.model_lang.specs.Tree.{ProgramTree}
+use Rattle.model_tree.specs.Tree.{ProgramTree}
 use Rattle.world_plain.specs.Valid.{Valid}
 use Rattle.world_plain.specs.ValidTest.{is_valid}
 use Rattle.world_plain.specs.World.{WorldRecord}

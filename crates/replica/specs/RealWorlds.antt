@@ -1,7 +1,7 @@
 -- The worlds of a program and a session, as replicas want worlds.
 use Rattle.std.specs.Prelude.{ℕ, nat_lt, Bool, ◌&&◌, bytes_eq, List}
 use Rattle.std.specs.List.{list_all}
-use Rattle.model_lang.specs.Tree.{ProgramTree}
+use Rattle.model_tree.specs.Tree.{ProgramTree}
 use Rattle.world_plain.specs.Messages.{PlainOutgoing}
 use Rattle.world_plain.specs.ValidTest.{is_valid}
 use Rattle.world_plain.specs.World.{WorldRecord}

@@ -1,8 +1,8 @@
 -- What contracts see of the world that a replica has.
 use Rattle.std.specs.Prelude.{◌≡◌, ℕ, Bool, true, false, List, [], Option, Some, None, Result, Ok, Err, ⊤}
-use Rattle.model_lang.specs.declared.tree.Class.{Class}
-use Rattle.model_lang.specs.Program.{IsProgram}
-use Rattle.model_lang.specs.TreeView.{program_tree}
+use Rattle.model_tree.specs.declared.tree.Class.{Class}
+use Rattle.model_tree.specs.Program.{IsProgram}
+use Rattle.model_tree.specs.TreeView.{program_tree}
 use Rattle.world_plain.specs.Messages.{PlainOutgoing}
 use Rattle.world_plain.specs.World.{WorldRecord}
 use Rattle.world.specs.declared.fault.WorldFault.{WorldFault}

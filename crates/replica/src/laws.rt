@@ -4,10 +4,10 @@ ghost use Rattle.tea_base.specs.Limits.{time_limit};
 ghost use Rattle.std.specs.Thread.{IsSend};
 ghost use Rattle.tea_base.specs.Legal.{IsLegal};
 ghost use Rattle.tea_base.specs.declared.entry.Entry.{Entry};
-ghost use Rattle.model_lang.specs.declared.tree.Class.{Class};
-ghost use Rattle.model_lang.specs.Program.{IsProgram};
-ghost use Rattle.model_lang.specs.Tree.{ProgramTree};
-ghost use Rattle.model_lang.specs.TreeView.{program_tree};
+ghost use Rattle.model_tree.specs.declared.tree.Class.{Class};
+ghost use Rattle.model_tree.specs.Program.{IsProgram};
+ghost use Rattle.model_tree.specs.Tree.{ProgramTree};
+ghost use Rattle.model_tree.specs.TreeView.{program_tree};
 ghost use Rattle.world_plain.specs.World.{WorldRecord};
 ghost use Rattle.world.specs.Worlds.{Follows, replay};
 ghost use Rattle.snapshot_codec.specs.Spelling.{world_spelling};
@@ -24,7 +24,7 @@ ghost use Rattle.replica.specs.RealWorlds.{is_at_rest, worlds};
 ghost use Rattle.replica.specs.View.{ReplicaView, founded_replica, worlds_of};
 ghost use Rattle.replica.specs.contracts.replica.Replica as replica;
 
-use model_check::checked_crosses_threads;
+use model_solved::checked_crosses_threads;
 use world::{
     advance_rests, advance_twice, at_rest_stays, external_after, external_keeps_valid,
     first_world_is_valid, replay_folds, world_crosses_threads, world_decides,

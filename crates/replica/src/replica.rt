@@ -16,7 +16,7 @@ ghost use Rattle.replica.specs.View.{IsSoundReplica, KeepsSession, cause_of, fou
 use crate::measure::payload_len;
 use crate::sending::sends;
 use crate::session_world::SessionWorld;
-use model_check::Checked;
+use model_solved::Checked;
 use model_value::{Value, payload};
 use replica_plain::{How, PublishRefusal, ReplicaFault};
 use std::alloc::Global;
@@ -54,7 +54,7 @@ pub struct Replica {
 
 impl Model for Replica {
     ghost use Rattle.std.specs.Coded.{codes};
-    ghost use Rattle.model_lang.specs.contracts.tree.Stmt as stmt;
+    ghost use Rattle.model_tree.specs.contracts.tree.Stmt as stmt;
     ghost use Rattle.replica_plain.specs.PlainReplica.{AreCounted};
     ghost use Rattle.world_plain.specs.Messages.{coded_outgoing};
     ghost use Rattle.world_plain.specs.WorldCode.{coded_world};

@@ -2,14 +2,14 @@
 ghost use Rattle.std.specs.Prelude.{◌≡◌, ◌<◌, nat_le, nat_lt, [], map, IfOk};
 ghost use Rattle.std.specs.Arc.{arc_value};
 ghost use Rattle.tea_base.specs.Limits.{time_limit};
-ghost use Rattle.model_lang.specs.TreeView.{program_tree};
+ghost use Rattle.model_tree.specs.TreeView.{program_tree};
 ghost use Rattle.world_plain.specs.Messages.{plain_outgoing};
 ghost use Rattle.world_plain.specs.Valid.{Valid};
 ghost use Rattle.world_plain.specs.World.{world_record};
 ghost use Rattle.world.specs.Worlds.{field_counts};
 ghost use Rattle.replica.specs.SessionWorlds.{own_worlds, first_world, quiet_world, GoesOn, IsFound, IsSoundSessionWorld, Snaps};
 
-use model_check::Checked;
+use model_solved::Checked;
 use snapshot_codec::{SnapFault, snapshot, unsnap};
 use std::alloc::Global;
 use std::marker::Model;
@@ -30,7 +30,7 @@ pub(crate) struct SessionWorld {
 impl Model for SessionWorld {
     ghost use Rattle.std.specs.Arc.{arc_value};
     ghost use Rattle.std.specs.Coded.{codes};
-    ghost use Rattle.model_lang.specs.contracts.tree.Stmt as stmt;
+    ghost use Rattle.model_tree.specs.contracts.tree.Stmt as stmt;
     ghost use Rattle.world_plain.specs.Messages.{coded_outgoing};
     ghost use Rattle.world_plain.specs.WorldCode.{coded_world};
     ghost use Rattle.replica.specs.SessionWorlds.{SessionWorldView, session_view, IsOfSession};

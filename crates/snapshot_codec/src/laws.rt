@@ -1,7 +1,7 @@
 //! What is written is read.
 ghost use Rattle.std.specs.Prelude.{◌≡◌, ℕ, List, IfErr, IfOk};
-ghost use Rattle.model_check.specs.Methods.{field_counts};
-ghost use Rattle.model_lang.specs.TreeView.{program_tree};
+ghost use Rattle.model_solved.specs.Methods.{field_counts};
+ghost use Rattle.model_tree.specs.TreeView.{program_tree};
 ghost use Rattle.world_plain.specs.Valid.{Valid};
 ghost use Rattle.world_plain.specs.World.{WorldRecord, world_record};
 ghost use Rattle.snapshot_codec.specs.Answer.{IsWorld, snapshot_world};
@@ -10,7 +10,7 @@ ghost use Rattle.snapshot_codec.specs.Spelling.{world_spelling};
 use crate::fault::SnapFault;
 use crate::reading::unsnap;
 use crate::writing::snapshot;
-use model_check::Checked;
+use model_solved::Checked;
 use std::alloc::Global;
 use world_plain::PlainWorld;
 

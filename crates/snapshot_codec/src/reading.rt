@@ -1,13 +1,13 @@
 //! Worlds of snapshots.
 ghost use Rattle.byte_fields.specs.Fields.{Decodes};
-ghost use Rattle.model_check.specs.Methods.{field_counts};
-ghost use Rattle.model_lang.specs.TreeView.{program_tree};
+ghost use Rattle.model_solved.specs.Methods.{field_counts};
+ghost use Rattle.model_tree.specs.TreeView.{program_tree};
 ghost use Rattle.world_plain.specs.World.{WorldRecord, world_record};
 ghost use Rattle.snapshot_codec.specs.Answer.{HasId, IsSnapshot, ReadsWorld, TellsOther, Unsnaps, snapshot_world};
 
 use crate::fault::SnapFault;
 use crate::parts::{id_at, read_all};
-use model_check::Checked;
+use model_solved::Checked;
 use model_value::ValueFault;
 use std::alloc::Global;
 use tea_base::SessionId;

@@ -3,7 +3,7 @@ ghost use Rattle.std.specs.Prelude.{◌<◌};
 ghost use Rattle.tea_base.specs.Limits.{time_limit};
 
 use case_lines::CaseFault;
-use model_check::Checked;
+use model_solved::Checked;
 use replica::Replica;
 use session_log::{GetRefusal, Log};
 use snapshot_codec::{SnapFault, snapshot, unsnap};

@@ -2,8 +2,8 @@
 use Rattle.std.proofs.Common.{ℕ, ◌≡◌, false, List, [], ◌∷◌, ◌++◌, Some, zero, suc, take, slice_get, refl, sym, ap, ◌∙◌, subst}
 use Rattle.tea_base.specs.declared.entry.Entry.{Entry}
 use Rattle.tea_base.specs.Legal.{IsLegal}
-use Rattle.model_lang.specs.declared.tree.Class.{Class}
-use Rattle.model_lang.specs.TreeView.{program_tree}
+use Rattle.model_tree.specs.declared.tree.Class.{Class}
+use Rattle.model_tree.specs.TreeView.{program_tree}
 use Rattle.world.specs.Worlds.{replay}
 use Rattle.replica_plain.specs.Worlds.{AreWorlds, replay_world}
 use Rattle.replica_plain.specs.Following.{IsHonestBase}

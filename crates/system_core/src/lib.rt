@@ -19,7 +19,7 @@ mod parts;
 mod step;
 mod system;
 
-use model_check::Checked;
+use model_solved::Checked;
 use replica::{worlds_replay, worlds_stand};
 use std::alloc::Global;
 use std::sync::Arc;

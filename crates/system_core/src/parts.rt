@@ -10,7 +10,7 @@ ghost use Rattle.system_core.specs.Schedules.{IsInBounds, plain_system_step};
 use crate::connection::{Connection, close};
 use crate::member::{Member, place};
 use crate::step::ScheduleStep;
-use model_check::Checked;
+use model_solved::Checked;
 use model_value::Value;
 use reflector_core::Session;
 use replica::Replica;

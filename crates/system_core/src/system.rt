@@ -2,14 +2,14 @@
 ghost use Rattle.std.specs.Prelude.{◌≡◌, false, IfOk};
 ghost use Rattle.std.specs.Arc.{arc_value};
 ghost use Rattle.std.specs.Option.{option_copied};
-ghost use Rattle.model_lang.specs.Program.{IsProgram};
-ghost use Rattle.model_lang.specs.TreeView.{program_tree};
+ghost use Rattle.model_tree.specs.Program.{IsProgram};
+ghost use Rattle.model_tree.specs.TreeView.{program_tree};
 ghost use Rattle.system_core.specs.Schedules.{IsInBounds, plain_system_step};
 ghost use Rattle.system_core.specs.Systems.{IsReplicaOf, Steps, first_view};
 
 use crate::parts::Parts;
 use crate::step::{ScheduleStep, StepFault};
-use model_check::Checked;
+use model_solved::Checked;
 use reflector_core::Session;
 use replica::Replica;
 use std::alloc::Global;
@@ -30,7 +30,7 @@ pub struct System {
 impl Model for System {
     ghost use Rattle.std.specs.Coded.{codes};
     ghost use Rattle.std.specs.Prelude.{◌≡◌, false};
-    ghost use Rattle.model_lang.specs.contracts.tree.Stmt as stmt;
+    ghost use Rattle.model_tree.specs.contracts.tree.Stmt as stmt;
     ghost use Rattle.world_plain.specs.Messages.{coded_outgoing};
     ghost use Rattle.world_plain.specs.WorldCode.{coded_world};
     ghost use Rattle.system_core.specs.Parts.{IsSound};

@@ -3,7 +3,8 @@ ghost use Rattle.std.specs.Prelude.{◌<◌};
 ghost use Rattle.tea_base.specs.Limits.{time_limit};
 ghost use Rattle.system_core.specs.Schedules.{AreInBounds};
 
-use model_check::{Checked, check};
+use model_check::check;
+use model_solved::Checked;
 use model_lang::parse;
 use replica::Replica;
 use session_log::Log;

@@ -1,6 +1,6 @@
 -- What contracts see of a view while it runs.
 use Rattle.std.specs.Prelude.{◌≡◌, ◌≤◌, ◌<◌, ℕ, ◌+◌, drop, length, List, []}
-use Rattle.model_lang.specs.Tree.{ProgramTree}
+use Rattle.model_tree.specs.Tree.{ProgramTree}
 use Rattle.replica_plain.specs.declared.how.How.TheVariants.{Fresh}
 use Rattle.replica_plain.specs.PlainReplica.{new_replica, published_count}
 use Rattle.replica.specs.RealWorlds.{worlds}

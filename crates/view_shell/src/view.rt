@@ -2,7 +2,7 @@
 ghost use Rattle.std.specs.Prelude.{◌≡◌, ◌<◌, ℕ, List, [], None, Some, IfOk, OnOk, MatchResult};
 ghost use Rattle.std.specs.Arc.{arc_value};
 ghost use Rattle.std.specs.List.{AllByRecursion};
-ghost use Rattle.model_lang.specs.TreeView.{program_tree};
+ghost use Rattle.model_tree.specs.TreeView.{program_tree};
 ghost use Rattle.run_steps.specs.Outside.{Acts, booth, booth_tells, links_tell, net_tells, output_tells, window, window_tells};
 ghost use Rattle.view_script.specs.PlainLine.{LineFits, PlainLine, plain_lines};
 ghost use Rattle.view_shell.specs.Phases.{Connecting, ToJoin, enter_session, run};
@@ -16,7 +16,7 @@ use crate::hearing::{Stop, Synced, await_sync};
 use crate::lines::{Departure, run_lines, send_and_tell};
 use crate::sending::send;
 use crate::watcher::Watcher;
-use model_check::Checked;
+use model_solved::Checked;
 use replica::Replica;
 use replica_plain::How;
 use run_steps::{CallFault, connect};

@@ -6,7 +6,7 @@ use Rattle.world_plain.specs.Messages.{PlainMessage}
 use Rattle.world_plain.specs.World.{WorldRecord}
 use Rattle.world_plain.specs.Valid.{Valid, most_turns, most_messages}
 use Rattle.tea_base.specs.Limits.{time_limit}
-use Rattle.model_lang.specs.Tree.{ProgramTree}
+use Rattle.model_tree.specs.Tree.{ProgramTree}
 use Rattle.model_eval.specs.Kept.{now_due}
 use Rattle.model_eval.specs.Kept as kept
 use Rattle.world.specs.Worlds.{Scene, scene_with_world, with_next_turn, at_later_time, first_where, due, after_method, after_message, enough, on_due, advance_within, advance}

@@ -8,7 +8,7 @@ use Rattle.model_value.specs.Payload.{PlainPayload, whole_payload}
 use Rattle.world_plain.specs.Messages.{PlainMessage}
 use Rattle.world_plain.specs.World.{WorldRecord}
 use Rattle.tea_base.specs.Limits.{most_here}
-use Rattle.model_lang.specs.Tree.{Name, ProgramTree}
+use Rattle.model_tree.specs.Tree.{Name, ProgramTree}
 use Rattle.model_eval.specs.declared.fault.Fault.TheVariants.{Full}
 use Rattle.model_eval.specs.Running.{Outcome, Gives, Faults}
 use Rattle.model_eval.specs.Meaning.{starts, most_open}

@@ -10,7 +10,7 @@ use Rattle.tea_base.specs.Limits.{time_limit, most_here}
 use Rattle.model_value.specs.Plain.{int}
 use Rattle.model_value.specs.Payload.{PlainPayload, whole_payload}
 use Rattle.model_value.proofs.PayloadCodec.{payload_of-in_bounds}
-use Rattle.model_lang.specs.Tree.{Name, ProgramTree}
+use Rattle.model_tree.specs.Tree.{Name, ProgramTree}
 use Rattle.model_eval.proofs.ValidLaws.{valid-beside}
 use Rattle.model_eval.proofs.ValueBounds.{int-in_bounds}
 use Rattle.model_eval.specs.declared.fault.Fault.TheVariants.{Full}

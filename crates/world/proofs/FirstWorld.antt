@@ -8,9 +8,9 @@ use Rattle.model_value.specs.Plain.{values_weight}
 use Rattle.world_plain.specs.World.{object_weight, world_weight, most_world_weight}
 use Rattle.world_plain.specs.Valid.{Valid}
 use Rattle.model_value.specs.Plain.{AllInBounds}
-use Rattle.model_lang.specs.Tree.{ClassTree, ProgramTree, root_name}
-use Rattle.model_lang.specs.Bounds.{most_members, ClassesFit}
-use Rattle.model_check.specs.Methods.{method_named}
+use Rattle.model_tree.specs.Tree.{ClassTree, ProgramTree, root_name}
+use Rattle.model_tree.specs.Bounds.{most_members, ClassesFit}
+use Rattle.model_solved.specs.Methods.{method_named}
 use Rattle.model_eval.specs.Objects.{new_object, has_room_for, with_object}
 use Rattle.model_eval.proofs.FieldBounds.{nil-in_bounds}
 use Rattle.model_eval.proofs.ValidLaws.{valid-object, valid-known}

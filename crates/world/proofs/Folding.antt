@@ -3,7 +3,7 @@ use Rattle.std.proofs.Common.{◌≡◌, ℕ, Bool, true, false, if◌then◌els
 use Rattle.std.specs.List.{fold, filter}
 use Rattle.tea_base.specs.declared.entry.Entry.{Entry}
 use Rattle.world_plain.specs.World.{WorldRecord}
-use Rattle.model_lang.specs.Tree.{ProgramTree}
+use Rattle.model_tree.specs.Tree.{ProgramTree}
 use Rattle.world.specs.Worlds.{Scene, advance, external, replay_from, take_up}
 use Rattle.world.proofs.ByWorld.{advance-by_world, external-by_world}
 

@@ -7,7 +7,7 @@ use Rattle.tea_base.specs.declared.entry.Entry.{Entry}
 use Rattle.world_plain.specs.World.{WorldRecord}
 use Rattle.world_plain.specs.Valid.{Valid}
 use Rattle.tea_base.specs.Limits.{time_limit}
-use Rattle.model_lang.specs.Tree.{ProgramTree}
+use Rattle.model_tree.specs.Tree.{ProgramTree}
 use Rattle.world.specs.Worlds.{Scene, advance, first_scene, external, replay_from, replay, take_up, entries_behind, replay_on, Follows}
 use Rattle.world.proofs.Running.{Fits}
 use Rattle.world.proofs.Advancing.{advance-twice}

@@ -4,9 +4,9 @@ use Rattle.std.specs.Prelude.{is_some, slice_get, option_and_then, ⊤}
 use Rattle.std.specs.Borrow.{Bor}
 use Rattle.tea_base.specs.declared.want.WantOfMemory.{WantOfMemory}
 use Rattle.model_value.specs.Plain.{PlainValue, nil}
-use Rattle.model_lang.specs.Tree.{Name, MethodTree, ClassTree, ProgramTree}
-use Rattle.model_check.specs.declared.solved.Solved.{Solved}
-use Rattle.model_check.specs.Methods.{FindsMethod, method_of, method_named}
+use Rattle.model_tree.specs.Tree.{Name, MethodTree, ClassTree, ProgramTree}
+use Rattle.model_solved.specs.declared.solved.Solved.{Solved}
+use Rattle.model_solved.specs.Methods.{FindsMethod, method_of, method_named}
 use Rattle.world.specs.Worlds.{Scene, after_method, init, with_root_init}
 
 of_class : (tree : ProgramTree) (n : ℕ) (x : Name) (root : ClassTree) → slice_get tree n ≡ Some root → method_of tree n x ≡ method_named x root.methods

@@ -2,7 +2,7 @@
 use Rattle.std.proofs.Common.{◌≡◌, ℕ, List, [], ◌∷◌, length, replicate, sym, ap, ◌∙◌}
 use Rattle.model_value.specs.Plain.{PlainValue, nil}
 use Rattle.world_plain.specs.World.{ObjectRecord, WorldRecord}
-use Rattle.model_lang.specs.Tree.{ClassTree}
+use Rattle.model_tree.specs.Tree.{ClassTree}
 use Rattle.world.specs.Worlds.{model_root, with_root}
 
 abbrev first_object : ℕ → List PlainValue → ObjectRecord

@@ -3,14 +3,14 @@ use Rattle.std.proofs.Common.{◌≡◌, ℕ, zero, suc, ◌+◌, ◌<◌, Bool,
 use Rattle.std.specs.Prelude.{◌||◌, bytes_eq, slice_get, option_map}
 use Rattle.std.proofs.lemmas.Option.{none-some, same_Some, slice_get-map, slice_get_read}
 use Rattle.std.proofs.lemmas.Slice.Eq.{bytes_eq-Decides}
-use Rattle.model_lang.specs.Tree.{Name, ClassTree, ProgramTree, root_name}
-use Rattle.model_lang.specs.TreeView.{class_tree, program_tree}
-use Rattle.model_lang.specs.declared.tree.Class.{Class}
-use Rattle.model_check.specs.declared.fault.CheckFault.TheVariants.{Twice, NoRoot}
-use Rattle.model_check.specs.Faults.{is_among, twice_where, missing_from, faults_of_name, faults_of_class, faults_of_classes, class_names, first_of, first_fault}
-use Rattle.model_check.specs.Methods.{IsClass}
-use Rattle.model_check.proofs.Faultless.{none-left, none-right}
-use Rattle.model_check.proofs.Words.{compared_back}
+use Rattle.model_tree.specs.Tree.{Name, ClassTree, ProgramTree, root_name}
+use Rattle.model_tree.specs.TreeView.{class_tree, program_tree}
+use Rattle.model_tree.specs.declared.tree.Class.{Class}
+use Rattle.model_solved.specs.declared.fault.CheckFault.TheVariants.{Twice, NoRoot}
+use Rattle.model_solved.specs.Faults.{is_among, twice_where, missing_from, faults_of_name, faults_of_class, faults_of_classes, class_names, first_of, first_fault}
+use Rattle.model_solved.specs.Methods.{IsClass}
+use Rattle.model_solved.proofs.NoFaults.{none-left, none-right}
+use Rattle.model_solved.proofs.Compared.{compared_back}
 use Rattle.world.specs.Worlds.{empty_world, with_next_turn, with_root, root_from, with_root_init, first_with, first_scene}
 
 neither : (a b : Bool) → (a || b) ≡ false → (a ≡ false) × (b ≡ false)

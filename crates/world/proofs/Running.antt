@@ -4,14 +4,14 @@ use Rattle.model_value.specs.Plain.{PlainValue, InBounds}
 use Rattle.world_plain.specs.World.{WorldRecord}
 use Rattle.world_plain.specs.Valid.{Valid, most_turns}
 use Rattle.model_value.specs.Plain.{AllInBounds}
-use Rattle.model_lang.specs.Tree.{Name, ProgramTree}
-use Rattle.model_lang.specs.Bounds.{ClassesFit}
-use Rattle.model_lang.specs.Names.{ClassNamesAreShort}
+use Rattle.model_tree.specs.Tree.{Name, ProgramTree}
+use Rattle.model_tree.specs.Bounds.{ClassesFit}
+use Rattle.model_tree.specs.Names.{ClassNamesAreShort}
 use Rattle.model_eval.specs.declared.fault.Fault.{Fault}
 use Rattle.model_eval.specs.Running.{Outcome, Gives, Faults}
 use Rattle.model_eval.specs.Meaning.{starts, most_open}
 use Rattle.model_eval.specs.Publishing.{tell_handlers}
-use Rattle.model_check.specs.Methods.{field_counts}
+use Rattle.model_solved.specs.Methods.{field_counts}
 use Rattle.model_eval.specs.Kept.{now_due, Anything, CarriesIf}
 use Rattle.model_eval.proofs.ValidLaws.{valid-beside}
 use Rattle.model_eval.proofs.KeptLaws.{starts-carries, told-kept}

@@ -2,10 +2,10 @@
 use Rattle.std.proofs.Common.{◌≡◌, ℕ, ◌<◌, List, Some, None, refl, sym, ap, ◌∙◌, subst}
 use Rattle.world_plain.specs.Messages.{PlainMessage}
 use Rattle.world_plain.specs.Valid.{Valid}
-use Rattle.model_lang.specs.Tree.{ProgramTree}
-use Rattle.model_lang.specs.Program.{IsProgram}
-use Rattle.model_lang.proofs.Names.{program-names}
-use Rattle.model_lang.proofs.Fitting.{program-fits as passed-fits}
+use Rattle.model_tree.specs.Tree.{ProgramTree}
+use Rattle.model_tree.specs.Program.{IsProgram}
+use Rattle.model_tree.proofs.Names.{program-names}
+use Rattle.model_tree.proofs.Fitting.{program-fits as passed-fits}
 use Rattle.world.specs.Worlds.{Scene, scene_with_world, with_next_turn, at_later_time, due, after_method, after_message, enough, on_due, advance, field_counts}
 use Rattle.world.proofs.Running.{Fits}
 use Rattle.world.proofs.Moving.{due-some}

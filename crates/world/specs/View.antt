@@ -9,9 +9,9 @@ use Rattle.world_plain.specs.declared.world.PlainWorld.{PlainWorld}
 use Rattle.model_eval.specs.declared.state.State.{State}
 use Rattle.model_eval.specs.Answer.{world_of}
 use Rattle.world_plain.specs.Valid.{Valid}
-use Rattle.model_lang.specs.declared.tree.Class.{Class}
-use Rattle.model_lang.specs.TreeView.{program_tree}
-use Rattle.model_lang.specs.Program.{IsProgram}
+use Rattle.model_tree.specs.declared.tree.Class.{Class}
+use Rattle.model_tree.specs.TreeView.{program_tree}
+use Rattle.model_tree.specs.Program.{IsProgram}
 use Rattle.world.specs.declared.fault.WorldFault.{WorldFault}
 use Rattle.world.specs.declared.fault.WorldFault.TheVariants as fault
 use Rattle.world.specs.Worlds.{Scene, scene_with_world, due, without_view, field_counts}

@@ -7,13 +7,13 @@ ghost use Rattle.tea_base.specs.declared.entry.Entry.{Entry};
 ghost use Rattle.world_plain.specs.World.{WorldRecord};
 ghost use Rattle.world_plain.specs.Valid.{Valid};
 ghost use Rattle.tea_base.specs.Limits.{time_limit};
-ghost use Rattle.model_lang.specs.Tree.{ProgramTree};
-ghost use Rattle.model_lang.specs.Program.{IsProgram};
+ghost use Rattle.model_tree.specs.Tree.{ProgramTree};
+ghost use Rattle.model_tree.specs.Program.{IsProgram};
 ghost use Rattle.world.specs.Worlds.{Scene, field_counts, first_scene, advance, due, on_due, external, replay, take_up, replay_on, Follows};
 ghost use Rattle.world.specs.View.{AreBehind};
 ghost use Rattle.world.specs.contracts.world.World as world;
 
-use model_check::checked_crosses_threads;
+use model_solved::checked_crosses_threads;
 
 /// The first world of a session is valid, of that session, and at time 0.
 pub fn first_world_is_valid()

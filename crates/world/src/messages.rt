@@ -2,12 +2,12 @@
 ghost use Rattle.std.specs.Prelude.{◌≡◌, ◌<◌, OnOk};
 ghost use Rattle.world_plain.specs.Messages.{plain_message};
 ghost use Rattle.model_value.specs.View.{plain, plain_values};
-ghost use Rattle.model_lang.specs.TreeView.{program_tree};
+ghost use Rattle.model_tree.specs.TreeView.{program_tree};
 ghost use Rattle.world.specs.Worlds.{after_method, after_telling, with_fault, with_count, bad_event, with_next_turn, at_later_time, scene_with_world, fault_number};
 ghost use Rattle.world.specs.View.{scene, TakesDue};
 
 use message_queue::Steps;
-use model_check::Checked;
+use model_solved::Checked;
 use model_eval::{Budget, Call, EvalStop, Event, Fault, State, run_method, tell_models};
 use std::alloc::Global;
 use std::marker::Brand;

@@ -1,17 +1,17 @@
 //! The first world of a session.
 ghost use Rattle.std.specs.Prelude.{◌≡◌, ◌≤◌, ◌∷◌, [], length, IfOk, OnOk, Some, slice_get, take};
 ghost use Rattle.std.specs.Int.{from_le_bytes, w64};
-ghost use Rattle.model_lang.specs.Program.{IsProgram};
-ghost use Rattle.model_lang.specs.Tree.{ClassTree};
-ghost use Rattle.model_lang.specs.TreeView.{program_tree};
-ghost use Rattle.model_lang.specs.Bounds.{most_members};
+ghost use Rattle.model_tree.specs.Program.{IsProgram};
+ghost use Rattle.model_tree.specs.Tree.{ClassTree};
+ghost use Rattle.model_tree.specs.TreeView.{program_tree};
+ghost use Rattle.model_tree.specs.Bounds.{most_members};
 ghost use Rattle.world.specs.Worlds.{empty_world, model_root, with_root, scene_with_world, first_scene as first_of, with_root_init};
 ghost use Rattle.world.specs.View.{scene};
 
 use crate::messages::{begin, run};
 use known_names::Names;
 use message_queue::Queue;
-use model_check::Checked;
+use model_solved::Checked;
 use model_eval::{Call, State};
 use model_value::nils;
 use object_store::Store;

@@ -5,13 +5,13 @@ ghost use Rattle.world_plain.specs.Messages.{plain_outgoing};
 ghost use Rattle.world_plain.specs.Valid.{Valid};
 ghost use Rattle.tea_base.specs.Limits.{time_limit};
 ghost use Rattle.world_plain.specs.World.{world_record};
-ghost use Rattle.model_lang.specs.TreeView.{program_tree};
+ghost use Rattle.model_tree.specs.TreeView.{program_tree};
 ghost use Rattle.world.specs.Worlds.{field_counts, first_scene as first_of, advance as advanced, external as entered_by, take_up};
 ghost use Rattle.world.specs.View.{MovesOn, Copies, IsSoundWorld};
 
 use crate::fault::WorldFault;
 use crate::{opening, resuming, simulation};
-use model_check::Checked;
+use model_solved::Checked;
 use model_eval::State;
 use std::alloc::Global;
 use std::marker::Model;
@@ -36,7 +36,7 @@ pub struct World {
 impl Model for World {
     ghost use Rattle.std.specs.Arc.{arc_value};
     ghost use Rattle.std.specs.Coded.{codes};
-    ghost use Rattle.model_lang.specs.contracts.tree.Stmt as stmt;
+    ghost use Rattle.model_tree.specs.contracts.tree.Stmt as stmt;
     ghost use Rattle.world.specs.View.{WorldView, coded_view, scene, IsSoundWorld};
 
     ghost Value = { WorldView };

@@ -1,12 +1,13 @@
 //! Digests that are known, and snapshots by hand: of the first world of a program, and of a world with something of each
 //! kind.
 ghost use Rattle.std.specs.Prelude.{IsTrue};
-ghost use Rattle.model_check.specs.Methods.{field_counts};
-ghost use Rattle.model_lang.specs.TreeView.{program_tree};
+ghost use Rattle.model_solved.specs.Methods.{field_counts};
+ghost use Rattle.model_tree.specs.TreeView.{program_tree};
 ghost use Rattle.world_plain.specs.Valid.{Valid};
 ghost use Rattle.world_plain.specs.World.{world_record};
 
-use model_check::{Checked, check};
+use model_check::check;
+use model_solved::Checked;
 use model_lang::parse;
 use model_value::{Value, Values};
 use snapshot_codec::{SnapFault, again, digest, session_id, snapshot, unsnap};

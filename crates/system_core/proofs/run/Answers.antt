@@ -2,7 +2,7 @@ use Rattle.std.proofs.Common.{ℕ, ◌≡◌, ◌+◌, List, [], ◌∷◌, ◌+
 use Rattle.std.proofs.lemmas.List.{take_all}
 use Rattle.std.proofs.lemmas.Option.{slice_get_read}
 use Rattle.std.specs.Arc.{arc_value}
-use Rattle.model_lang.specs.TreeView.{program_tree}
+use Rattle.model_tree.specs.TreeView.{program_tree}
 use Rattle.system_core.specs.declared.step.ScheduleStep.{ScheduleStep}
 use Rattle.system_core.specs.Schedules.{AreInBounds, IsInBounds, plain_system_step, plain_steps}
 use Rattle.system_core.proofs.Members.{all-at, map-push}

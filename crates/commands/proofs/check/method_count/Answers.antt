@@ -1,5 +1,5 @@
 use Rattle.std.proofs.Common.{◌<◌, length, arith}
-use Rattle.model_lang.specs.TreeView.{program_tree}
+use Rattle.model_tree.specs.TreeView.{program_tree}
 use Rattle.commands.proofs.CheckLaws.{method_count-most, method_count-next}
 use Rattle.commands.proofs.check.method_count.Goals as goal
 

@@ -1,4 +1,4 @@
-use Rattle.model_lang.specs.TreeView.{program_tree}
+use Rattle.model_tree.specs.TreeView.{program_tree}
 use Rattle.commands.proofs.ProgramLaws.{refused_unread, refused_unsound}
 use Rattle.commands.proofs.program.read_program.Goals as goal
 

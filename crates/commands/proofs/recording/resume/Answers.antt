@@ -1,5 +1,5 @@
 use Rattle.std.proofs.Common.{inr, sym, subst, ◌∙◌}
-use Rattle.model_lang.specs.TreeView.{program_tree}
+use Rattle.model_tree.specs.TreeView.{program_tree}
 use Rattle.world_plain.specs.World.{world_record}
 use Rattle.commands.specs.Verdict.{Free, Only, Verdict}
 use Rattle.commands.proofs.Agreement.{early_verdict, late_verdict}

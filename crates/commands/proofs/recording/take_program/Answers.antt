@@ -1,5 +1,5 @@
 use Rattle.std.proofs.Common.{inl, inr, subst, List, ℕ}
-use Rattle.model_lang.specs.TreeView.{program_tree}
+use Rattle.model_tree.specs.TreeView.{program_tree}
 use Rattle.commands.specs.Verdict.{OfTree}
 use Rattle.commands.proofs.recording.take_program.Goals as goal
 

@@ -1,5 +1,5 @@
 use Rattle.std.proofs.Common.{subst, List, ℕ}
-use Rattle.model_lang.specs.TreeView.{program_tree}
+use Rattle.model_tree.specs.TreeView.{program_tree}
 use Rattle.commands.specs.Verdict.{Free, OfReflect, session_of}
 use Rattle.commands.proofs.ProgramLaws.{of_program}
 use Rattle.commands.proofs.reflection.take_reflector_program.Goals as goal

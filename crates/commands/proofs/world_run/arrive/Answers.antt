@@ -1,8 +1,8 @@
 use Rattle.std.proofs.Common.{◌≡◌, ℕ, List, subst, IfOk, Option}
 use Rattle.std.proofs.lemmas.Result.{IfOk-weaker}
 use Rattle.std.specs.Option.{option_map}
-use Rattle.model_check.specs.Methods.{field_counts}
-use Rattle.model_lang.specs.TreeView.{program_tree}
+use Rattle.model_solved.specs.Methods.{field_counts}
+use Rattle.model_tree.specs.TreeView.{program_tree}
 use Rattle.snapshot_codec.specs.Conditions.{IsValid}
 use Rattle.world_plain.specs.Valid.{Valid}
 use Rattle.world_plain.specs.World.{WorldRecord, world_record}

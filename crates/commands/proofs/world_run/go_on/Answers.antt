@@ -1,6 +1,6 @@
 use Rattle.std.proofs.Common.{◌+◌, ◌-◌, ◌∙◌, ap, arith}
 use Rattle.tea_base.specs.Readings.{count_until}
-use Rattle.model_lang.specs.TreeView.{program_tree}
+use Rattle.model_tree.specs.TreeView.{program_tree}
 use Rattle.world.specs.Worlds.{Scene, entries_behind, replay_from}
 use Rattle.commands.proofs.WorldLaws.{handles, next_later, passes, starts_on, time_there, timed_at}
 use Rattle.commands.proofs.world_run.go_on.Goals as goal

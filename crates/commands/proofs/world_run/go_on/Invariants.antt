@@ -1,4 +1,4 @@
-use Rattle.model_lang.specs.TreeView.{program_tree}
+use Rattle.model_tree.specs.TreeView.{program_tree}
 use Rattle.world.specs.Worlds.{entries_behind, replay_from}
 use Rattle.commands.proofs.WorldLaws.{GoesOn}
 use Rattle.commands.proofs.world_run.go_on.Given as goal

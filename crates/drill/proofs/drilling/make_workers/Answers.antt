@@ -1,7 +1,7 @@
 use Rattle.std.proofs.Common.{◌≡◌, ◌+◌, ◌<◌, List, rules, arith, refl, sym, ap, ◌∙◌, subst, All}
 use Rattle.std.specs.Arc.{arc_value}
 use Rattle.std.proofs.lemmas.List.Elements.{All-push}
-use Rattle.model_lang.specs.declared.tree.Class.{Class}
+use Rattle.model_tree.specs.declared.tree.Class.{Class}
 use Rattle.session_lock.specs.Passes.{SharedState}
 use Rattle.replica.specs.View.{founded_replica}
 use Rattle.drill.specs.declared.trust.TrustReplay.{TrustReplay}

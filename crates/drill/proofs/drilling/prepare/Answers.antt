@@ -1,8 +1,8 @@
 use Rattle.std.proofs.Common.{◌++◌, List, ℕ, rules, ap, ◌∙◌, sym, subst}
 use Rattle.byte_fields.specs.Fields.{text_field}
 use Rattle.sha2.specs.Sha256.{sha256}
-use Rattle.model_lang.specs.declared.tree.Class.{Class}
-use Rattle.model_lang.specs.TreeView.{program_tree}
+use Rattle.model_tree.specs.declared.tree.Class.{Class}
+use Rattle.model_tree.specs.TreeView.{program_tree}
 use Rattle.drill.specs.Program.{IsDrillProgram, drill_text}
 use Rattle.drill.proofs.Making.{name_characters}
 use Rattle.drill.proofs.drilling.prepare.Goals as goal

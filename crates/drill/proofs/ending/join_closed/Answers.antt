@@ -1,6 +1,6 @@
 use Rattle.std.proofs.Common.{◌≡◌}
 use Rattle.std.proofs.lemmas.Result.{on_ok_weaker}
-use Rattle.model_lang.specs.TreeView.{program_tree}
+use Rattle.model_tree.specs.TreeView.{program_tree}
 use Rattle.drill.proofs.JoiningClosed.{joins_closed, catches_new, fine_joined, kept_new}
 use Rattle.drill.proofs.ending.join_closed.Goals as goal
 

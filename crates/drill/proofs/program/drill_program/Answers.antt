@@ -1,7 +1,7 @@
-use Rattle.model_lang.specs.TreeView.{program_tree}
+use Rattle.model_tree.specs.TreeView.{program_tree}
 use Rattle.drill.proofs.ProgramReads.{drill_reads, drill_tree, has_no_fault}
 use Rattle.drill.specs.Program.{drill_text}
-use Rattle.model_lang.specs.Program.{a_program, no_program, too_large}
+use Rattle.model_tree.specs.Program.{a_program, no_program, too_large}
 use Rattle.drill.proofs.program.drill_program.Goals as goal
 
 pub unreachable-requires : goal.unreachable-requires

@@ -1,6 +1,6 @@
 use Rattle.std.proofs.Common.{◌≡◌, drop}
 use Rattle.std.specs.Prelude.{find, bytes_eq}
-use Rattle.model_check.specs.Builtins.{builtin_spelling}
+use Rattle.model_solved.specs.Builtins.{builtin_spelling}
 use Rattle.model_check.proofs.builtin.first_named.Given as goal
 
 abbrev pub invariant-loop-builtin : goal.invariant-loop-builtin

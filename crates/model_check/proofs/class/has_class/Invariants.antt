@@ -1,5 +1,5 @@
 use Rattle.std.proofs.Common.{◌≡◌, drop, map}
-use Rattle.model_check.specs.Faults.{is_among}
+use Rattle.model_solved.specs.Faults.{is_among}
 use Rattle.model_check.proofs.class.has_class.Given as goal
 
 abbrev pub invariant-loop-class : goal.invariant-loop-class

@@ -1,5 +1,5 @@
 use Rattle.std.proofs.Common.{◌≡◌, drop, map}
-use Rattle.model_check.specs.Faults.{is_among}
+use Rattle.model_solved.specs.Faults.{is_among}
 use Rattle.model_check.proofs.class.has_method.Given as goal
 
 abbrev pub invariant-loop-method : goal.invariant-loop-method

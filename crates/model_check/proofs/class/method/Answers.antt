@@ -1,7 +1,7 @@
 use Rattle.std.proofs.Common.{arith, ◌≡◌, length, map, ap, ◌∙◌}
-use Rattle.model_lang.specs.TreeView.{method_tree}
-use Rattle.model_lang.specs.declared.tree.Class.{Class}
-use Rattle.model_check.specs.SolvedView.{solved_statements}
+use Rattle.model_tree.specs.TreeView.{method_tree}
+use Rattle.model_tree.specs.declared.tree.Class.{Class}
+use Rattle.model_solved.specs.SolvedView.{solved_statements}
 use Rattle.model_check.proofs.Blocks.{method_solved}
 use Rattle.model_check.proofs.class.method.Goals as goal
 

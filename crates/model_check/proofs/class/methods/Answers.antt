@@ -1,8 +1,8 @@
 use Rattle.std.proofs.Common.{◌≡◌, take, sym, ◌∙◌, map}
 use Rattle.std.proofs.lemmas.List.{take_all, at_drop_all}
-use Rattle.model_lang.specs.TreeView.{method_tree}
-use Rattle.model_lang.specs.declared.tree.Class.{Class}
-use Rattle.model_check.specs.Faults.{first_of, faults_of_methods}
+use Rattle.model_tree.specs.TreeView.{method_tree}
+use Rattle.model_tree.specs.declared.tree.Class.{Class}
+use Rattle.model_solved.specs.Faults.{first_of, faults_of_methods}
 use Rattle.model_check.proofs.Trees.{map-methods}
 use Rattle.model_check.proofs.class.methods.Goals as goal
 

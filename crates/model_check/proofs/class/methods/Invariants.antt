@@ -1,7 +1,7 @@
 use Rattle.std.proofs.Common.{◌≡◌, [], drop, take, map}
-use Rattle.model_lang.specs.TreeView.{method_tree}
-use Rattle.model_check.specs.Faults.{first_of, faults_of_methods}
-use Rattle.model_check.specs.SolvedView.{solved_method}
+use Rattle.model_tree.specs.TreeView.{method_tree}
+use Rattle.model_solved.specs.Faults.{first_of, faults_of_methods}
+use Rattle.model_solved.specs.SolvedView.{solved_method}
 use Rattle.model_check.specs.Solving.{solve_method, HaveFewParameters}
 use Rattle.model_check.proofs.class.methods.Given as goal
 

@@ -1,6 +1,6 @@
 use Rattle.std.proofs.Common.{◌≡◌, drop, map}
-use Rattle.model_lang.specs.Tree.{root_name}
-use Rattle.model_check.specs.Faults.{is_among}
+use Rattle.model_tree.specs.Tree.{root_name}
+use Rattle.model_solved.specs.Faults.{is_among}
 use Rattle.model_check.proofs.class.root.Given as goal
 
 abbrev pub invariant-loop-class : goal.invariant-loop-class

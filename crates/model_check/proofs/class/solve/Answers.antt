@@ -1,8 +1,8 @@
 use Rattle.std.proofs.Common.{◌≡◌, take, sym, ◌∙◌, map}
 use Rattle.std.proofs.lemmas.List.{take_all, at_drop_all}
-use Rattle.model_lang.specs.TreeView.{class_tree}
-use Rattle.model_lang.specs.declared.tree.Class.{Class}
-use Rattle.model_check.specs.Faults.{first_of, faults_of_classes}
+use Rattle.model_tree.specs.TreeView.{class_tree}
+use Rattle.model_tree.specs.declared.tree.Class.{Class}
+use Rattle.model_solved.specs.Faults.{first_of, faults_of_classes}
 use Rattle.model_check.proofs.Trees.{map-classes}
 use Rattle.model_check.proofs.class.solve.Goals as goal
 

@@ -1,7 +1,7 @@
 use Rattle.std.proofs.Common.{◌≡◌, [], drop, take, map}
-use Rattle.model_lang.specs.TreeView.{class_tree}
-use Rattle.model_check.specs.Faults.{first_of, faults_of_classes}
-use Rattle.model_check.specs.SolvedView.{solved_method}
+use Rattle.model_tree.specs.TreeView.{class_tree}
+use Rattle.model_solved.specs.Faults.{first_of, faults_of_classes}
+use Rattle.model_solved.specs.SolvedView.{solved_method}
 use Rattle.model_check.specs.Solving.{solve_methods, AreSolvable}
 use Rattle.model_check.proofs.class.solve.Given as goal
 

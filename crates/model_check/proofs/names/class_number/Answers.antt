@@ -1,6 +1,6 @@
 use Rattle.std.proofs.Common.{map}
-use Rattle.model_lang.specs.declared.tree.Class.{Class}
-use Rattle.model_check.specs.declared.fault.CheckFault.TheVariants.{NoClass}
+use Rattle.model_tree.specs.declared.tree.Class.{Class}
+use Rattle.model_solved.specs.declared.fault.CheckFault.TheVariants.{NoClass}
 use Rattle.model_check.proofs.Places.{place_found, place_missing_told}
 use Rattle.model_check.proofs.names.class_number.Goals as goal
 

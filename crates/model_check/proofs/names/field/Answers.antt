@@ -1,4 +1,4 @@
-use Rattle.model_check.specs.declared.fault.CheckFault.TheVariants.{NoField}
+use Rattle.model_solved.specs.declared.fault.CheckFault.TheVariants.{NoField}
 use Rattle.model_check.proofs.Places.{place_found, place_missing_told}
 use Rattle.model_check.proofs.names.field.Goals as goal
 

@@ -1,5 +1,5 @@
 use Rattle.std.proofs.Common.{◌≡◌, drop}
-use Rattle.model_check.specs.Faults.{is_among}
+use Rattle.model_solved.specs.Faults.{is_among}
 use Rattle.model_check.proofs.names.is_among.Given as goal
 
 abbrev pub invariant-loop-other : goal.invariant-loop-other

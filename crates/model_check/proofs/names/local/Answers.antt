@@ -1,5 +1,5 @@
 use Rattle.std.proofs.Common.{arith}
-use Rattle.model_check.specs.declared.fault.CheckFault.TheVariants.{NoName}
+use Rattle.model_solved.specs.declared.fault.CheckFault.TheVariants.{NoName}
 use Rattle.model_check.proofs.Places.{place_found, place_missing_told}
 use Rattle.model_check.proofs.names.local.Goals as goal
 

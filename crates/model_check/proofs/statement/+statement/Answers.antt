@@ -1,12 +1,12 @@
 use Rattle.std.proofs.Common.{rules, ◌≡◌, ◌++◌, List, None, sym, ◌∙◌, map, subst}
 use Rattle.std.specs.Prelude.{Err}
-use Rattle.model_lang.specs.Tree.{Name, Statement, when, else_block}
-use Rattle.model_lang.specs.TreeView.{expression_tree, statement_tree, statement_trees}
-use Rattle.model_lang.specs.declared.tree.Stmt.{the_lemmas}
-use Rattle.model_lang.specs.declared.tree.Class.{Class}
+use Rattle.model_tree.specs.Tree.{Name, Statement, when, else_block}
+use Rattle.model_tree.specs.TreeView.{expression_tree, statement_tree, statement_trees}
+use Rattle.model_tree.specs.declared.tree.Stmt.{the_lemmas}
+use Rattle.model_tree.specs.declared.tree.Class.{Class}
 use Rattle.model_check.specs.Answer.{Solves, IsFirstFault}
-use Rattle.model_check.specs.Faults.{first_of, faults_of_expression, faults_of_statement, faults_of_statements}
-use Rattle.model_check.specs.SolvedView.{solved_statement}
+use Rattle.model_solved.specs.Faults.{first_of, faults_of_expression, faults_of_statement, faults_of_statements}
+use Rattle.model_solved.specs.SolvedView.{solved_statement}
 use Rattle.model_check.specs.Solving.{solve_statement}
 use Rattle.model_check.proofs.Blocks.{list_goes, list_ends, list_refused}
 use Rattle.model_check.proofs.First.{first_behind, refused_is, refused_behind}

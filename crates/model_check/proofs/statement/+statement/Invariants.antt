@@ -1,6 +1,6 @@
 use Rattle.std.proofs.Common.{drop, map}
-use Rattle.model_lang.specs.TreeView.{statement_trees}
-use Rattle.model_check.specs.SolvedView.{solved_statement}
+use Rattle.model_tree.specs.TreeView.{statement_trees}
+use Rattle.model_solved.specs.SolvedView.{solved_statement}
 use Rattle.model_check.proofs.Blocks.{IsUpTo}
 use Rattle.model_check.proofs.statement.+statement.Given as goal
 

@@ -2,10 +2,10 @@ use Rattle.std.proofs.Common.{ℕ, Option, Some, sym, subst}
 use Rattle.model_value.specs.Plain.{PlainValue}
 use Rattle.model_value.specs.View.{plain, plain_values}
 use Rattle.world_plain.specs.Valid.{object_at}
-use Rattle.model_lang.specs.TreeView.{program_tree}
-use Rattle.model_check.specs.Methods.{FindsMethod}
+use Rattle.model_tree.specs.TreeView.{program_tree}
+use Rattle.model_solved.specs.Methods.{FindsMethod}
 use Rattle.model_eval.specs.Running.{Outcome}
-use Rattle.model_lang.specs.Tree.{Name}
+use Rattle.model_tree.specs.Tree.{Name}
 use Rattle.model_eval.specs.Answer.{Answers, HasInit, running, starts_by}
 use Rattle.model_eval.proofs.InitLaws.{without-init, with-init}
 use Rattle.model_eval.proofs.Published.{answered-alone, published-gives, published-stops}

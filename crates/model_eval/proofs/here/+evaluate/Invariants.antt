@@ -1,6 +1,6 @@
 use Rattle.std.proofs.Common.{◌≡◌, ◌+◌, ◌-◌, ◌*◌, [], drop}
 use Rattle.model_value.specs.View.{plain, plain_values}
-use Rattle.model_check.specs.SolvedView.{solved_expression, solved_expressions, solved_statements}
+use Rattle.model_solved.specs.SolvedView.{solved_expression, solved_expressions, solved_statements}
 use Rattle.model_eval.specs.Publishing.{run_handlers}
 use Rattle.model_eval.specs.Slots.{evaluate_all, in_turn, loop_turns}
 use Rattle.model_eval.specs.Answer.{evaluates_by, executes_by, running, starts_by}

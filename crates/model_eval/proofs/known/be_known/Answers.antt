@@ -5,7 +5,7 @@ use Rattle.model_value.specs.Plain.{PlainValue, nil}
 use Rattle.world_plain.specs.World.{known_weight, total_weight, world_weight, most_world_weight}
 use Rattle.world_plain.specs.declared.world.Known.{Known}
 use Rattle.known_names.specs.Names.{with_known}
-use Rattle.model_lang.specs.Tree.{Name}
+use Rattle.model_tree.specs.Tree.{Name}
 use Rattle.model_eval.specs.Running.{Running, Gives, Faults, with_world}
 use Rattle.model_eval.specs.Objects.{is_held, make_known}
 use Rattle.model_eval.specs.declared.fault.Fault.TheVariants.{Full}

@@ -1,5 +1,5 @@
-use Rattle.model_lang.proofs.Names.{program-names}
-use Rattle.model_lang.proofs.Fitting.{program-fits}
+use Rattle.model_tree.proofs.Names.{program-names}
+use Rattle.model_tree.proofs.Fitting.{program-fits}
 use Rattle.model_eval.proofs.KeptLaws.{starts-kept}
 use Rattle.model_eval.proofs.laws.method_keeps.Goals as goal
 

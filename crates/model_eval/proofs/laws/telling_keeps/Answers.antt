@@ -1,5 +1,5 @@
-use Rattle.model_lang.proofs.Names.{program-names}
-use Rattle.model_lang.proofs.Fitting.{program-fits}
+use Rattle.model_tree.proofs.Names.{program-names}
+use Rattle.model_tree.proofs.Fitting.{program-fits}
 use Rattle.model_eval.proofs.KeptLaws.{told-kept}
 use Rattle.model_eval.proofs.laws.telling_keeps.Goals as goal
 

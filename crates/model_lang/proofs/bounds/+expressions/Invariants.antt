@@ -1,6 +1,6 @@
 use Rattle.std.proofs.Common.{◌≡◌, drop}
-use Rattle.model_lang.specs.TreeView.{expression_trees}
-use Rattle.model_lang.specs.Bounds.{all_many_arguments}
+use Rattle.model_tree.specs.TreeView.{expression_trees}
+use Rattle.model_tree.specs.Bounds.{all_many_arguments}
 use Rattle.model_lang.proofs.bounds.+expressions.Given as goal
 
 abbrev pub invariant-in_expressions-loop-expression : goal.invariant-in_expressions-loop-expression

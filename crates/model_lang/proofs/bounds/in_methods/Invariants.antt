@@ -1,6 +1,6 @@
 use Rattle.std.proofs.Common.{◌≡◌, drop, map}
-use Rattle.model_lang.specs.TreeView.{method_tree}
-use Rattle.model_lang.specs.Bounds.{many_in_methods}
+use Rattle.model_tree.specs.TreeView.{method_tree}
+use Rattle.model_tree.specs.Bounds.{many_in_methods}
 use Rattle.model_lang.proofs.bounds.in_methods.Given as goal
 
 abbrev pub invariant-loop-method : goal.invariant-loop-method

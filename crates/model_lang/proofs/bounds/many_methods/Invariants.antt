@@ -1,6 +1,6 @@
 use Rattle.std.proofs.Common.{◌≡◌, drop}
-use Rattle.model_lang.specs.TreeView.{program_tree}
-use Rattle.model_lang.specs.Bounds.{many_methods}
+use Rattle.model_tree.specs.TreeView.{program_tree}
+use Rattle.model_tree.specs.Bounds.{many_methods}
 use Rattle.model_lang.proofs.bounds.many_methods.Given as goal
 
 abbrev pub invariant-loop-class : goal.invariant-loop-class

@@ -1,7 +1,8 @@
 use Rattle.std.proofs.Common.{◌≡◌, ℕ, suc, ◌<◌, ◌≤◌, ◌∷◌, List, length, get_or, drop, drop-cons, sym, ap, ◌∙◌, subst, arith}
 use Rattle.model_tokens.specs.declared.token.Token.{Token}
 use Rattle.model_tokens.specs.declared.token.Symbol.{Symbol}
-use Rattle.model_lang.specs.Bounds.{greatest, count_after, count_symbol, most_nested}
+use Rattle.model_tree.specs.Bounds.{greatest, count_after, most_nested}
+use Rattle.model_lang.specs.Counts.{count_symbol}
 use Rattle.model_lang.proofs.Counts.{greatest-le}
 use Rattle.model_lang.proofs.bounds.stays_low.Goals as goal
 

@@ -1,5 +1,6 @@
 use Rattle.std.proofs.Common.{◌↔◌, ◌≤◌, drop}
-use Rattle.model_lang.specs.Bounds.{greatest, count_symbol, most_nested}
+use Rattle.model_tree.specs.Bounds.{greatest, most_nested}
+use Rattle.model_lang.specs.Counts.{count_symbol}
 use Rattle.model_lang.proofs.bounds.stays_low.Given as goal
 
 abbrev pub invariant-loop-token : goal.invariant-loop-token

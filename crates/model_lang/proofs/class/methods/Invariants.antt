@@ -1,5 +1,5 @@
 use Rattle.std.proofs.Common.{◌≡◌, ◌-◌, [], length, map}
-use Rattle.model_lang.specs.TreeView.{method_tree}
+use Rattle.model_tree.specs.TreeView.{method_tree}
 use Rattle.model_lang.specs.Reader.{read_methods}
 use Rattle.model_lang.proofs.class.methods.Given as goal
 

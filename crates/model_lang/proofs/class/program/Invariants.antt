@@ -1,5 +1,5 @@
 use Rattle.std.proofs.Common.{◌≡◌, ◌-◌, length, map}
-use Rattle.model_lang.specs.TreeView.{class_tree}
+use Rattle.model_tree.specs.TreeView.{class_tree}
 use Rattle.model_lang.specs.Reader.{read_classes, read_program}
 use Rattle.model_lang.proofs.class.program.Given as goal
 

@@ -1,6 +1,6 @@
 use Rattle.std.proofs.Common.{◌≡◌, ◌-◌, length, refl, sym, ◌∙◌, subst, Some, arith}
 use Rattle.model_lang.specs.Answer.{ParsesPart}
-use Rattle.model_lang.specs.TreeView.{expression_tree}
+use Rattle.model_tree.specs.TreeView.{expression_tree}
 use Rattle.model_lang.specs.Reader.{read_operator_line, read_unary, read_prim}
 use Rattle.model_lang.proofs.Turns.{line_begins, tightest_sides}
 use Rattle.model_lang.proofs.expression.+line.Goals as goal

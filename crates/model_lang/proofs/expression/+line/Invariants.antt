@@ -1,6 +1,6 @@
 -- With less room, or on a tighter line, or further into the forms of one line.
 use Rattle.std.proofs.Common.{◌≡◌, ◌+◌, ◌-◌, ◌*◌, length, map}
-use Rattle.model_lang.specs.TreeView.{expression_tree}
+use Rattle.model_tree.specs.TreeView.{expression_tree}
 use Rattle.model_lang.specs.Lines.{line_number}
 use Rattle.model_lang.specs.Reader.{read_operator_line, read_unary, read_post, suffixes_of, read_more, more_of, turns_of}
 use Rattle.model_lang.proofs.expression.+line.Given as goal

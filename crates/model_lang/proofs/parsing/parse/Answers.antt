@@ -1,7 +1,7 @@
 use Rattle.std.proofs.Common.{◌≡◌, ◌≤◌, List, length, Result, Err, sym, subst, arith, rules}
-use Rattle.model_lang.specs.declared.tree.Class.{Class}
+use Rattle.model_tree.specs.declared.tree.Class.{Class}
 use Rattle.model_lang.specs.declared.fault.LangFault.{LangFault}
-use Rattle.model_lang.specs.Bounds.{most_program_bytes}
+use Rattle.model_tree.specs.Bounds.{most_program_bytes}
 use Rattle.model_lang.specs.Answer.{Parses, ParsesTokens}
 use Rattle.model_lang.proofs.Whole.{no_tokens, parse_failed}
 use Rattle.model_lang.proofs.parsing.parse.Goals as goal

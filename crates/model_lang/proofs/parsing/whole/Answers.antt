@@ -1,6 +1,6 @@
 use Rattle.std.proofs.Common.{◌≡◌, Some, None, sym, ap, ◌∙◌}
-use Rattle.model_lang.specs.TreeView.{program_tree}
-use Rattle.model_lang.specs.Bounds.{first_excess}
+use Rattle.model_tree.specs.TreeView.{program_tree}
+use Rattle.model_tree.specs.Bounds.{first_excess}
 use Rattle.model_lang.proofs.SoundPrograms.{program_sound}
 use Rattle.model_lang.proofs.Whole.{are_spelled, are_no_program, many_members}
 use Rattle.model_lang.proofs.parsing.whole.Goals as goal

@@ -1,5 +1,5 @@
 use Rattle.std.proofs.Common.{◌≡◌, ◌+◌, ◌-◌, ◌*◌, [], length, map}
-use Rattle.model_lang.specs.TreeView.{statement_tree}
+use Rattle.model_tree.specs.TreeView.{statement_tree}
 use Rattle.model_lang.specs.Reader.{read_block, read_actions}
 use Rattle.model_lang.proofs.statement.+block.Given as goal
 

@@ -1,10 +1,10 @@
 use Rattle.std.proofs.Common.{◌≡◌, ℕ, List, Result, Ok, Err}
-use Rattle.model_lang.specs.declared.tree.Class.{Class}
+use Rattle.model_tree.specs.declared.tree.Class.{Class}
 use Rattle.model_lang.specs.declared.fault.LangFault.{LangFault}
 use Rattle.model_lang.specs.declared.fault.LangFault.TheVariants.{Syntax, TooLarge, WantOfMemory}
-use Rattle.model_lang.specs.Tree.{ProgramTree}
-use Rattle.model_lang.specs.TreeView.{program_tree}
-use Rattle.model_lang.specs.Program.{IsProgram, Reading, a_program, no_program, too_large, IsReading}
+use Rattle.model_tree.specs.Tree.{ProgramTree}
+use Rattle.model_tree.specs.TreeView.{program_tree}
+use Rattle.model_tree.specs.Program.{IsProgram, Reading, a_program, no_program, too_large, IsReading}
 use Rattle.model_lang.specs.Answer.{Parses}
 use Rattle.model_print.specs.Canonical.{canonical_text}
 use Rattle.model_print.specs.Printing.{GivesAgain}

@@ -1,8 +1,8 @@
 use Rattle.std.proofs.Common.{◌≡◌, ℕ, List, true, sym, ap, subst, ◌∙◌}
 use Rattle.tea_base.specs.declared.entry.Entry.{Entry}
-use Rattle.model_lang.specs.declared.tree.Class.{Class}
-use Rattle.model_lang.specs.Program.{IsProgram}
-use Rattle.model_lang.specs.TreeView.{program_tree}
+use Rattle.model_tree.specs.declared.tree.Class.{Class}
+use Rattle.model_tree.specs.Program.{IsProgram}
+use Rattle.model_tree.specs.TreeView.{program_tree}
 use Rattle.world.specs.Worlds.{replay}
 use Rattle.snapshot_codec.specs.Spelling.{world_spelling}
 use Rattle.replica_plain.specs.Following.{FollowsLog}

@@ -1,6 +1,6 @@
 use denote.Param.Send.{IsSend, IsSync, sendable}
 use Rattle.std.proofs.Crossing.{crosses}
-use Rattle.model_check.specs.contracts.checked.Checked as checked
+use Rattle.model_solved.specs.contracts.checked.Checked as checked
 use Rattle.world.specs.contracts.world.World as world
 use Rattle.replica.specs.contracts.replica.Replica as replica
 use Rattle.replica.proofs.laws.replica_crosses_threads.Goals as goal

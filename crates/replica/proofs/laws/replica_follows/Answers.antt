@@ -1,5 +1,5 @@
 use Rattle.std.proofs.Common.{refl}
-use Rattle.model_lang.specs.TreeView.{program_tree}
+use Rattle.model_tree.specs.TreeView.{program_tree}
 use Rattle.replica_plain.specs.Calls.{loses}
 use Rattle.replica_plain.specs.PlainReplica.{new_replica}
 use Rattle.replica_plain.proofs.SyncSteps.{first_world_follows, served_is_taken}

@@ -1,4 +1,4 @@
-use Rattle.model_lang.specs.TreeView.{program_tree}
+use Rattle.model_tree.specs.TreeView.{program_tree}
 use Rattle.replica_plain.proofs.FrameSteps.{tick_rests}
 use Rattle.replica.specs.View.{worlds_of}
 use Rattle.replica.proofs.laws.ticks_bring_rest.Goals as goal

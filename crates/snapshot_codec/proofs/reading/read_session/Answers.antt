@@ -1,5 +1,5 @@
-use Rattle.model_check.specs.Methods.{field_counts}
-use Rattle.model_lang.specs.TreeView.{program_tree}
+use Rattle.model_solved.specs.Methods.{field_counts}
+use Rattle.model_tree.specs.TreeView.{program_tree}
 use Rattle.snapshot_codec.proofs.Snapshots.{none_other}
 use Rattle.snapshot_codec.proofs.reading.read_session.Goals as goal
 

@@ -1,6 +1,6 @@
 use Rattle.std.proofs.Common.{arith}
-use Rattle.model_check.specs.Methods.{field_counts}
-use Rattle.model_lang.specs.TreeView.{program_tree}
+use Rattle.model_solved.specs.Methods.{field_counts}
+use Rattle.model_tree.specs.TreeView.{program_tree}
 use Rattle.snapshot_codec.proofs.Snapshots.{gives-snapshot}
 use Rattle.snapshot_codec.proofs.reading.unsnap.Goals as goal
 

@@ -1,6 +1,6 @@
 use Rattle.std.proofs.Common.{None, refl}
 use Rattle.std.specs.Arc.{arc_value}
-use Rattle.model_lang.specs.TreeView.{program_tree}
+use Rattle.model_tree.specs.TreeView.{program_tree}
 use Rattle.run_steps.specs.Outside.{booth, booth_tells, links_tell, net_tells, output_tells}
 use Rattle.view_script.specs.PlainLine.{plain_lines}
 use Rattle.view_shell.specs.declared.ending.ViewEnd.TheVariants as ending

@@ -1,7 +1,7 @@
 use denote.Param.Send.{IsSend, IsSync, sendable}
 use Rattle.std.proofs.Crossing.{crosses}
 use Rattle.model_value.proofs.value.Value.TheLaws.TheKnot.{send-Value}
-use Rattle.model_check.specs.contracts.checked.Checked as checked
+use Rattle.model_solved.specs.contracts.checked.Checked as checked
 use Rattle.pubsub.specs.contracts.topics.Topics as topics
 use Rattle.world.specs.contracts.world.World as world
 use Rattle.world.proofs.laws.world_crosses_threads.Goals as goal

@@ -1,5 +1,5 @@
 use Rattle.std.proofs.Common.{◌≡◌, ◌<◌, [], length, get_or, ap, sym, ◌∙◌, arith}
-use Rattle.model_lang.specs.TreeView.{program_tree}
+use Rattle.model_tree.specs.TreeView.{program_tree}
 use Rattle.world.specs.Worlds.{Scene, scene_with_world, empty_world, with_next_turn, with_root, with_root_init}
 use Rattle.world.specs.View.{scene}
 use Rattle.world.proofs.FirstWorld.{few_fields}

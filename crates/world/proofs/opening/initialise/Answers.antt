@@ -1,6 +1,6 @@
 use Rattle.std.proofs.Common.{◌∙◌}
 use Rattle.model_value.specs.View.{plain_values}
-use Rattle.model_lang.specs.TreeView.{program_tree}
+use Rattle.model_tree.specs.TreeView.{program_tree}
 use Rattle.world.specs.View.{scene}
 use Rattle.world.proofs.Initial.{without-init, with-init}
 use Rattle.world.proofs.Texts.{init-chars}

@@ -1,7 +1,7 @@
 use Rattle.std.proofs.Common.{◌≡◌}
 use Rattle.world_plain.specs.Valid.{Valid}
 use Rattle.model_eval.specs.Answer.{world_of}
-use Rattle.model_lang.specs.TreeView.{program_tree}
+use Rattle.model_tree.specs.TreeView.{program_tree}
 use Rattle.world.specs.Worlds.{field_counts, enough, advance}
 use Rattle.world.specs.View.{scene}
 use Rattle.world.proofs.simulation.advance.Given as goal

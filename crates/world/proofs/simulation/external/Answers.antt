@@ -2,7 +2,7 @@ use Rattle.std.proofs.Common.{Result, Ok, Err, OnOk, sym, subst}
 use Rattle.std.specs.Prelude.{⊤}
 use Rattle.model_eval.specs.Answer.{world_of}
 use Rattle.world_plain.specs.Valid.{Valid}
-use Rattle.model_lang.specs.TreeView.{program_tree}
+use Rattle.model_tree.specs.TreeView.{program_tree}
 use Rattle.tea_base.specs.declared.want.WantOfMemory.{WantOfMemory}
 use Rattle.world.specs.Worlds.{Scene, field_counts}
 use Rattle.world.specs.View.{scene}

@@ -1,5 +1,5 @@
 use Rattle.std.proofs.Common.{Bool, ◌∙◌, subst, sym, ap}
-use Rattle.model_lang.specs.TreeView.{program_tree}
+use Rattle.model_tree.specs.TreeView.{program_tree}
 use Rattle.replica.specs.View.{ReplicaView}
 use Rattle.drill.specs.declared.worker.Worker.{Worker}
 use Rattle.drill.proofs.Asks.{worker_with}

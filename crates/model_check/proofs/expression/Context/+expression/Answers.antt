@@ -1,16 +1,16 @@
 use Rattle.std.proofs.Common.{rules, ◌≡◌, ℕ, ◌++◌, None, take, sym, ap, ◌∙◌, map, subst}
 use Rattle.std.specs.Prelude.{Err}
 use Rattle.std.proofs.lemmas.List.{take_all, at_drop_all}
-use Rattle.model_lang.specs.Tree.{Expression, binary, builtin, future}
-use Rattle.model_lang.specs.Bounds.{how_many}
-use Rattle.model_lang.specs.TreeView.{expression_tree, expression_trees}
-use Rattle.model_lang.specs.declared.tree.Expr.{the_lemmas}
-use Rattle.model_lang.specs.declared.tree.Class.{Class}
-use Rattle.model_check.specs.declared.solved.SolvedExpr.{the_lemmas as solved_lemmas}
+use Rattle.model_tree.specs.Tree.{Expression, binary, builtin, future}
+use Rattle.model_tree.specs.Bounds.{how_many}
+use Rattle.model_tree.specs.TreeView.{expression_tree, expression_trees}
+use Rattle.model_tree.specs.declared.tree.Expr.{the_lemmas}
+use Rattle.model_tree.specs.declared.tree.Class.{Class}
+use Rattle.model_solved.specs.declared.solved.SolvedExpr.{the_lemmas as solved_lemmas}
 use Rattle.model_check.specs.Answer.{Solves, IsFirstFault}
-use Rattle.model_check.specs.Faults.{first_of, faults_of_builtin, faults_of_expression, faults_of_expressions}
-use Rattle.model_check.specs.SolvedTree.{solved_expressions_of}
-use Rattle.model_check.specs.SolvedView.{solved_expression}
+use Rattle.model_solved.specs.Faults.{first_of, faults_of_builtin, faults_of_expression, faults_of_expressions}
+use Rattle.model_solved.specs.SolvedTree.{solved_expressions_of}
+use Rattle.model_solved.specs.SolvedView.{solved_expression}
 use Rattle.model_check.specs.Solving.{solve_expression}
 use Rattle.model_check.proofs.First.{first_of-append, first_of-three, first_behind, refused_before, refused_behind}
 use Rattle.model_check.proofs.Trees.{solved_expressions_of-map, how_many-map}

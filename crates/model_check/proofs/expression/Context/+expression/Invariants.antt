@@ -1,7 +1,7 @@
 use Rattle.std.proofs.Common.{◌≡◌, drop, take, map}
-use Rattle.model_lang.specs.TreeView.{expression_tree, expression_trees}
-use Rattle.model_check.specs.Faults.{first_of, faults_of_expressions}
-use Rattle.model_check.specs.SolvedView.{solved_expression}
+use Rattle.model_tree.specs.TreeView.{expression_tree, expression_trees}
+use Rattle.model_solved.specs.Faults.{first_of, faults_of_expressions}
+use Rattle.model_solved.specs.SolvedView.{solved_expression}
 use Rattle.model_check.specs.Solving.{solve_expression}
 use Rattle.model_check.proofs.expression.Context.+expression.Given as goal
 

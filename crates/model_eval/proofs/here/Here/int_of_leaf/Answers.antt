@@ -1,9 +1,9 @@
 use Rattle.std.proofs.Common.{◌≡◌, sym, subst, ◌∙◌, rules}
 use Rattle.std.specs.Prelude.{IfSome}
 use Rattle.std.proofs.lemmas.Option.{IfSome_then}
-use Rattle.model_check.specs.declared.solved.SolvedExpr.{the_lemmas}
-use Rattle.model_check.specs.SolvedTree.{SolvedExpression, field}
-use Rattle.model_check.specs.SolvedView.{solved_expression}
+use Rattle.model_solved.specs.declared.solved.SolvedExpr.{the_lemmas}
+use Rattle.model_solved.specs.SolvedTree.{SolvedExpression, field}
+use Rattle.model_solved.specs.SolvedView.{solved_expression}
 use Rattle.model_value.specs.View.{plain_values}
 use Rattle.model_eval.specs.Answer.{GivesInt}
 use Rattle.model_eval.proofs.Leaves.{field_gives}

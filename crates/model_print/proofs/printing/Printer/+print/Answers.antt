@@ -2,10 +2,10 @@ use Rattle.std.proofs.Common.{rules, ◌≡◌, ◌∷◌, ap, ◌∙◌, refl}
 use Rattle.std.proofs.lemmas.Result.{on_ok_weaker}
 use Rattle.model_tokens.specs.declared.token.Token.TheVariants as token
 use Rattle.model_tokens.specs.declared.token.Symbol.TheVariants as symbol
-use Rattle.model_lang.specs.declared.tree.Expr.{Expr, the_lemmas}
-use Rattle.model_lang.specs.Tree.{binary, call, future, create}
-use Rattle.model_lang.specs.TreeView.{expression_tree, expression_trees}
-use Rattle.model_lang.specs.Grammar.{phrase_spelling, more_spelling}
+use Rattle.model_tree.specs.declared.tree.Expr.{Expr, the_lemmas}
+use Rattle.model_tree.specs.Tree.{binary, call, future, create}
+use Rattle.model_tree.specs.TreeView.{expression_tree, expression_trees}
+use Rattle.model_tree.specs.Grammar.{phrase_spelling, more_spelling}
 use Rattle.model_print.specs.Canonical.{phrase_of, phrases_of}
 use Rattle.model_print.specs.Printing.{with_tokens}
 use Rattle.model_print.proofs.PrintedForms.{binary_printed, call_printed, future_printed, create_printed, part_printed}

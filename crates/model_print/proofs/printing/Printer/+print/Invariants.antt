@@ -1,6 +1,6 @@
 use Rattle.std.proofs.Common.{◌≡◌, drop}
-use Rattle.model_lang.specs.TreeView.{expression_trees}
-use Rattle.model_lang.specs.Grammar.{args_spelling, more_spelling}
+use Rattle.model_tree.specs.TreeView.{expression_trees}
+use Rattle.model_tree.specs.Grammar.{args_spelling, more_spelling}
 use Rattle.model_print.specs.Canonical.{phrases_of}
 use Rattle.model_print.specs.Printing.{with_tokens}
 use Rattle.model_print.proofs.printing.Printer.+print.Given as goal

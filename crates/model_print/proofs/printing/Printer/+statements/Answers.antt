@@ -2,10 +2,10 @@ use Rattle.std.proofs.Common.{rules, ◌≡◌, ◌∷◌, ap, sym, ◌∙◌, r
 use Rattle.std.proofs.lemmas.Result.{on_ok_weaker}
 use Rattle.model_tokens.specs.declared.token.Token.TheVariants as token
 use Rattle.model_tokens.specs.declared.token.Word.TheVariants as word
-use Rattle.model_lang.specs.declared.tree.Stmt.{Stmt, the_lemmas}
-use Rattle.model_lang.specs.Tree.{when, while, no_else, else_block}
-use Rattle.model_lang.specs.TreeView.{expression_tree, statement_tree, statement_trees}
-use Rattle.model_lang.specs.Grammar.{in_round, in_braces, phrase_spelling, action_spelling, block_spelling}
+use Rattle.model_tree.specs.declared.tree.Stmt.{Stmt, the_lemmas}
+use Rattle.model_tree.specs.Tree.{when, while, no_else, else_block}
+use Rattle.model_tree.specs.TreeView.{expression_tree, statement_tree, statement_trees}
+use Rattle.model_tree.specs.Grammar.{in_round, in_braces, phrase_spelling, action_spelling, block_spelling}
 use Rattle.model_print.specs.Canonical.{phrase_of, action_of, block_of}
 use Rattle.model_print.specs.Printing.{with_tokens}
 use Rattle.model_print.proofs.PrintedForms.{both_printed, choice_else_printed, part_printed}

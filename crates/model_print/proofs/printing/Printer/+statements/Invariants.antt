@@ -1,6 +1,6 @@
 use Rattle.std.proofs.Common.{◌≡◌, drop}
-use Rattle.model_lang.specs.TreeView.{statement_trees}
-use Rattle.model_lang.specs.Grammar.{block_spelling}
+use Rattle.model_tree.specs.TreeView.{statement_trees}
+use Rattle.model_tree.specs.Grammar.{block_spelling}
 use Rattle.model_print.specs.Canonical.{block_of}
 use Rattle.model_print.specs.Printing.{with_tokens}
 use Rattle.model_print.proofs.printing.Printer.+statements.Given as goal

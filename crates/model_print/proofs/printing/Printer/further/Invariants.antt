@@ -1,5 +1,5 @@
 use Rattle.std.proofs.Common.{◌≡◌, drop}
-use Rattle.model_lang.specs.Grammar.{further_spelling}
+use Rattle.model_tree.specs.Grammar.{further_spelling}
 use Rattle.model_print.specs.Printing.{with_tokens}
 use Rattle.model_print.proofs.printing.Printer.further.Given as goal
 

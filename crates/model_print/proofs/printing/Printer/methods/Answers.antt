@@ -1,7 +1,7 @@
 use Rattle.std.proofs.Common.{map, refl}
-use Rattle.model_lang.specs.declared.tree.Method.{Method}
-use Rattle.model_lang.specs.TreeView.{method_tree}
-use Rattle.model_lang.specs.Grammar.{method_spelling, methods_spelling}
+use Rattle.model_tree.specs.declared.tree.Method.{Method}
+use Rattle.model_tree.specs.TreeView.{method_tree}
+use Rattle.model_tree.specs.Grammar.{method_spelling, methods_spelling}
 use Rattle.model_print.specs.Canonical.{method_form}
 use Rattle.model_print.proofs.PrintedForms.{part_printed}
 use Rattle.model_print.proofs.printing.Printer.methods.Goals as goal

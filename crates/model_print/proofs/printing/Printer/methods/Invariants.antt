@@ -1,6 +1,6 @@
 use Rattle.std.proofs.Common.{◌≡◌, drop, map}
-use Rattle.model_lang.specs.TreeView.{method_tree}
-use Rattle.model_lang.specs.Grammar.{methods_spelling}
+use Rattle.model_tree.specs.TreeView.{method_tree}
+use Rattle.model_tree.specs.Grammar.{methods_spelling}
 use Rattle.model_print.specs.Canonical.{method_form}
 use Rattle.model_print.specs.Printing.{with_tokens}
 use Rattle.model_print.proofs.printing.Printer.methods.Given as goal

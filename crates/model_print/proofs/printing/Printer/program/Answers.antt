@@ -1,7 +1,7 @@
 use Rattle.std.proofs.Common.{refl}
-use Rattle.model_lang.specs.declared.tree.Class.{Class}
-use Rattle.model_lang.specs.TreeView.{class_tree, program_tree}
-use Rattle.model_lang.specs.Grammar.{class_spelling}
+use Rattle.model_tree.specs.declared.tree.Class.{Class}
+use Rattle.model_tree.specs.TreeView.{class_tree, program_tree}
+use Rattle.model_tree.specs.Grammar.{class_spelling}
 use Rattle.model_print.specs.Canonical.{class_form, canonical_tokens}
 use Rattle.model_print.proofs.PrintedForms.{part_printed}
 use Rattle.model_print.proofs.printing.Printer.program.Goals as goal

@@ -1,5 +1,5 @@
 use Rattle.std.proofs.Common.{◌≡◌, ◌≢◌, ℕ, List, Some, ap, sym, subst, ◌∙◌}
-use Rattle.model_lang.specs.TreeView.{program_tree}
+use Rattle.model_tree.specs.TreeView.{program_tree}
 use Rattle.world_plain.specs.Messages.{PlainOutgoing}
 use Rattle.world_plain.specs.World.{WorldRecord}
 use Rattle.world.specs.Worlds.{field_counts}

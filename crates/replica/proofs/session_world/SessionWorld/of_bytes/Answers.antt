@@ -1,5 +1,5 @@
 use Rattle.std.proofs.Common.{rules, arith, Err}
-use Rattle.model_lang.specs.TreeView.{program_tree}
+use Rattle.model_tree.specs.TreeView.{program_tree}
 use Rattle.world.specs.Worlds.{field_counts}
 use Rattle.snapshot_codec.specs.Answer.{IsOfOther, Unsnaps}
 use Rattle.snapshot_codec.proofs.Snapshots.{none_other, none-spelled}

@@ -1,6 +1,6 @@
 use Rattle.std.proofs.Common.{◌∙◌, ap, arith}
-use Rattle.model_lang.specs.TreeView.{program_tree}
-use Rattle.model_lang.specs.Tree.{ProgramTree}
+use Rattle.model_tree.specs.TreeView.{program_tree}
+use Rattle.model_tree.specs.Tree.{ProgramTree}
 use Rattle.world.specs.Worlds.{Scene}
 use Rattle.world.specs.View.{scene}
 use Rattle.world.proofs.Replays.{external-time}

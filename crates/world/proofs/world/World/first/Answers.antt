@@ -1,9 +1,9 @@
 use Rattle.std.proofs.Common.{◌≡◌, ◌∙◌, List, ℕ, false, ap, sym, subst}
 use Rattle.std.specs.Arc.{arc_value}
 use Rattle.world_plain.specs.Valid.{Valid}
-use Rattle.model_lang.specs.Program.{IsProgram}
-use Rattle.model_lang.specs.TreeView.{program_tree}
-use Rattle.model_lang.specs.declared.tree.Class.{Class}
+use Rattle.model_tree.specs.Program.{IsProgram}
+use Rattle.model_tree.specs.TreeView.{program_tree}
+use Rattle.model_tree.specs.declared.tree.Class.{Class}
 use Rattle.world.specs.Worlds.{Scene, first_scene, field_counts}
 use Rattle.world.specs.View.{scene, IsSoundWorld}
 use Rattle.world.proofs.FirstWorld.{first-valid}

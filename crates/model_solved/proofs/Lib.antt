@@ -1,0 +1,3 @@
+pub mod NoFaults
+pub mod Compared
+pub mod Resolving

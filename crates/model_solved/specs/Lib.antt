@@ -1,0 +1,7 @@
+pub mod Builtins
+pub mod Scopes
+pub mod Faults
+pub mod SolvedTree
+pub mod SolvedView
+pub mod Resolution
+pub mod Methods
