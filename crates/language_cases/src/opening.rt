@@ -3,7 +3,7 @@ use crate::stopped::Stopped;
 use known_names::Names;
 use message_queue::Queue;
 use model_solved::Checked;
-use model_eval::State;
+use world_state::State;
 use model_value::{Values, nils};
 use object_store::Store;
 use pubsub::Topics;

@@ -1,6 +1,6 @@
 //! Why a program gave no value.
 use model_solved::CheckFault;
-use model_eval::{EvalStop, Fault};
+use world_state::{EvalStop, Fault};
 use model_lang::LangFault;
 use std::alloc::AllocError;
 use tea_base::WantOfMemory;

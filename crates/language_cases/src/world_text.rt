@@ -1,7 +1,7 @@
 //! What models can change in a world but its random numbers, and what they published, as text.
 use crate::spelling::{write_text, write_value, write_values};
 use model_solved::Checked;
-use model_eval::State;
+use world_state::State;
 use object_store::Object;
 use std::alloc::Global;
 use tea_base::WantOfMemory;

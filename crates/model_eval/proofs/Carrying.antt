@@ -7,8 +7,8 @@ use Rattle.world_plain.specs.World.{ObjectRecord}
 use Rattle.world_plain.specs.Valid.{Valid, most_turns}
 use Rattle.world_plain.specs.declared.message.Subscription.{Subscription}
 use Rattle.world_plain.specs.declared.world.Known.{Known}
-use Rattle.model_eval.specs.declared.fault.Fault.TheVariants.{Fuel, Size}
-use Rattle.model_eval.specs.Running.{Running, Outcome, Gives, Faults, and_then, spend_step, spend, give_in_bounds, give_by_weight, PureOutcome, value, fails, give_pure, decide}
+use Rattle.world_state.specs.declared.fault.Fault.TheVariants.{Fuel, Size}
+use Rattle.world_state.specs.Running.{Running, Outcome, Gives, Faults, and_then, spend_step, spend, give_in_bounds, give_by_weight, PureOutcome, value, fails, give_pure, decide}
 use Rattle.model_eval.specs.Kept.{count_due, now_due, Kept, CarriesIf}
 use Rattle.model_eval.proofs.Pending.{if_either}
 use Rattle.model_eval.proofs.ValueBounds.{Replies, fits-true}

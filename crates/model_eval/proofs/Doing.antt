@@ -18,9 +18,9 @@ use Rattle.model_solved.specs.declared.builtin.Builtin.TheVariants as builtin
 use Rattle.model_builtin.specs.declared.builtin.Pure.{Pure}
 use Rattle.model_builtin.specs.Builtins.{apply}
 use Rattle.model_builtin.specs.Builtins as without_world
-use Rattle.model_eval.specs.declared.fault.Fault.TheVariants.{BadIndex, NoObject, Instant, Full}
-use Rattle.model_eval.specs.Running.{Running, with_world, Outcome, Gives, Faults, give_in_bounds}
-use Rattle.model_eval.specs.Objects.{get_named, with_fields, with_objects, if_light, put_fields, new_object, has_room_for, with_object, make_object, without_object, is_held, destroy, known_by, make_known}
+use Rattle.world_state.specs.declared.fault.Fault.TheVariants.{BadIndex, NoObject, Instant, Full}
+use Rattle.world_state.specs.Running.{Running, with_world, Outcome, Gives, Faults, give_in_bounds}
+use Rattle.world_state.specs.Objects.{get_named, with_fields, with_objects, if_light, put_fields, new_object, has_room_for, with_object, make_object, without_object, is_held, destroy, known_by, make_known}
 use Rattle.known_names.specs.Names.{with_known}
 use Rattle.model_eval.specs.Futures.{ahead, has_room, with_message, send_message_at, send_to, send}
 use Rattle.model_eval.specs.Builtins.{draw, pure_of, takes_steps, builtin_outcome, pure_outcome, on_none, on_int, on_text, on_texts, on_ref, run_builtin_alone}

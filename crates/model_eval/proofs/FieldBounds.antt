@@ -1,13 +1,12 @@
 -- What a changed field keeps of the objects.
 use Rattle.std.proofs.Common.{◌≡◌, ℕ, suc, Bool, true, false, List, [], ◌∷◌, length, map, Option, Some, nat_eq, refl, sym, ap, ap₂, ◌∙◌, subst, arith, if◌then◌else◌, bytes_eq}
-use Rattle.model_value.specs.Plain.{PlainValue, InBounds, nil}
+use Rattle.model_value.specs.Plain.{PlainValue, InBounds, nil, AllInBounds}
 use Rattle.world_plain.specs.World.{ObjectRecord}
 use Rattle.world_plain.specs.Valid.{object_at, if_same, IsHeld, ObjectFits, ObjectsFit, KnownFit, SubscriptionsFit}
-use Rattle.model_value.specs.Plain.{AllInBounds}
 use Rattle.world_plain.specs.declared.message.Subscription.{Subscription}
 use Rattle.world_plain.specs.declared.world.Known.{Known}
 use Rattle.model_tree.specs.Tree.{Name}
-use Rattle.model_eval.specs.Objects.{value_named, with_named, with_fields}
+use Rattle.world_state.specs.Objects.{value_named, with_named, with_fields}
 
 -- what holds in either branch holds of a test
 pub if_both : {A : Type 0} (P : A → Type 0) (b : Bool) (x y : A) → P x → P y → P (if b then x else y)

@@ -2,11 +2,10 @@
 use Rattle.std.proofs.Common.{◌≡◌, ℕ, zero, suc, ◌+◌, ◌-◌, true, false, List, [], ◌∷◌, ◌++◌, length, Option, Some, None, nat_eq, refl, subst, arith, if◌then◌else◌, slice_get, bytes_eq}
 use Rattle.std.specs.Prelude.{is_some}
 use Rattle.std.proofs.lemmas.List.{length_push}
-use Rattle.model_value.specs.Plain.{PlainValue, nil, bool, text, ref, list, InBounds}
+use Rattle.model_value.specs.Plain.{PlainValue, nil, bool, text, ref, list, InBounds, AllInBounds}
 use Rattle.model_value.specs.View.{plains_of}
 use Rattle.world_plain.specs.World.{ObjectRecord}
 use Rattle.world_plain.specs.Valid.{Valid, object_at}
-use Rattle.model_value.specs.Plain.{AllInBounds}
 use Rattle.model_tree.specs.Tree.{Name, Expression, this, local, field, unary, binary, builtin, call, future, create, Expressions, no_expressions, expression, Statement, declare, assign, set_field, when, while, give, do_, Statements, no_statements, statement, Otherwise, no_else, else_block, MethodTree, ClassTree, ProgramTree}
 use Rattle.model_tree.specs.Tree as tree
 use Rattle.model_tree.specs.declared.tree.BinaryOp.{BinaryOp}
@@ -15,10 +14,10 @@ use Rattle.model_tree.specs.Bounds.{how_many, FewArguments, AllFewArguments, Has
 use Rattle.model_tree.specs.Names.{HasShortNames, AllHaveShortNames, NamesAreShort, AllNamesAreShort, ElseNamesAreShort, MethodNamesAreShort, ClassNamesAreShort}
 use Rattle.model_solved.specs.Builtins.{builtin_named}
 use Rattle.model_solved.specs.Methods.{field_counts, method_named}
-use Rattle.model_eval.specs.declared.fault.Fault.TheVariants.{Arity, Depth}
-use Rattle.model_eval.specs.Running.{Running, Outcome, Gives, Faults, and_then, spend_step, give_by_weight, give_pure, truth, decide}
+use Rattle.world_state.specs.declared.fault.Fault.TheVariants.{Arity, Depth}
+use Rattle.world_state.specs.Running.{Running, Outcome, Gives, Faults, and_then, spend_step, give_by_weight, give_pure, truth, decide, Start}
 use Rattle.model_eval.specs.Operators.{apply_binary, truly, binary_outcome, apply_unary}
-use Rattle.model_eval.specs.Objects.{with_named, make_object, is_held}
+use Rattle.world_state.specs.Objects.{with_named, make_object, is_held}
 use Rattle.model_eval.specs.Futures.{send}
 use Rattle.model_eval.specs.Builtins.{on_event, run_builtin, run_if_builtin}
 use Rattle.model_eval.specs.Publishing.{handle, run_handlers, tell_handlers, with_outgoing, publish}
@@ -26,7 +25,7 @@ use Rattle.pubsub.specs.Topics.{handlers_of}
 use Rattle.pubsub.specs.declared.handler.Handler.{Handler}
 use Rattle.model_solved.specs.declared.builtin.Builtin.{Builtin}
 use Rattle.model_solved.specs.declared.builtin.Builtin.TheVariants as builtin_name
-use Rattle.model_eval.specs.Meaning.{Here, Local, locals_of, Flow, next, return_with, follow, leave_block, method_result, put_field, Evaluate, Execute, Start, evaluate_all, in_turn, block, otherwise, loop_turns, call_on, init, run_init, create_object, create_if_class, number_of_class, expression_row, statement_row, perform, starts_in, starts_on, start_by, evaluate, execute, starts}
+use Rattle.model_eval.specs.Meaning.{Here, Local, locals_of, Flow, next, return_with, follow, leave_block, method_result, put_field, Evaluate, Execute, evaluate_all, in_turn, block, otherwise, loop_turns, call_on, init, run_init, create_object, create_if_class, number_of_class, expression_row, statement_row, perform, starts_in, starts_on, start_by, evaluate, execute, starts}
 use Rattle.model_eval.specs.Kept.{Anything, CarriesIf, Carries}
 use Rattle.model_eval.proofs.FieldBounds.{nil-in_bounds, with_named-in_bounds, length-with_named}
 use Rattle.model_eval.proofs.Pending.{if_either}

@@ -7,10 +7,11 @@ use Rattle.world_plain.specs.World.{ObjectRecord}
 use Rattle.world_plain.specs.Valid.{object_at}
 use Rattle.object_store.specs.Store.{field_of}
 use Rattle.model_solved.specs.SolvedTree.{field}
-use Rattle.model_eval.specs.declared.state.State.{State}
-use Rattle.model_eval.specs.Running.{PureOutcome, value, give_pure}
-use Rattle.model_eval.specs.Slots.{slot_value}
-use Rattle.model_eval.specs.Answer.{GivesInt, running}
+use Rattle.world_state.specs.declared.state.State.{State}
+use Rattle.world_state.specs.Running.{PureOutcome, value, give_pure}
+use Rattle.world_state.specs.Objects.{slot_value}
+use Rattle.model_eval.specs.Answer.{GivesInt}
+use Rattle.world_state.specs.Answer.{running}
 
 slot_holds : (found : Option ObjectRecord) (k : ℕ) (n : ℤ) → field_of found k ≡ Some (int n) → slot_value found k ≡ value (int n)
 slot_holds None k n e = absurd (none-some (int n) e)

@@ -2,14 +2,12 @@ pub mod FieldBounds
 pub mod Pending
 pub mod Created
 pub mod Destroyed
-pub mod KnownFits
 pub mod ValidLaws
 pub mod ValueBounds
 pub mod Carrying
 pub mod Doing
 pub mod KeptLaws
 pub mod Loops
-pub mod Fields
 pub mod Leaves
 pub mod Filters
 pub mod Same

@@ -4,8 +4,8 @@ use Rattle.model_value.specs.Plain.{InBounds}
 use Rattle.model_tree.specs.Tree.{Expression, Statements, while, ProgramTree}
 use Rattle.model_tree.specs.Bounds.{FewArguments, HasFewArguments, ClassesFit}
 use Rattle.model_tree.specs.Names.{HasShortNames, NamesAreShort, ClassNamesAreShort}
-use Rattle.model_eval.specs.declared.fault.Fault.TheVariants.{Fuel, Depth}
-use Rattle.model_eval.specs.Running.{Running, Outcome, Gives, Faults, and_then, truth, decide}
+use Rattle.world_state.specs.declared.fault.Fault.TheVariants.{Fuel, Depth}
+use Rattle.world_state.specs.Running.{Running, Outcome, Gives, Faults, and_then, truth, decide}
 use Rattle.model_eval.specs.Meaning.{Here, Local, Flow, next, return_with, follow, block, loop_turns, expression_row, start_by, evaluate, execute, goes_round}
 use Rattle.model_solved.specs.Methods.{field_counts}
 use Rattle.model_eval.specs.Kept.{CarriesIf}

@@ -9,15 +9,15 @@ use Rattle.model_value.specs.declared.value.Value.TheVariants.{Nil}
 use Rattle.model_solved.specs.declared.builtin.Builtin.{Builtin}
 use Rattle.model_solved.specs.declared.builtin.Builtin.TheVariants as builtin
 use Rattle.model_tree.specs.Tree.{Name}
-use Rattle.model_eval.specs.declared.fault.EvalStop.{EvalStop}
-use Rattle.model_eval.specs.declared.fault.EvalStop.TheVariants.{Fault, WantOfMemory}
-use Rattle.model_eval.specs.declared.state.State.{State}
-use Rattle.model_eval.specs.declared.state.Budget.{Budget}
-use Rattle.model_eval.specs.Running.{Running, Outcome, Gives, Faults, and_then, Start}
+use Rattle.world_state.specs.declared.fault.EvalStop.{EvalStop}
+use Rattle.world_state.specs.declared.fault.EvalStop.TheVariants.{Fault, WantOfMemory}
+use Rattle.world_state.specs.declared.state.State.{State}
+use Rattle.world_state.specs.declared.state.Budget.{Budget}
+use Rattle.world_state.specs.Running.{Running, Outcome, Gives, Faults, and_then, Start}
 use Rattle.model_eval.specs.Builtins.{run_builtin, run_builtin_alone}
 use Rattle.model_eval.specs.Publishing.{tell_handlers, with_outgoing, publish}
-use Rattle.model_eval.specs.Answer.{Answers, Did, running}
-use Rattle.model_eval.proofs.InitLaws.{plain-Nil}
+use Rattle.world_state.specs.Answer.{Answers, Did, running}
+use Rattle.world_state.proofs.PlainLaws.{plain-Nil}
 
 pub answered-alone : (start : Start) (f : Builtin) (object : ℕ) (args : List PlainValue) (r : Running) → ¬ (f ≡ builtin.Publish) → run_builtin start f object args r ≡ run_builtin_alone f object args r
 answered-alone start builtin.Publish object args r other = absurd (other refl)

@@ -24,14 +24,14 @@ use Rattle.model_solved.specs.SolvedTree as solved
 use Rattle.model_solved.specs.SolvedView.{solved_method}
 use Rattle.model_solved.specs.Methods.{method_named, FindsMethod}
 use Rattle.model_solved.specs.Resolution.{IsPlace, Resolves, ResolvesAll, ResolvesStatement, ResolvesBlock, ResolvesElse, ResolvesMethod}
-use Rattle.model_eval.specs.declared.fault.Fault.{Fault}
-use Rattle.model_eval.specs.declared.fault.Fault.TheVariants.{Depth}
-use Rattle.model_eval.specs.Running.{Running, Outcome, Gives, Faults, and_then, spend_step, give_in_bounds, truth, decide, give_pure}
+use Rattle.world_state.specs.declared.fault.Fault.{Fault}
+use Rattle.world_state.specs.declared.fault.Fault.TheVariants.{Depth}
+use Rattle.world_state.specs.Running.{Running, Outcome, Gives, Faults, and_then, spend_step, give_in_bounds, truth, decide, give_pure, Start}
 use Rattle.model_eval.specs.Operators.{binary_outcome, apply_unary}
-use Rattle.model_eval.specs.Objects.{value_named, with_named, get_named, put_fields}
+use Rattle.world_state.specs.Objects.{value_named, with_named, get_named, put_fields}
 use Rattle.model_eval.specs.Futures.{send}
 use Rattle.model_eval.specs.Builtins.{run_if_builtin}
-use Rattle.model_eval.specs.Meaning.{Here, Local, local_value, with_local, locals_of, Flow, next, return_with, follow, leave_block, method_result, put_field, Start, call_on, create_if_class, Evaluate, Execute, evaluate_all, in_turn, block, otherwise, loop_turns, expression_row, statement_row, evaluate, execute, perform, starts}
+use Rattle.model_eval.specs.Meaning.{Here, Local, local_value, with_local, locals_of, Flow, next, return_with, follow, leave_block, method_result, put_field, call_on, create_if_class, Evaluate, Execute, evaluate_all, in_turn, block, otherwise, loop_turns, expression_row, statement_row, evaluate, execute, perform, starts}
 use Rattle.model_eval.specs.Slots as slots
 
 -- ---- fields

@@ -5,9 +5,9 @@ use Rattle.std.proofs.lemmas.List.{map-append, take-map, length-map}
 use Rattle.model_value.specs.Plain.{PlainValue}
 use Rattle.model_tree.specs.Tree.{ProgramTree}
 use Rattle.model_solved.specs.SolvedTree.{SolvedExpression, SolvedStatement, SolvedStatements}
-use Rattle.model_eval.specs.Running.{Running, Outcome, Gives, Faults, and_then, spend_step}
+use Rattle.world_state.specs.Running.{Running, Outcome, Gives, Faults, and_then, spend_step}
 use Rattle.model_eval.specs.Meaning.{starts}
-use Rattle.model_eval.specs.declared.fault.Fault.TheVariants.{Fuel, Depth}
+use Rattle.world_state.specs.declared.fault.Fault.TheVariants.{Fuel, Depth}
 use Rattle.model_eval.specs.Slots.{Evaluate, Execute, room_inside, evaluate, execute, expression_row, statement_row, loop_turns, after_test}
 
 then_if : {A B : Type 0} (b : Bool) (x y : Outcome A) (next : A → Running → Outcome B) → and_then (if b then x else y) next ≡ (if b then and_then x next else and_then y next)

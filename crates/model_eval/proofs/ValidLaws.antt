@@ -3,16 +3,15 @@ use Rattle.std.proofs.Common.{◌≡◌, ℕ, ◌+◌, ◌≤◌, ◌<◌, ◌&&
 use Rattle.std.specs.List.{filter}
 use Rattle.std.proofs.lemmas.Bool.{ltb-true, leb-true, and_parts}
 use Rattle.std.proofs.lemmas.List.{length_push, length-replicate}
-use Rattle.model_value.specs.Plain.{PlainValue, nil}
+use Rattle.model_value.specs.Plain.{PlainValue, nil, AllInBounds, TextFits}
 use Rattle.world_plain.specs.Messages.{PlainMessage}
 use Rattle.world_plain.specs.World.{ObjectRecord, WorldRecord, object_weight, message_weight, subscription_weight, known_weight, world_weight, most_world_weight}
 use Rattle.world_plain.specs.Valid.{Valid, ValidClock, ValidViews, ValidObjects, ValidNames, ValidSubscriptions, ValidMessages, RiseFrom, IsHeld, ObjectFits, SubscriptionFits, SubscriptionsFit, MessageFits, MessagesFit, IsUnused, most_objects, most_subscriptions, most_messages}
-use Rattle.model_value.specs.Plain.{AllInBounds, TextFits}
 use Rattle.world_plain.specs.declared.message.Subscription.{Subscription}
 use Rattle.world_plain.specs.declared.world.Known.{Known}
 use Rattle.model_tree.specs.Tree.{Name}
-use Rattle.model_eval.specs.Running.{Running}
-use Rattle.model_eval.specs.Objects.{with_fields, with_objects, new_object, has_room_for, with_object, without_object}
+use Rattle.world_state.specs.Running.{Running}
+use Rattle.world_state.specs.Objects.{with_fields, with_objects, new_object, has_room_for, with_object, without_object}
 use Rattle.object_store.specs.Store.{last_object_id}
 use Rattle.model_eval.specs.Futures.{with_message, has_room}
 use Rattle.model_eval.specs.Publishing.{has_room_to, with_subscription}
@@ -25,7 +24,7 @@ use Rattle.model_eval.proofs.Created.{ids-appended, ObjectsFit-appended, appende
 use Rattle.model_eval.proofs.Destroyed.{others, ids-filtered, ObjectsFit-filtered, KnownRise-filtered, SubscriptionsDiffer-filtered, SubscriptionsFit-filtered, MessagesFit-filtered, AreInOrder-filtered, NumbersDiffer-filtered, total-filtered, length-filtered, KnownFit-others, SubscriptionsFit-others, MessagesFit-others}
 use Rattle.known_names.specs.Names.{with_known}
 use Rattle.known_names.proofs.KnownOrder.{KnownRise-with_known}
-use Rattle.model_eval.proofs.KnownFits.{KnownFit-with_known}
+use Rattle.world_state.proofs.KnownFits.{KnownFit-with_known}
 
 -- ---- worlds that keep parts of a valid one
 

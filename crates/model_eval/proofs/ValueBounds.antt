@@ -4,8 +4,7 @@ use Rattle.std.specs.Ordering.{int_eq}
 use Rattle.std.proofs.lemmas.Bool.{leb-true, le-leb, and_parts, and_from, cond-true}
 use Rattle.hex.specs.Hex.{encode_lower, lower_digits}
 use Rattle.hex.proofs.HexLemmas.{length-encode_with}
-use Rattle.model_value.specs.Plain.{PlainValue, bool, int, text, ref, weight, depth, InBounds, most_weight, most_depth, is_in_bounds}
-use Rattle.model_value.specs.Plain.{AllInBounds}
+use Rattle.model_value.specs.Plain.{PlainValue, bool, int, text, ref, weight, depth, InBounds, most_weight, most_depth, is_in_bounds, AllInBounds}
 use Rattle.world_plain.specs.declared.world.Known.{Known}
 use Rattle.model_tree.specs.Tree.{Name}
 use Rattle.model_tree.specs.declared.tree.UnaryOp.{UnaryOp}
@@ -15,10 +14,10 @@ use Rattle.model_tree.specs.declared.tree.BinaryOp.TheVariants as op
 use Rattle.model_builtin.specs.Builtins.{in_64_bits}
 use Rattle.model_builtin.specs.Builtins as without_world
 use Rattle.model_builtin.specs.declared.builtin.Pure.{Pure}
-use Rattle.model_eval.specs.declared.fault.Fault.TheVariants.{Overflow, ZeroDivisor, Size}
-use Rattle.model_eval.specs.Running.{Running, Gives, Faults, give_in_bounds, PureOutcome, value, fails}
+use Rattle.world_state.specs.declared.fault.Fault.TheVariants.{Overflow, ZeroDivisor, Size}
+use Rattle.world_state.specs.Running.{Running, Gives, Faults, give_in_bounds, PureOutcome, value, fails}
 use Rattle.model_eval.specs.Operators.{same, int_or_overflow, on_ints, compare_ints, divide, apply_binary, apply_unary}
-use Rattle.model_eval.specs.Objects.{known_by}
+use Rattle.world_state.specs.Objects.{known_by}
 use Rattle.model_eval.specs.Meaning.{Local, local_value, with_local, locals_of, Flow, next, return_with, leave_block, method_result}
 use Rattle.model_eval.proofs.FieldBounds.{if_both, nil-in_bounds}
 use Rattle.model_eval.proofs.Pending.{if_either, encoded-length}

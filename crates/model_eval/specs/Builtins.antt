@@ -9,9 +9,9 @@ use Rattle.model_builtin.specs.declared.builtin.Pure.TheVariants as pure
 use Rattle.model_builtin.specs.Builtins.{apply}
 use Rattle.model_builtin.specs.Builtins as without_world
 use Rattle.seeded_random.specs.Draw.{word_of, state_after, number_below}
-use Rattle.model_eval.specs.declared.fault.Fault.TheVariants.{BadKind, BadIndex, Size}
-use Rattle.model_eval.specs.Running.{Running, with_world, Outcome, Gives, Faults, spend, give_in_bounds, Start}
-use Rattle.model_eval.specs.Objects.{is_held, destroy, known_by, make_known}
+use Rattle.world_state.specs.declared.fault.Fault.TheVariants.{BadKind, BadIndex, Size}
+use Rattle.world_state.specs.Running.{Running, with_world, Outcome, Gives, Faults, spend, give_in_bounds, Start}
+use Rattle.world_state.specs.Objects.{is_held, destroy, known_by, make_known}
 use Rattle.model_eval.specs.Publishing.{publish, subscribe, unsubscribe, cancel, count_views, tell_views}
 
 -- a number below this one; a word is drawn from the world's source

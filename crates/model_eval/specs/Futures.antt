@@ -7,8 +7,8 @@ use Rattle.world_plain.specs.Valid.{object_at, most_turns, most_messages}
 use Rattle.tea_base.specs.Limits.{time_limit}
 use Rattle.message_queue.specs.Queue.{insert_in_order, last_message_number}
 use Rattle.model_tree.specs.Tree.{Name}
-use Rattle.model_eval.specs.declared.fault.Fault.TheVariants.{BadKind, NoObject, Instant, Time, Full}
-use Rattle.model_eval.specs.Running.{Running, with_world, Outcome, Gives, Faults}
+use Rattle.world_state.specs.declared.fault.Fault.TheVariants.{BadKind, NoObject, Instant, Time, Full}
+use Rattle.world_state.specs.Running.{Running, with_world, Outcome, Gives, Faults}
 
 -- the time that lies so many milliseconds ahead, if it is to come and below the limit
 abbrev pub ahead : ℕ → ℤ → Option ℕ

@@ -3,7 +3,7 @@ use Rattle.std.specs.Prelude.{◌≡◌, ℕ, ◌+◌, ◌≤◌, List, [], ◌�
 use Rattle.world_plain.specs.Messages.{PlainMessage, PlainOutgoing}
 use Rattle.world_plain.specs.World.{WorldRecord}
 use Rattle.world_plain.specs.Valid.{Valid, most_turns}
-use Rattle.model_eval.specs.Running.{Running, Outcome, Gives, Faults}
+use Rattle.world_state.specs.Running.{Running, Outcome, Gives, Faults}
 
 -- how many messages are due by a time
 abbrev pub count_due : ℕ → List PlainMessage → ℕ

@@ -1,6 +1,4 @@
-pub mod Running
 pub mod Operators
-pub mod Objects
 pub mod Futures
 pub mod Publishing
 pub mod Builtins

@@ -10,11 +10,11 @@ use Rattle.model_tree.specs.Tree as tree
 use Rattle.model_solved.specs.Builtins.{builtin_named}
 use Rattle.model_solved.specs.Faults.{class_names}
 use Rattle.model_solved.specs.Methods.{method_named}
-use Rattle.model_eval.specs.declared.fault.Fault.TheVariants.{BadKind, NoObject, NoMethod, Arity, Fuel, Depth}
-pub use Rattle.model_eval.specs.Running.{Start}
-use Rattle.model_eval.specs.Running.{Running, Outcome, Gives, Faults, and_then, spend_step, give_in_bounds, give_by_weight, give_pure, truth, decide}
+use Rattle.world_state.specs.declared.fault.Fault.TheVariants.{BadKind, NoObject, NoMethod, Arity, Fuel, Depth}
+pub use Rattle.world_state.specs.Running.{Start}
+use Rattle.world_state.specs.Running.{Running, Outcome, Gives, Faults, and_then, spend_step, give_in_bounds, give_by_weight, give_pure, truth, decide}
 use Rattle.model_eval.specs.Operators.{binary_outcome, apply_unary}
-use Rattle.model_eval.specs.Objects.{get_named, put_fields, with_named, make_object}
+use Rattle.world_state.specs.Objects.{get_named, put_fields, with_named, make_object}
 use Rattle.model_eval.specs.Futures.{send}
 use Rattle.model_eval.specs.Builtins.{run_if_builtin}
 
@@ -197,11 +197,3 @@ abbrev mutual
 -- a method starts on an object, where so many statements and expressions may be open
 abbrev pub starts : ProgramTree → ℕ → Start
 starts program room = start_by program (execute program room)
-
--- the most statements and expressions that are open at a time
-abbrev pub most_open : ℕ
-most_open = 512
-
--- the steps of a message
-abbrev pub most_fuel : ℕ
-most_fuel = 100000

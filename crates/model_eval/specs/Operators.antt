@@ -7,8 +7,8 @@ use Rattle.model_tree.specs.declared.tree.UnaryOp.{UnaryOp}
 use Rattle.model_tree.specs.declared.tree.UnaryOp.TheVariants as unary_op
 use Rattle.model_tree.specs.declared.tree.BinaryOp.{BinaryOp}
 use Rattle.model_tree.specs.declared.tree.BinaryOp.TheVariants as op
-use Rattle.model_eval.specs.declared.fault.Fault.TheVariants.{Overflow, ZeroDivisor, BadKind}
-use Rattle.model_eval.specs.Running.{Running, Outcome, Gives, and_then, PureOutcome, value, fails, give_pure, truth, decide}
+use Rattle.world_state.specs.declared.fault.Fault.TheVariants.{Overflow, ZeroDivisor, BadKind}
+use Rattle.world_state.specs.Running.{Running, Outcome, Gives, and_then, PureOutcome, value, fails, give_pure, truth, decide}
 
 -- values of different kinds differ
 abbrev mutual

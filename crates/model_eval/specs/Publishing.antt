@@ -11,9 +11,9 @@ use Rattle.pubsub.specs.declared.handler.Handler.{Handler}
 use Rattle.pubsub.specs.Topics.{is_subscribed, without_subscription, handlers_of}
 use Rattle.message_queue.specs.Queue.{calls}
 use Rattle.model_tree.specs.Tree.{Name}
-use Rattle.model_eval.specs.declared.fault.Fault.TheVariants.{NoObject, Full}
-use Rattle.model_eval.specs.Running.{Running, with_world, Outcome, Gives, Faults, and_then, spend_step, give_by_weight, Start}
-use Rattle.model_eval.specs.Objects.{is_held}
+use Rattle.world_state.specs.declared.fault.Fault.TheVariants.{NoObject, Full}
+use Rattle.world_state.specs.Running.{Running, with_world, Outcome, Gives, Faults, and_then, spend_step, give_by_weight, Start}
+use Rattle.world_state.specs.Objects.{is_held}
 
 -- ---- publishing
 

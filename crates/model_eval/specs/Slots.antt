@@ -1,30 +1,18 @@
 -- The same meaning over resolved trees, which the evaluator follows. No public clause names it: that it is the meaning of
 -- the tree with its names is proved apart. The locals are values, by their slots.
-use Rattle.std.specs.Prelude.{ℕ, zero, suc, nat_eq, if◌then◌else◌, List, [], ◌∷◌, ◌++◌, length, take, Option, Some, None, slice_get, slice_index_or, slice_set, ⊤}
+use Rattle.std.specs.Prelude.{ℕ, zero, suc, nat_eq, if◌then◌else◌, List, [], ◌∷◌, ◌++◌, length, take, slice_get, slice_index_or, slice_set, ⊤}
 use Rattle.model_value.specs.Plain.{PlainValue, nil, bool, int, text, ref, list}
 use Rattle.model_value.specs.View.{plains_of}
-use Rattle.world_plain.specs.World.{ObjectRecord}
-use Rattle.world_plain.specs.Valid.{object_at}
 use Rattle.model_tree.specs.Tree.{ProgramTree}
 use Rattle.model_solved.specs.SolvedTree.{SolvedExpression, this, local, field, unary, binary, builtin, call, future, create, SolvedExpressions, no_expressions, expression, SolvedStatement, declare, assign, set_field, when, while, give, do_, SolvedStatements, no_statements, statement, SolvedOtherwise, no_else, else_block, SolvedMethod}
 use Rattle.model_solved.specs.SolvedTree as solved
-use Rattle.model_eval.specs.declared.fault.Fault.TheVariants.{NoObject, Fuel, Depth, Arity}
-use Rattle.model_eval.specs.Running.{Running, Outcome, Gives, Faults, and_then, spend_step, give_in_bounds, give_by_weight, PureOutcome, value, fails, give_pure, truth, decide, Start}
+use Rattle.world_state.specs.declared.fault.Fault.TheVariants.{Fuel, Depth, Arity}
+use Rattle.world_state.specs.Running.{Running, Outcome, Gives, Faults, and_then, spend_step, give_in_bounds, give_by_weight, give_pure, truth, decide, Start}
 use Rattle.model_eval.specs.Operators.{binary_outcome, apply_unary}
-use Rattle.model_eval.specs.Objects.{put_fields}
+use Rattle.world_state.specs.Objects.{get_slot, set_slot}
 use Rattle.model_eval.specs.Futures.{send}
 use Rattle.model_eval.specs.Builtins.{run_builtin}
 use Rattle.model_eval.specs.Meaning.{Flow, next, return_with, follow, leave_block, method_result, call_on, create_object, starts}
-
-abbrev pub slot_value : Option ObjectRecord → ℕ → PureOutcome
-slot_value None slot = fails NoObject
-slot_value (Some o) slot = value (slice_index_or o.fields slot nil)
-
-abbrev pub get_slot : ℕ → ℕ → Running → Outcome PlainValue
-get_slot object slot r = give_pure (slot_value (object_at r.world.objects object) slot) r
-
-abbrev pub set_slot : ℕ → ℕ → PlainValue → Running → Outcome ⊤
-set_slot object slot v r = put_fields (object_at r.world.objects object) object (λ fields. slice_set fields slot v) r
 
 abbrev pub Evaluate : Type 0
 Evaluate = ℕ → SolvedExpression → List PlainValue → Running → Outcome PlainValue

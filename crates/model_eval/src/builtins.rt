@@ -4,18 +4,15 @@ ghost use Rattle.hex.specs.Hex.{encode_lower};
 ghost use Rattle.model_value.specs.View.{plain, plain_values};
 ghost use Rattle.model_eval.specs.Builtins.{run_builtin_alone, pure_outcome, pure_of as pure_builtin, takes_steps as is_dear, draw, tell_time, tell_id, tell_known, tell_held, on_none, on_int, on_text, on_texts, on_ref};
 ghost use Rattle.model_eval.specs.Publishing.{cancel, subscribe, unsubscribe, count_views, tell_views};
-ghost use Rattle.model_eval.specs.Objects.{make_known, destroy};
-ghost use Rattle.model_eval.specs.Answer.{Answers, Spends, running};
-ghost use Rattle.model_eval.specs.declared.state.State.{State};
-ghost use Rattle.model_eval.specs.declared.state.Budget.{Budget};
+ghost use Rattle.world_state.specs.Objects.{make_known, destroy};
+ghost use Rattle.world_state.specs.Answer.{Answers, running};
+ghost use Rattle.model_eval.specs.Answer.{Spends};
+ghost use Rattle.world_state.specs.declared.state.State.{State};
+ghost use Rattle.world_state.specs.declared.state.Budget.{Budget};
 
 use crate::events::{subscribe, unsubscribe, view_count, views};
-use crate::fault::{EvalStop, Fault};
 use crate::here::Here;
-use crate::known::{be_known, known_object};
 use crate::messages::cancel;
-use crate::objects::{destroy, is_held};
-use crate::state::{Budget, State};
 use crate::values::{list_of, weigh};
 use model_builtin::{Pure, apply};
 use model_solved::Builtin;
@@ -23,6 +20,7 @@ use model_value::{Value, Values};
 use seeded_random::Source64;
 use std::alloc::Global;
 use tea_base::{SessionId, Text, WantOfMemory};
+use world_state::{Budget, EvalStop, Fault, State, be_known, destroy, is_held, known_object};
 
 /// What a builtin answers that starts no method.
 pub fn answer(

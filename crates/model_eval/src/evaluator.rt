@@ -5,31 +5,30 @@ ghost use Rattle.model_tree.specs.TreeView.{program_tree};
 ghost use Rattle.model_solved.specs.SolvedView.{solved_expression, solved_expressions, solved_statement, solved_statements, solved_method};
 ghost use Rattle.model_value.specs.Plain.{ref};
 ghost use Rattle.model_value.specs.View.{plain, plain_values};
-ghost use Rattle.model_eval.specs.Running.{and_then, Gives};
+ghost use Rattle.world_state.specs.Running.{and_then, Gives};
 ghost use Rattle.model_eval.specs.Builtins.{run_builtin, on_event};
 ghost use Rattle.model_eval.specs.Publishing.{run_handlers, handle, publish, tell_handlers};
 ghost use Rattle.model_eval.specs.Meaning.{call_on, create_object, run_init};
 ghost use Rattle.model_eval.specs.Slots.{block as block_of, room_inside, evaluate_all, expression_row as row_of_expression, in_turn, loop_turns, perform, statement_row as row_of_statement};
-ghost use Rattle.model_eval.specs.Answer.{Answers, AnswersAll, Did, Enters, Proceeds, TakesStep, evaluates_by, executes_by, running, starts_by};
-ghost use Rattle.model_eval.specs.declared.state.State.{State};
+ghost use Rattle.world_state.specs.Answer.{Answers, Did, running};
+ghost use Rattle.model_eval.specs.Answer.{AnswersAll, Enters, Proceeds, TakesStep, evaluates_by, executes_by, starts_by};
+ghost use Rattle.world_state.specs.declared.state.State.{State};
 
 use crate::builtins::answer;
 use crate::calls::Event;
 use crate::events::announce;
-use crate::fault::{EvalStop, Fault};
 use crate::here::{Here, Starter};
 use crate::locals::{Frame, assign, declare, get_local, leave};
 use crate::messages::send;
 use crate::methods::init_of;
-use crate::objects::{get_slot, is_held, make, set_slot};
 use crate::operation::Operation;
 use crate::operator::{operate_on_one, truth};
-use crate::state::{Budget, State};
 use crate::values::{list_of, literal, only};
 use model_solved::{Builtin, Solved, SolvedExpr, SolvedStmt};
 use model_value::{Value, Values, copy};
 use pubsub::Handler;
 use tea_base::{List, Text};
+use world_state::{Budget, EvalStop, Fault, State, get_slot, is_held, make, set_slot};
 
 /// What follows on a statement.
 #[derive(Drop)]

@@ -3,18 +3,16 @@ ghost use Rattle.std.specs.Prelude.{◌≡◌, ◌+◌, IfOk, OnOk, length, map,
 ghost use Rattle.model_value.specs.Plain.{int};
 ghost use Rattle.model_value.specs.View.{plain, plain_values};
 ghost use Rattle.world_plain.specs.World.{subscription_weight, world_weight, most_world_weight};
-ghost use Rattle.model_eval.specs.declared.state.Budget.{Budget};
+ghost use Rattle.world_state.specs.declared.state.Budget.{Budget};
 ghost use Rattle.model_eval.specs.Publishing.{add_subscription, subscribe, subscription, unsubscribe, with_outgoing};
-ghost use Rattle.model_eval.specs.Answer.{Answers, running, world_of};
+ghost use Rattle.world_state.specs.Answer.{Answers, running, world_of};
 
 use crate::calls::Event;
-use crate::fault::{EvalStop, Fault};
-use crate::objects::is_held;
-use crate::state::State;
 use model_value::{Value, Values, copy};
 use std::alloc::Global;
 use tea_base::{List, Text, WantOfMemory};
 use world_plain::{Outgoing, Subscription, subscription_fits};
+use world_state::{EvalStop, Fault, State, is_held};
 
 /// Puts an event behind all that was published.
 pub fn announce(alloc: Global, event: &Event<'_>, state: &mut State) -> Result<(), WantOfMemory>

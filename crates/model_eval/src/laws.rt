@@ -1,13 +1,12 @@
 //! What a method keeps of a world, and how its loops end.
 ghost use Rattle.std.specs.Prelude.{◌≡◌, ℕ, List};
-ghost use Rattle.model_value.specs.Plain.{PlainValue, InBounds};
-ghost use Rattle.model_value.specs.Plain.{AllInBounds};
+ghost use Rattle.model_value.specs.Plain.{PlainValue, InBounds, AllInBounds};
 ghost use Rattle.model_tree.specs.Program.{IsProgram};
 ghost use Rattle.model_tree.specs.Tree.{Name, Expression, Statements, while, ProgramTree};
 ghost use Rattle.model_tree.specs.Bounds.{HasFewArguments};
 ghost use Rattle.model_tree.specs.Names.{NamesAreShort};
 ghost use Rattle.model_solved.specs.Methods.{field_counts};
-ghost use Rattle.model_eval.specs.Running.{Running};
+ghost use Rattle.world_state.specs.Running.{Running};
 ghost use Rattle.model_eval.specs.Publishing.{tell_handlers};
 ghost use Rattle.model_eval.specs.Kept.{Carries, Anything};
 ghost use Rattle.model_eval.specs.Meaning.{Here, Local, loop_turns, goes_round, evaluate, execute, starts};

@@ -2,14 +2,13 @@
 ghost use Rattle.std.specs.Prelude.{◌≡◌, ◌++◌, ◌∷◌, [], OnOk, take, slice_index_or, slice_set};
 ghost use Rattle.model_value.specs.Plain.{nil};
 ghost use Rattle.model_value.specs.View.{plain, plain_values};
-ghost use Rattle.model_eval.specs.Running.{value as reply_value};
-ghost use Rattle.model_eval.specs.Answer.{Replies};
+ghost use Rattle.world_state.specs.Running.{value as reply_value};
+ghost use Rattle.world_state.specs.Answer.{Replies};
 
-use crate::fault::EvalStop;
-use crate::values::copy_value;
 use model_value::Value;
 use std::alloc::Global;
 use tea_base::WantOfMemory;
+use world_state::{EvalStop, copy_value};
 
 /// What a method runs on: its locals, and the value with which it ends, once it returns.
 #[derive(Drop)]

@@ -4,17 +4,15 @@ ghost use Rattle.model_value.specs.View.{plain, plain_values};
 ghost use Rattle.world_plain.specs.Valid.{object_at};
 ghost use Rattle.model_value.specs.Plain.{text_weight, values_weight};
 ghost use Rattle.world_plain.specs.World.{world_weight, most_world_weight};
-ghost use Rattle.model_eval.specs.declared.state.Budget.{Budget};
+ghost use Rattle.world_state.specs.declared.state.Budget.{Budget};
 ghost use Rattle.model_eval.specs.Futures.{ahead as ahead_of, send as sends, send_message_at, send_to};
 ghost use Rattle.model_eval.specs.Publishing.{cancel};
-ghost use Rattle.model_eval.specs.Answer.{Answers, running, world_of};
+ghost use Rattle.world_state.specs.Answer.{Answers, running, world_of};
 
-use crate::fault::{EvalStop, Fault};
-use crate::objects::is_held;
-use crate::state::State;
 use model_value::{Value, Values};
 use tea_base::{TIME_LIMIT, Text};
 use world_plain::{MOST_TURNS, message_fits};
+use world_state::{EvalStop, Fault, State, is_held};
 
 /// Sends a message to an object, to come so many milliseconds ahead. It gets the world's next number.
 ///

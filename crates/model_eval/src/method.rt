@@ -4,16 +4,15 @@ ghost use Rattle.model_value.specs.View.{plain, plain_values};
 ghost use Rattle.model_tree.specs.TreeView.{program_tree};
 ghost use Rattle.model_eval.specs.Meaning.{starts};
 ghost use Rattle.model_eval.specs.Publishing.{tell_handlers};
-ghost use Rattle.model_eval.specs.Answer.{Answers, Did, running};
+ghost use Rattle.world_state.specs.Answer.{Answers, Did, running};
 
 use crate::calls::{Call, Event};
-use crate::fault::EvalStop;
 use crate::here::Starter;
-use crate::state::{Budget, State};
 use model_solved::Checked;
 use model_value::{Value, Values};
 use std::alloc::Global;
 use tea_base::Text;
+use world_state::{Budget, EvalStop, State};
 
 /// Starts a method on an object with these arguments, and runs it to its end.
 ///

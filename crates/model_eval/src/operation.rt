@@ -5,16 +5,16 @@ ghost use Rattle.model_solved.specs.SolvedView.{solved_expression};
 ghost use Rattle.model_value.specs.Plain.{int};
 ghost use Rattle.model_value.specs.View.{plain, plain_values};
 ghost use Rattle.model_eval.specs.Operators.{truly as truth_of_right};
-ghost use Rattle.model_eval.specs.Answer.{Answers, EvaluatesBoth, GivesInt, evaluates_by, operates_by, running};
+ghost use Rattle.world_state.specs.Answer.{Answers, running};
+ghost use Rattle.model_eval.specs.Answer.{EvaluatesBoth, GivesInt, evaluates_by, operates_by};
 
 use crate::evaluator::enter;
-use crate::fault::EvalStop;
 use crate::here::Here;
 use crate::operator::{operate, operate_on_ints, truth};
-use crate::state::{Budget, State};
 use model_solved::SolvedExpr;
 use model_tree::BinaryOp;
 use model_value::Value;
+use world_state::{Budget, EvalStop, State};
 
 /// An operator with its two sides.
 #[derive(Clone, Copy)]

@@ -2,13 +2,14 @@
 ghost use Rattle.std.specs.Prelude.{◌≡◌, MatchOption, Ok, Err};
 ghost use Rattle.model_value.specs.Plain.{int};
 ghost use Rattle.model_value.specs.View.{plain};
-ghost use Rattle.model_eval.specs.Running.{truth as truth_of};
+ghost use Rattle.world_state.specs.Running.{truth as truth_of};
 ghost use Rattle.model_eval.specs.Operators.{apply_binary, apply_unary, same as are_same};
-ghost use Rattle.model_eval.specs.Answer.{AreInts, Decides, Replies};
+ghost use Rattle.model_eval.specs.Answer.{AreInts, Decides};
+ghost use Rattle.world_state.specs.Answer.{Replies};
 
-use crate::fault::{EvalStop, Fault};
 use model_tree::{BinaryOp, UnaryOp};
 use model_value::{Value, same};
+use world_state::{EvalStop, Fault};
 
 /// What an operator gives of one value.
 pub fn operate_on_one(op: UnaryOp, value: &Value) -> Result<Value, EvalStop>

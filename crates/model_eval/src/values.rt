@@ -2,34 +2,16 @@
 ghost use Rattle.std.specs.Prelude.{◌≡◌, ◌∷◌, [], IfOk, ◌<◌, ◌^◌};
 ghost use Rattle.model_value.specs.Plain.{text as text_value, list, weight as weight_of};
 ghost use Rattle.model_value.specs.View.{plain, plain_values, plains_of};
-ghost use Rattle.model_eval.specs.Running.{give_in_bounds, give_by_weight, spend, value as value_reply, Gives};
-ghost use Rattle.model_eval.specs.Answer.{Answers, Replies, Spends, running};
-ghost use Rattle.model_eval.specs.declared.state.State.{State};
-ghost use Rattle.model_eval.specs.declared.state.Budget.{Budget};
+ghost use Rattle.world_state.specs.Running.{give_in_bounds, give_by_weight, spend, value as value_reply, Gives};
+ghost use Rattle.world_state.specs.Answer.{Answers, Replies, running};
+ghost use Rattle.model_eval.specs.Answer.{Spends};
+ghost use Rattle.world_state.specs.declared.state.State.{State};
+ghost use Rattle.world_state.specs.declared.state.Budget.{Budget};
 
-use crate::fault::{EvalStop, Fault};
-use crate::state::Budget;
-use model_value::{Value, Values, copy, in_bounds, weight};
+use model_value::{Value, Values, in_bounds, weight};
 use std::alloc::Global;
 use tea_base::{List, Text, WantOfMemory};
-
-/// A copy of a value. That of a number takes no call.
-#[inline(always)]
-pub fn copy_value(alloc: Global, value: &Value) -> Result<Value, EvalStop>
-    ensures { Replies result (value_reply (plain value.now)) }
-{
-    match value {
-        Value::Int(number) => Ok(Value::Int(*number)),
-        _ => copy_whole_value(alloc, value),
-    }
-}
-
-#[inline(always)]
-fn copy_whole_value(alloc: Global, value: &Value) -> Result<Value, EvalStop>
-    ensures { Replies result (value_reply (plain value.now)) }
-{
-    Ok(copy(alloc, value)?)
-}
+use world_state::{Budget, EvalStop, Fault};
 
 /// The value of a text literal. Gives the fault Size where it is not in bounds.
 pub fn literal(text: &Text) -> Result<Value, EvalStop>

@@ -9,9 +9,9 @@ use Rattle.world_plain.specs.Messages.{PlainMessage}
 use Rattle.world_plain.specs.World.{WorldRecord}
 use Rattle.tea_base.specs.Limits.{most_here}
 use Rattle.model_tree.specs.Tree.{Name, ProgramTree}
-use Rattle.model_eval.specs.declared.fault.Fault.TheVariants.{Full}
-use Rattle.model_eval.specs.Running.{Outcome, Gives, Faults}
-use Rattle.model_eval.specs.Meaning.{starts, most_open}
+use Rattle.world_state.specs.declared.fault.Fault.TheVariants.{Full}
+use Rattle.world_state.specs.Running.{Outcome, Gives, Faults, most_open}
+use Rattle.model_eval.specs.Meaning.{starts}
 use Rattle.model_eval.specs.Publishing.{tell_handlers}
 use Rattle.world.specs.Worlds.{Scene, scene_with_world, with_fault, with_next_turn, with_full_budget, scene_of_outcome, after_method, due, after_message, on_due, enough, advance_within, advance, after_telling, session_scope, view_join, view_exit, after_telling_of, is_view_here, with_view, without_view, after_join, after_exit, after_event, after_entry, external, replay_from, take_up}
 use Rattle.world.proofs.Advancing.{opened}

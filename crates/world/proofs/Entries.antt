@@ -13,7 +13,7 @@ use Rattle.model_value.proofs.PayloadCodec.{payload_of-in_bounds}
 use Rattle.model_tree.specs.Tree.{Name, ProgramTree}
 use Rattle.model_eval.proofs.ValidLaws.{valid-beside}
 use Rattle.model_eval.proofs.ValueBounds.{int-in_bounds}
-use Rattle.model_eval.specs.declared.fault.Fault.TheVariants.{Full}
+use Rattle.world_state.specs.declared.fault.Fault.TheVariants.{Full}
 use Rattle.world.specs.Worlds.{Scene, scene_with_world, with_next_turn, with_fault, bad_event, advance, session_scope, view_join, view_exit, after_telling_of, is_view_here, with_view, without_view, after_join, after_exit, after_event, after_entry, external}
 use Rattle.world.proofs.Running.{Fits, with_count-valid, counted-valid, begun-valid, informed-valid}
 use Rattle.world.proofs.Advancing.{advance-valid}

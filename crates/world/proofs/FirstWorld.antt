@@ -3,15 +3,13 @@ use Rattle.std.proofs.Common.{◌≡◌, ℕ, zero, suc, ◌+◌, ◌≤◌, Boo
 use Rattle.std.specs.Prelude.{slice_get, bytes_eq, is_some, encode_utf8_all}
 use Rattle.std.proofs.lemmas.Bool.{le-leb}
 use Rattle.std.proofs.lemmas.Option.{none-some, same_Some, slice_get-map}
-use Rattle.model_value.specs.Plain.{nil}
-use Rattle.model_value.specs.Plain.{values_weight}
+use Rattle.model_value.specs.Plain.{nil, values_weight, AllInBounds}
 use Rattle.world_plain.specs.World.{object_weight, world_weight, most_world_weight}
 use Rattle.world_plain.specs.Valid.{Valid}
-use Rattle.model_value.specs.Plain.{AllInBounds}
 use Rattle.model_tree.specs.Tree.{ClassTree, ProgramTree, root_name}
 use Rattle.model_tree.specs.Bounds.{most_members, ClassesFit}
 use Rattle.model_solved.specs.Methods.{method_named}
-use Rattle.model_eval.specs.Objects.{new_object, has_room_for, with_object}
+use Rattle.world_state.specs.Objects.{new_object, has_room_for, with_object}
 use Rattle.model_eval.proofs.FieldBounds.{nil-in_bounds}
 use Rattle.model_eval.proofs.ValidLaws.{valid-object, valid-known}
 use Rattle.world.specs.Worlds.{Scene, empty_world, with_next_turn, with_root, root_from, field_counts, first_with, first_scene, after_method, init, model_root}

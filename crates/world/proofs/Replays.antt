@@ -16,7 +16,7 @@ use Rattle.world_plain.specs.World.{WorldRecord}
 use Rattle.model_value.proofs.PayloadCodec.{payload_of-in_bounds}
 use Rattle.model_solved.specs.Methods.{method_named}
 use Rattle.model_tree.specs.Tree.{Name, ClassTree, ProgramTree}
-use Rattle.model_eval.specs.declared.fault.Fault.TheVariants.{Full}
+use Rattle.world_state.specs.declared.fault.Fault.TheVariants.{Full}
 use Rattle.model_eval.proofs.ValueBounds.{int-in_bounds}
 use Rattle.world.specs.Worlds.{Scene, scene_with_world, with_fault, field_counts, with_next_turn, after_method, init, empty_world, with_root, root_from, first_with, first_scene, at_later_time, due, after_message, on_due, advance_within, advance, enough, is_view_here, with_view, without_view, after_telling_of, session_scope, view_join, view_exit, after_join, after_exit, after_event, after_entry, external, replay_from, replay, take_up, entries_behind, replay_on, Follows}
 use Rattle.world.proofs.Running.{Fits, ran-keeps, informed-keeps}

@@ -1,15 +1,14 @@
 -- What a message leaves of a world: it stays valid, its time and its turns stay, and at too many turns no more is due.
 use Rattle.std.proofs.Common.{◌≡◌, ℕ, ◌≤◌, List, sym, subst, arith}
-use Rattle.model_value.specs.Plain.{PlainValue, InBounds}
+use Rattle.model_value.specs.Plain.{PlainValue, InBounds, AllInBounds}
 use Rattle.world_plain.specs.World.{WorldRecord}
 use Rattle.world_plain.specs.Valid.{Valid, most_turns}
-use Rattle.model_value.specs.Plain.{AllInBounds}
 use Rattle.model_tree.specs.Tree.{Name, ProgramTree}
 use Rattle.model_tree.specs.Bounds.{ClassesFit}
 use Rattle.model_tree.specs.Names.{ClassNamesAreShort}
-use Rattle.model_eval.specs.declared.fault.Fault.{Fault}
-use Rattle.model_eval.specs.Running.{Outcome, Gives, Faults}
-use Rattle.model_eval.specs.Meaning.{starts, most_open}
+use Rattle.world_state.specs.declared.fault.Fault.{Fault}
+use Rattle.world_state.specs.Running.{Outcome, Gives, Faults, most_open}
+use Rattle.model_eval.specs.Meaning.{starts}
 use Rattle.model_eval.specs.Publishing.{tell_handlers}
 use Rattle.model_solved.specs.Methods.{field_counts}
 use Rattle.model_eval.specs.Kept.{now_due, Anything, CarriesIf}

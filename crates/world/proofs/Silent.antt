@@ -21,16 +21,16 @@ use Rattle.model_solved.specs.Builtins.{builtin_named}
 use Rattle.model_solved.specs.Methods.{method_named}
 use Rattle.pubsub.specs.declared.handler.Handler.{Handler}
 use Rattle.pubsub.specs.Topics.{is_subscribed, without_subscription, handlers_of}
-use Rattle.model_eval.specs.declared.fault.Fault.{Fault}
-use Rattle.model_eval.specs.declared.fault.Fault.TheVariants.{BadIndex, NoObject, Arity, Fuel, Depth, Size, Instant, Full}
-use Rattle.model_eval.specs.Running.{Running, with_world, Outcome, Gives, Faults, and_then, spend_step, spend, give_in_bounds, give_by_weight, PureOutcome, value, fails, give_pure, truth, decide}
+use Rattle.world_state.specs.declared.fault.Fault.{Fault}
+use Rattle.world_state.specs.declared.fault.Fault.TheVariants.{BadIndex, NoObject, Arity, Fuel, Depth, Size, Instant, Full}
+use Rattle.world_state.specs.Running.{Running, with_world, Outcome, Gives, Faults, and_then, spend_step, spend, give_in_bounds, give_by_weight, PureOutcome, value, fails, give_pure, truth, decide, Start}
 use Rattle.model_eval.specs.Operators.{apply_binary, truly, binary_outcome, apply_unary}
-use Rattle.model_eval.specs.Objects.{get_named, with_fields, if_light, put_fields, new_object, has_room_for, with_object, make_object, without_object, is_held, destroy, with_named, make_known}
+use Rattle.world_state.specs.Objects.{get_named, with_fields, if_light, put_fields, new_object, has_room_for, with_object, make_object, without_object, is_held, destroy, with_named, make_known}
 use Rattle.known_names.specs.Names.{with_known}
 use Rattle.model_eval.specs.Futures.{ahead, has_room, with_message, send_message_at, send_to, send}
 use Rattle.model_eval.specs.Builtins.{draw, pure_of, takes_steps, builtin_outcome, pure_outcome, on_none, on_int, on_text, on_texts, on_event, on_ref, tell_time, tell_id, tell_known, tell_held, run_builtin_alone, run_builtin, run_if_builtin}
 use Rattle.model_eval.specs.Publishing.{handle, run_handlers, tell_handlers, with_outgoing, publish, has_room_to, with_subscription, add_subscription, subscription, subscribe, unsubscribe, messages_without_calls, cancel, count_views, tell_views}
-use Rattle.model_eval.specs.Meaning.{Here, Local, locals_of, with_local, Flow, next, return_with, follow, leave_block, method_result, put_field, Evaluate, Execute, Start, evaluate_all, in_turn, block, otherwise, loop_turns, call_on, init, run_init, create_object, create_if_class, number_of_class, expression_row, statement_row, perform, starts_in, starts_on, start_by, evaluate, execute, starts}
+use Rattle.model_eval.specs.Meaning.{Here, Local, locals_of, with_local, Flow, next, return_with, follow, leave_block, method_result, put_field, Evaluate, Execute, evaluate_all, in_turn, block, otherwise, loop_turns, call_on, init, run_init, create_object, create_if_class, number_of_class, expression_row, statement_row, perform, starts_in, starts_on, start_by, evaluate, execute, starts}
 
 -- what runs, as if nothing was published yet
 abbrev pub bare : Running → Running

@@ -6,8 +6,8 @@ use Rattle.world_plain.specs.World.{WorldRecord, world_record}
 use Rattle.world_plain.specs.WorldCode.{coded_world}
 use Rattle.world_plain.specs.declared.message.Message.{Message}
 use Rattle.world_plain.specs.declared.world.PlainWorld.{PlainWorld}
-use Rattle.model_eval.specs.declared.state.State.{State}
-use Rattle.model_eval.specs.Answer.{world_of}
+use Rattle.world_state.specs.declared.state.State.{State}
+use Rattle.world_state.specs.Answer.{world_of}
 use Rattle.world_plain.specs.Valid.{Valid}
 use Rattle.model_tree.specs.declared.tree.Class.{Class}
 use Rattle.model_tree.specs.TreeView.{program_tree}

@@ -14,13 +14,13 @@ use Rattle.world_plain.specs.World.{WorldRecord}
 use Rattle.tea_base.specs.Limits.{most_here}
 use Rattle.world_plain.specs.Valid.{most_turns, most_messages}
 use Rattle.model_tree.specs.Tree.{Name, ClassTree, ProgramTree, root_name}
-use Rattle.model_eval.specs.declared.fault.Fault.{Fault}
-use Rattle.model_eval.specs.declared.fault.Fault.TheVariants as fault
+use Rattle.world_state.specs.declared.fault.Fault.{Fault}
+use Rattle.world_state.specs.declared.fault.Fault.TheVariants as fault
 pub use Rattle.model_solved.specs.Methods.{field_counts}
 use Rattle.model_eval.specs.Kept.{now_due}
-use Rattle.model_eval.specs.Running.{Running, Outcome, Gives, Faults}
+use Rattle.world_state.specs.Running.{Running, Outcome, Gives, Faults, most_open, most_fuel}
 pub use Rattle.model_eval.specs.Meaning.{init}
-use Rattle.model_eval.specs.Meaning.{starts, most_open, most_fuel}
+use Rattle.model_eval.specs.Meaning.{starts}
 use Rattle.model_eval.specs.Publishing.{tell_handlers}
 use Rattle.model_solved.specs.Methods.{method_named}
 

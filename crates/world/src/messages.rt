@@ -7,13 +7,14 @@ ghost use Rattle.world.specs.Worlds.{after_method, after_telling, with_fault, wi
 ghost use Rattle.world.specs.View.{scene, TakesDue};
 
 use message_queue::Steps;
+use model_eval::{Call, Event, run_method, tell_models};
 use model_solved::Checked;
-use model_eval::{Budget, Call, EvalStop, Event, Fault, State, run_method, tell_models};
 use std::alloc::Global;
 use std::marker::Brand;
 use std::sync::ledger::{Blank, Ledger};
 use tea_base::WantOfMemory;
 use world_plain::{MOST_TURNS, Message};
+use world_state::{Budget, EvalStop, Fault, State};
 
 /// Where events that cannot be read are counted, behind the faults.
 const BAD_EVENT: usize = 13;

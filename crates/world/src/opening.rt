@@ -11,14 +11,15 @@ ghost use Rattle.world.specs.View.{scene};
 use crate::messages::{begin, run};
 use known_names::Names;
 use message_queue::Queue;
+use model_eval::Call;
 use model_solved::Checked;
-use model_eval::{Call, State};
 use model_value::nils;
 use object_store::Store;
 use pubsub::Topics;
 use std::alloc::Global;
 use tea_base::{List, SessionId, Text, WantOfMemory};
 use world_plain::Known;
+use world_state::State;
 
 /// The first world: one message makes an object of class Root, known as `modelRoot`, and starts its `init`, if it has
 /// one, with nil.

@@ -8,7 +8,6 @@ ghost use Rattle.world.specs.View.{scene};
 
 use known_names::Names;
 use message_queue::Queue;
-use model_eval::State;
 use model_value::copy_values;
 use object_store::Store;
 use pubsub::Topics;
@@ -18,6 +17,7 @@ use world_plain::{
     PlainWorld, StoreRefusal, Subscription, copy_known_names, copy_message, copy_numbers,
     copy_subscription,
 };
+use world_state::State;
 
 /// The world that plain data tells, on which nothing was published yet.
 pub fn from_plain(alloc: Global, plain: &PlainWorld) -> Result<State, WantOfMemory>

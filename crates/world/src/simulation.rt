@@ -6,17 +6,18 @@ ghost use Rattle.model_value.specs.Payload.{whole_payload};
 ghost use Rattle.model_tree.specs.TreeView.{program_tree};
 ghost use Rattle.model_tree.specs.Program.{IsProgram};
 ghost use Rattle.world.specs.Worlds.{field_counts, advance as advanced, external as entered_by, after_entry, after_join, after_exit, after_event, after_telling_of, view_join, view_exit, is_view_here, with_view, without_view};
-ghost use Rattle.model_eval.specs.Answer.{world_of};
+ghost use Rattle.world_state.specs.Answer.{world_of};
 ghost use Rattle.world.specs.View.{scene, IsPlaceOfView};
 
 use crate::messages::{begin, count, count_bad_event, handle, inform, move_to, take_due};
+use model_eval::{Event, session_text};
 use model_solved::Checked;
-use model_eval::{Event, Fault, State, session_text};
 use model_value::{Value, ValueFault, read_payload};
 use std::alloc::Global;
 use std::mem;
 use tea_base::{Entry, List, Numbers, Text, WantOfMemory, What};
 use world_plain::MOST_VIEWS;
+use world_state::{Fault, State};
 
 /// Runs the messages that are due up to a time, which then is the world's.
 pub fn advance(

@@ -12,13 +12,13 @@ ghost use Rattle.world.specs.View.{MovesOn, Copies, IsSoundWorld};
 use crate::fault::WorldFault;
 use crate::{opening, resuming, simulation};
 use model_solved::Checked;
-use model_eval::State;
 use std::alloc::Global;
 use std::marker::Model;
 use std::mem;
 use std::sync::Arc;
 use tea_base::{Entry, List, SessionId, WantOfMemory};
 use world_plain::{PlainWorld, Published};
+use world_state::State;
 
 /// A world of a session: what its models hold at a TeaTime.
 ///

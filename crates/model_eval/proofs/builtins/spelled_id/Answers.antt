@@ -1,8 +1,8 @@
 use Rattle.std.proofs.Common.{◌≤◌, length, ap, sym, ◌∙◌, arith}
 use Rattle.model_value.specs.Plain.{PlainValue, text}
 use Rattle.model_value.proofs.Plains.{plain-Text}
-use Rattle.model_eval.specs.Running.{Gives}
-use Rattle.model_eval.specs.Answer.{running}
+use Rattle.world_state.specs.Running.{Gives}
+use Rattle.world_state.specs.Answer.{running}
 use Rattle.model_eval.proofs.ValueBounds.{digits-given}
 use Rattle.model_eval.proofs.builtins.spelled_id.Goals as goal
 

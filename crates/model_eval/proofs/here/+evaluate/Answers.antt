@@ -4,13 +4,14 @@ use Rattle.model_value.specs.View.{plain, plain_values}
 use Rattle.world_plain.specs.Valid.{object_at}
 use Rattle.model_tree.specs.TreeView.{program_tree}
 use Rattle.model_solved.specs.Methods.{FindsMethod}
-use Rattle.model_eval.specs.Running.{Outcome}
+use Rattle.world_state.specs.Running.{Outcome}
 use Rattle.model_tree.specs.Tree.{Name}
-use Rattle.model_eval.specs.Answer.{Answers, HasInit, running, starts_by}
+use Rattle.world_state.specs.Answer.{Answers, running}
+use Rattle.model_eval.specs.Answer.{HasInit, starts_by}
 use Rattle.model_eval.proofs.InitLaws.{without-init, with-init}
 use Rattle.model_eval.proofs.Published.{answered-alone, published-gives, published-stops}
 use Rattle.model_eval.proofs.Resolving.{started}
-use Rattle.model_eval.proofs.Fields.{class_of-is}
+use Rattle.world_state.proofs.Fields.{class_of-is}
 use Rattle.model_eval.proofs.here.+evaluate.Goals as goal
 
 pub Starter::start-returns-in-Some-method : goal.Starter::start-returns-in-Some-method

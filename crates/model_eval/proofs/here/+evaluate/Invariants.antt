@@ -3,7 +3,8 @@ use Rattle.model_value.specs.View.{plain, plain_values}
 use Rattle.model_solved.specs.SolvedView.{solved_expression, solved_expressions, solved_statements}
 use Rattle.model_eval.specs.Publishing.{run_handlers}
 use Rattle.model_eval.specs.Slots.{evaluate_all, in_turn, loop_turns}
-use Rattle.model_eval.specs.Answer.{evaluates_by, executes_by, running, starts_by}
+use Rattle.model_eval.specs.Answer.{evaluates_by, executes_by, starts_by}
+use Rattle.world_state.specs.Answer.{running}
 use Rattle.model_eval.proofs.here.+evaluate.Given as goal
 
 -- entering an expression or a statement leaves less room, and within one level each function calls only those of a lower rank

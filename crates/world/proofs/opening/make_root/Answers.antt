@@ -5,7 +5,7 @@ use Rattle.model_value.specs.View.{plain_values}
 use Rattle.world_plain.specs.World.{ObjectRecord}
 use Rattle.world_plain.specs.declared.world.Known.{Known}
 use Rattle.object_store.specs.Store.{AreFields, StoreRecord, store_with}
-use Rattle.model_eval.specs.Answer.{world_of}
+use Rattle.world_state.specs.Answer.{world_of}
 use Rattle.world.specs.Worlds.{Scene, scene_with_world}
 use Rattle.world.specs.View.{scene}
 use Rattle.world.proofs.Rooted.{made}

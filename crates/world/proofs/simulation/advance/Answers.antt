@@ -1,6 +1,6 @@
 use Rattle.std.proofs.Common.{◌≡◌, ap, ◌∙◌, sym, subst}
 use Rattle.world_plain.specs.Messages.{plain_message}
-use Rattle.model_eval.specs.Answer.{world_of}
+use Rattle.world_state.specs.Answer.{world_of}
 use Rattle.world_plain.specs.Valid.{Valid}
 use Rattle.model_tree.specs.TreeView.{program_tree}
 use Rattle.world.specs.Worlds.{Scene, after_message, field_counts, at_later_time, scene_with_world}

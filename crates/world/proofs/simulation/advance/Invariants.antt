@@ -1,6 +1,6 @@
 use Rattle.std.proofs.Common.{◌≡◌}
 use Rattle.world_plain.specs.Valid.{Valid}
-use Rattle.model_eval.specs.Answer.{world_of}
+use Rattle.world_state.specs.Answer.{world_of}
 use Rattle.model_tree.specs.TreeView.{program_tree}
 use Rattle.world.specs.Worlds.{field_counts, enough, advance}
 use Rattle.world.specs.View.{scene}

@@ -1,6 +1,6 @@
 use Rattle.std.proofs.Common.{Result, Ok, Err, OnOk, sym, subst}
 use Rattle.std.specs.Prelude.{⊤}
-use Rattle.model_eval.specs.Answer.{world_of}
+use Rattle.world_state.specs.Answer.{world_of}
 use Rattle.world_plain.specs.Valid.{Valid}
 use Rattle.model_tree.specs.TreeView.{program_tree}
 use Rattle.tea_base.specs.declared.want.WantOfMemory.{WantOfMemory}
