@@ -33,6 +33,7 @@ use Rattle.model_eval.specs.Futures.{send}
 use Rattle.model_eval.specs.Builtins.{run_if_builtin}
 use Rattle.model_eval.specs.Meaning.{Here, Local, local_value, with_local, locals_of, Flow, next, return_with, follow, leave_block, method_result, put_field, call_on, create_if_class, Evaluate, Execute, evaluate_all, in_turn, block, otherwise, loop_turns, expression_row, statement_row, evaluate, execute, perform, starts}
 use Rattle.model_eval.specs.Slots as slots
+use Rattle.world_state.specs.Objects as objects
 
 -- ---- fields
 
@@ -85,11 +86,11 @@ slot_read names x slot e =
     subst (IsRead x names) (sym same) f.read
 
 -- the value of a field is read, and written, as at its name
-got-stands : (fields : List Name) (x : Name) (slot : ℕ) (o : Option ObjectRecord) (r : Running) → IsPlace fields x slot → give_pure (slots.slot_value o slot) r ≡ get_named o x fields r
+got-stands : (fields : List Name) (x : Name) (slot : ℕ) (o : Option ObjectRecord) (r : Running) → IsPlace fields x slot → give_pure (objects.slot_value o slot) r ≡ get_named o x fields r
 got-stands fields x slot None r h = refl
 got-stands fields x slot (Some o) r h = ap (λ (v : PlainValue). Gives v r) (sym ((slot_read fields x slot h).value o.fields))
 
-set-stands : (here : Here) (x : Name) (slot : ℕ) (v : PlainValue) (r : Running) → IsPlace here.class.fields x slot → slots.set_slot here.object slot v r ≡ put_field here x v r
+set-stands : (here : Here) (x : Name) (slot : ℕ) (v : PlainValue) (r : Running) → IsPlace here.class.fields x slot → objects.set_slot here.object slot v r ≡ put_field here x v r
 set-stands here x slot v r h =
     let e : (λ (vs : List PlainValue). set vs slot v) ≡ with_named x v here.class.fields = fun_ext (λ vs. sym ((slot_read here.class.fields x slot h).written v vs)) in
     ap (λ (change : List PlainValue → List PlainValue). put_fields (object_at r.world.objects here.object) here.object change r) e

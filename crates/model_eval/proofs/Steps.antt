@@ -1,8 +1,10 @@
 -- What the meaning is once a part is entered, and of a loop once a turn is made.
-use Rattle.std.proofs.Common.{◌≡◌, ℕ, zero, suc, ◌+◌, ◌-◌, ◌<◌, Bool, true, false, List, if◌then◌else◌, refl, sym, append_assoc, arith}
+use Rattle.std.proofs.Common.{◌≡◌, ℕ, zero, suc, ◌+◌, ◌-◌, ◌<◌, Bool, true, false, ◌≤◌, List, length, set, if◌then◌else◌, refl, sym, append_assoc, arith}
 use Rattle.std.specs.Prelude.{nat_eq}
-use Rattle.std.proofs.lemmas.List.{map-append, take-map, length-map}
+use Rattle.std.proofs.lemmas.List.{map-append, take-map, length-map, map-set, set_past}
 use Rattle.model_value.specs.Plain.{PlainValue}
+use Rattle.model_value.specs.View.{plain, plain_values}
+use Rattle.model_value.specs.declared.value.Value.{Value}
 use Rattle.model_tree.specs.Tree.{ProgramTree}
 use Rattle.model_solved.specs.SolvedTree.{SolvedExpression, SolvedStatement, SolvedStatements}
 use Rattle.world_state.specs.Running.{Running, Outcome, Gives, Faults, and_then, spend_step}
@@ -37,3 +39,8 @@ pub ruleset by_turn = (looped-turn)
 pub ruleset by_place = (map-append, append_assoc)
 
 pub ruleset by_local = (map-append, take-map, length-map)
+
+pub unset : (vs : List Value) (i : ℕ) (v : PlainValue) → length vs ≤ i → set (plain_values vs) i v ≡ plain_values vs
+unset vs i v h = set_past (plain_values vs) i v (omega (arith, length-map vs plain))
+
+pub ruleset by_assignment = (map-set, unset)

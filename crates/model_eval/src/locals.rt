@@ -51,7 +51,7 @@ pub fn declare(locals: &mut Vec<Value>, slot: u32, value: Value) -> Result<(), W
 }
 
 /// A local holds another value.
-#[tactic(auto, using(crate::proofs::Fields::by_field))]
+#[tactic(auto, using(crate::proofs::Steps::by_assignment))]
 pub fn assign(locals: &mut Vec<Value>, slot: u32, value: Value)
     ensures { plain_values locals.new.items ≡ slice_set (plain_values locals.old.items) slot (plain value) }
 {

@@ -1,15 +1,13 @@
 -- Fields of objects, and what objects weigh with one of theirs changed.
-use Rattle.std.proofs.Common.{◌≡◌, ℕ, zero, suc, ◌+◌, ◌<◌, ◌≤◌, Bool, true, false, List, [], ◌∷◌, length, set, Option, Some, None, refl, sym, ap, ◌∙◌, ⊎_elim, arith}
+use Rattle.std.proofs.Common.{◌≡◌, ℕ, zero, suc, ◌+◌, ◌<◌, ◌≤◌, Bool, true, false, List, [], ◌∷◌, set, Option, Some, None, refl, sym, ap, ◌∙◌, ⊎_elim, arith}
 use Rattle.std.specs.Prelude.{nat_eq, nat_le, is_some, slice_get, slice_index_or, Result, Ok, Err, if◌then◌else◌}
 use Rattle.std.proofs.lemmas.Bool.{false≢true, lt-leb, le-leb, cases_lt}
 use Rattle.std.proofs.lemmas.Option.{none-some, same_Some, slice_get_within}
-use Rattle.std.proofs.lemmas.List.{map-set, set_past, length-map}
 use Rattle.model_value.specs.Plain.{PlainValue, nil, weight, values_weight}
 use Rattle.model_value.specs.Room.{IsRoomBehind}
 use Rattle.world_plain.specs.Valid.{object_at, if_same}
 use Rattle.world_plain.specs.World.{ObjectRecord, object_weight, total_weight, world_weight, most_world_weight}
 use Rattle.object_store.specs.Store.{with_field, field_of, class_of, HasField}
-use Rattle.model_value.specs.View.{plain, plain_values}
 use Rattle.model_value.specs.declared.value.Value.{Value}
 use Rattle.world_state.specs.declared.fault.Fault.TheVariants.{Full}
 use Rattle.world_state.specs.Running.{Running, Gives, Faults, value, fails}
@@ -17,11 +15,6 @@ use Rattle.world_state.specs.declared.fault.EvalStop.{EvalStop}
 use Rattle.world_state.specs.declared.fault.EvalStop.TheVariants.{Fault, WantOfMemory}
 use Rattle.world_state.specs.Answer.{MissesField, Replies}
 use Rattle.world_state.specs.Objects.{slot_value, with_fields, with_objects, if_light, put_fields}
-
-pub unset : (vs : List Value) (i : ℕ) (v : PlainValue) → length vs ≤ i → set (plain_values vs) i v ≡ plain_values vs
-unset vs i v h = set_past (plain_values vs) i v (omega (arith, length-map vs plain))
-
-pub ruleset by_field = (map-set, unset)
 
 -- ---- a field of an object
 
