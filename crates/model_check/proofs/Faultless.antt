@@ -1,8 +1,7 @@
 -- What is made of a tree without faults stands for it.
-use Rattle.std.proofs.Common.{◌≡◌, List, [], ◌∷◌, ◌++◌, map, None, refl, sym}
+use Rattle.std.proofs.Common.{◌≡◌, List, [], ◌∷◌, ◌++◌, map, None, refl}
 use Rattle.model_tree.specs.Tree.{Name, Expression, nil, bool, int, text, this, local, field, list, unary, binary, builtin, call, future, create, Expressions, no_expressions, expression, Statement, declare, assign, set_field, when, while, give, do_, Statements, no_statements, statement, Otherwise, no_else, else_block, MethodTree, ProgramTree}
 use Rattle.model_tree.specs.Bounds.{how_many}
-use Rattle.model_solved.specs.declared.fault.CheckFault.{CheckFault}
 use Rattle.model_solved.specs.declared.fault.CheckFault.TheVariants.{NoName, NoClass, NoField}
 use Rattle.model_solved.specs.Scopes.{scope_behind}
 use Rattle.model_solved.specs.Faults.{first_of, faults_of_name, faults_of_names, faults_of_field, faults_of_local, faults_of_creation, faults_of_builtin, faults_of_expression, faults_of_expressions, faults_of_statement, faults_of_statements, faults_of_else, faults_of_method, faults_of_methods, faults_of_class, faults_of_classes}

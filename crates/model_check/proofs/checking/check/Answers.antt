@@ -1,4 +1,4 @@
-use Rattle.std.proofs.Common.{rules, ◌≡◌, refl}
+use Rattle.std.proofs.Common.{rules, ◌≡◌}
 use Rattle.std.specs.Prelude.{Err}
 use Rattle.model_check.proofs.First.{refused_is}
 use Rattle.model_check.proofs.Programs.{solvable-program, few-classes, checked-program, classes_refused, root_refused}
@@ -32,4 +32,4 @@ returns c =
     let found = rw c.classes.ensures.classes at c.in_ok-classes.ensures in
     let rooted = rw c.classes-2.ensures.classes at c.in_ok-root.ensures in
     let whole = checked-program c.args.program c.in_ok-root.root _ found.0 found.1 rooted.0 rooted.1 in
-    (whole.faultless, refl)
+    (whole.faultless, c.of_parts.ensures)
