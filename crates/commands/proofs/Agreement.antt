@@ -10,9 +10,9 @@ use Rattle.tea_base.specs.Limits.{time_limit}
 use Rattle.world_plain.specs.Valid.{Valid}
 use Rattle.world_plain.specs.World.{WorldRecord}
 use Rattle.world.specs.Worlds.{Follows, replay, replay_on}
-use Rattle.commands.specs.declared.outcome.Input.TheVariants as input
-use Rattle.commands.specs.declared.outcome.CommandRefusal.TheVariants as refusal
-use Rattle.commands.specs.declared.words.ReplayRequest.{ReplayRequest}
+use Rattle.command_outcome.specs.declared.outcome.Input.TheVariants as input
+use Rattle.command_outcome.specs.declared.outcome.CommandRefusal.TheVariants as refusal
+use Rattle.command_words.specs.declared.words.ReplayRequest.{ReplayRequest}
 use Rattle.commands.specs.Verdict.{ByRefusal, SnapshotsAgree, at_once, resumed_verdict, world_verdict}
 
 -- its time is above the one that is asked for

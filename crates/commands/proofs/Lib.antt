@@ -1,13 +1,7 @@
 pub mod Agreement
-pub mod CheckLaws
-pub mod DrillLaws
-pub mod EventLaws
 pub mod NetLaws
 pub mod OneVerdict
 pub mod ProgramLaws
-pub mod ScriptLaws
 pub mod SomeVerdict
 pub mod StampLaws
 pub mod WaitLaws
-pub mod WordLaws
-pub mod WorldLaws

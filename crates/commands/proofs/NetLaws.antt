@@ -5,15 +5,15 @@ use Rattle.tea_base.specs.declared.entry.Entry.{Entry}
 use Rattle.reflector_core.specs.declared.request.Request.{Request}
 use Rattle.model_tree.specs.Tree.{ProgramTree}
 use Rattle.run_steps.specs.Steps.{Ask, Step}
-use Rattle.commands.specs.declared.outcome.Input.{Input}
-use Rattle.commands.specs.declared.outcome.Input.TheVariants as input
-use Rattle.commands.specs.declared.outcome.CommandRefusal.{CommandRefusal}
-use Rattle.commands.specs.declared.outcome.CommandRefusal.TheVariants as refusal
-use Rattle.commands.specs.declared.words.ReplayRequest.{ReplayRequest}
-use Rattle.commands.specs.declared.words.Command.{Command}
-use Rattle.commands.specs.declared.words.Command.TheVariants.{Stamp, Check, Replay, Join, Reflect, Drill}
-use Rattle.commands.specs.CommandWords.{UsesNet}
-use Rattle.commands.specs.Script.{script_of}
+use Rattle.command_outcome.specs.declared.outcome.Input.{Input}
+use Rattle.command_outcome.specs.declared.outcome.Input.TheVariants as input
+use Rattle.command_outcome.specs.declared.outcome.CommandRefusal.{CommandRefusal}
+use Rattle.command_outcome.specs.declared.outcome.CommandRefusal.TheVariants as refusal
+use Rattle.command_words.specs.declared.words.ReplayRequest.{ReplayRequest}
+use Rattle.command_words.specs.declared.words.Command.{Command}
+use Rattle.command_words.specs.declared.words.Command.TheVariants.{Stamp, Check, Replay, Join, Reflect, Drill}
+use Rattle.command_words.specs.CommandWords.{UsesNet}
+use Rattle.command_stamp.specs.Script.{script_of}
 use Rattle.commands.specs.Verdict.{ByDrill, ByRefusal, ByReflecting, ByVisit, ByWant, Closing, Coming, Comes, Free, Only, OfFile, OfGiven, OfLog, OfProgram, OfScript, OfSnapshot, OfTree, OfWords, Starts, Verdict, ask_log, ask_program, ask_script, ask_snapshot, at_once, count_verdict, fine, session_of, stamp_verdict}
 
 -- the run goes on with a net

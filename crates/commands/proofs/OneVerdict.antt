@@ -20,20 +20,21 @@ use Rattle.snapshot_codec.specs.Reading.{world_record_at}
 use Rattle.snapshot_codec.proofs.Fitting.{world-fits}
 use Rattle.snapshot_codec.proofs.WorldCodec.{world_codec}
 use Rattle.run_steps.specs.Steps.{Ask, Step, Loads, Puts, Prints, Connects, Returns, Hears, Sends}
-use Rattle.commands.specs.declared.outcome.Input.{Input}
-use Rattle.commands.specs.declared.outcome.Input.TheVariants as input
-use Rattle.commands.specs.declared.outcome.CommandRefusal.TheVariants as refusal
+use Rattle.command_outcome.specs.declared.outcome.Input.{Input}
+use Rattle.command_outcome.specs.declared.outcome.Input.TheVariants as input
+use Rattle.command_outcome.specs.declared.outcome.CommandRefusal.TheVariants as refusal
 use Rattle.view_script.specs.PlainLine.{PlainLine}
 use Rattle.view_script.specs.ViewScript.{view_script_of}
-use Rattle.commands.specs.Address.{is_address}
-use Rattle.commands.specs.declared.words.ReplayRequest.{ReplayRequest}
-use Rattle.commands.specs.declared.words.JoinRequest.{JoinRequest}
-use Rattle.commands.specs.declared.words.ReflectRequest.{ReflectRequest}
-use Rattle.commands.specs.declared.words.Command.{Command}
-use Rattle.commands.specs.declared.words.Command.TheVariants.{Stamp, Check, Replay, Join, Reflect, Drill}
-use Rattle.commands.specs.PrintedText.{syntax_line}
-use Rattle.commands.specs.Script.{script_of}
-use Rattle.commands.specs.Verdict.{Closing, ByDrill, ByRefusal, ByReflecting, ByVisit, ByWant, Verdict, AreAlike, AreDoneAlike, Coming, Free, IsLineOf, IsOneVerdict, IsFunction, IsRefused, IsRefusedBy, OfAddress, OfFile, OfGiven, OfJoin, OfLog, OfProgram, OfReflect, OfScript, OfSnapshot, OfTree, OfView, OfViewScript, OfWords, Only, Starts, ask_log, ask_program, ask_script, ask_snapshot, before, at_once, count_verdict, reflection_of, resumed_verdict, session_of, stamp_verdict, visit_to}
+use Rattle.command_words.specs.Address.{is_address}
+use Rattle.command_words.specs.declared.words.ReplayRequest.{ReplayRequest}
+use Rattle.command_words.specs.declared.words.JoinRequest.{JoinRequest}
+use Rattle.command_words.specs.declared.words.ReflectRequest.{ReflectRequest}
+use Rattle.command_words.specs.declared.words.Command.{Command}
+use Rattle.command_words.specs.declared.words.Command.TheVariants.{Stamp, Check, Replay, Join, Reflect, Drill}
+use Rattle.command_outcome.specs.ProgramText.{syntax_line}
+use Rattle.command_stamp.specs.Script.{script_of}
+use Rattle.command_outcome.specs.ProgramEnd.{IsLineOf, IsRefused, IsRefusedBy}
+use Rattle.commands.specs.Verdict.{Closing, ByDrill, ByRefusal, ByReflecting, ByVisit, ByWant, Verdict, AreAlike, AreDoneAlike, Coming, Free, IsOneVerdict, IsFunction, OfAddress, OfFile, OfGiven, OfJoin, OfLog, OfProgram, OfReflect, OfScript, OfSnapshot, OfTree, OfView, OfViewScript, OfWords, Only, Starts, ask_log, ask_program, ask_script, ask_snapshot, before, at_once, count_verdict, reflection_of, resumed_verdict, session_of, stamp_verdict, visit_to}
 
 -- what `model_lang::one_reading` says
 abbrev pub IsOneReading : Type 0

@@ -7,24 +7,26 @@ use Rattle.model_tree.specs.Tree.{ProgramTree}
 use Rattle.model_solved.specs.declared.fault.CheckFault.{CheckFault}
 use Rattle.model_solved.specs.Faults.{first_fault}
 use Rattle.run_steps.specs.Steps.{Ask, Loads}
-use Rattle.commands.specs.declared.outcome.Input.{Input}
-use Rattle.commands.specs.declared.outcome.Input.TheVariants as input
-use Rattle.commands.specs.declared.outcome.CommandRefusal.{CommandRefusal}
-use Rattle.commands.specs.declared.outcome.CommandRefusal.TheVariants as refusal
-use Rattle.commands.specs.declared.outcome.Put.{Put}
+use Rattle.command_outcome.specs.declared.outcome.Input.{Input}
+use Rattle.command_outcome.specs.declared.outcome.Input.TheVariants as input
+use Rattle.command_outcome.specs.declared.outcome.CommandRefusal.{CommandRefusal}
+use Rattle.command_outcome.specs.declared.outcome.CommandRefusal.TheVariants as refusal
+use Rattle.command_outcome.specs.declared.outcome.Put.{Put}
 use Rattle.view_script.specs.PlainLine.{PlainLine}
 use Rattle.view_script.specs.ViewScript.{view_script_of}
-use Rattle.commands.specs.Address.{is_address}
-use Rattle.commands.specs.declared.words.ReplayRequest.{ReplayRequest}
-use Rattle.commands.specs.declared.words.JoinRequest.{JoinRequest}
-use Rattle.commands.specs.declared.words.ReflectRequest.{ReflectRequest}
-use Rattle.commands.specs.declared.words.DrillRequest.{DrillRequest}
-use Rattle.commands.specs.declared.reflection.Reflection.{Reflection}
-use Rattle.commands.specs.declared.words.Command.{Command}
-use Rattle.commands.specs.declared.words.Command.TheVariants.{Stamp, Check, Replay, Join, Reflect, Drill}
-use Rattle.commands.specs.PrintedText.{check_line, counts_line, syntax_line, too_large_line}
-use Rattle.commands.specs.Script.{script_of}
-use Rattle.commands.specs.Verdict.{PlainVisit, Fine, ByDrill, ByRefusal, ByReflecting, ByVisit, ByWant, AreGiven, Coming, IsLineOf, IsOnlyWant, OfAddress, OfCommand, OfFile, OfGiven, OfJoin, OfLog, OfProgram, OfReflect, OfScript, OfSnapshot, OfTree, OfView, OfViewScript, SomeVerdictComes, Starts, ask_log, ask_program, ask_script, ask_snapshot, at_once, before, count_verdict, fine, reflection_of, session_of, steps_of, visit_to}
+use Rattle.command_words.specs.Address.{is_address}
+use Rattle.command_words.specs.declared.words.ReplayRequest.{ReplayRequest}
+use Rattle.command_words.specs.declared.words.JoinRequest.{JoinRequest}
+use Rattle.command_words.specs.declared.words.ReflectRequest.{ReflectRequest}
+use Rattle.command_words.specs.declared.words.DrillRequest.{DrillRequest}
+use Rattle.command_reflect.specs.declared.reflection.Reflection.{Reflection}
+use Rattle.command_words.specs.declared.words.Command.{Command}
+use Rattle.command_words.specs.declared.words.Command.TheVariants.{Stamp, Check, Replay, Join, Reflect, Drill}
+use Rattle.command_outcome.specs.ProgramText.{check_line, counts_line, syntax_line, too_large_line}
+use Rattle.command_stamp.specs.Script.{script_of}
+use Rattle.command_outcome.specs.Outcome.{steps_of}
+use Rattle.command_outcome.specs.ProgramEnd.{IsLineOf}
+use Rattle.commands.specs.Verdict.{PlainVisit, Fine, ByDrill, ByRefusal, ByReflecting, ByVisit, ByWant, AreGiven, Coming, IsOnlyWant, OfAddress, OfCommand, OfFile, OfGiven, OfJoin, OfLog, OfProgram, OfReflect, OfScript, OfSnapshot, OfTree, OfView, OfViewScript, SomeVerdictComes, Starts, ask_log, ask_program, ask_script, ask_snapshot, at_once, before, count_verdict, fine, reflection_of, session_of, visit_to}
 
 abbrev pub Told : Type 0
 Told = Ask → Option (List ℕ)

@@ -5,9 +5,10 @@ use Rattle.session_log.specs.Spelling.{log_spelling}
 use Rattle.reflector_core.specs.declared.request.Request.{Request}
 use Rattle.reflector_core.specs.declared.request.Reply.{Reply}
 use Rattle.reflector_core.specs.Play.{first_session, after_all, replies_from}
-use Rattle.commands.specs.declared.outcome.Put.{Put}
-use Rattle.commands.specs.PrintedText.{text_of}
-use Rattle.commands.specs.Verdict.{Verdict, OfScript, Only, fine, optional_put, stamp_verdict, steps_of}
+use Rattle.command_outcome.specs.declared.outcome.Put.{Put}
+use Rattle.command_stamp.specs.ReplyText.{text_of}
+use Rattle.command_outcome.specs.Outcome.{optional_put, steps_of}
+use Rattle.commands.specs.Verdict.{Verdict, OfScript, Only, fine, stamp_verdict}
 
 -- the requests of a script were answered
 pub answered

@@ -1,8 +1,8 @@
 -- What a command that waits for a file comes to.
 use Rattle.std.proofs.Common.{◌≡◌, ℕ, List, Some, None, inr, refl, subst}
 use Rattle.run_steps.specs.Steps.{Ask, Loads}
-use Rattle.commands.specs.declared.outcome.Input.{Input}
-use Rattle.commands.specs.declared.outcome.CommandRefusal.TheVariants as refusal
+use Rattle.command_outcome.specs.declared.outcome.Input.{Input}
+use Rattle.command_outcome.specs.declared.outcome.CommandRefusal.TheVariants as refusal
 use Rattle.commands.specs.declared.work.Next.{Next}
 use Rattle.commands.specs.declared.work.Waiting.{Waiting}
 use Rattle.commands.specs.declared.work.Waiting.TheVariants as waiting

@@ -25,21 +25,25 @@ use Rattle.snapshot_codec.specs.Spelling.{world_spelling}
 use Rattle.run_steps.specs.Steps.{Ask, Step, Loads, Puts, Prints, Hears}
 use Rattle.view_script.specs.PlainLine.{PlainLine}
 use Rattle.view_script.specs.ViewScript.{view_script_of}
-use Rattle.commands.specs.declared.outcome.Input.{Input}
-use Rattle.commands.specs.declared.outcome.Input.TheVariants as input
-use Rattle.commands.specs.declared.outcome.CommandRefusal.{CommandRefusal}
-use Rattle.commands.specs.declared.outcome.CommandRefusal.TheVariants as refusal
-use Rattle.commands.specs.declared.outcome.Put.{Put}
-use Rattle.commands.specs.declared.words.ReplayRequest.{ReplayRequest}
-use Rattle.commands.specs.declared.words.JoinRequest.{JoinRequest}
-use Rattle.commands.specs.declared.words.ReflectRequest.{ReflectRequest}
-use Rattle.commands.specs.declared.words.DrillRequest.{DrillRequest}
-use Rattle.commands.specs.declared.reflection.Reflection.{Reflection}
-use Rattle.commands.specs.declared.words.Command.{Command}
-use Rattle.commands.specs.declared.words.Command.TheVariants.{Stamp, Check, Replay, Join, Reflect, Drill}
-use Rattle.commands.specs.Address.{is_address}
-use Rattle.commands.specs.Script.{script_of}
-use Rattle.commands.specs.PrintedText.{text_of, counts_line, world_line, reflected_text, drilled_line, syntax_line, too_large_line, check_line}
+use Rattle.command_outcome.specs.declared.outcome.Input.{Input}
+use Rattle.command_outcome.specs.declared.outcome.Input.TheVariants as input
+use Rattle.command_outcome.specs.declared.outcome.CommandRefusal.{CommandRefusal}
+use Rattle.command_outcome.specs.declared.outcome.CommandRefusal.TheVariants as refusal
+use Rattle.command_outcome.specs.declared.outcome.Put.{Put}
+use Rattle.command_words.specs.declared.words.ReplayRequest.{ReplayRequest}
+use Rattle.command_words.specs.declared.words.JoinRequest.{JoinRequest}
+use Rattle.command_words.specs.declared.words.ReflectRequest.{ReflectRequest}
+use Rattle.command_words.specs.declared.words.DrillRequest.{DrillRequest}
+use Rattle.command_reflect.specs.declared.reflection.Reflection.{Reflection}
+use Rattle.command_words.specs.declared.words.Command.{Command}
+use Rattle.command_words.specs.declared.words.Command.TheVariants.{Stamp, Check, Replay, Join, Reflect, Drill}
+use Rattle.command_words.specs.Address.{is_address}
+use Rattle.command_stamp.specs.Script.{script_of}
+use Rattle.command_outcome.specs.ProgramText.{counts_line, syntax_line, too_large_line, check_line}
+use Rattle.command_stamp.specs.ReplyText.{text_of}
+use Rattle.command_replay.specs.WorldText.{world_line}
+use Rattle.command_reflect.specs.ReflectedSteps.{reflected_text}
+use Rattle.command_drill.specs.DrilledSteps.{drilled_line}
 
 -- the visit of a view to a session: its program, the session's id, the number of the view, the address of its reflector, and what it
 -- does, line by line
@@ -83,16 +87,6 @@ at_once closing = record { steps = []; closing = closing }
 -- this step, and then all of that verdict
 abbrev pub before : Step → Verdict → Verdict
 before step rest = record { steps = step ∷ rest.steps; closing = rest.closing }
-
--- files are put in order, and then a text is printed
-abbrev pub steps_of : List Put → List ℕ → List Step
-steps_of [] text = Prints text ∷ []
-steps_of (put ∷ puts) text = Puts put.name put.bytes ∷ steps_of puts text
-
--- these bytes, under the name that was given, if one was
-abbrev pub optional_put : Option (List ℕ) → List ℕ → List Put
-optional_put None bytes = []
-optional_put (Some name) bytes = record { name = name; bytes = bytes } ∷ []
 
 -- which verdicts may come
 abbrev pub Coming : Type 1
@@ -138,28 +132,6 @@ abbrev pub ask_script : List ℕ → Ask
 ask_script name = record { name = name; limit = most_script }
 
 -- ---- programs
-
--- the line of a check's first fault
-abbrev pub IsLineOf : Option CheckFault → List ℕ → Type 0
-IsLineOf None line = ⊥
-IsLineOf (Some fault) line = line ≡ check_line fault
-
--- the line of a text with so many bytes that is refused; where it is no program it tells a place in it, or its end
-abbrev pub IsRefusedBy : Reading → ℕ → List ℕ → Type 0
-IsRefusedBy (a_program tree) bytes line = IsLineOf (first_fault tree) line
-IsRefusedBy no_program bytes line = (at : ℕ) × (at ≤ bytes) × (line ≡ syntax_line at)
-IsRefusedBy (too_large what count) bytes line = line ≡ too_large_line what count
-
--- these bytes are refused as a program, and this is the line of it
-pub record IsRefused (bytes line : List ℕ) : Type 0 where
-  pub reading : Reading
-  pub is_reading : IsReading bytes reading
-  pub refused : IsRefusedBy reading (length bytes) line
-
--- these bytes are a program without faults
-pub record IsFaultless (bytes : List ℕ) (tree : ProgramTree) : Type 0 where
-  pub read : IsRead bytes tree
-  pub sound : first_fault tree ≡ None
 
 -- what comes of a program's bytes
 abbrev pub OfProgram : (ProgramTree → Coming) → List ℕ → Coming
@@ -254,10 +226,6 @@ reflection_of request id =
 abbrev pub OfReflect : ReflectRequest → List ℕ → Coming
 OfReflect request id = OfAddress (is_address (encode_utf8_all request.address)) (Only (at_once (ByReflecting (reflection_of request id))))
 
--- a session that was reflected is told by how its connections ended, and its log is put
-abbrev pub reflected_steps : List ℕ → List Ended → PlainSession → List Step
-reflected_steps log ends session = steps_of (record { name = log; bytes = log_spelling session.log } ∷ []) (reflected_text ends session)
-
 abbrev pub reflected_closing : Bool → Closing
 reflected_closing true = ByNetFault
 reflected_closing false = Fine
@@ -268,16 +236,6 @@ reflected_verdict log ends session net_failed =
     record { steps = reflected_steps log ends session; closing = reflected_closing net_failed }
 
 -- ---- drill
-
--- snapshots, each under a name that ends in the number of its view, for the views from this one on
-abbrev pub snapshot_puts : List ℕ → ℕ → List (List ℕ) → List Put
-snapshot_puts prefix view [] = []
-snapshot_puts prefix view (bytes ∷ snapshots) = record { name = prefix ++ decimal view; bytes = bytes } ∷ snapshot_puts prefix (view + 1) snapshots
-
--- of a drill the log is put and the snapshot of each view, and its line is printed
-abbrev pub drilled_steps : DrillRequest → List Entry → List (List ℕ) → ℤ → ℕ → List Step
-drilled_steps request log snapshots total agree =
-    steps_of (record { name = request.log; bytes = log_spelling log } ∷ snapshot_puts request.snapshots 1 snapshots) (drilled_line request (length log) total agree)
 
 abbrev pub drilled_verdict : DrillRequest → List Entry → List (List ℕ) → ℤ → ℕ → Verdict
 drilled_verdict request log snapshots total agree = fine (drilled_steps request log snapshots total agree)

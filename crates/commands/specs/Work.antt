@@ -12,22 +12,25 @@ use Rattle.world.specs.View.{WorldView}
 use Rattle.world.specs.Worlds.{Scene, first_scene as first_world, replay, replay_on, take_up}
 use Rattle.snapshot_codec.specs.Spelling.{world_spelling}
 use Rattle.run_steps.specs.Steps.{Ask}
-use Rattle.commands.specs.declared.outcome.Input.{Input}
-use Rattle.commands.specs.declared.outcome.Input.TheVariants as input
-use Rattle.commands.specs.declared.words.Command.TheVariants.{Stamp, Check, Replay, Join, Reflect}
-use Rattle.commands.specs.declared.program.ProgramFault.{ProgramFault}
-use Rattle.commands.specs.declared.program.ProgramFault.TheVariants.{Refused, WantOfMemory}
-use Rattle.commands.specs.declared.recording.Recording.{Recording}
+use Rattle.command_outcome.specs.declared.outcome.Input.{Input}
+use Rattle.command_outcome.specs.declared.outcome.Input.TheVariants as input
+use Rattle.command_words.specs.declared.words.Command.TheVariants.{Stamp, Check, Replay, Join, Reflect}
+use Rattle.command_outcome.specs.declared.program.ProgramFault.{ProgramFault}
+use Rattle.command_outcome.specs.declared.program.ProgramFault.TheVariants.{Refused, WantOfMemory}
+use Rattle.command_replay.specs.declared.recording.Recording.{Recording}
 use Rattle.commands.specs.declared.visit.VisitRequest.{VisitRequest}
-use Rattle.commands.specs.declared.world_run.Told.{Told}
+use Rattle.command_replay.specs.declared.world_run.Told.{Told}
 use Rattle.commands.specs.declared.work.Waiting.{Waiting}
 use Rattle.commands.specs.declared.work.Waiting.TheVariants as waiting
 use Rattle.commands.specs.declared.work.Next.{Next}
 use Rattle.commands.specs.declared.work.Next.TheVariants as next
 use Rattle.view_script.specs.PlainLine.{plain_lines}
-use Rattle.commands.specs.CommandWords.{AreConnections, IsBounded, IsBoundedDrill, IsBoundedJoin, IsBoundedReflect}
-use Rattle.commands.specs.PrintedText.{check_line, syntax_line, too_large_line, world_line}
-use Rattle.commands.specs.Verdict.{Verdict, PlainVisit, ByDrill, ByRefusal, ByReflecting, ByVisit, ByWant, Coming, Only, OfFile, IsRefused, IsFaultless, OfCommand, OfSnapshot, OfTree, OfView, at_once, fine, steps_of, ask_log, ask_program, ask_script, ask_snapshot}
+use Rattle.command_words.specs.CommandWords.{AreConnections, IsBounded, IsBoundedDrill, IsBoundedJoin, IsBoundedReflect}
+use Rattle.command_outcome.specs.ProgramText.{check_line, syntax_line, too_large_line}
+use Rattle.command_replay.specs.WorldText.{world_line}
+use Rattle.command_outcome.specs.Outcome.{steps_of}
+use Rattle.command_outcome.specs.ProgramEnd.{IsRefused, IsFaultless}
+use Rattle.commands.specs.Verdict.{Verdict, PlainVisit, ByDrill, ByRefusal, ByReflecting, ByVisit, ByWant, Coming, Only, OfFile, OfCommand, OfSnapshot, OfTree, OfView, at_once, fine, ask_log, ask_program, ask_script, ask_snapshot}
 
 -- ---- a command that waits for a file
 
@@ -117,48 +120,3 @@ reads_left other = 0
 -- what is done next leads to what comes here
 abbrev pub Leads : Next → Coming → Type 0
 Leads step coming = (verdict : Verdict) → ComesNext step verdict → coming verdict
-
--- ---- programs
-
--- how a text is told that is not read
-abbrev pub IsUnread : LangFault → ProgramFault → Type 0
-IsUnread (lang.Syntax at) fault = fault ≡ Refused (syntax_line at)
-IsUnread (lang.TooLarge what count) fault = fault ≡ Refused (too_large_line what count)
-IsUnread lang.WantOfMemory fault = fault ≡ WantOfMemory
-
--- how a program is told that a check refuses
-abbrev pub IsUnsound : CheckFault → ProgramFault → Type 0
-IsUnsound fault told = (fault ≢ check.WantOfMemory) × (told ≡ Refused (check_line fault))
-
--- how the reading of a program ends
-abbrev pub ProgramEnd : Result (List Class) ProgramFault → List ℕ → Type 0
-ProgramEnd (Ok program) bytes = IsFaultless bytes (program_tree program)
-ProgramEnd (Err (Refused line)) bytes = IsRefused bytes line
-ProgramEnd (Err WantOfMemory) bytes = ⊤
-
--- ---- worlds
-
--- the world at a time: by the whole log, or from a world that is taken up
-abbrev pub world_at : Recording → ℕ → Option WorldRecord → WorldRecord
-world_at recording time None = (replay (program_tree recording.program) recording.id.0 recording.log.entries time).world
-world_at recording time (Some w) = (replay_on (program_tree recording.program) w recording.log.entries time).world
-
--- what a replay begins with: the first world of a session, or one that is taken up
-abbrev pub start_scene : ProgramTree → List ℕ → Option WorldRecord → Scene
-start_scene tree id None = first_world tree id
-start_scene tree id (Some w) = take_up w
-
--- its time
-abbrev pub start_time : Option WorldRecord → ℕ
-start_time None = 0
-start_time (Some w) = w.time
-
--- a world that is opened, and not broken
-pub record Opens (world : WorldView) (program : List Class) (id : List ℕ) (start : Option WorldRecord) : Type 0 where
-  pub opened : world ≡ record { program = program; scene = start_scene (program_tree program) id start; broken = false }
-  pub time : world.scene.world.time ≡ start_time start
-
--- a world's line and its snapshot
-pub record TellsWorld (told : Told) (w : WorldRecord) : Type 0 where
-  pub line : string_bytes told.line ≡ world_line w
-  pub snapshot : told.snapshot ≡ world_spelling w

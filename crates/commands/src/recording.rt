@@ -6,29 +6,22 @@ ghost use Rattle.model_tree.specs.TreeView.{program_tree};
 ghost use Rattle.tea_base.specs.Limits.{time_limit};
 ghost use Rattle.world_plain.specs.Valid.{Valid};
 ghost use Rattle.world_plain.specs.World.{world_record};
-ghost use Rattle.commands.specs.CommandWords.{IsBounded};
-ghost use Rattle.commands.specs.Verdict.{Free, OfLog, OfProgram, OfSnapshot, OfTree, Only, Starts, fine, resumed_verdict, session_of, steps_of, world_verdict};
-ghost use Rattle.commands.specs.Work.{IsBoundedNext, Leads, reads_left, world_at};
+ghost use Rattle.command_words.specs.CommandWords.{IsBounded};
+ghost use Rattle.command_outcome.specs.Outcome.{steps_of};
+ghost use Rattle.commands.specs.Verdict.{Free, OfLog, OfProgram, OfSnapshot, OfTree, Only, Starts, fine, resumed_verdict, session_of, world_verdict};
+ghost use Rattle.command_replay.specs.Replays.{world_at};
+ghost use Rattle.commands.specs.Work.{IsBoundedNext, Leads, reads_left};
 
-use crate::outcome::{CommandRefusal, Input, Outcome, optional_put};
-use crate::program::{ProgramFault, read_program};
-use crate::words::ReplayRequest;
 use crate::work::{Next, Waiting};
-use crate::world_run::tell_replay;
+use command_outcome::{CommandRefusal, Input, Outcome, ProgramFault, optional_put, read_program};
+use command_replay::{Recording, tell_replay};
+use command_words::ReplayRequest;
 use model_solved::Checked;
-use session_log::{Log, LogFault, decode};
+use session_log::{LogFault, decode};
 use snapshot_codec::{SnapFault, session_id, unsnap};
 use std::alloc::Global;
 use tea_base::{Blob, SessionId, Text, WantOfMemory};
 use world_plain::PlainWorld;
-
-/// A session as it was recorded: its program, its id and its log.
-#[derive(Drop)]
-pub struct Recording {
-    pub program: Checked,
-    pub id: SessionId,
-    pub log: Log,
-}
 
 /// A replay that has read its program, and waits for its log.
 #[derive(Drop)]

@@ -1,34 +1,18 @@
-//! The reflection of a session: the command `reflect`.
+//! What comes of the files that the command `reflect` reads.
 ghost use Rattle.std.specs.Prelude.{◌≡◌, ◌<◌, IfOk};
-ghost use Rattle.commands.specs.CommandWords.{IsBoundedReflect};
-ghost use Rattle.commands.specs.Verdict.{Free, OfProgram, OfReflect, reflected_steps, session_of, steps_of};
+ghost use Rattle.command_words.specs.CommandWords.{IsBoundedReflect};
+ghost use Rattle.command_outcome.specs.Outcome.{steps_of};
+ghost use Rattle.command_reflect.specs.ReflectedSteps.{reflected_steps};
+ghost use Rattle.commands.specs.Verdict.{Free, OfProgram, OfReflect, session_of};
 ghost use Rattle.commands.specs.Work.{IsBoundedNext, Leads, reads_left};
 
-use crate::address::is_address;
-use crate::outcome::{CommandRefusal, Input, Outcome, optional_put};
-use crate::program::{ProgramFault, read_program};
-use crate::text::reflected_text;
-use crate::words::ReflectRequest;
 use crate::work::Next;
-use connection::Ended;
-use reflector_core::Session;
-use session_log::encode;
+use command_outcome::{CommandRefusal, Input, ProgramFault, read_program};
+use command_reflect::Reflection;
+use command_words::{ReflectRequest, is_address};
 use snapshot_codec::session_id;
 use std::alloc::Global;
-use tea_base::{Blob, SessionId, Text, WantOfMemory};
-
-/// The reflection of a session.
-#[derive(Drop)]
-pub struct Reflection {
-    /// The id of the session.
-    pub id: SessionId,
-    /// The address at which its reflector listens.
-    pub address: Text,
-    /// How many links it accepts, from 1 to 64.
-    pub connections: u32,
-    /// Where the log of the session is put in the end.
-    pub log: Text,
-}
+use tea_base::{SessionId, WantOfMemory};
 
 /// What comes of a reflector that has its program: its address is checked.
 fn answer_address(
@@ -80,21 +64,4 @@ pub(crate) fn take_reflector_program(alloc: Global, request: ReflectRequest, tex
         Err(ProgramFault::Refused { line }) => Next::Refuses(CommandRefusal::Program { line }),
         Err(ProgramFault::WantOfMemory) => Next::WantOfMemory,
     }
-}
-
-/// What is put and printed of a session behind its reflector: its log, how its connections ended, and what it has come to.
-pub fn reflected_outcome(
-    alloc: Global,
-    log: Text,
-    ends: &[Ended],
-    session: &Session,
-) -> Result<Outcome, WantOfMemory>
-    ensures { IfOk result (λ outcome. steps_of outcome.files outcome.text ≡ reflected_steps log ends.now session.now.plain) }
-{
-    let text = reflected_text(alloc, ends, session)?;
-    let files = optional_put(alloc, Some(log), encode(session.log())?)?;
-    Ok(Outcome {
-        files,
-        text: Blob::from_vec(text.into_bytes()),
-    })
 }

@@ -1,28 +1,17 @@
 //! The command `stamp`: a script's requests to a first session, its replies, and its log.
 ghost use Rattle.std.specs.Prelude.{◌≡◌, ◌<◌, IfOk};
 ghost use Rattle.session_log.specs.Spelling.{log_spelling};
-ghost use Rattle.commands.specs.Script.{script_of};
-ghost use Rattle.commands.specs.Verdict.{Free, OfScript, optional_put};
+ghost use Rattle.command_stamp.specs.Script.{script_of};
+ghost use Rattle.command_outcome.specs.Outcome.{optional_put};
+ghost use Rattle.commands.specs.Verdict.{Free, OfScript};
 ghost use Rattle.commands.specs.Work.{IsBoundedNext, Leads, reads_left};
 
-use crate::outcome::{CommandRefusal, Input, Outcome, Puts, optional_put};
-use crate::script::read_script;
-use crate::text::text;
 use crate::work::Next;
-use reflector_core::{Session, play};
-use session_log::encode;
+use command_outcome::{CommandRefusal, Input, Outcome};
+use command_stamp::{log_files, read_script, text};
+use reflector_core::play;
 use std::alloc::Global;
 use tea_base::{Blob, Text, WantOfMemory};
-
-/// A session's log, where a file for it is given.
-fn log_files(alloc: Global, name: Option<Text>, session: &Session) -> Result<Puts, WantOfMemory>
-    ensures { IfOk result (λ files. files ≡ optional_put name (log_spelling session.now.plain.log)) }
-{
-    if name.is_none() {
-        return Ok(Puts::new(alloc));
-    }
-    optional_put(alloc, name, encode(session.log())?)
-}
 
 /// What comes of a script.
 fn answer_script(alloc: Global, log: Option<Text>, script: &[u8]) -> Result<Next, WantOfMemory>

@@ -2,15 +2,13 @@
 ghost use Rattle.std.specs.Prelude.{◌<◌, IfOk};
 ghost use Rattle.model_tree.specs.TreeView.{program_tree};
 ghost use Rattle.view_script.specs.ViewScript.{view_script_of};
-ghost use Rattle.commands.specs.CommandWords.{IsBoundedJoin};
+ghost use Rattle.command_words.specs.CommandWords.{IsBoundedJoin};
 ghost use Rattle.commands.specs.Verdict.{Free, OfJoin, OfProgram, OfViewScript, session_of};
 ghost use Rattle.commands.specs.Work.{IsBoundedNext, Leads, reads_left};
 
-use crate::address::is_address;
-use crate::outcome::{CommandRefusal, Input};
-use crate::program::{ProgramFault, read_program};
-use crate::words::JoinRequest;
 use crate::work::{Next, Waiting};
+use command_outcome::{CommandRefusal, Input, ProgramFault, read_program};
+use command_words::{JoinRequest, is_address};
 use model_solved::Checked;
 use snapshot_codec::session_id;
 use std::alloc::Global;

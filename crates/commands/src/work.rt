@@ -1,18 +1,19 @@
 //! A command at work: it waits for a file, or it has come to its end.
 ghost use Rattle.std.specs.Prelude.{◌≡◌, ◌<◌};
 ghost use Rattle.std.specs.Option.{IfSome};
-ghost use Rattle.commands.specs.CommandWords.{IsWithinBounds};
+ghost use Rattle.command_words.specs.CommandWords.{IsWithinBounds};
 ghost use Rattle.run_steps.specs.Steps.{Loads};
 ghost use Rattle.commands.specs.Verdict.{OfWords, Verdict, before};
 ghost use Rattle.commands.specs.Work.{ComesNext, IsBoundedNext, IsBoundedWait, Leads, Remains, ask_of, files_left, input_of, reads_left};
 
 use crate::check::check;
-use crate::outcome::{CommandRefusal, Input, Outcome};
 use crate::recording::{LogWait, SnapshotWait, take_log, take_program, take_snapshot};
-use crate::reflection::{Reflection, take_reflector_program};
+use crate::reflection::take_reflector_program;
 use crate::stamp::stamp;
 use crate::visit::{ScriptWait, VisitRequest, take_view_program, take_view_script};
-use crate::words::{Command, DrillRequest, JoinRequest, ReflectRequest, ReplayRequest};
+use command_outcome::{CommandRefusal, Input, Outcome};
+use command_reflect::Reflection;
+use command_words::{Command, DrillRequest, JoinRequest, ReflectRequest, ReplayRequest};
 use model_lang::MOST_PROGRAM_BYTES;
 use std::alloc::Global;
 use tea_base::{Blob, MOST_SNAPSHOT, Text};

@@ -1,8 +1,8 @@
 -- Steps that are done one after the other.
 use Rattle.std.proofs.Common.{◌≡◌, inl, inr, ℕ, ◌+◌, ◌<◌, List, [], ◌∷◌, length, drop, get_or, Option, None, refl, sym, ap, subst, ◌∙◌}
 use Rattle.std.proofs.lemmas.List.{at_drop_more}
-use Rattle.commands.specs.declared.outcome.Put.{Put}
-use Rattle.commands.specs.Verdict.{steps_of}
+use Rattle.command_outcome.specs.declared.outcome.Put.{Put}
+use Rattle.command_outcome.specs.Outcome.{steps_of}
 use Rattle.run_steps.specs.Steps.{Step, Puts, Prints}
 use Rattle.run_steps.specs.Outside.{Acts, Cut, Failed, WantedMemory, Well, FilesTell, OutputTells, PrintsText, PutsFile, desk, desk_tells}
 use Rattle.croquet.specs.declared.status.Status.{Status}

@@ -11,8 +11,9 @@ use Rattle.drill.specs.Drill.{AreReplays, HasDrilled, drill_id}
 use Rattle.run_steps.specs.Steps.{Step}
 use Rattle.run_steps.specs.Outside.{FilesTell, OutputTells, NetTells, LinksTell, desk, desk_tells, outside, outside_tells}
 use Rattle.run_steps.proofs.Beside.{all_beside_net}
-use Rattle.commands.specs.declared.words.DrillRequest.{DrillRequest}
-use Rattle.commands.specs.Verdict.{ByDrill, Coming, Only, Verdict, drilled_steps, drilled_verdict, fine}
+use Rattle.command_words.specs.declared.words.DrillRequest.{DrillRequest}
+use Rattle.command_drill.specs.DrilledSteps.{drilled_steps}
+use Rattle.commands.specs.Verdict.{ByDrill, Coming, Only, Verdict, drilled_verdict, fine}
 use Rattle.croquet.specs.declared.status.Status.{Status}
 use Rattle.croquet.specs.Calls.{OfReport, snapshot_of}
 use Rattle.croquet.specs.Drills.{OfDrilled, agreed_verdict, drill_size}

@@ -11,8 +11,9 @@ use Rattle.reflect_server.specs.declared.reflection.ServeFault.TheVariants.{List
 use Rattle.run_steps.specs.Steps.{Step}
 use Rattle.run_steps.specs.Outside.{Acts, FilesTell, OutputTells, NetTells, LinksTell, desk, desk_tells, outside, outside_tells}
 use Rattle.run_steps.proofs.Beside.{all_beside_net}
-use Rattle.commands.specs.declared.reflection.Reflection.{Reflection}
-use Rattle.commands.specs.Verdict.{ByNetFault, ByReflecting, ByWant, Coming, Free, Only, reflected_closing, reflected_steps, reflected_verdict}
+use Rattle.command_reflect.specs.declared.reflection.Reflection.{Reflection}
+use Rattle.command_reflect.specs.ReflectedSteps.{reflected_steps}
+use Rattle.commands.specs.Verdict.{ByNetFault, ByReflecting, ByWant, Coming, Free, Only, reflected_closing, reflected_verdict}
 use Rattle.croquet.specs.declared.status.Status.{Status}
 use Rattle.croquet.specs.Calls.{fault_ending, reflected_ending}
 use Rattle.croquet.specs.Run.{Concludes, Ending, EndsOnNetFault, EndsWanting, OfReflected, RanAsReflector, Reaches, TellsEnding}

@@ -3,7 +3,7 @@ use Rattle.std.proofs.Common.{inl, inr, ℕ, List, [], ◌∷◌, Option, Some, 
 use Rattle.std.proofs.lemmas.List.{append-nil}
 use Rattle.run_steps.specs.Steps.{Step, Loads}
 use Rattle.run_steps.specs.Outside.{Acts, Came, Well, Failed, WantedMemory, FilesTell, OutputTells, ReadsFile, desk, desk_tells}
-use Rattle.commands.specs.declared.outcome.CommandRefusal.TheVariants as refusal
+use Rattle.command_outcome.specs.declared.outcome.CommandRefusal.TheVariants as refusal
 use Rattle.commands.specs.declared.work.Waiting.{Waiting}
 use Rattle.commands.specs.declared.work.Next.{Next}
 use Rattle.commands.specs.Verdict.{Closing, ByRefusal, ByWant, Verdict, Coming, Free, Only, before, at_once, fine}

@@ -10,9 +10,9 @@ use Rattle.reflect_server.specs.declared.reflection.ServeFault.{ServeFault}
 use Rattle.reflect_server.specs.declared.reflection.ServeFault.TheVariants as serve_fault
 use Rattle.view_shell.specs.declared.ending.ViewEnd.{ViewEnd}
 use Rattle.view_shell.specs.declared.ending.ViewEnd.TheVariants as view_end
-use Rattle.commands.specs.declared.outcome.Put.{Put}
-use Rattle.commands.specs.declared.words.DrillRequest.{DrillRequest}
-use Rattle.commands.specs.CommandWords.{AreConnections, IsBoundedDrill}
+use Rattle.command_outcome.specs.declared.outcome.Put.{Put}
+use Rattle.command_words.specs.declared.words.DrillRequest.{DrillRequest}
+use Rattle.command_words.specs.CommandWords.{AreConnections, IsBoundedDrill}
 use Rattle.commands.specs.Verdict.{ByDrill, ByReflecting, ByVisit, ByWant, Coming, Free, Only, PlainVisit, at_once, drilled_verdict}
 use Rattle.commands.specs.Work.{visit_of}
 use Rattle.croquet.specs.declared.status.Status.{Status}

@@ -9,7 +9,7 @@ use Rattle.drill.specs.declared.report.DrillReport.{DrillReport}
 use Rattle.drill.specs.declared.size.Size.{Size}
 use Rattle.drill.specs.Drill.{HasDrilled, drill_id}
 use Rattle.drill.specs.Ending.{root_total}
-use Rattle.commands.specs.declared.words.DrillRequest.{DrillRequest}
+use Rattle.command_words.specs.declared.words.DrillRequest.{DrillRequest}
 use Rattle.commands.specs.Verdict.{ByWant, Coming, Free, Only, Verdict, at_once, drilled_verdict}
 
 abbrev pub drill_size : DrillRequest → Size

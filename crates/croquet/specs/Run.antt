@@ -16,12 +16,12 @@ use Rattle.view_shell.specs.declared.ending.ViewEnd.TheVariants as view_end
 use Rattle.view_shell.specs.Phases.{Phase, Walks}
 use Rattle.view_shell.specs.Viewers.{first_phase}
 use Rattle.view_shell.specs.ViewRun.{EndsBy}
-use Rattle.commands.specs.declared.outcome.Input.{Input}
-use Rattle.commands.specs.declared.outcome.Input.TheVariants as input
-use Rattle.commands.specs.declared.outcome.CommandRefusal.{CommandRefusal}
-use Rattle.commands.specs.declared.outcome.CommandRefusal.TheVariants as refusal
-use Rattle.commands.specs.declared.reflection.Reflection.{Reflection}
-use Rattle.commands.specs.declared.words.DrillRequest.{DrillRequest}
+use Rattle.command_outcome.specs.declared.outcome.Input.{Input}
+use Rattle.command_outcome.specs.declared.outcome.Input.TheVariants as input
+use Rattle.command_outcome.specs.declared.outcome.CommandRefusal.{CommandRefusal}
+use Rattle.command_outcome.specs.declared.outcome.CommandRefusal.TheVariants as refusal
+use Rattle.command_reflect.specs.declared.reflection.Reflection.{Reflection}
+use Rattle.command_words.specs.declared.words.DrillRequest.{DrillRequest}
 use Rattle.commands.specs.Verdict.{Closing, Fine, ByRefusal, ByWant, ByNetFault, ByVisit, ByReflecting, ByDrill, Verdict, PlainVisit, Coming, Free, Only, at_once, reflected_verdict}
 use Rattle.croquet.specs.Drills.{OfDrilled, drill_size}
 use Rattle.croquet.specs.declared.status.Status.{Status}

@@ -1,14 +1,17 @@
 //! What a drill tells.
 ghost use Rattle.std.specs.Prelude.{◌≡◌, IfOk, map};
 ghost use Rattle.run_steps.specs.Outside.{desk, desk_tells, files_tell, output_tells};
-ghost use Rattle.commands.specs.Verdict.{drilled_steps, steps_of};
+ghost use Rattle.command_outcome.specs.Outcome.{steps_of};
+ghost use Rattle.command_drill.specs.DrilledSteps.{drilled_steps};
 ghost use Rattle.croquet.specs.Calls.{OfReport, snapshot_of};
 ghost use Rattle.croquet.specs.Run.{RanBySteps};
 
 use crate::giving::finish;
 use crate::status::Status;
 use crate::telling::tell_want_of_memory;
-use commands::{DrillRequest, Drilled, Outcome, drilled_outcome};
+use command_drill::{Drilled, drilled_outcome};
+use command_outcome::Outcome;
+use command_words::DrillRequest;
 use drill::{DrillReport, Replicas};
 use std::alloc::Global;
 use tea_base::{Blob, List, WantOfMemory};

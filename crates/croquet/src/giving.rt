@@ -1,13 +1,13 @@
 //! What a command gives: its files are put, and then its text is printed.
 ghost use Rattle.std.specs.Prelude.{◌≡◌, IfErr, OnOk};
 ghost use Rattle.run_steps.specs.Outside.{PutsFile, Well, desk, desk_tells, files_tell, output_tells};
-ghost use Rattle.commands.specs.Verdict.{steps_of};
+ghost use Rattle.command_outcome.specs.Outcome.{steps_of};
 ghost use Rattle.croquet.specs.Calls.{Completes, TellsUnput};
 ghost use Rattle.croquet.specs.Run.{Does, EndsWell};
 
 use crate::status::Status;
 use crate::telling::{tell, tell_want_of_memory};
-use commands::{Outcome, Put};
+use command_outcome::{Outcome, Put};
 use run_steps::{CallFault, print_text, put_file};
 use tea_io::{Files, Sink};
 

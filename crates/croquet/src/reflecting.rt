@@ -7,7 +7,7 @@ ghost use Rattle.croquet.specs.Run.{OfReflected, RanBySteps, TellsEnding};
 use crate::giving::give;
 use crate::status::Status;
 use crate::telling::{tell, tell_want_of_memory};
-use commands::reflected_outcome;
+use command_reflect::reflected_outcome;
 use reflect_server::{Reflected, ServeFault};
 use std::alloc::Global;
 use tea_base::Text;

@@ -6,7 +6,7 @@ ghost use Rattle.croquet.specs.Calls.{TellsViewEnd};
 ghost use Rattle.croquet.specs.Run.{EndsRefused, Tells, TellsEnding, TellsMemory, name_of, refused_line};
 
 use crate::status::Status;
-use commands::{CommandRefusal, Input};
+use command_outcome::{CommandRefusal, Input};
 use run_steps::{CallFault, print_text};
 use std::alloc::Global;
 use tea_base::WantOfMemory;

@@ -2,7 +2,7 @@
 ghost use Rattle.std.specs.Prelude.{◌≡◌, None};
 ghost use Rattle.run_steps.specs.Calls.{came_of, given_of};
 ghost use Rattle.run_steps.specs.Outside.{ReadsFile, desk, desk_tells, files_tell, links_tell, net_tells, output_tells, outside, outside_tells};
-ghost use Rattle.commands.specs.CommandWords.{UsesNet, command_of};
+ghost use Rattle.command_words.specs.CommandWords.{UsesNet, command_of};
 ghost use Rattle.commands.specs.Verdict.{Comes, IsFunction, LogsTellTheirEvents, SnapshotsAgree, SomeVerdictComes};
 ghost use Rattle.commands.specs.Work.{ComesNext, IsBoundedNext, ask_of};
 ghost use Rattle.view_shell.specs.OneRun.{IsOneRun};
@@ -15,9 +15,10 @@ use crate::reflecting::tell_reflected;
 use crate::status::Status;
 use crate::telling::{tell, tell_refusal, tell_want_of_memory};
 use crate::visiting::run_visit;
+use command_reflect::Reflection;
+use command_words::{DrillRequest, read_command};
 use commands::{
-    DrillRequest, Next, Reflection, VisitRequest, Waiting, logs_tell_their_events, one_verdict,
-    read_command, snapshots_agree, some_verdict,
+    Next, VisitRequest, Waiting, logs_tell_their_events, one_verdict, snapshots_agree, some_verdict,
 };
 use drill::{Size, drill};
 use reflect_server::{Server, reflect};

@@ -1,6 +1,6 @@
 use Rattle.std.proofs.Common.{◌∙◌, sym, ap}
-use Rattle.commands.specs.Script.{script_of}
-use Rattle.commands.specs.PrintedText.{text_of}
+use Rattle.command_stamp.specs.Script.{script_of}
+use Rattle.command_stamp.specs.ReplyText.{text_of}
 use Rattle.reflector_core.specs.PlainSession.{PlainSession}
 use Rattle.commands.proofs.StampLaws.{answered}
 use Rattle.commands.proofs.stamp.answer_script.Goals as goal

@@ -1,5 +1,6 @@
 use Rattle.std.proofs.Common.{refl}
-use Rattle.commands.specs.Verdict.{ByWant, steps_of}
+use Rattle.command_outcome.specs.Outcome.{steps_of}
+use Rattle.commands.specs.Verdict.{ByWant}
 use Rattle.croquet.specs.Run.{EndsWanting}
 use Rattle.croquet.proofs.DrillRuns.{ran_drilled}
 use Rattle.croquet.proofs.Runs.{ran_closed, ran_wanting}

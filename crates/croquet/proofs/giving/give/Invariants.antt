@@ -1,5 +1,5 @@
 use Rattle.std.proofs.Common.{drop}
-use Rattle.commands.specs.Verdict.{steps_of}
+use Rattle.command_outcome.specs.Outcome.{steps_of}
 use Rattle.run_steps.specs.Outside.{files_tell, output_tells}
 use Rattle.croquet.proofs.Acts.{LeadsOn}
 use Rattle.croquet.proofs.giving.give.Given as goal

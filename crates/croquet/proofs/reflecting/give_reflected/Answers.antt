@@ -1,4 +1,4 @@
-use Rattle.commands.specs.Verdict.{steps_of}
+use Rattle.command_outcome.specs.Outcome.{steps_of}
 use Rattle.croquet.proofs.ReflectorRuns.{ran_cut, ran_told}
 use Rattle.croquet.proofs.Runs.{ran_wanting}
 use Rattle.croquet.proofs.reflecting.give_reflected.Goals as goal

@@ -1,5 +1,6 @@
 use Rattle.std.proofs.Common.{[], refl}
-use Rattle.commands.specs.Verdict.{ByRefusal, ByWant, steps_of}
+use Rattle.command_outcome.specs.Outcome.{steps_of}
+use Rattle.commands.specs.Verdict.{ByRefusal, ByWant}
 use Rattle.croquet.specs.Run.{EndsRefused, EndsWanting}
 use Rattle.croquet.proofs.Runs.{turns_on, ran_unread, ran_unread_memory, ran_closed, ran_done}
 use Rattle.croquet.proofs.top.+go_on.Goals as goal

@@ -1,6 +1,6 @@
 use Rattle.std.proofs.Common.{Option, subst}
-use Rattle.commands.specs.declared.words.Command.{Command}
-use Rattle.commands.specs.CommandWords.{command_of}
+use Rattle.command_words.specs.declared.words.Command.{Command}
+use Rattle.command_words.specs.CommandWords.{command_of}
 use Rattle.commands.specs.Verdict.{OfWords}
 use Rattle.commands.specs.Work.{ComesNext}
 use Rattle.croquet.proofs.Runs.{ran_wanting, turns_freely}

@@ -1,5 +1,5 @@
 use Rattle.std.proofs.Common.{inl, inr}
-use Rattle.commands.specs.CommandWords.{command_of}
+use Rattle.command_words.specs.CommandWords.{command_of}
 use Rattle.commands.specs.Verdict.{Comes}
 use Rattle.commands.specs.Work.{visit_of}
 use Rattle.commands.proofs.NetLaws.{never_on_net}

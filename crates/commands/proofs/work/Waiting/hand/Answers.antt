@@ -1,6 +1,6 @@
 use Rattle.model_tree.specs.TreeView.{program_tree}
 use Rattle.view_script.specs.ViewScript.{view_script_of}
-use Rattle.commands.specs.declared.outcome.Input.TheVariants as input
+use Rattle.command_outcome.specs.declared.outcome.Input.TheVariants as input
 use Rattle.commands.specs.Verdict.{OfJoin, OfProgram, OfReflect, OfTree, OfViewScript, Only, ask_program, ask_script, count_verdict, session_of}
 use Rattle.commands.proofs.WaitLaws.{file_handed}
 use Rattle.commands.proofs.work.Waiting.hand.Goals as goal

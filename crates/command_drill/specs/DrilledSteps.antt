@@ -1,0 +1,34 @@
+-- What is put and printed of a drill.
+use Rattle.std.specs.Prelude.{ℕ, ℤ, ◌+◌, ◌*◌, List, [], ◌∷◌, ◌++◌, length, codes}
+use Rattle.std.specs.Fmt.{decimal, signed_decimal}
+use Rattle.tea_base.specs.declared.entry.Entry.{Entry}
+use Rattle.text_lines.specs.Lines.{spell_numbers}
+use Rattle.session_log.specs.Spelling.{log_spelling}
+use Rattle.run_steps.specs.Steps.{Step}
+use Rattle.command_words.specs.declared.words.DrillRequest.{DrillRequest}
+use Rattle.command_outcome.specs.declared.outcome.Put.{Put}
+use Rattle.command_outcome.specs.Outcome.{steps_of}
+
+-- what the total of its views adds to the line of a drill
+abbrev pub total_part : ℤ → List ℕ
+total_part total = codes " total " ++ signed_decimal total
+
+-- the line of a drill: its size, how many entries its log has, the total of its views, and how many of them agree
+abbrev pub drilled_line : DrillRequest → ℕ → ℤ → ℕ → List ℕ
+drilled_line request entries total agree =
+    spell_numbers (codes "views") (request.views ∷ [])
+    ++ spell_numbers (codes " events") (request.views * request.events ∷ [])
+    ++ spell_numbers (codes " entries") (entries ∷ [])
+    ++ total_part total
+    ++ spell_numbers (codes " agree") (agree ∷ [])
+    ++ codes "\n"
+
+-- snapshots, each under a name that ends in the number of its view, for the views from this one on
+abbrev pub snapshot_puts : List ℕ → ℕ → List (List ℕ) → List Put
+snapshot_puts prefix view [] = []
+snapshot_puts prefix view (bytes ∷ snapshots) = record { name = prefix ++ decimal view; bytes = bytes } ∷ snapshot_puts prefix (view + 1) snapshots
+
+-- of a drill the log is put and the snapshot of each view, and its line is printed
+abbrev pub drilled_steps : DrillRequest → List Entry → List (List ℕ) → ℤ → ℕ → List Step
+drilled_steps request log snapshots total agree =
+    steps_of (record { name = request.log; bytes = log_spelling log } ∷ snapshot_puts request.snapshots 1 snapshots) (drilled_line request (length log) total agree)

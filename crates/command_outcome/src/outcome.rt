@@ -1,0 +1,58 @@
+//! What comes of a command: what it puts and prints, or its one refusal.
+ghost use Rattle.std.specs.Prelude.{◌≡◌, IfOk};
+ghost use Rattle.command_outcome.specs.Outcome.{optional_put};
+
+use std::alloc::Global;
+use tea_base::{Blob, List, Text, WantOfMemory};
+
+/// An input of a command.
+#[derive(Clone, Copy, Debug, PartialEq, Eq)]
+pub enum Input {
+    Script,
+    Program,
+    Log,
+    Snapshot,
+    /// The time that a replay is asked for, below that of its snapshot.
+    Time,
+    /// The address to which a view connects.
+    Address,
+}
+
+/// Why a command is refused.
+#[derive(Debug, Drop)]
+pub enum CommandRefusal {
+    /// The words break their rules.
+    Usage,
+    /// The program is refused, with the line that tells why.
+    Program { line: Blob },
+    /// This input is not in its grammar or above its limit, or it is a time below that of the snapshot, or no address.
+    Input(Input),
+}
+
+/// Bytes, and the name under which they are put.
+#[derive(Debug, Drop)]
+pub struct Put {
+    pub name: Text,
+    pub bytes: Blob,
+}
+
+/// Files that are put, in order.
+pub type Puts = List<Put>;
+
+/// What a command does: it puts its files, and then prints its text.
+#[derive(Debug, Drop)]
+pub struct Outcome {
+    pub files: Puts,
+    pub text: Blob,
+}
+
+/// The bytes under the name that was given, if one was.
+pub fn optional_put(alloc: Global, name: Option<Text>, bytes: Blob) -> Result<Puts, WantOfMemory>
+    ensures { IfOk result (λ files. files ≡ optional_put name bytes) }
+{
+    let mut files = Puts::new(alloc);
+    if let Some(name) = name {
+        files.push(Put { name, bytes })?;
+    }
+    Ok(files)
+}

@@ -1,0 +1,41 @@
+-- What is put and printed of a session that was reflected.
+use Rattle.std.specs.Prelude.{ℕ, ◌+◌, List, [], ◌∷◌, ◌++◌, length, codes}
+use Rattle.text_lines.specs.Lines.{spell_numbers}
+use Rattle.session_log.specs.Spelling.{log_spelling}
+use Rattle.reflector_core.specs.PlainSession.{PlainSession}
+use Rattle.connection.specs.declared.ending.Ended.{Ended}
+use Rattle.connection.specs.declared.ending.Ended.TheVariants as ended
+use Rattle.run_steps.specs.Steps.{Step}
+use Rattle.command_outcome.specs.Outcome.{steps_of}
+
+-- how a connection has ended, and the value that comes with it
+abbrev pub end_part : Ended → List ℕ
+end_part ended.Left = codes " left"
+end_part ended.LinkEnd = codes " link-end"
+end_part ended.LinkFault = codes " link-fault"
+end_part (ended.Idle quiets) = codes " idle"
+end_part (ended.Stale current) = spell_numbers (codes " stale") (current ∷ [])
+end_part (ended.Refused code) = spell_numbers (codes " refused") (code ∷ [])
+end_part ended.WantOfMemory = codes " memory"
+
+-- the line of the connection of this number
+abbrev pub end_line : ℕ → Ended → List ℕ
+end_line number how = spell_numbers (codes "connection") (number ∷ []) ++ end_part how ++ codes "\n"
+
+-- the lines of connections, numbered from here on
+abbrev pub end_lines : ℕ → List Ended → List ℕ
+end_lines number [] = []
+end_lines number (how ∷ ends) = end_line number how ++ end_lines (number + 1) ends
+
+-- the line of a session: how many entries its log has, and its horizon
+abbrev pub session_line : PlainSession → List ℕ
+session_line session =
+    spell_numbers (codes "entries") (length session.log ∷ []) ++ spell_numbers (codes " time") (session.horizon ∷ []) ++ codes "\n"
+
+-- the text of a session that was reflected: a line for each connection, and then its own
+abbrev pub reflected_text : List Ended → PlainSession → List ℕ
+reflected_text ends session = end_lines 0 ends ++ session_line session
+
+-- a session that was reflected is told by how its connections ended, and its log is put
+abbrev pub reflected_steps : List ℕ → List Ended → PlainSession → List Step
+reflected_steps log ends session = steps_of (record { name = log; bytes = log_spelling session.log } ∷ []) (reflected_text ends session)

@@ -1,0 +1,9 @@
+//! What the command `replay` gives: the world to which a recorded session leads, by its line and its snapshot.
+#![tactic(auto)]
+
+mod recording;
+mod world_run;
+mod world_text;
+
+pub use recording::Recording;
+pub use world_run::{Told, tell_replay};

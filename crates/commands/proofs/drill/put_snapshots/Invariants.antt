@@ -1,7 +1,0 @@
-use Rattle.std.proofs.Common.{◌≡◌, ◌++◌, length}
-use Rattle.commands.specs.Verdict.{snapshot_puts}
-use Rattle.commands.proofs.drill.put_snapshots.Given as goal
-
--- the snapshots so far
-abbrev pub invariant-loop-bytes : goal.invariant-loop-bytes
-invariant-loop-bytes l = l.files ≡ l.fn.files ++ snapshot_puts l.prefix (length l.fn.files) l.yielded

@@ -1,7 +1,0 @@
-use Rattle.std.proofs.Common.{◌≡◌, ◌++◌, drop, string_bytes}
-use Rattle.commands.specs.PrintedText.{end_lines}
-use Rattle.commands.proofs.text.end_lines.Given as goal
-
--- the text so far, and the lines of the connections that are left
-abbrev pub invariant-loop-number : goal.invariant-loop-number
-invariant-loop-number l = string_bytes l.text ++ end_lines l.number (drop l.number l.ends) ≡ end_lines 0 l.ends

@@ -1,6 +1,0 @@
-use Rattle.std.proofs.Common.{◌∙◌, ap, length, ◌==◌, List, ℕ}
-use Rattle.commands.proofs.WordLaws.{length-encode_is_empty}
-use Rattle.commands.proofs.words.is_empty.Goals as goal
-
-pub returns : goal.returns
-returns c = c.is_empty.ensures ∙ ap (λ (bytes : List ℕ). length bytes == 0) c.bytes.ensures.bytes ∙ length-encode_is_empty c.args.word.now
