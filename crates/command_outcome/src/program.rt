@@ -6,8 +6,8 @@ ghost use Rattle.command_outcome.specs.declared.program.ProgramFault.TheVariants
 ghost use Rattle.command_outcome.specs.ProgramEnd.{IsUnread, IsUnsound, ProgramEnd};
 
 use model_check::check;
-use model_solved::{CheckFault, Checked};
 use model_lang::{LangFault, parse};
+use model_solved::{CheckFault, Checked};
 use model_tree::Bound;
 use std::alloc::Global;
 use tea_base::{Blob, Text, WantOfMemory};
