@@ -1,1 +1,2 @@
+pub mod PartsLaws
 pub mod WordLaws

@@ -1,5 +1,5 @@
 -- Words as characters and as their UTF-8.
-use Rattle.std.proofs.Common.{◌≡◌, ℕ, ◌<◌, ◌≤◌, ◌==◌, zero, suc, nat_lt, true, None, List, [], ◌∷◌, ◌++◌, length, get_or, encode_utf8_all, refl, sym, ap, ◌∙◌, arith}
+use Rattle.std.proofs.Common.{◌≡◌, ℕ, ◌<◌, ◌≤◌, ◌==◌, zero, suc, nat_lt, true, List, [], ◌∷◌, ◌++◌, length, get_or, encode_utf8_all, refl, sym, ap, ◌∙◌, arith}
 use Rattle.std.proofs.lemmas.Bool.Decides.{nat_tests}
 use Rattle.std.proofs.lemmas.Slice.Eq.{bytes_eq-Decides}
 use Rattle.std.proofs.lemmas.Str.{length-le-encodes, byte_from_char, char_from_byte, encodes_same, encodes-IsAscii}
@@ -7,7 +7,7 @@ use Rattle.std.specs.List.{list_all}
 use Rattle.std.specs.Prelude.{encode_utf8}
 use Rattle.std.specs.Str.{bytes_eq, IsAscii}
 use Rattle.text_lines.specs.Lines.{LineWord, is_empty}
-use Rattle.command_words.specs.CommandWords.{is_option, join_words}
+use Rattle.command_words.specs.Parts.{is_option}
 
 -- a word has a byte where it has a character
 pub length-encode_is_empty : (word : List ℕ) → (length (encode_utf8_all word) == 0) ≡ is_empty word
@@ -44,13 +44,3 @@ pub spelled_as : (word name : List ℕ) → list_all (λ byte. nat_lt byte 128) 
 spelled_as word name ascii =
     let same = encodes-IsAscii name (IsAscii-list_all name ascii) in
     grind (arith, bytes_eq-Decides (encode_utf8_all word) name, bytes_eq-Decides word name, λ (e : encode_utf8_all word ≡ name). encodes_same word name (e ∙ sym same), λ (e : word ≡ name). ap encode_utf8_all e ∙ same)
-
--- more words than a join has
-pub many_words : (words : List LineWord) → 5 < length words → None ≡ join_words words
-many_words [] more = absurd (omega arith)
-many_words (a ∷ []) more = absurd (omega arith)
-many_words (a ∷ b ∷ []) more = absurd (omega arith)
-many_words (a ∷ b ∷ c ∷ []) more = absurd (omega arith)
-many_words (a ∷ b ∷ c ∷ d ∷ []) more = absurd (omega arith)
-many_words (a ∷ b ∷ c ∷ d ∷ e ∷ []) more = absurd (omega arith)
-many_words (a ∷ b ∷ c ∷ d ∷ e ∷ f ∷ words) more = refl

@@ -1,2 +1,3 @@
+pub mod Parts
 pub mod CommandWords
 pub mod Address

@@ -3,6 +3,7 @@
 #![tactic(auto)]
 
 mod address;
+mod parts;
 mod words;
 
 pub use address::is_address;

@@ -1,6 +1,6 @@
 use Rattle.std.proofs.Common.{◌≡◌, drop, take, ◌++◌}
-use Rattle.command_words.specs.CommandWords.{setting_value, without}
-use Rattle.command_words.proofs.words.place_of.Given as goal
+use Rattle.command_words.specs.Parts.{setting_value, without}
+use Rattle.command_words.proofs.parts.place_of.Given as goal
 
 -- the settings passed are of other options
 abbrev pub invariant-loop-place : goal.invariant-loop-place

@@ -1,7 +1,7 @@
 use Rattle.std.proofs.Common.{◌∙◌, ap, List, ℕ}
 use Rattle.std.specs.Str.{bytes_eq}
 use Rattle.command_words.proofs.WordLaws.{spelled_as}
-use Rattle.command_words.proofs.words.is_word.Goals as goal
+use Rattle.command_words.proofs.parts.is_word.Goals as goal
 
 pub returns : goal.returns
 returns c =

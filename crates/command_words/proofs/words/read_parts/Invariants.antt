@@ -1,7 +1,0 @@
-use Rattle.std.proofs.Common.{◌≡◌, drop}
-use Rattle.command_words.specs.CommandWords.{read_on, all_parts}
-use Rattle.command_words.proofs.words.read_parts.Given as goal
-
--- what is read of the rest, behind what was read, is what is read of all the words
-abbrev pub invariant-loop-word : goal.invariant-loop-word
-invariant-loop-word l = read_on l.reader (drop l.word-index l.words) ≡ all_parts l.words
