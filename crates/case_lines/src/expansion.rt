@@ -14,9 +14,8 @@ const MOST_COPIES: u64 = 1_000_000;
 ///
 /// | In the case | What stands in its place |
 /// |---|---|
-/// | `<<3:TEXT>>` | three copies of the text, in each of which the copy's number stands in place of each `#`, from 1 |
+/// | `<<3:TEXT>>` | three copies of the text |
 /// | `<<x:0aff>>` | these bytes |
-/// | `<<t:TEXT>>` | the hexadecimal digits of a text field: the length of the UTF-8 in four bytes, and the UTF-8 |
 ///
 /// What is not closed stands as it is, and so does what has another head, more than a million copies, or no bytes in
 /// hexadecimal digits.
@@ -72,9 +71,8 @@ fn put_meant(alloc: Global, out: &mut Writer, inner: &str) -> Result<bool, WantO
     };
     match head {
         "x" => put_hex(alloc, out, text),
-        "t" => put_field(alloc, out, text),
         _ => match number(head, 0, MOST_COPIES) {
-            Some(count) => put_copies(alloc, out, count, text),
+            Some(count) => put_copies(out, count, text),
             None => Ok(false),
         },
     }
@@ -89,36 +87,9 @@ fn put_hex(alloc: Global, out: &mut Writer, digits: &str) -> Result<bool, WantOf
     Ok(true)
 }
 
-fn put_field(alloc: Global, out: &mut Writer, text: &str) -> Result<bool, WantOfMemory> {
-    let Ok(length) = u32::try_from(text.len()) else {
-        return Ok(false);
-    };
-    out.put_bytes(hex::encode(alloc, length.to_be_bytes().as_slice())?.as_bytes())?;
-    out.put_bytes(hex::encode(alloc, text)?.as_bytes())?;
-    Ok(true)
-}
-
-fn put_copies(
-    alloc: Global,
-    out: &mut Writer,
-    count: u64,
-    text: &str,
-) -> Result<bool, WantOfMemory> {
-    for copy in 1..=count {
-        put_copy(out, text, copy.to_string(alloc)?.as_str())?;
+fn put_copies(out: &mut Writer, count: u64, text: &str) -> Result<bool, WantOfMemory> {
+    for _ in 0..count {
+        out.put_bytes(text.as_bytes())?;
     }
     Ok(true)
-}
-
-/// Writes a text, with a number in place of each `#`.
-fn put_copy(out: &mut Writer, text: &str, number: &str) -> Result<(), WantOfMemory> {
-    let mut is_first = true;
-    for part in text.split('#') {
-        if !is_first {
-            out.put_bytes(number.as_bytes())?;
-        }
-        out.put_bytes(part.as_bytes())?;
-        is_first = false;
-    }
-    Ok(())
 }

@@ -8,8 +8,6 @@ use tea_base::WantOfMemory;
 pub enum CaseFault {
     /// The line is no case of its kind.
     NoCase,
-    /// A run on the way was refused, and this is what it told.
-    Refused { told: String },
     WantOfMemory,
 }
 

@@ -52,7 +52,6 @@ pub fn print_outcome<R: Print + AllocGlobal>(
     let told = match outcome {
         Ok(outcome) => outcome,
         Err(CaseFault::NoCase) => String::from_str(rt.alloc(), "no case")?,
-        Err(CaseFault::Refused { told }) => told,
         Err(CaseFault::WantOfMemory) => return Err(ErrorKind::OutOfMemory.into()),
     };
     println!(rt; "{line} = {told}")

@@ -1,17 +1,15 @@
 //! A command over files that a case writes out.
 use crate::faults::{Faults, NONE};
-use crate::run::{Given, Run};
-use crate::spelling::outcome_text;
+use crate::run::Given;
 use crate::words::number_of;
-use case_lines::{CaseFault, lines_of};
+use case_lines::{CaseFault, lines_of, told_lines};
 use std::alloc::Global;
 use std::sync::Wait;
 use std::thread::Threads;
 use tea_base::{Blob, WantOfMemory};
 
-/// A command: `WORDS ; NAME=CONTENT ; NAME:HEX ; .. ; fail file N ; want output N`. The words are divided by blanks, `''`
-/// is the empty word, and `-` alone is no word; the lines of a content are divided by ` / `; call N of the files, or of
-/// the output, fails, or wants memory.
+/// A command: `WORDS ; NAME=CONTENT ; NAME:HEX ; .. ; fail file N ; want output N`. The words are divided by blanks; the lines of
+/// a content are divided by ` / `; call N of the files, or of the output, fails, or wants memory.
 #[derive(Drop)]
 struct Command {
     given: Given,
@@ -25,21 +23,11 @@ impl Command {
             given: Given::new(alloc),
             faults: NONE,
         };
-        command.add_words(parts.next().unwrap_or_default())?;
+        command.given.add_words(parts.next().unwrap_or_default())?;
         for part in parts {
             command.add(alloc, part)?;
         }
         Ok(command)
-    }
-
-    fn add_words(&mut self, words: &str) -> Result<(), WantOfMemory> {
-        if words == "-" {
-            return Ok(());
-        }
-        for word in words.split(' ') {
-            self.given.add_word(if word == "''" { "" } else { word })?;
-        }
-        Ok(())
     }
 
     fn add(&mut self, alloc: Global, part: &str) -> Result<(), CaseFault> {
@@ -61,10 +49,6 @@ impl Command {
         }
         Ok(())
     }
-
-    fn run<R: Threads + Wait + Sync>(&self, rt: &R) -> Result<Run, WantOfMemory> {
-        self.given.run(rt, self.faults)
-    }
 }
 
 /// What a command comes to: what it prints, its status, and ` f=` with the bytes of the file `f`, if it is there.
@@ -73,8 +57,9 @@ pub(crate) fn outcome<R: Threads + Wait + Sync + AllocGlobal>(
     case: &str,
 ) -> Result<String, CaseFault> {
     let alloc = rt.alloc();
-    let run = Command::read(alloc, case)?.run(rt)?;
-    let mut told = outcome_text(alloc, &run)?;
+    let command = Command::read(alloc, case)?;
+    let run = command.given.run(rt, command.faults)?;
+    let mut told = told_lines(alloc, run.text.bytes(), run.status.number())?;
     if let Some(file) = run.file(alloc, "f")? {
         put_file(alloc, &mut told, &file)?;
     }

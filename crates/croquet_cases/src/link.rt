@@ -29,14 +29,6 @@ struct LinkReading {
     next: Word,
 }
 
-/// The bytes of a frame; `''` is none.
-fn frame_of(alloc: Global, word: &str) -> Result<Blob, CaseFault> {
-    if word == "''" {
-        return Ok(Blob::new(alloc));
-    }
-    Ok(Blob::from_vec(hex::decode(alloc, word)?))
-}
-
 /// Adds the number of `N`, or those of `N-M`.
 fn add_numbers(numbers: &mut Numbers, word: &str) -> Result<(), CaseFault> {
     let (first, last) = word.split_once('-').unwrap_or((word, word));
@@ -65,7 +57,10 @@ impl LinkReading {
         match word {
             "fail" => self.next = Word::Failing,
             "quiet" => self.next = Word::Quiet,
-            _ => self.frames.push(frame_of(self.alloc, word)?)?,
+            _ => {
+                let frame = Blob::from_vec(hex::decode(self.alloc, word)?);
+                self.frames.push(frame)?;
+            }
         }
         Ok(())
     }
@@ -81,10 +76,8 @@ fn read_link(alloc: Global, part: &str) -> Result<MemLink, CaseFault>
         quiet: Numbers::new(alloc),
         next: Word::Any,
     };
-    if part != "-" {
-        for word in part.split(' ') {
-            reading.take(word)?;
-        }
+    for word in part.split(' ') {
+        reading.take(word)?;
     }
     let LinkReading {
         frames,

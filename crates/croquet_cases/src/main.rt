@@ -1,20 +1,14 @@
-//! Cases of the program's commands. `croquet_cases KIND FILE ..` runs each line of the files, and prints it with ` = ` and
-//! what it comes to.
+//! Cases of the program's commands in which a call fails, wants memory or is quiet. `croquet_cases KIND FILE ..` runs each line of
+//! the files, and prints it with ` = ` and what it comes to. What needs no such call is tested over the program itself.
 //!
 //! | Kind | A case | What it comes to |
 //! |---|---|---|
-//! | `scripts` | a script of requests, its lines divided by ` / ` | the lines that `stamp` prints, divided so |
-//! | `logs` | the same | the bytes of the log that `stamp` writes |
-//! | `programs` | a program | the line that `check` prints |
-//! | `worlds` | `NAME TIME SCRIPT \| PROGRAM` | the line that `replay` prints for the log of the script |
-//! | `snapshots` | the same | the bytes of the snapshot that `replay` writes |
-//! | `resumed` | `NAME FIRST TIME SCRIPT \| PROGRAM` | the line of a replay that goes on from the snapshot at FIRST, and whether its snapshot is the `same` as without it |
 //! | `commands` | `WORDS ; NAME=CONTENT ; NAME:HEX ; .. ; fail file N ; want output N` | what the command prints, and the file `f` |
 //! | `views` | `NAME VIEW SCRIPT \| PROGRAM \| LINK \| LINK ..` | what `join` of this session as this view, with this script, does over a net that gives these links |
 //! | `reflectors` | `NAME N \| PROGRAM \| LINK \| LINK ..` | what `reflect` of this session to N connections does over such a net |
 //!
-//! The words of a command are divided by blanks; `''` is the empty word, and `-` alone is no word. A content has its lines
-//! divided by ` / `. Call N of the files, or of the output, fails, or wants memory.
+//! The words of a command are divided by blanks. A content has its lines divided by ` / `. Call N of the files, or of the output,
+//! fails, or wants memory.
 //!
 //! Behind what is printed stands the status in square brackets, if it is not 0.
 //!
@@ -23,7 +17,7 @@
 //!
 //! | Part | What it is |
 //! |---|---|
-//! | frames in hexadecimal digits, divided by blanks | a link, to which these frames come, and then its end; `''` is a frame of no bytes, `-` alone is no frame |
+//! | frames in hexadecimal digits, divided by blanks | a link, to which these frames come, and then its end |
 //! | `fail N`, `quiet N` and `quiet N-M` among them | which calls of the link fail, and which receives are quiet; receives and sends are numbered together, from 1 |
 //! | `address X` | the address, in place of `localhost:8080` |
 //! | `fail net N`, `fail file N`, `fail output N` | the net's call N fails, or the files' or the output's |
@@ -41,8 +35,6 @@ mod link;
 mod net_case;
 mod net_run;
 mod run;
-mod session;
-mod spelling;
 mod telling;
 mod words;
 

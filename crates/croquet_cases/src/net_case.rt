@@ -1,6 +1,6 @@
 //! A case of `join` or `reflect`, and its parts.
 use crate::faults::{Faults, NONE};
-use crate::words::{number_of, text_of};
+use crate::words::number_of;
 use case_lines::{CaseFault, lines_of};
 use std::alloc::Global;
 
@@ -22,36 +22,25 @@ pub(crate) struct NetCase<'a> {
     pub(crate) address: &'a str,
     /// The number of the view, or how many links the reflector accepts.
     pub(crate) number: &'a str,
-    pub(crate) program: &'a [u8],
+    pub(crate) program: &'a str,
     pub(crate) script: Vec<u8>,
     pub(crate) links: Vec<&'a str>,
     pub(crate) faults: Faults,
 }
 
-/// What stands before the first place of `between`, and what stands behind it.
-fn split_once<'a>(bytes: &'a [u8], between: &str) -> Option<(&'a [u8], &'a [u8])> {
-    for place in 0..bytes.len() {
-        if let Some(behind) = bytes[place..].strip_prefix(between.as_bytes()) {
-            return Some((&bytes[..place], behind));
-        }
-    }
-    None
-}
-
 impl<'a> NetCase<'a> {
-    /// The case that the bytes spell. The program and the script may be any bytes.
+    /// The case that is written so.
     pub(crate) fn read(
         alloc: Global,
         command: NetCommand,
-        case: &'a [u8],
+        case: &'a str,
     ) -> Result<NetCase<'a>, CaseFault> {
-        let (head, rest) = split_once(case, BETWEEN).ok_or(CaseFault::NoCase)?;
-        let (program, parts) = split_once(rest, BETWEEN).unwrap_or((rest, &[]));
+        let mut parts = case.split(BETWEEN);
+        let head = parts.next().unwrap_or_default();
+        let program = parts.next().ok_or(CaseFault::NoCase)?;
         let mut case = NetCase::of_words(alloc, command, head, program)?;
-        if !parts.is_empty() {
-            for part in text_of(parts)?.split(BETWEEN) {
-                case.add(part)?;
-            }
+        for part in parts {
+            case.add(part)?;
         }
         Ok(case)
     }
@@ -60,28 +49,22 @@ impl<'a> NetCase<'a> {
     fn of_words(
         alloc: Global,
         command: NetCommand,
-        head: &'a [u8],
-        program: &'a [u8],
+        head: &'a str,
+        program: &'a str,
     ) -> Result<NetCase<'a>, CaseFault> {
-        let (name, rest) = split_once(head, " ").ok_or(CaseFault::NoCase)?;
+        let (name, rest) = head.split_once(' ').ok_or(CaseFault::NoCase)?;
         let (number, script) = match command {
-            NetCommand::Join => split_once(rest, " ").ok_or(CaseFault::NoCase)?,
-            NetCommand::Reflect => (rest, b"-".as_slice()),
+            NetCommand::Join => rest.split_once(' ').ok_or(CaseFault::NoCase)?,
+            NetCommand::Reflect => (rest, "-"),
         };
+        let script = if script == "-" { "" } else { script };
         Ok(NetCase {
             command,
-            name: text_of(name)?,
+            name,
             address: "localhost:8080",
-            number: text_of(number)?,
+            number,
             program,
-            script: lines_of(
-                alloc,
-                if script == b"-".as_slice() {
-                    &[]
-                } else {
-                    script
-                },
-            )?,
+            script: lines_of(alloc, script.as_bytes())?,
             links: Vec::new(alloc),
             faults: NONE,
         })

@@ -83,7 +83,7 @@ fn files_of(alloc: Global, case: &NetCase) -> Result<MemFiles, WantOfMemory> {
     let failing = case.faults.failing_file_behind(2);
     let failing = Numbers::from_vec(vec![in alloc; failing]?);
     let mut files = MemFiles::new(alloc, NamedBlobs::new(alloc), failing);
-    write_file(alloc, &mut files, "p", case.program)?;
+    write_file(alloc, &mut files, "p", case.program.as_bytes())?;
     write_file(alloc, &mut files, "s", case.script.as_slice())?;
     Ok(files)
 }

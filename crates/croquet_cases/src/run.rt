@@ -34,14 +34,10 @@ impl Given {
         }
     }
 
-    pub(crate) fn add_word(&mut self, word: &str) -> Result<(), WantOfMemory> {
-        self.words.push(Text::copy(self.alloc, word)?)
-    }
-
     /// Adds words that are divided by blanks.
     pub(crate) fn add_words(&mut self, words: &str) -> Result<(), WantOfMemory> {
         for word in words.split(' ') {
-            self.add_word(word)?;
+            self.words.push(Text::copy(self.alloc, word)?)?;
         }
         Ok(())
     }

@@ -3,8 +3,6 @@
 #![tactic(auto)]
 
 mod system;
-#[cfg(test)]
-mod tests;
 
 use crate::system::{Output, SystemClock, SystemFiles, given_words};
 use croquet::{croquet, tell_want_of_memory};

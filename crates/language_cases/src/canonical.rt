@@ -1,7 +1,7 @@
 //! Canonical texts of programs.
 use model_lang::{LangFault, parse};
-use model_tree::Bound;
 use model_print::print;
+use model_tree::Bound;
 use std::alloc::Global;
 use tea_base::{Blob, WantOfMemory};
 

@@ -2,7 +2,6 @@
 ghost use Rattle.model_value.specs.Plain.{InBounds};
 ghost use Rattle.model_value.specs.View.{plain};
 
-use crate::bytes::read_or_bad;
 use model_value::{Value, ValueFault, encode};
 use std::alloc::Global;
 use tea_base::WantOfMemory;
@@ -25,7 +24,11 @@ fn value_read(alloc: Global, text: &[u8]) -> Result<String, ValueFault> {
     Ok(value_line(alloc, &again)?)
 }
 
-/// The bytes of the value that has this text, and its text.
+/// The bytes of the value that has this text, and its text; or that the text is bad.
 pub(crate) fn text_read(alloc: Global, text: &[u8]) -> Result<String, WantOfMemory> {
-    read_or_bad(alloc, value_read(alloc, text))
+    match value_read(alloc, text) {
+        Ok(told) => Ok(told),
+        Err(ValueFault::BadValue) => Ok(String::from_str(alloc, "bad")?),
+        Err(ValueFault::WantOfMemory) => Err(WantOfMemory),
+    }
 }

@@ -12,7 +12,7 @@ pub const LEAVE: &[u8] = &[4];
 pub const FIRST_SEND: &[u8] = &[2, 0, 0, 0, 1, 0, 0, 0, 0];
 
 /// A JOIN of the session whose id is 32 sevens; it asks for the whole log.
-pub fn join_frame(alloc: Global, view: u8) -> Result<Blob, WantOfMemory> {
+fn join_frame(alloc: Global, view: u8) -> Result<Blob, WantOfMemory> {
     let mut bytes = vec![in alloc; 1]?;
     put_all(&mut bytes, &[7; 32])?;
     put_all(&mut bytes, &[0, 0, 0, view, 1])?;
@@ -26,24 +26,13 @@ fn put_all(bytes: &mut Vec<u8>, more: &[u8]) -> Result<(), WantOfMemory> {
     Ok(())
 }
 
-/// A link of the view, whose JOIN and then these frames come, and whose calls of these numbers fail.
-pub fn link_of(
-    alloc: Global,
-    view: u8,
-    frames: &[&[u8]],
-    fail: Numbers,
-) -> Result<MemLink, WantOfMemory>
+/// A link of the view, whose JOIN and then this frame come.
+pub fn link_of(alloc: Global, view: u8, frame: &[u8]) -> Result<MemLink, WantOfMemory>
     ensures { IfOk result HasNoCounts }
 {
     let mut coming = Blobs::new(alloc);
     coming.push(join_frame(alloc, view)?)?;
-    put_frames(alloc, &mut coming, frames)?;
-    Ok(MemLink::new(alloc, coming, fail, Numbers::new(alloc)))
-}
-
-fn put_frames(alloc: Global, coming: &mut Blobs, frames: &[&[u8]]) -> Result<(), WantOfMemory> {
-    for frame in frames {
-        coming.push(Blob::copy(alloc, frame)?)?;
-    }
-    Ok(())
+    coming.push(Blob::copy(alloc, frame)?)?;
+    let none = Numbers::new(alloc);
+    Ok(MemLink::new(alloc, coming, none, Numbers::new(alloc)))
 }

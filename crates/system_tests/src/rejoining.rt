@@ -1,26 +1,20 @@
-//! A view whose answer was lost, and that joins again, step by step.
+//! A view whose answer was lost, and that joins again.
 ghost use Rattle.std.specs.Prelude.{IfOk};
 ghost use Rattle.system_core.specs.Schedules.{AreInBounds, IsInBounds};
 
-use crate::systems::{ID, Trial, checked_program, first_trial, is_replay, is_told};
+use crate::systems::{ID, Trial, checked_program, is_replay, is_told};
 use model_value::Value;
 use replica_plain::How;
 use std::alloc::Global;
 use std::test::Fail;
-use system_core::{Schedule, ScheduleStep, System, run};
-use tea_base::{Entry, Text, WantOfMemory, What};
+use system_core::{Schedule, ScheduleStep, run};
+use tea_base::{Text, WantOfMemory};
 
 /// The least program.
 const SMALL: &str = "class Root{init(o){}}";
 
-/// What is told where the view joined again.
-const WAITS: &str = "time 0 seen 0 waits | Join 1 Event 2 Join 3";
-
 /// What is told in the end.
 const END: &str = "time 3 seen 3 settled | Join 1 Event 2 Join 3";
-
-/// The payload of the scope `a`, the event `b` and nil.
-const PAYLOAD: &[u8] = b"\0\0\0\x01a\0\0\0\x01b\0";
 
 /// View 7 publishes the event `b` of the scope `a`, with nil.
 fn publication(alloc: Global) -> Result<ScheduleStep, WantOfMemory>
@@ -72,112 +66,7 @@ fn schedule(alloc: Global) -> Result<Schedule, WantOfMemory>
     Ok(Schedule::from_vec(Vec::from_array(alloc, steps)?))
 }
 
-/// What is wanted of view 7 behind a step.
-#[derive(Clone, Copy)]
-enum Look<'a> {
-    Nothing,
-    /// The view and the log are told so.
-    Told(&'a str),
-    /// They are told so, and the view's replica is the replay of the log.
-    Replayed(&'a str),
-}
-
-/// What is wanted behind each step of the schedule.
-const LOOKS: [Look<'static>; 19] = [
-    // Found, Take and Receive: it joins.
-    Look::Told("time 0 seen 0 settled |"),
-    Look::Nothing,
-    Look::Told("time 0 seen 0 settled | Join 1"),
-    // Publish, Transmit, Take and Cut: the answer to its event is lost.
-    Look::Nothing,
-    Look::Told("time 0 seen 0 waits | Join 1"),
-    Look::Told("time 0 seen 0 waits | Join 1 Event 2"),
-    Look::Nothing,
-    // Reconnect, Take and Receive: it joins again.
-    Look::Nothing,
-    Look::Nothing,
-    Look::Told(WAITS),
-    // Transmit, Take and Pump: it gives the event again.
-    Look::Nothing,
-    Look::Nothing,
-    Look::Told(WAITS),
-    // Five times Receive: it takes what is in flight.
-    Look::Told("time 0 seen 0 settled | Join 1 Event 2 Join 3"),
-    Look::Told("time 1 seen 1 settled | Join 1 Event 2 Join 3"),
-    Look::Told("time 2 seen 2 settled | Join 1 Event 2 Join 3"),
-    Look::Told(END),
-    Look::Replayed(END),
-    // Take: the old connection ends, and its view does not leave.
-    Look::Told(END),
-];
-
-/// Whether what is wanted is so.
-fn is_so(alloc: Global, trial: &Trial, look: Look<'_>) -> bool {
-    match look {
-        Look::Nothing => true,
-        Look::Told(wanted) => is_told(alloc, &trial.system, 7, wanted),
-        Look::Replayed(wanted) => {
-            is_told(alloc, &trial.system, 7, wanted) && is_replay(alloc, trial, 7)
-        }
-    }
-}
-
-/// Whether a step is taken, and what is wanted is then so.
-fn comes(alloc: Global, trial: &mut Trial, step: &ScheduleStep, look: Option<&Look<'_>>) -> bool
-    requires { IsInBounds step.now }
-{
-    match look {
-        Some(look) => trial.system.step(step).is_ok() && is_so(alloc, trial, *look),
-        None => false,
-    }
-}
-
-/// Whether all steps are taken, and behind each what is wanted is so.
-fn all_come(alloc: Global, trial: &mut Trial, steps: &Schedule, looks: &[Look<'_>]) -> bool
-    requires { AreInBounds steps.now }
-{
-    let mut looks = looks.iter();
-    let list = steps.as_slice();
-    for step in list {
-        if !comes(alloc, trial, step, looks.next()) {
-            return false;
-        }
-    }
-    looks.next().is_none()
-}
-
-/// The entry is the event of view 7.
-fn is_published(entry: &Entry) -> bool {
-    match &entry.what {
-        What::Event { number, payload } => {
-            entry.view == 7 && *number == 1 && payload.is_bytes(PAYLOAD)
-        }
-        What::Join | What::Exit => false,
-    }
-}
-
-/// The event of view 7 stands in the log, whose last entry is of the time 3.
-fn is_logged(system: &System) -> bool {
-    system.session().horizon() == 3
-        && matches!(system.session().log().get(2), Ok(entry) if is_published(&entry))
-}
-
-/// Whether view 7, of which nothing is told yet, goes by the schedule.
-fn goes_by_schedule(alloc: Global, trial: &mut Trial) -> Result<bool, WantOfMemory> {
-    let steps = schedule(alloc)?;
-    Ok(is_told(alloc, &trial.system, 7, " |") && all_come(alloc, trial, &steps, &LOOKS))
-}
-
-#[test]
-fn a_view_gives_its_event_again(rt: HostRuntime) -> Result<(), Fail> {
-    let alloc = rt.alloc();
-    let mut trial = first_trial(alloc, SMALL)?;
-    assert!(rt; matches!(goes_by_schedule(alloc, &mut trial), Ok(true)));
-    assert!(rt; is_logged(&trial.system));
-    Ok(())
-}
-
-/// The same as one run.
+/// A run of the schedule.
 fn run_of_schedule(alloc: Global) -> Result<Trial, Fail> {
     let steps = schedule(alloc)?;
     let program = checked_program(alloc, SMALL)?;
@@ -185,10 +74,15 @@ fn run_of_schedule(alloc: Global) -> Result<Trial, Fail> {
     Ok(Trial { program, system })
 }
 
+/// View 7 and the log are told so in the end, and the view's replica is the replay of the log.
+fn is_at_end(alloc: Global, trial: &Trial) -> bool {
+    is_told(alloc, &trial.system, 7, END) && is_replay(alloc, trial, 7)
+}
+
 #[test]
 fn a_schedule_is_run(rt: HostRuntime) -> Result<(), Fail> {
     let alloc = rt.alloc();
     let trial = run_of_schedule(alloc)?;
-    assert!(rt; is_so(alloc, &trial, Look::Replayed(END)));
+    assert!(rt; is_at_end(alloc, &trial));
     Ok(())
 }

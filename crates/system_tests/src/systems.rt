@@ -4,8 +4,8 @@ ghost use Rattle.tea_base.specs.Limits.{time_limit};
 ghost use Rattle.system_core.specs.Schedules.{AreInBounds};
 
 use model_check::check;
-use model_solved::Checked;
 use model_lang::parse;
+use model_solved::Checked;
 use replica::Replica;
 use session_log::Log;
 use snapshot_codec::snapshot;
