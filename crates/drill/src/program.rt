@@ -4,8 +4,8 @@ ghost use Rattle.model_tree.specs.TreeView.{program_tree};
 ghost use Rattle.drill.specs.Program.{IsDrillProgram};
 
 use model_check::check;
-use model_solved::{CheckFault, Checked};
 use model_lang::{LangFault, one_reading, one_tree, parse};
+use model_solved::{CheckFault, Checked};
 use std::alloc::Global;
 use tea_base::WantOfMemory;
 

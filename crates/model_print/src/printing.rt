@@ -17,8 +17,8 @@ ghost use Rattle.model_print.specs.Canonical.{at_line, phrase_of, phrases_of, ac
 ghost use Rattle.model_print.specs.Printing.{with_gap, with_token, with_tokens, level_number, GivesAgain};
 
 use model_lang::one_reading;
-use model_tree::{BinaryOp, Class, Expr, Method, Program, Stmt, UnaryOp};
 use model_tokens::{Symbol, Word, push_literal};
+use model_tree::{BinaryOp, Class, Expr, Method, Program, Stmt, UnaryOp};
 use std::alloc::Global;
 use std::marker::Model;
 use tea_base::{Blob, Text, WantOfMemory};
