@@ -1,9 +1,8 @@
 //! What is put and printed of a drill: the command `drill`.
 ghost use Rattle.std.specs.Prelude.{◌≡◌, ◌++◌, IfOk, OnOk, string_bytes, length};
 ghost use Rattle.std.specs.Fmt.{decimal};
-ghost use Rattle.command_drill.specs.DrilledSteps.{drilled_line, total_part};
+ghost use Rattle.command_drill.specs.DrilledSteps.{drilled_line, total_part, drilled_steps, snapshot_puts};
 ghost use Rattle.command_outcome.specs.Outcome.{steps_of};
-ghost use Rattle.command_drill.specs.DrilledSteps.{drilled_steps, snapshot_puts};
 
 use command_outcome::{Outcome, Put, Puts, optional_put};
 use command_words::DrillRequest;

@@ -11,8 +11,7 @@ use Rattle.model_solved.specs.Faults.{faults_of_program, first_fault}
 use Rattle.model_solved.specs.declared.fault.CheckFault.{CheckFault}
 use Rattle.command_outcome.specs.declared.program.ProgramFault.{ProgramFault}
 use Rattle.command_outcome.specs.ProgramText.{check_line}
-use Rattle.command_outcome.specs.ProgramEnd.{IsFaultless, IsLineOf}
-use Rattle.command_outcome.specs.ProgramEnd.{IsUnread, IsUnsound, ProgramEnd}
+use Rattle.command_outcome.specs.ProgramEnd.{IsLineOf, IsUnread, IsUnsound, ProgramEnd}
 
 -- a text that is not read
 pub refused_unread : (bytes : List ℕ) (lang_fault : LangFault) (fault : ProgramFault) → Parses (Err lang_fault) bytes → IsPlaced {A = List Class} (Err lang_fault) (length bytes) → IsUnread lang_fault fault → ProgramEnd (Err fault) bytes

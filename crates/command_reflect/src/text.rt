@@ -1,5 +1,5 @@
 //! From how connections ended, and what their session has come to, to the text that tells it.
-ghost use Rattle.std.specs.Prelude.{◌≡◌, ◌++◌, string_bytes, codes, IfOk};
+ghost use Rattle.std.specs.Prelude.{◌≡◌, string_bytes, IfOk};
 ghost use Rattle.command_reflect.specs.ReflectedSteps.{end_part, end_line, end_lines, session_line, reflected_text};
 
 use command_outcome::line_of_parts;

@@ -1,5 +1,5 @@
 //! From replies to the text that tells them.
-ghost use Rattle.std.specs.Prelude.{◌≡◌, ◌++◌, string_bytes, codes, IfOk};
+ghost use Rattle.std.specs.Prelude.{◌≡◌, string_bytes, IfOk};
 ghost use Rattle.command_stamp.specs.ReplyText.{base_part, tick_part, refusal_part, reply_line, text_of};
 
 use command_outcome::line_of_parts;

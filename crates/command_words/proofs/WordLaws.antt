@@ -6,7 +6,7 @@ use Rattle.std.proofs.lemmas.Str.{length-le-encodes, byte_from_char, char_from_b
 use Rattle.std.specs.List.{list_all}
 use Rattle.std.specs.Prelude.{encode_utf8}
 use Rattle.std.specs.Str.{bytes_eq, IsAscii}
-use Rattle.text_lines.specs.Lines.{LineWord, is_empty}
+use Rattle.text_lines.specs.Lines.{is_empty}
 use Rattle.command_words.specs.Parts.{is_option}
 
 -- a word has a byte where it has a character

@@ -1,6 +1,5 @@
 -- What comes of a command: the steps that it does, one after the other, and how it is closed.
-use Rattle.std.specs.Prelude.{◌≡◌, ◌≢◌, ◌⊎◌, ℕ, ℤ, ◌+◌, ◌≤◌, ◌<◌, Bool, true, false, nat_lt, if◌then◌else◌, List, [], ◌∷◌, ◌++◌, length, encode_utf8_all, Option, Some, None}
-use Rattle.std.specs.Fmt.{decimal}
+use Rattle.std.specs.Prelude.{◌≡◌, ◌≢◌, ◌⊎◌, ℕ, ℤ, ◌≤◌, ◌<◌, Bool, true, false, nat_lt, if◌then◌else◌, List, [], ◌∷◌, ◌++◌, encode_utf8_all, Option, Some, None}
 use Rattle.tea_base.specs.Legal.{IsLegal}
 use Rattle.tea_base.specs.declared.entry.Entry.{Entry}
 use Rattle.connection.specs.declared.ending.Ended.{Ended}
@@ -9,10 +8,8 @@ use Rattle.session_log.specs.Spelling.{log_spelling}
 use Rattle.reflector_core.specs.declared.request.Request.{Request}
 use Rattle.reflector_core.specs.Play.{first_session, after_all, replies_from, TellsItsEvents}
 use Rattle.model_tree.specs.Bounds.{most_program_bytes}
-use Rattle.model_tree.specs.Program.{IsProgram, IsRead, Reading, a_program, no_program, too_large, IsReading}
+use Rattle.model_tree.specs.Program.{IsProgram}
 use Rattle.model_tree.specs.Tree.{ProgramTree}
-use Rattle.model_solved.specs.declared.fault.CheckFault.{CheckFault}
-use Rattle.model_solved.specs.Faults.{first_fault}
 use Rattle.model_solved.specs.Methods.{field_counts}
 use Rattle.byte_fields.specs.Fields.{text_field}
 use Rattle.sha2.specs.Sha256.{sha256}
@@ -22,14 +19,13 @@ use Rattle.world_plain.specs.World.{WorldRecord}
 use Rattle.world.specs.Worlds.{Follows, replay, replay_on}
 use Rattle.snapshot_codec.specs.Answer.{IsSnapshot}
 use Rattle.snapshot_codec.specs.Spelling.{world_spelling}
-use Rattle.run_steps.specs.Steps.{Ask, Step, Loads, Puts, Prints, Hears}
+use Rattle.run_steps.specs.Steps.{Ask, Step, Loads, Hears}
 use Rattle.view_script.specs.PlainLine.{PlainLine}
 use Rattle.view_script.specs.ViewScript.{view_script_of}
 use Rattle.command_outcome.specs.declared.outcome.Input.{Input}
 use Rattle.command_outcome.specs.declared.outcome.Input.TheVariants as input
 use Rattle.command_outcome.specs.declared.outcome.CommandRefusal.{CommandRefusal}
 use Rattle.command_outcome.specs.declared.outcome.CommandRefusal.TheVariants as refusal
-use Rattle.command_outcome.specs.declared.outcome.Put.{Put}
 use Rattle.command_words.specs.declared.words.ReplayRequest.{ReplayRequest}
 use Rattle.command_words.specs.declared.words.JoinRequest.{JoinRequest}
 use Rattle.command_words.specs.declared.words.ReflectRequest.{ReflectRequest}
@@ -39,11 +35,13 @@ use Rattle.command_words.specs.declared.words.Command.{Command}
 use Rattle.command_words.specs.declared.words.Command.TheVariants.{Stamp, Check, Replay, Join, Reflect, Drill}
 use Rattle.command_words.specs.Address.{is_address}
 use Rattle.command_stamp.specs.Script.{script_of}
-use Rattle.command_outcome.specs.ProgramText.{counts_line, syntax_line, too_large_line, check_line}
+use Rattle.command_outcome.specs.Outcome.{optional_put, steps_of}
+use Rattle.command_outcome.specs.ProgramEnd.{IsFaultless, IsRefused}
+use Rattle.command_outcome.specs.ProgramText.{counts_line, syntax_line}
 use Rattle.command_stamp.specs.ReplyText.{text_of}
 use Rattle.command_replay.specs.WorldText.{world_line}
-use Rattle.command_reflect.specs.ReflectedSteps.{reflected_text}
-use Rattle.command_drill.specs.DrilledSteps.{drilled_line}
+use Rattle.command_reflect.specs.ReflectedSteps.{reflected_steps}
+use Rattle.command_drill.specs.DrilledSteps.{drilled_steps}
 
 -- the visit of a view to a session: its program, the session's id, the number of the view, the address of its reflector, and what it
 -- does, line by line
@@ -237,6 +235,7 @@ reflected_verdict log ends session net_failed =
 
 -- ---- drill
 
+-- what comes of a drill that has left this
 abbrev pub drilled_verdict : DrillRequest → List Entry → List (List ℕ) → ℤ → ℕ → Verdict
 drilled_verdict request log snapshots total agree = fine (drilled_steps request log snapshots total agree)
 

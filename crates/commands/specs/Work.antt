@@ -1,35 +1,18 @@
 -- What the parts of a command's work make of what comes.
-use Rattle.std.specs.Prelude.{◌≡◌, ◌≢◌, ◌≤◌, ℕ, ⊤, List, Option, Some, None, Result, Ok, Err, string_bytes, false}
-use Rattle.model_lang.specs.declared.fault.LangFault.{LangFault}
-use Rattle.model_lang.specs.declared.fault.LangFault.TheVariants as lang
-use Rattle.model_tree.specs.declared.tree.Class.{Class}
-use Rattle.model_tree.specs.Tree.{ProgramTree}
+use Rattle.std.specs.Prelude.{◌≤◌, ℕ, ⊤}
 use Rattle.model_tree.specs.TreeView.{program_tree}
-use Rattle.model_solved.specs.declared.fault.CheckFault.{CheckFault}
-use Rattle.model_solved.specs.declared.fault.CheckFault.TheVariants as check
-use Rattle.world_plain.specs.World.{WorldRecord}
-use Rattle.world.specs.View.{WorldView}
-use Rattle.world.specs.Worlds.{Scene, first_scene as first_world, replay, replay_on, take_up}
-use Rattle.snapshot_codec.specs.Spelling.{world_spelling}
 use Rattle.run_steps.specs.Steps.{Ask}
 use Rattle.command_outcome.specs.declared.outcome.Input.{Input}
 use Rattle.command_outcome.specs.declared.outcome.Input.TheVariants as input
 use Rattle.command_words.specs.declared.words.Command.TheVariants.{Stamp, Check, Replay, Join, Reflect}
-use Rattle.command_outcome.specs.declared.program.ProgramFault.{ProgramFault}
-use Rattle.command_outcome.specs.declared.program.ProgramFault.TheVariants.{Refused, WantOfMemory}
-use Rattle.command_replay.specs.declared.recording.Recording.{Recording}
 use Rattle.commands.specs.declared.visit.VisitRequest.{VisitRequest}
-use Rattle.command_replay.specs.declared.world_run.Told.{Told}
 use Rattle.commands.specs.declared.work.Waiting.{Waiting}
 use Rattle.commands.specs.declared.work.Waiting.TheVariants as waiting
 use Rattle.commands.specs.declared.work.Next.{Next}
 use Rattle.commands.specs.declared.work.Next.TheVariants as next
 use Rattle.view_script.specs.PlainLine.{plain_lines}
 use Rattle.command_words.specs.CommandWords.{AreConnections, IsBounded, IsBoundedDrill, IsBoundedJoin, IsBoundedReflect}
-use Rattle.command_outcome.specs.ProgramText.{check_line, syntax_line, too_large_line}
-use Rattle.command_replay.specs.WorldText.{world_line}
 use Rattle.command_outcome.specs.Outcome.{steps_of}
-use Rattle.command_outcome.specs.ProgramEnd.{IsRefused, IsFaultless}
 use Rattle.commands.specs.Verdict.{Verdict, PlainVisit, ByDrill, ByRefusal, ByReflecting, ByVisit, ByWant, Coming, Only, OfFile, OfCommand, OfSnapshot, OfTree, OfView, at_once, fine, ask_log, ask_program, ask_script, ask_snapshot}
 
 -- ---- a command that waits for a file

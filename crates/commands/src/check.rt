@@ -1,8 +1,6 @@
 //! The command `check`: how many classes and methods a program has, or its first fault.
-ghost use Rattle.std.specs.Prelude.{◌≡◌, ◌<◌, IfOk, string_bytes};
-ghost use Rattle.model_tree.specs.Bounds.{ProgramFits};
+ghost use Rattle.std.specs.Prelude.{◌<◌};
 ghost use Rattle.model_tree.specs.TreeView.{program_tree};
-ghost use Rattle.command_outcome.specs.ProgramText.{counts_line, method_count};
 ghost use Rattle.commands.specs.Verdict.{Free, OfProgram, Only, count_verdict};
 ghost use Rattle.commands.specs.Work.{IsBoundedNext, Leads, reads_left};
 

@@ -1,8 +1,6 @@
 //! What comes of the files that the command `reflect` reads.
-ghost use Rattle.std.specs.Prelude.{◌≡◌, ◌<◌, IfOk};
+ghost use Rattle.std.specs.Prelude.{◌<◌, IfOk};
 ghost use Rattle.command_words.specs.CommandWords.{IsBoundedReflect};
-ghost use Rattle.command_outcome.specs.Outcome.{steps_of};
-ghost use Rattle.command_reflect.specs.ReflectedSteps.{reflected_steps};
 ghost use Rattle.commands.specs.Verdict.{Free, OfProgram, OfReflect, session_of};
 ghost use Rattle.commands.specs.Work.{IsBoundedNext, Leads, reads_left};
 

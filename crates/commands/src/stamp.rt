@@ -1,8 +1,6 @@
 //! The command `stamp`: a script's requests to a first session, its replies, and its log.
-ghost use Rattle.std.specs.Prelude.{◌≡◌, ◌<◌, IfOk};
-ghost use Rattle.session_log.specs.Spelling.{log_spelling};
+ghost use Rattle.std.specs.Prelude.{◌<◌, IfOk};
 ghost use Rattle.command_stamp.specs.Script.{script_of};
-ghost use Rattle.command_outcome.specs.Outcome.{optional_put};
 ghost use Rattle.commands.specs.Verdict.{Free, OfScript};
 ghost use Rattle.commands.specs.Work.{IsBoundedNext, Leads, reads_left};
 
