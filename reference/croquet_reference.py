@@ -1721,7 +1721,10 @@ class Session:
         return self.views.get(view, ViewState())
 
     def stamp(self, now, view, kind, number_=0, payload_=b""):
-        self.horizon = max(min(now, END), self.horizon + 1)
+        return self.append(max(min(now, END), self.horizon + 1), view, kind, number_, payload_)
+
+    def append(self, time, view, kind, number_, payload_):
+        self.horizon = time
         entry = Entry(len(self.log) + 1, self.horizon, view, kind, number_, payload_)
         self.log.append(entry)
         self.payloads += len(payload_)
@@ -1828,6 +1831,38 @@ class Session:
             if entry.kind == "event":
                 out += [number(entry.number, 4), number(len(entry.payload), 4), entry.payload]
         return b"".join(out)
+
+
+# ---------------------------------------------------------------- reading a log
+
+MOST_OPEN_ENTRIES = 2**20
+MOST_ALL_ENTRIES = MOST_OPEN_ENTRIES + MOST_VIEWS
+
+
+def read_log(source):
+    """The entries of the legal log that the bytes spell."""
+    reader = Reader(source)
+    need(reader.bytes(8) == b"TEALOG01")
+    count = reader.number(4)
+    need(count <= MOST_ALL_ENTRIES)
+    session = Session()
+    for _ in range(count):
+        append_read(session, reader)
+    reader.end()
+    return session.log
+
+
+def append_read(session, reader):
+    """Appends the next entry that is read to the log, where that stays legal."""
+    time, view, kind = reader.number(8), reader.number(4), reader.number(1)
+    need(session.horizon < time < TIME_LIMIT and view > 0 and 1 <= kind <= 3)
+    state = session.view(view)
+    need(kind == 2 or len(session.log) < MOST_OPEN_ENTRIES)
+    need(state.here or kind == 1 and session.here < MOST_VIEWS)
+    event = (reader.number(4), reader.bytes(reader.number(4))) if kind == 3 else (0, b"")
+    need(kind < 3 or event[0] == len(state.events) + 1 and len(event[1]) <= MOST_PAYLOAD)
+    need(session.payloads + len(event[1]) <= MOST_LOG_BYTES)
+    session.append(time, view, ["join", "exit", "event"][kind - 1], *event)
 
 
 # ---------------------------------------------------------------- session scripts

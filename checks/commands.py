@@ -1,0 +1,202 @@
+"""Cases that are words, files and output."""
+import functools
+import re
+import socket
+
+from case import Case, expect, expect_that, read_cases
+from reference import croquet, expanded, log_text, outcomes, read_log
+
+# ---------------------------------------------------------------- of the reference
+
+
+def reference_cases(kind, file):
+    """The reference gives the outcome of each line."""
+    pairs = read_cases(file)
+    told = outcomes(kind, [case for case, _ in pairs])
+    return [Case(case, functools.partial(lambda wanted, came, _: expect(wanted, came), wanted, came),
+                 needs_program=False)
+            for (case, wanted), came in zip(pairs, told)]
+
+
+def each(kind, file, check):
+    """A case for each line of a file, by a check of a program, the case's bytes and the outcome."""
+    def case_of(case, wanted):
+        return Case(case, lambda program: check(program, expanded(case), wanted))
+
+    return reference_cases(kind, file) + [case_of(*pair) for pair in read_cases(file)]
+
+
+# ---------------------------------------------------------------- sessions
+
+
+def stamp(program, script):
+    """A run of `stamp` of a script whose lines are divided by ` / `. The log lies in the file `l`."""
+    files = {"s": script.replace(b" / ", b"\n")}
+    return program.run(["stamp", "s", "--log", "l"], files)
+
+
+def check_script(program, case, wanted):
+    run = stamp(program, case)
+    expect(wanted, run.told())
+    if run.status != 0:
+        return expect({}, run.files)
+    session, _ = croquet.stamped(case.replace(b" / ", b"\n"))
+    return expect({"l": session.encoded()}, run.files)
+
+
+def check_log(program, case, wanted):
+    run = stamp(program, case)
+    expect(wanted, run.files["l"].hex() if "l" in run.files else run.told())
+
+
+def check_program(program, case, wanted):
+    run = program.run(["check", "p"], {"p": case})
+    expect(wanted, run.told())
+    expect({}, run.files)
+
+
+# ---------------------------------------------------------------- replays
+
+
+class Recorded:
+    """A case of a replay, and the log that its script makes by the program itself."""
+
+    def __init__(self, program, case, times):
+        head, self.source = case.split(b" | ", 1)
+        self.name, *self.times, script = head.split(b" ", times + 1)
+        self.program = program
+        self.stamped = stamp(program, b"" if script == b"-" else script)
+
+    def replay(self, time, snapshot=None):
+        """A run to this time, which writes the snapshot into the file `f`."""
+        files = {"p": self.source, "l": self.stamped.files["l"]}
+        words = ["replay", "p", self.name, "l", time, "--snapshot", "f"]
+        if snapshot is None:
+            return self.program.run(words, files)
+        return self.program.run([*words, "--from", "s"], {**files, "s": snapshot})
+
+
+def check_world(program, case, wanted):
+    recorded = Recorded(program, case, 1)
+    if recorded.stamped.status != 0:
+        return expect(wanted, recorded.stamped.told())
+    run = recorded.replay(recorded.times[0])
+    expect(wanted, run.told())
+    return expect(["f"] if run.status == 0 else [], list(run.files))
+
+
+def check_snapshot(program, case, wanted):
+    recorded = Recorded(program, case, 1)
+    run = recorded.stamped
+    if run.status == 0:
+        run = recorded.replay(recorded.times[0])
+    expect(wanted, run.files["f"].hex() if run.status == 0 else run.told())
+
+
+def check_resumed(program, case, wanted):
+    recorded = Recorded(program, case, 2)
+    if recorded.stamped.status != 0:
+        return expect(wanted, recorded.stamped.told())
+    first, time = recorded.times
+    begun = recorded.replay(first)
+    if begun.status != 0:
+        return expect(wanted, begun.told())
+    run = recorded.replay(time, begun.files["f"])
+    if run.status != 0:
+        expect({}, run.files)
+        return expect(wanted, run.told())
+    whole = recorded.replay(time)
+    same = "same" if whole.files == run.files else "differs"
+    return expect(wanted, f"{run.told()} {same}")
+
+
+# ---------------------------------------------------------------- commands
+
+ADDRESS = re.compile(r"(localhost|[0-9.]+):[1-9][0-9]*")
+
+
+def read_command(case):
+    """The words of a case, and its files."""
+    words, *parts = case.split(b" ; ")
+    words = [] if words == b"-" else [b"" if word == b"''" else word for word in words.split(b" ")]
+    files = {}
+    for part in parts:
+        if b"=" in part:
+            name, _, content = part.partition(b"=")
+            files[name.decode()] = content.replace(b" / ", b"\n")
+        else:
+            name, _, digits = part.partition(b":")
+            files[name.decode()] = bytes.fromhex(digits.decode())
+    return words, files
+
+
+def taken_address(words, port):
+    """The words with this port in place of that of an address."""
+    def taken(word):
+        match = ADDRESS.fullmatch(word.decode("utf-8"))
+        return f"{match[1]}:{port}".encode() if match else word
+
+    return [taken(word) for word in words]
+
+
+def told_command(run, files):
+    """What is printed, the status, and the file `f`."""
+    told, file = run.told(), run.files.get("f", files.get("f"))
+    if file is None:
+        return told
+    return f"{told} f={file.hex()}" if told else f"f={file.hex()}"
+
+
+def named_files(words):
+    """The files that the options of a command name to be written."""
+    named = set()
+    for option, word in zip(words, words[1:]):
+        name = word.decode("utf-8")
+        if option in (b"--log", b"--snapshot"):
+            named.add(name)
+        if option == b"--snapshots":
+            named |= {f"{name}{view}" for view in range(1, 9)}
+    return named
+
+
+def check_command(program, case, wanted):
+    words, files = read_command(case)
+    if wanted.startswith("net-fault"):
+        with socket.create_server(("127.0.0.1", 0)) as taken:
+            run = program.run(taken_address(words, taken.getsockname()[1]), files)
+    else:
+        run = program.run(words, files)
+    may_change = named_files(words) if run.status == 0 else set()
+    expect_that(set(run.files) <= may_change, "no other file changed", sorted(run.files))
+    if words[:1] == [b"drill"] and run.status == 0:
+        return check_drill(run, wanted)
+    return expect(wanted, told_command(run, files))
+
+
+def check_drill(run, wanted):
+    """The times of a drill are those of the clock; all else of its log is as wanted."""
+    text, _, digits = wanted.partition(" f=")
+    expect(text, run.told())
+    if digits:
+        expect(log_text(read_log(bytes.fromhex(digits))), log_text(read_log(run.files["f"]) or []))
+
+
+def command_cases():
+    def case_of(case, wanted):
+        return Case(case, lambda program: check_command(program, expanded(case), wanted))
+
+    return [case_of(*pair) for pair in read_cases("commands")]
+
+
+# ---------------------------------------------------------------- parts
+
+PARTS = {
+    "scripts": lambda: each("scripts", "scripts", check_script),
+    "logs": lambda: each("logs", "logs", check_log),
+    "programs": lambda: each("programs", "programs", check_program),
+    "worlds": lambda: each("worlds", "worlds", check_world)
+    + each("worlds", "whiteboard", check_world),
+    "snapshots": lambda: each("snapshots", "snapshots", check_snapshot),
+    "resumed": lambda: each("resumed", "resumed", check_resumed),
+    "commands": command_cases,
+}

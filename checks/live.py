@@ -1,0 +1,112 @@
+"""Sessions of `reflect` and several runs of `join`: each view has the world of the log's replay."""
+import re
+import time
+
+from case import Case, expect, expect_that
+from reference import croquet
+from reflector import Reflector, leave_all, reflecting, served_log
+
+SOURCE = b"""class Root{field n;
+init(o){this.n=0;subscribe("s","add","add");this.future(50).tick();}
+tick(){this.n=this.n+1;publish("s","tick",this.n);this.future(50).tick();}
+add(v){this.n=this.n+v;publish("s","added",[v,this.n,random(1000)]);}}"""
+FIRST = b"""watch "s" "added" queued
+watch "s" "tick" once
+wait 300000
+publish "s" "add" 5
+settle
+snap
+wait 900000
+"""
+OTHER = b"""watch "s" "added" queued
+wait 200000
+publish "s" "add" 7
+publish "s" "add" 8
+cut
+settle
+wait 700000
+"""
+LATE = b"""watch "s" "added" queued
+wait 1200000
+cut
+quit
+wait 9000000
+"""
+LAST = re.compile(r"view (\d+) time (\d+) seq (\d+) digest ([0-9a-f]{64})")
+
+
+def start_join(program, reflector, view, script):
+    return program.start(["join", "p", "a", f"localhost:{reflector.port}", str(view), "s"],
+                         {"p": SOURCE, "s": script})
+
+
+def replay(entries, time_):
+    """The world of the reference, with all that models published."""
+    world = croquet.World.first(croquet.read_program(SOURCE), croquet.session_id(b"a", SOURCE))
+    return croquet.replayed(world, entries, time_)
+
+
+def check_view(run, view, entries):
+    """The digest is that of the replay, and so is each event that is shown."""
+    *lines, last = run.text.decode().rstrip("\n").split("\n")
+    match = LAST.fullmatch(last)
+    expect_that(match is not None and run.status == 0, "the line of a view", run.told())
+    number, time_, seq = (int(match[place]) for place in (1, 2, 3))
+    world = replay(entries[:seq], time_)
+    expect((view, croquet.hashlib.sha256(world.snapshot()).hexdigest()), (number, match[4]))
+    published = [f"event {at} {croquet.value_text(scope)} {croquet.value_text(event)} "
+                 f"{croquet.value_text(value)}" for at, scope, event, value in world.published]
+    shown = [line for line in lines if line.startswith("event ")]
+    expect_that(set(shown) <= set(published), "events of the replay",
+                sorted(set(shown) - set(published)))
+    added = [line for line in published if '"added"' in line]
+    return [line for line in added if line not in shown], lines
+
+
+def views_come_to_the_worlds_of_the_replay(program):
+    """One view offers a snapshot, one is cut off and sends again, and one joins late."""
+    with reflecting(program, 6, SOURCE) as reflector:
+        watcher = reflector.view(9)
+        runs = [start_join(program, reflector, 7, FIRST), start_join(program, reflector, 8, OTHER)]
+        watcher.until_tick(1_000_000)
+        late = start_join(program, reflector, 10, LATE)
+        ends = [run.end() for run in [*runs, late]]
+        leave_all(watcher)
+        run = reflector.end()
+    entries = served_log(run, [watcher])
+    expect([5, 7, 8], sorted(croquet.read_payload(entry.payload)[2] for entry in entries
+                             if entry.kind == "event"))
+    hidden, lines = check_view(ends[0], 7, entries)
+    expect(([], True), (hidden, any(line.startswith("snapped ") for line in lines)))
+    _, lines = check_view(ends[1], 8, entries)
+    expect_that("settled 2" in lines, "settled 2", lines)
+    check_view(ends[2], 10, entries)
+
+
+def a_reflector_that_is_killed_ends_its_views(program):
+    """What a view printed before stays, and no log is written."""
+    with reflecting(program, 2, SOURCE) as reflector:
+        watcher = reflector.view(9)
+        run = start_join(program, reflector, 7, b"settle\nwait 600000000\n")
+        watcher.until_entry(2)
+        time.sleep(0.2)
+        reflector.run.kill()
+        told = run.end().told()
+        expect_that(told in ("settled 0 / ended [9]", "settled 0 / net-fault [6]"), "an end", told)
+        expect({}, reflector.end().files)
+
+
+def an_address_that_is_taken_is_a_fault(program):
+    with reflecting(program, 1) as reflector:
+        view = reflector.view(7)
+        view.joined()
+        other = Reflector(program, 1, port=reflector.port)
+        run = other.run.end()
+        expect(("net-fault [6]", {}), (run.told(), run.files))
+        leave_all(view)
+        served_log(reflector.end(), [view])
+
+
+CHECKS = [views_come_to_the_worlds_of_the_replay, a_reflector_that_is_killed_ends_its_views,
+          an_address_that_is_taken_is_a_fault]
+PARTS = {"live": lambda: [Case(check.__name__.replace("_", " "), check) for check in CHECKS]}

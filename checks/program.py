@@ -1,0 +1,123 @@
+"""Runs of a program, each in an empty folder of its own and as nobody."""
+import itertools
+import os
+import pwd
+import shutil
+import signal
+import subprocess
+import tempfile
+from dataclasses import dataclass
+
+from case import Wrong
+
+NUMBERS = itertools.count(1)
+
+
+@dataclass
+class Run:
+    """What came of a run."""
+    status: int
+    text: bytes
+    files: dict  # those that the run made or changed
+
+    def told(self):
+        """The lines, divided by ` / `, and the status in square brackets if it is not 0."""
+        lines = self.text.decode("utf-8", "replace").removesuffix("\n")
+        lines = " / ".join(line.removesuffix("\r") for line in lines.split("\n"))
+        if self.status == 0:
+            return lines
+        return f"{lines} [{self.status}]" if lines else f"[{self.status}]"
+
+
+class Room:
+    """A temporary folder, in which the runs of a program have theirs."""
+
+    def __init__(self):
+        self.path = tempfile.mkdtemp(prefix="croquet-checks-")
+        os.chmod(self.path, 0o755)
+
+    def remove(self):
+        shutil.rmtree(self.path, ignore_errors=True)
+
+
+def nobody():
+    """What makes a process run as nobody, where this one is root."""
+    if os.geteuid() != 0:
+        return {}
+    user = pwd.getpwnam("nobody")
+    return {"user": user.pw_uid, "group": user.pw_gid, "extra_groups": []}
+
+
+class Program:
+    """An executable, of which a copy lies where nobody may run it."""
+
+    def __init__(self, room, source, patience):
+        self.source, self.patience = source, patience
+        self.folder = tempfile.mkdtemp(dir=room.path)
+        os.chmod(self.folder, 0o755)
+        self.copy = os.path.join(self.folder, "croquet")
+        shutil.copyfile(source, self.copy)
+        os.chmod(self.copy, 0o755)
+
+    def start(self, words, files=None):
+        """Starts a run with these words, and with these files in its folder."""
+        return Started(self, words, files or {})
+
+    def run(self, words, files=None):
+        """Runs to the end."""
+        return self.start(words, files).end()
+
+
+class Started:
+    """A run that goes on."""
+
+    def __init__(self, program, words, files):
+        self.given, self.patience = files, program.patience
+        self.folder = os.path.join(program.folder, str(next(NUMBERS)))
+        os.mkdir(self.folder)
+        user = nobody()
+        for name, content in files.items():
+            self.put(name, content, user)
+        if user:
+            os.chown(self.folder, user["user"], user["group"])
+        self.process = subprocess.Popen(
+            [program.copy, *words], cwd=self.folder, env={"PATH": os.environ.get("PATH", "")},
+            stdin=subprocess.DEVNULL, stdout=subprocess.PIPE, stderr=subprocess.PIPE, **user)
+
+    def put(self, name, content, user):
+        path = os.path.join(self.folder, name)
+        with open(path, "wb") as file:
+            file.write(content)
+        if user:
+            os.chown(path, user["user"], user["group"])
+
+    def kill(self):
+        self.process.send_signal(signal.SIGKILL)
+
+    def end(self):
+        """Waits for the end, and looks at what is left."""
+        try:
+            text, faults = self.process.communicate(timeout=self.patience)
+        except subprocess.TimeoutExpired:
+            self.kill()
+            self.process.communicate()
+            raise Wrong("an end", f"none in {self.patience} seconds") from None
+        finally:
+            left = self.left()
+            shutil.rmtree(self.folder, ignore_errors=True)
+        if faults:
+            raise Wrong("nothing on the standard error", faults.decode("utf-8", "replace"))
+        return Run(self.process.returncode, text, left)
+
+    def left(self):
+        """The files that were not given so."""
+        files = {}
+        for name in os.listdir(self.folder):
+            with open(os.path.join(self.folder, name), "rb") as file:
+                content = file.read()
+            if self.given.get(name) != content:
+                files[name] = content
+        for name in self.given:
+            if not os.path.exists(os.path.join(self.folder, name)):
+                files[name] = None
+        return files

@@ -1,0 +1,211 @@
+"""Runs of `reflect`, and views by hand that take part in their sessions."""
+import contextlib
+import os
+import re
+import socket
+import time
+
+import websocket
+from case import Wrong, expect, expect_that
+from reference import croquet, log_text, read_log
+from websocket import BINARY, CLOSE, Wire, frame
+
+EMPTY = b"class Root{init(o){}}"
+LAST_LINE = re.compile(r"entries (\d+) time (\d+)")
+LEAVE, ALIVE = croquet.LEAVE, croquet.ALIVE
+
+
+def free_port():
+    """A port of loopback at which nobody listens."""
+    with socket.socket() as taken:
+        taken.bind(("127.0.0.1", 0))
+        return taken.getsockname()[1]
+
+
+def join_frame(ident, view, want="whole", after=0):
+    wants = {"fresh": b"\0", "whole": b"\1", "after": b"\2" + croquet.number(after, 8)}
+    return croquet.framed(1, ident, croquet.number(view, 4), wants[want])
+
+
+def send_frame(number, payload):
+    return croquet.framed(2, croquet.number(number, 4), croquet.bytes_field(payload))
+
+
+def snap_frame(time_, snapshot):
+    return croquet.framed(3, croquet.number(time_, 8), croquet.bytes_field(snapshot))
+
+
+class Reflector:
+    """A run of `reflect` of a session named `a`."""
+
+    def __init__(self, program, connections, source=EMPTY, port=None):
+        self.ident = croquet.session_id(b"a", source)
+        self.port = port or free_port()
+        self.begun = time.monotonic()
+        self.run = program.start(
+            ["reflect", "p", "a", f"127.0.0.1:{self.port}", "--connections", str(connections),
+             "--log", "f"], {"p": source})
+        self.wires = []
+
+    def connect(self, receive_buffer=None):
+        """A connection, once it listens."""
+        until = time.monotonic() + Wire.patience
+        while True:
+            connection = socket.socket()
+            if receive_buffer:
+                connection.setsockopt(socket.SOL_SOCKET, socket.SO_RCVBUF, receive_buffer)
+            try:
+                connection.connect(("127.0.0.1", self.port))
+                break
+            except ConnectionRefusedError:
+                connection.close()
+                if time.monotonic() > until or self.run.process.poll() is not None:
+                    raise Wrong("a reflector that listens", "none") from None
+                time.sleep(0.01)
+        wire = Wire(connection)
+        self.wires.append(wire)
+        return wire
+
+    def view(self, view, want="whole", after=0, receive_buffer=None):
+        return View(self, view, want, after, receive_buffer)
+
+    def end(self):
+        """What came of it, once all its links have ended."""
+        for wire in self.wires:
+            wire.close()
+        return self.run.end()
+
+
+@contextlib.contextmanager
+def reflecting(program, connections, source=EMPTY):
+    """A reflector that is killed where the check does not come to its end."""
+    reflector = Reflector(program, connections, source)
+    try:
+        yield reflector
+    finally:
+        if reflector.run.process.returncode is None:
+            reflector.run.kill()
+            reflector.end()
+
+
+class View:
+    """A view by hand. What it is told has to be served from one log, in order."""
+
+    def __init__(self, reflector, view, want, after, receive_buffer):
+        self.wire = reflector.connect(receive_buffer)
+        self.entries, self.tick, self.from_, self.number = [], 0, None, 0
+        websocket.ask(self.wire)
+        self.say(join_frame(reflector.ident, view, want, after))
+
+    def say(self, content):
+        self.wire.say(frame(BINARY, content, os.urandom(4)))
+
+    def hear(self):
+        """The name and the fields of the next frame; `close` and its bytes."""
+        final, opcode, mask, content = self.wire.read_frame()
+        expect_that(final and mask is None, "a whole frame without a mask", (final, mask))
+        if opcode == CLOSE:
+            return "close", content
+        expect(BINARY, opcode)
+        try:
+            name, fields = croquet.read_server(content)
+        except croquet.Bad:
+            raise Wrong("a frame of a reflector", content.hex()) from None
+        getattr(self, f"note_{name}", lambda *_: None)(*fields)
+        return name, fields
+
+    def note_sync(self, _joined, _last, from_, _base):
+        expect_that(self.from_ is None, "one sync", "another one")
+        self.from_ = from_
+
+    def note_recv(self, entry):
+        last = self.entries[-1].time if self.entries else 0
+        expect(self.from_ + len(self.entries) + 1, entry.seq)
+        expect_that(entry.time > max(last, self.tick), f"a time above {last} and {self.tick}", entry)
+        self.entries.append(entry)
+
+    def note_tick(self, time_):
+        last = self.entries[-1].time if self.entries else 0
+        expect_that(time_ > self.tick and time_ >= last,
+                    f"a tick above {self.tick} and from {last} on", time_)
+        self.tick = time_
+
+    def until(self, wanted):
+        """The fields of the next frame of this name."""
+        while True:
+            name, fields = self.hear()
+            if name == wanted:
+                return fields
+            expect_that(name in ("recv", "tick", "sync", "alive"), wanted, (name, fields))
+
+    def until_tick(self, time_):
+        """Hears on until the session's time is this or later."""
+        while self.tick < time_:
+            self.hear()
+
+    def until_entry(self, seq):
+        """The entry of this seq, once it came."""
+        while self.from_ is None or self.from_ + len(self.entries) < seq:
+            self.hear()
+        return self.entries[seq - self.from_ - 1]
+
+    def joined(self):
+        """The fields of the sync."""
+        return self.until("sync")
+
+    def send(self, payload, number=None):
+        """Sends an event with the next number, or with this one."""
+        self.number += number is None
+        self.say(send_frame(number or self.number, payload))
+
+    def done(self, payload):
+        """Sends an event, and gives its seq and time once it is acknowledged."""
+        self.send(payload)
+        number, seq, time_ = self.until("done")
+        expect(self.number, number)
+        return seq, time_
+
+    def refused(self):
+        return self.until("refused")
+
+    def ends(self):
+        """Hears to the close, answers it, and has the end behind it."""
+        expect(((1000).to_bytes(2, "big"),), (self.until("close"),))
+        self.wire.say(frame(CLOSE, b"\x03\xe8", bytes(4)))
+        expect(b"", self.wire.read_all())
+        self.wire.close()
+
+
+def leave_all(*views):
+    """All leave, and hear on to the end: a reflector closes its links once all have ended."""
+    for view in views:
+        view.say(LEAVE)
+    for view in views:
+        view.ends()
+
+
+def served_log(run, views):
+    """The entries of the log, which is legal and of which the views were told."""
+    expect(["f"], sorted(run.files))
+    entries = read_log(run.files["f"])
+    expect_that(entries is not None, "a legal log", run.files["f"].hex())
+    match = LAST_LINE.fullmatch(run.text.decode().rstrip("\n").split("\n")[-1])
+    expect_that(match is not None, "the line of a session", run.text)
+    expect(len(entries), int(match[1]))
+    last = entries[-1].time if entries else 0
+    expect_that(int(match[2]) >= last, f"a time from {last} on", match[2])
+    for view in views:
+        from_ = view.from_ or 0
+        expect(entries[from_:from_ + len(view.entries)], view.entries)
+    return entries
+
+
+def expect_words(run, words):
+    """How the connections ended, in order."""
+    lines = run.text.decode().rstrip("\n").split("\n")
+    expect(0, run.status)
+    expect([f"connection {place} {word}" for place, word in enumerate(words)], lines[:-1])
+
+
+def expect_entries(entries, wanted):
+    expect(wanted, " ".join(log_text([entry]) for entry in entries))
