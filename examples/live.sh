@@ -81,7 +81,7 @@ epidemic() {
     join 2 citizen
     finish
     wait "$reflector"
-    # What comes behind the second count hangs on the moment at which the town was closed.
+    # What comes after the second count depends on the moment at which the town was closed.
     tell mayor count "in two seconds" 2
     tell citizen count "in two seconds" 2
 }

@@ -2,9 +2,9 @@
 # Runs the commands that README.md, docs/TUTORIAL.md and examples/README.md show, and compares what is printed. Run it by hand, in any folder, while
 # nothing else listens on the ports 8080 and 8090. It ends with 1 at the first block that prints something else, or in which a command fails.
 #
-# A ```sh block that calls ./croquet, or a script, is run. The ```text block behind it is what its commands print, and they print nothing where there is
-# none. A ```console block has commands for terminals of their own, which run side by side. The ```console block behind it is what the second of them
-# prints, but for times, digests and how many entries it has seen.
+# A ```sh block that calls ./croquet, or a script, is run. The ```text block after it is what its commands print. Where there is none, they print
+# nothing. A ```console block has commands for terminals of their own, which run at the same time. The ```console block after it is what the second of
+# them prints, but for times, digests and how many entries it has seen.
 set -euo pipefail
 top=$(cd "$(dirname "${BASH_SOURCE[0]}")/.." && pwd)
 work=$(mktemp -d)
