@@ -1,6 +1,7 @@
 #!/usr/bin/env bash
-# Counts the instructions of making, taking up and running worlds with many messages, subscriptions, objects and names, of events, and of a turn of a loop:
-# examples/measure.sh [PROGRAM], which is the built program. It needs valgrind, and takes some minutes. docs/PERFORMANCE.md has what it printed.
+# Counts instructions. It makes worlds with many messages, subscriptions, objects and names, takes them up from a snapshot, and runs them. It also
+# counts events, and a turn of a loop.
+# usage: examples/measure.sh [PROGRAM], where PROGRAM is the built program. It needs valgrind, and takes some minutes. docs/PERFORMANCE.md has what it printed.
 set -euo pipefail
 top=$(cd "$(dirname "$(readlink -f "${BASH_SOURCE[0]}")")/.." && pwd)
 croquet=$(readlink -f "${1:-$top/crates/croquet_main/out/croquet}")
@@ -8,7 +9,8 @@ work=$(mktemp -d)
 trap 'rm -rf "$work"' EXIT
 cd "$work"
 
-# A program whose Root does a thing N times, 500 times a message and a millisecond, and then another thing once: N, both, methods, classes.
+# Writes a program. Its Root does one thing N times, 500 times in each message and one message each millisecond. Then it does another thing once.
+# The words are N, the one thing, the other thing, further methods of Root, and further classes.
 program() {
     cat <<END
 class Root {
@@ -42,12 +44,12 @@ $5
 END
 }
 
-# So many messages to come, due in another order than they were sent.
+# N messages to come, which are due in another order than they were sent.
 messages() {
     program "$1" 'this.future(1000000 + this.next * 7919 % 1000).m();' '' '' ''
 }
 
-# So many subscriptions of one object to as many events, of which a thousand are published.
+# N subscriptions of one object to N events, of which a thousand are published.
 topics() {
     program "$1" 'subscribe("s", text(this.next), "h");' 'this.future(1000000).tell();' '
   tell() {
@@ -59,7 +61,7 @@ topics() {
   }' ''
 }
 
-# So many subscriptions to one event, four of each object. It is published once.
+# N subscriptions to one event, four of each object. The event is published once.
 handlers() {
     program $(($1 / 4)) 'create(One, nil);' 'this.future(1000000).tell();' '
   tell() {
@@ -82,7 +84,7 @@ handlers() {
 }'
 }
 
-# So many names of one object, in another order than they rise, of which a thousand are looked up.
+# N names of one object, which do not come in their order. A thousand of them are looked up.
 names() {
     program "$1" 'beKnown(text(this.next * 7919 % 100003));' 'this.future(1000000).look();' '
   look() {
@@ -94,7 +96,7 @@ names() {
   }' ''
 }
 
-# So many objects, of which each sends itself one message.
+# N objects, each of which sends itself one message.
 objects() {
     program "$1" 'create(One, nil);' '' '' 'class One {
   field n;
@@ -108,7 +110,7 @@ objects() {
 }'
 }
 
-# So many messages of a thousand turns each, with 13 steps a turn.
+# One message each millisecond. Each runs a thousand turns of a loop, of 13 steps of fuel each.
 turns() {
     cat <<END
 class Root {
@@ -141,7 +143,7 @@ count() {
     valgrind --tool=callgrind --callgrind-out-file=/dev/null "$croquet" replay "$@" 2>&1 >/dev/null | sed -n 's/.*Collected : //p'
 }
 
-# Making to just before a second, taking up from a snapshot of then, and taking up and running to the end.
+# Measures three replays: making a world up to just before one second, taking it up from a snapshot of that time, and taking it up and running it to the end.
 measure() {
     local made taken ran
     "$1" "$2" >program

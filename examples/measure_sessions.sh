@@ -1,7 +1,8 @@
 #!/usr/bin/env bash
-# Measures `stamp` of many sends, and of many joins and leaves of a thousand views: examples/measure_sessions.sh [PROGRAM], which is the built program.
-# It prints instructions, seconds and the most memory at a time, and the same seconds and memory of stamp.js, a reflector in plain JavaScript, whose
-# text and log have to be the same. It needs valgrind, GNU time and node, and takes some minutes. docs/PERFORMANCE.md has what it printed.
+# Measures `stamp`, with many sends of one view, and with many joins and leaves of a thousand views.
+# usage: examples/measure_sessions.sh [PROGRAM], where PROGRAM is the built program.
+# It prints instructions, seconds and the most memory at a time. It prints the seconds and the memory of stamp.js too, a reflector in plain JavaScript,
+# whose text and log have to be the same. It needs valgrind, GNU time and node, and takes some minutes. docs/PERFORMANCE.md has what it printed.
 set -euo pipefail
 top=$(cd "$(dirname "$(readlink -f "${BASH_SOURCE[0]}")")/.." && pwd)
 croquet=$(readlink -f "${1:-$top/crates/croquet_main/out/croquet}")
@@ -9,7 +10,7 @@ work=$(mktemp -d)
 trap 'rm -rf "$work"' EXIT
 cd "$work"
 
-# A view joins, and sends so many events, each with this payload.
+# A script in which one view joins and sends COUNT events, each with the same payload. The words are COUNT and the payload.
 sends() {
     awk -v count="$1" -v payload="$2" 'BEGIN {
         print "join 7 0"
@@ -17,7 +18,7 @@ sends() {
     }'
 }
 
-# A thousand views join one after the other, and then leave; this is done until there are so many entries.
+# A script in which a thousand views join one after the other, then leave, and so on, until there are COUNT entries.
 visits() {
     awk -v count="$1" 'BEGIN {
         for (seq = 1; seq <= count; seq++) {
@@ -28,7 +29,7 @@ visits() {
     }'
 }
 
-# Seconds and KiB of a command.
+# Prints the seconds and the KiB that a command takes.
 cost() {
     /usr/bin/time -f '%e s, %M KiB' "$@" 2>&1 >/dev/null
 }
@@ -45,7 +46,7 @@ measure() {
     echo "  croquet $(cost "$croquet" stamp script --log log); node $(cost node "$top/examples/stamp.js" script other)"
 }
 
-# The memory of a run without a log less that of one whose sends are all refused: what the session has of the entries.
+# Prints the memory of a run without a log, that of a run whose sends are all refused, and what an entry takes by the difference.
 held() {
     local most least
     sends "$1" "$2" >script
