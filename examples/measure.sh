@@ -4,7 +4,7 @@
 # usage: examples/measure.sh [PROGRAM], where PROGRAM is the built program. It needs valgrind, and takes some minutes. docs/PERFORMANCE.md has what it printed.
 set -euo pipefail
 top=$(cd "$(dirname "$(readlink -f "${BASH_SOURCE[0]}")")/.." && pwd)
-croquet=$(readlink -f "${1:-$top/crates/croquet_main/out/croquet}")
+croquet=$(readlink -f "${1:-$top/release/croquet-x86_64-linux}")
 work=$(mktemp -d)
 trap 'rm -rf "$work"' EXIT
 cd "$work"
