@@ -14,8 +14,7 @@ sys.dont_write_bytecode = True
 import croquet_reference as croquet  # noqa: E402
 
 WORKERS = os.cpu_count() or 1
-# What a hundred lines of a kind take is about alike, but for `worlds`.
-LINES_OF_A_RUN = 60
+FEWEST_LINES = 30
 
 
 def run_reference(kind, lines):
@@ -33,7 +32,8 @@ def run_reference(kind, lines):
 
 def outcomes(kind, lines):
     """What the reference makes of each line, computed in several processes."""
-    parts = [lines[start:start + LINES_OF_A_RUN] for start in range(0, len(lines), LINES_OF_A_RUN)]
+    size = max(FEWEST_LINES, -(-len(lines) // WORKERS))
+    parts = [lines[start:start + size] for start in range(0, len(lines), size)]
     with ThreadPoolExecutor(WORKERS) as pool:
         return [told for part in pool.map(lambda part: run_reference(kind, part), parts)
                 for told in part]

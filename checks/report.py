@@ -1,11 +1,12 @@
 """Runs the cases of a part, and tells what came of them."""
+import sys
 import time
 import traceback
 from concurrent.futures import ThreadPoolExecutor
 
 from case import Wrong
 
-MOST_TOLD = 20
+MOST_TOLD, MOST_NAME = 20, 600
 
 
 def failure_of(case, program):
@@ -19,22 +20,23 @@ def failure_of(case, program):
         return "    " + traceback.format_exc().strip().replace("\n", "\n    ")
 
 
-def tell_failures(part, title, failures):
-    for name, failure in failures[:MOST_TOLD]:
-        name = name if len(name) <= 600 else name[:600] + " ..."
-        print(f"FAILED: {part}, {title}\n    case    {name}\n{failure}")
+def failure_texts(part, title, failures):
+    """What is told of failures."""
+    told = [f"FAILED: {part}, {title}\n    case    {name[:MOST_NAME]}\n{failure}"
+            for name, failure in failures[:MOST_TOLD]]
     if len(failures) > MOST_TOLD:
-        print(f"FAILED: {part}, {title}: and {len(failures) - MOST_TOLD} more cases")
+        told.append(f"FAILED: {part}, {title}: and {len(failures) - MOST_TOLD} more cases")
+    return told
 
 
-def run_cases(part, title, cases, program, workers):
+def run_cases(part, title, cases, program, workers, begun):
     """Runs the cases with this program, tells the failures, and gives whether there is none."""
-    begun = time.monotonic()
     with ThreadPoolExecutor(workers) as pool:
         told = list(pool.map(lambda case: failure_of(case, program), cases))
     failures = [(case.name, failure) for case, failure in zip(cases, told) if failure]
-    tell_failures(part, title, failures)
     seconds = time.monotonic() - begun
     state = "all right" if not failures else f"{len(failures)} WRONG"
-    print(f"{part}, {title}: {len(cases)} cases, {state}, {seconds:.1f} seconds", flush=True)
+    line = f"{part}, {title}: {len(cases)} cases, {state}, {seconds:.1f} seconds\n"
+    sys.stdout.write("\n".join([*failure_texts(part, title, failures), line]))
+    sys.stdout.flush()
     return not failures
