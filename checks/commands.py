@@ -1,5 +1,4 @@
 """Cases that are words, files and output."""
-import functools
 import re
 import socket
 
@@ -13,9 +12,11 @@ def reference_cases(kind, file):
     """The reference gives the outcome of each line."""
     pairs = read_cases(file)
     told = outcomes(kind, [case for case, _ in pairs])
-    return [Case(case, functools.partial(lambda wanted, came, _: expect(wanted, came), wanted, came),
-                 needs_program=False)
-            for (case, wanted), came in zip(pairs, told)]
+
+    def case_of(case, wanted, came):
+        return Case(case, lambda _: expect(wanted, came), needs_program=False)
+
+    return [case_of(*pair, came) for pair, came in zip(pairs, told)]
 
 
 def each(kind, file, check):

@@ -1,10 +1,8 @@
 """Runs of `drill` against `replay` and against the reference."""
-import functools
-
 from case import FOLDER, Case, expect, expect_that
 from reference import croquet, read_log
 
-ROOM = "snap"
+PREFIX = "snap"
 with open(f"{FOLDER}/../examples/drill.program", "rb") as opened:
     SOURCE = opened.read().removesuffix(b"\n")
 
@@ -27,18 +25,19 @@ def own_entries(seed, view, events):
 
 
 def check_drill(program, seed, views, events):
-    run = program.run(["drill", str(seed), str(views), str(events), "--log", "l", "--snapshots", ROOM])
+    words = ["drill", str(seed), str(views), str(events), "--log", "l", "--snapshots", PREFIX]
+    run = program.run(words)
     own = {view: own_entries(seed, view, events) for view in range(1, views + 1)}
     total = sum(sum(numbers_of(seed, view, events)) for view in own)
     count = sum(len(entries) for entries in own.values())
     expect((f"views {views} events {views * events} entries {count} total {total} agree {views}\n", 0),
            (run.text.decode(), run.status))
-    expect(["l", *(f"{ROOM}{view}" for view in own)], sorted(run.files))
+    expect(["l", *(f"{PREFIX}{view}" for view in own)], sorted(run.files))
     entries = read_log(run.files["l"])
     expect_that(entries is not None, "a legal log", run.files["l"][:200].hex())
     for view, wanted in own.items():
         expect(wanted, [(e.kind, e.number, e.payload) for e in entries if e.view == view])
-    snapshots = {run.files[f"{ROOM}{view}"] for view in own}
+    snapshots = {run.files[f"{PREFIX}{view}"] for view in own}
     expect({replayed(program, run.files["l"], entries[-1].time)}, snapshots)
     expect({reference_replay(entries)}, snapshots)
 
@@ -59,9 +58,10 @@ def reference_replay(entries):
 
 
 def drill_cases(drills):
-    return [Case("drill " + " ".join(map(str, drill)),
-                 functools.partial(lambda drill, program: check_drill(program, *drill), drill))
-            for drill in drills]
+    def case_of(drill):
+        return Case(f"drill {drill}", lambda program: check_drill(program, *drill))
+
+    return [case_of(drill) for drill in drills]
 
 
 PARTS = {"drills": lambda: drill_cases([(0, 1, 0), (7, 3, 70), (4_294_967_295, 8, 1), (1, 2, 300)]),

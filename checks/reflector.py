@@ -15,11 +15,12 @@ LAST_LINE = re.compile(r"entries (\d+) time (\d+)")
 LEAVE, ALIVE = croquet.LEAVE, croquet.ALIVE
 
 
-def free_port():
-    """A port of loopback at which nobody listens."""
-    with socket.socket() as taken:
-        taken.bind(("127.0.0.1", 0))
-        return taken.getsockname()[1]
+def hold_port():
+    """A socket that holds a port of loopback, at which it does not listen, and others may."""
+    holder = socket.socket()
+    holder.setsockopt(socket.SOL_SOCKET, socket.SO_REUSEADDR, 1)
+    holder.bind(("127.0.0.1", 0))
+    return holder
 
 
 def join_frame(ident, view, want="whole", after=0):
@@ -40,7 +41,8 @@ class Reflector:
 
     def __init__(self, program, connections, source=EMPTY, port=None):
         self.ident = croquet.session_id(b"a", source)
-        self.port = port or free_port()
+        self.holder = None if port else hold_port()
+        self.port = port or self.holder.getsockname()[1]
         self.begun = time.monotonic()
         self.run = program.start(
             ["reflect", "p", "a", f"127.0.0.1:{self.port}", "--connections", str(connections),
@@ -71,8 +73,8 @@ class Reflector:
 
     def end(self):
         """What came of it, once all its links have ended."""
-        for wire in self.wires:
-            wire.close()
+        for held in [*self.wires, *filter(None, [self.holder])]:
+            held.close()
         return self.run.end()
 
 

@@ -2,7 +2,7 @@
 import time
 
 import websocket
-from case import Case, expect, expect_that
+from case import Case, expect
 from reference import croquet
 from reflector import (LEAVE, Reflector, expect_entries, expect_words, join_frame, leave_all,
                        reflecting, send_frame, served_log)
@@ -261,6 +261,7 @@ def an_address_is_taken_again_at_once(program):
     view.say(LEAVE)
     while view.hear()[0] != "close":
         pass
+    first.holder.close()
     expect(0, first.run.end().status)
     again = Reflector(program, 1, port=first.port)
     other = again.view(8)

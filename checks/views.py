@@ -1,5 +1,4 @@
 """Cases of `join` over sockets: a peer by hand plays the links of a case."""
-import functools
 import re
 import socket
 import threading
@@ -126,8 +125,7 @@ def check_view(program, case, wanted):
 
 def view_cases():
     def case_of(case, wanted):
-        return Case(case, functools.partial(
-            lambda case, wanted, program: check_view(program, expanded(case), wanted), case, wanted))
+        return Case(case, lambda program: check_view(program, expanded(case), wanted))
 
     return reference_cases("views", "views") + [case_of(*pair) for pair in read_cases("views")]
 
