@@ -277,7 +277,7 @@ def a_server_that_does_not_answer_is_given_up(program):
 def a_server_that_does_not_read_is_given_up(program):
     """After 5 seconds in which nothing could be sent."""
     event = b'publish "a" "b" "' + b"x" * 4000 + b'"\n'
-    with hosting(program, event * 500 + b"settle\n", receive_buffer=4096) as host:
+    with hosting(program, event * 3000 + b"settle\n", receive_buffer=4096) as host:
         wire = host.greet()
         wire.say(binary(SYNC))
         expect_run(host.end(), "net-fault", 6)

@@ -1,4 +1,4 @@
-"""Runs of a program, each in an empty folder of its own and as nobody."""
+"""Runs of a program, each in an empty folder of its own."""
 import itertools
 import os
 import pwd
@@ -36,16 +36,23 @@ class Room:
         self.path = tempfile.mkdtemp(prefix="croquet-checks-")
         os.chmod(self.path, 0o755)
 
+    def become_nobody(self):
+        """Root gives the room to nobody, and is nobody from then on.
+
+        A child that changes its user costs a copy of this process, and a child of nobody does not.
+        """
+        if os.geteuid() != 0:
+            return
+        user = pwd.getpwnam("nobody")
+        for folder, _, files in os.walk(self.path):
+            for path in [folder, *(os.path.join(folder, file) for file in files)]:
+                os.chown(path, user.pw_uid, user.pw_gid)
+        os.setgroups([])
+        os.setgid(user.pw_gid)
+        os.setuid(user.pw_uid)
+
     def remove(self):
         shutil.rmtree(self.path, ignore_errors=True)
-
-
-def nobody():
-    """What makes a process run as nobody, where this one is root."""
-    if os.geteuid() != 0:
-        return {}
-    user = pwd.getpwnam("nobody")
-    return {"user": user.pw_uid, "group": user.pw_gid, "extra_groups": []}
 
 
 class Program:
@@ -75,21 +82,12 @@ class Started:
         self.given, self.patience = files, program.patience
         self.folder = os.path.join(program.folder, str(next(NUMBERS)))
         os.mkdir(self.folder)
-        user = nobody()
         for name, content in files.items():
-            self.put(name, content, user)
-        if user:
-            os.chown(self.folder, user["user"], user["group"])
+            with open(os.path.join(self.folder, name), "wb") as file:
+                file.write(content)
         self.process = subprocess.Popen(
             [program.copy, *words], cwd=self.folder, env={"PATH": os.environ.get("PATH", "")},
-            stdin=subprocess.DEVNULL, stdout=subprocess.PIPE, stderr=subprocess.PIPE, **user)
-
-    def put(self, name, content, user):
-        path = os.path.join(self.folder, name)
-        with open(path, "wb") as file:
-            file.write(content)
-        if user:
-            os.chown(path, user["user"], user["group"])
+            stdin=subprocess.DEVNULL, stdout=subprocess.PIPE, stderr=subprocess.PIPE)
 
     def kill(self):
         self.process.send_signal(signal.SIGKILL)
