@@ -7,15 +7,32 @@ example=${1:-}
 address=localhost:${2:-8080}
 program=$top/examples/$example.program
 work=$(mktemp -d)
-trap 'rm -rf "$work"' EXIT
 
-# Starts the reflector of so many connections. The program is built before anything waits for it.
+# Ends with a status, and keeps what was printed.
+fail() {
+    echo "live: $2; what was printed is in $work" >&2
+    [ -z "${reflector:-}" ] || kill "$reflector" 2>/dev/null || true
+    exit "$1"
+}
+
+# Whether somebody listens at the port. To connect would use up a connection of the reflector.
+is_listening() {
+    awk -v port="$(printf ':%04X$' "${address#*:}")" '$4 == "0A" && $2 ~ port { found = 1 } END { exit !found }' /proc/net/tcp
+}
+
+# Starts the reflector of so many connections, and waits until it listens. The program is built before anything waits for it.
 reflect() {
-    "$top/croquet" check "$program" >/dev/null
+    local tries
+    "$top/croquet" check "$program" >/dev/null || fail 1 "the program does not run"
+    ! is_listening || fail 6 "$address is taken"
     "$top/croquet" reflect "$program" "$example" "$address" --connections "$1" --log "$work/log" >"$work/reflect" &
     reflector=$!
-    sleep 1
-    kill -0 "$reflector" 2>/dev/null || { echo "live: $address: $(cat "$work/reflect")" >&2; exit 6; }
+    for tries in {1..300}; do
+        kill -0 "$reflector" 2>/dev/null || fail 6 "the reflector ended: $(cat "$work/reflect")"
+        ! is_listening || return 0
+        sleep 0.1
+    done
+    fail 6 "the reflector does not listen at $address"
 }
 
 # Starts a view: its number and its name, by which its script and what it prints are named.
@@ -27,21 +44,21 @@ join() {
 # Waits for the views, or for all that runs.
 finish() {
     local process
-    for process in "${views[@]}"; do wait "$process"; done
+    for process in "${views[@]}"; do wait "$process" || fail 1 "a view ended with status $?"; done
     views=()
 }
 
 # Compares the last line of a view, `view V time N seq SEQ digest HEX`, with the replay to its time.
 compare() {
-    read -r _ _ _ time _ _ _ digest < <(tail -n 1 "$work/$1")
+    read -r _ _ _ time _ _ _ digest < <(tail -n 1 "$work/$1") || fail 1 "$1 printed nothing"
     "$top/croquet" replay "$program" "$example" "$work/log" "$time" >"$work/replay"
-    grep -q " digest $digest\$" "$work/replay" || { echo "live: the replay differs from what $1 has" >&2; exit 1; }
+    grep -q " digest $digest\$" "$work/replay" || fail 1 "the replay differs from what $1 has"
 }
 
 # Prints the values of the events of a name that a view saw, and compares it with the replay.
 tell() {
     local seen
-    seen=$(grep -o "\"$2\" .*" "$work/$1" | cut -d ' ' -f 2 | head -n "${4:-100}" | tr '\n' ' ')
+    seen=$(grep -o "\"$2\" .*" "$work/$1" | cut -d ' ' -f 2 | head -n "${4:-100}" | tr '\n' ' ') || fail 1 "$1 saw no event \"$2\""
     compare "$1"
     echo "$1 sees $seen$3, and has the digest of the replay"
 }
@@ -60,7 +77,7 @@ whiteboard() {
     compare carol
     local carol=$digest
     compare dave
-    [ "$carol" = "$digest" ] || { echo "live: carol and dave have two digests" >&2; exit 1; }
+    [ "$carol" = "$digest" ] || fail 1 "carol and dave have two digests"
     echo "carol and dave have one digest, which is that of the replay"
 }
 
@@ -88,7 +105,10 @@ epidemic() {
 
 views=()
 case $example in
-whiteboard | pong | epidemic) "$example" ;;
+whiteboard | pong | epidemic)
+    "$example"
+    rm -rf "$work"
+    ;;
 *)
     echo "usage: examples/live.sh whiteboard|pong|epidemic [PORT]" >&2
     exit 1
