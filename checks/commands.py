@@ -22,7 +22,8 @@ def reference_cases(kind, file):
 def each(kind, file, check):
     """A case for each line of a file, by a check of a program, the case's bytes and the outcome."""
     def case_of(case, wanted):
-        return Case(case, lambda program: check(program, expanded(case), wanted))
+        content = expanded(case)
+        return Case(case, lambda program: check(program, content, wanted))
 
     return reference_cases(kind, file) + [case_of(*pair) for pair in read_cases(file)]
 
@@ -184,7 +185,8 @@ def check_drill(run, wanted):
 
 def command_cases():
     def case_of(case, wanted):
-        return Case(case, lambda program: check_command(program, expanded(case), wanted))
+        content = expanded(case)
+        return Case(case, lambda program: check_command(program, content, wanted))
 
     return [case_of(*pair) for pair in read_cases("commands")]
 

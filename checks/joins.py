@@ -191,7 +191,7 @@ def a_peer_that_does_not_end_is_left(program):
         is_close(wire, 1000)
         begun = time.monotonic()
         run = host.end()
-        expect_that(time.monotonic() - begun < 5, "an end after a second", "one after 5 seconds")
+        expect_that(time.monotonic() - begun < 10, "an end after a second", "one after 10 seconds")
         expect(0, run.status)
 
 
@@ -277,7 +277,7 @@ def a_server_that_does_not_answer_is_given_up(program):
 def a_server_that_does_not_read_is_given_up(program):
     """After 5 seconds in which nothing could be sent."""
     event = b'publish "a" "b" "' + b"x" * 4000 + b'"\n'
-    with hosting(program, event * 3000 + b"settle\n", receive_buffer=4096) as host:
+    with hosting(program, event * 2500 + b"settle\n", receive_buffer=4096) as host:
         wire = host.greet()
         wire.say(binary(SYNC))
         expect_run(host.end(), "net-fault", 6)

@@ -39,8 +39,9 @@ def first_worlds(file, program_of):
     wanted = outcomes("snapshots", [f"a 0 - | {source}" for source in sources])
 
     def case_of(name, source, snapshot):
+        content = expanded(source)
         return Case(name, lambda program: expect(
-            snapshot, told_snapshot(replay(program, expanded(source)))))
+            snapshot, told_snapshot(replay(program, content))))
 
     return [case_of(*parts) for parts in zip(names, sources, wanted)]
 
@@ -119,7 +120,8 @@ def text_behind(wanted):
 def lines(file, check, is_seen=lambda case, outcome: True):
     """A case for each line that the program can show."""
     def case_of(case, wanted):
-        return Case(case, lambda program: check(program, expanded(case), wanted))
+        content = expanded(case)
+        return Case(case, lambda program: check(program, content, wanted))
 
     return [case_of(case, wanted) for case, wanted in read_cases(file)
             if is_seen(expanded(case), wanted)]

@@ -134,22 +134,32 @@ class View:
 
     def until(self, wanted):
         """The fields of the next frame of this name."""
-        while True:
+        name = None
+        for _ in self.waiting(lambda: name == wanted, wanted):
             name, fields = self.hear()
-            if name == wanted:
-                return fields
-            expect_that(name in ("recv", "tick", "sync", "alive"), wanted, (name, fields))
+            expect_that(name in (wanted, "recv", "tick", "sync", "alive"), wanted, (name, fields))
+        return fields
 
     def until_tick(self, time_):
         """Hears on until the session's time is this or later."""
-        while self.tick < time_:
+        for _ in self.waiting(lambda: self.tick >= time_, f"a tick of {time_}"):
             self.hear()
 
     def until_entry(self, seq):
         """The entry of this seq, once it came."""
-        while self.from_ is None or self.from_ + len(self.entries) < seq:
+        for _ in self.waiting(lambda: self.from_ is not None
+                              and self.from_ + len(self.entries) >= seq, f"entry {seq}"):
             self.hear()
         return self.entries[seq - self.from_ - 1]
+
+    @staticmethod
+    def waiting(has_come, wanted):
+        """Goes on until it has come. Ticks may come without end, so that takes its time at most."""
+        last = time.monotonic() + Wire.patience
+        while not has_come():
+            if time.monotonic() > last:
+                raise Wrong(wanted, f"none in {Wire.patience} seconds")
+            yield
 
     def joined(self):
         """The fields of the sync."""

@@ -243,7 +243,8 @@ def a_peer_that_does_not_read_is_a_fault_of_its_link(program):
             for _ in numbers:
                 view.send(b"x" * 4096)
             expect(numbers, [view.until("done")[0] for _ in numbers])
-        while not any((entry.kind, entry.view) == ("exit", 7) for entry in view.entries):
+        for _ in view.waiting(lambda: ("exit", 7) in [(e.kind, e.view) for e in view.entries],
+                              "an exit of the deaf view"):
             view.hear()
         leave_all(view)
         run = reflector.end()
@@ -259,8 +260,7 @@ def an_address_is_taken_again_at_once(program):
     first = Reflector(program, 1)
     view = first.view(7)
     view.say(LEAVE)
-    while view.hear()[0] != "close":
-        pass
+    view.until("close")
     first.holder.close()
     expect(0, first.run.end().status)
     again = Reflector(program, 1, port=first.port)

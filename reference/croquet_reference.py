@@ -2513,6 +2513,8 @@ def replaced(case):
             return bytes.fromhex(text.decode())
         if kind == b"t":
             return text_field(text.decode("utf-8")).hex().encode()
+        if b"#" not in text:
+            return text * int(kind)
         return b"".join(text.replace(b"#", str(k).encode()) for k in range(1, int(kind) + 1))
 
     return re.sub(rb"<<([0-9]+|x|t):(.*?)>>", one, case, flags=re.DOTALL)
