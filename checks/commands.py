@@ -22,8 +22,7 @@ def reference_cases(kind, file):
 def each(kind, file, check):
     """A case for each line of a file, by a check of a program, the case's bytes and the outcome."""
     def case_of(case, wanted):
-        content = expanded(case)
-        return Case(case, lambda program: check(program, content, wanted))
+        return Case(case, lambda program: check(program, expanded(case), wanted))
 
     return reference_cases(kind, file) + [case_of(*pair) for pair in read_cases(file)]
 
@@ -185,8 +184,7 @@ def check_drill(run, wanted):
 
 def command_cases():
     def case_of(case, wanted):
-        content = expanded(case)
-        return Case(case, lambda program: check_command(program, content, wanted))
+        return Case(case, lambda program: check_command(program, expanded(case), wanted))
 
     return [case_of(*pair) for pair in read_cases("commands")]
 

@@ -39,9 +39,8 @@ def first_worlds(file, program_of):
     wanted = outcomes("snapshots", [f"a 0 - | {source}" for source in sources])
 
     def case_of(name, source, snapshot):
-        content = expanded(source)
         return Case(name, lambda program: expect(
-            snapshot, told_snapshot(replay(program, content))))
+            snapshot, told_snapshot(replay(program, expanded(source)))))
 
     return [case_of(*parts) for parts in zip(names, sources, wanted)]
 
@@ -120,8 +119,7 @@ def text_behind(wanted):
 def lines(file, check, is_seen=lambda case, outcome: True):
     """A case for each line that the program can show."""
     def case_of(case, wanted):
-        content = expanded(case)
-        return Case(case, lambda program: check(program, content, wanted))
+        return Case(case, lambda program: check(program, expanded(case), wanted))
 
     return [case_of(case, wanted) for case, wanted in read_cases(file)
             if is_seen(expanded(case), wanted)]

@@ -324,8 +324,7 @@ def check_no_reflector(program, case, wanted):
 def reflector_cases():
     def case_of(case, wanted):
         check = check_no_reflector if " | address " in case else check_reflector
-        content = expanded(case)
-        return Case(case, lambda program: check(program, content, wanted))
+        return Case(case, lambda program: check(program, expanded(case), wanted))
 
     return [case_of(case, wanted) for case, wanted in read_cases("reflectors")]
 

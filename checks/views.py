@@ -125,8 +125,7 @@ def check_view(program, case, wanted):
 
 def view_cases():
     def case_of(case, wanted):
-        content = expanded(case)
-        return Case(case, lambda program: check_view(program, content, wanted))
+        return Case(case, lambda program: check_view(program, expanded(case), wanted))
 
     return reference_cases("views", "views") + [case_of(*pair) for pair in read_cases("views")]
 
