@@ -29,7 +29,11 @@ reflect() {
     reflector=$!
     for tries in {1..300}; do
         kill -0 "$reflector" 2>/dev/null || fail 6 "the reflector ended: $(cat "$work/reflect")"
-        ! is_listening || return 0
+        if is_listening; then
+            # How many points a game of pong has depends on when it begins: the pages show one that begins so late.
+            sleep 1.1
+            return
+        fi
         sleep 0.1
     done
     fail 6 "the reflector does not listen at $address"
