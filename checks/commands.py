@@ -132,12 +132,11 @@ def read_command(case):
 
 
 def taken_address(words, port):
-    """The words with this port in place of that of an address."""
-    def taken(word):
-        match = ADDRESS.fullmatch(word.decode("utf-8"))
-        return f"{match[1]}:{port}".encode() if match else word
-
-    return [taken(word) for word in words]
+    """The words with this port in place of that of their address, and that address."""
+    (place, match), = [(place, match) for place, match in
+                       enumerate(ADDRESS.fullmatch(word.decode("utf-8")) for word in words) if match]
+    address = f"{match[1]}:{port}"
+    return [*words[:place], address.encode(), *words[place + 1:]], address
 
 
 def told_command(run, files):
@@ -164,7 +163,8 @@ def check_command(program, case, wanted):
     words, files = read_command(case)
     if wanted.startswith("net-fault"):
         with socket.create_server(("127.0.0.1", 0)) as taken:
-            run = program.run(taken_address(words, taken.getsockname()[1]), files)
+            words, address = taken_address(words, taken.getsockname()[1])
+            run = program.run(words, files, f"cannot listen at {address}: the port is in use\n".encode())
     else:
         run = program.run(words, files)
     may_change = named_files(words) if run.status == 0 else set()

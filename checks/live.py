@@ -101,6 +101,7 @@ def an_address_that_is_taken_is_a_fault(program):
         view = reflector.view(7)
         view.joined()
         other = Reflector(program, 1, port=reflector.port)
+        other.run.errors = f"cannot listen at {other.address}: the port is in use\n".encode()
         run = other.run.end()
         expect(("net-fault [6]", {}), (run.told(), run.files))
         leave_all(view)

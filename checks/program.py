@@ -1,4 +1,5 @@
 """Runs of a program, each in an empty folder of its own."""
+import copy
 import itertools
 import os
 import pwd
@@ -56,46 +57,54 @@ class Room:
 
 
 class Program:
-    """An executable, of which a copy lies where nobody may run it."""
+    """An executable, of which a copy lies where nobody may run it. A launcher runs it, where there is one."""
 
     def __init__(self, room, source, patience):
-        self.source, self.patience = source, patience
+        self.source, self.patience, self.launcher = source, patience, []
         self.folder = tempfile.mkdtemp(dir=room.path)
         os.chmod(self.folder, 0o755)
-        self.copy = os.path.join(self.folder, "croquet")
-        shutil.copyfile(source, self.copy)
-        os.chmod(self.copy, 0o755)
+        self.path = os.path.join(self.folder, "croquet")
+        shutil.copyfile(source, self.path)
+        os.chmod(self.path, 0o755)
 
-    def start(self, words, files=None):
-        """Starts a run with these words, and with these files in its folder."""
-        return Started(self, words, files or {})
+    def start(self, words, files=None, errors=b""):
+        """Starts a run with these words, and with these files in its folder. It has to write these errors."""
+        return Started(self, words, files or {}, errors)
 
-    def run(self, words, files=None):
+    def run(self, words, files=None, errors=b""):
         """Runs to the end."""
-        return self.start(words, files).end()
+        return self.start(words, files, errors).end()
+
+    def launched_by(self, *launcher):
+        """The same program, run by these words."""
+        other = copy.copy(self)
+        other.launcher = launcher
+        return other
 
 
 class Started:
     """A run that goes on."""
 
-    def __init__(self, program, words, files):
-        self.given, self.patience = files, program.patience
+    def __init__(self, program, words, files, errors):
+        self.given, self.errors, self.patience = files, errors, program.patience
         self.folder = os.path.join(program.folder, str(next(NUMBERS)))
         os.mkdir(self.folder)
         for name, content in files.items():
             with open(os.path.join(self.folder, name), "wb") as file:
                 file.write(content)
         self.process = subprocess.Popen(
-            [program.copy, *words], cwd=self.folder, env={"PATH": os.environ.get("PATH", "")},
+            [*program.launcher, program.path, *words], cwd=self.folder, env={"PATH": os.environ.get("PATH", "")},
             stdin=subprocess.DEVNULL, stdout=subprocess.PIPE, stderr=subprocess.PIPE)
 
     def kill(self):
+        """Ends it, whatever it has written on the standard error."""
+        self.errors = None
         self.process.send_signal(signal.SIGKILL)
 
     def end(self):
         """Waits for the end, and looks at what is left."""
         try:
-            text, faults = self.process.communicate(timeout=self.patience)
+            text, errors = self.process.communicate(timeout=self.patience)
         except subprocess.TimeoutExpired:
             self.kill()
             self.process.communicate()
@@ -103,8 +112,8 @@ class Started:
         finally:
             left = self.left()
             shutil.rmtree(self.folder, ignore_errors=True)
-        if faults:
-            raise Wrong("nothing on the standard error", faults.decode("utf-8", "replace"))
+        if self.errors not in (None, errors):
+            raise Wrong(f"{self.errors!r} on the standard error", errors.decode("utf-8", "replace"))
         return Run(self.process.returncode, text, left)
 
     def left(self):

@@ -8,11 +8,13 @@ import time
 import websocket
 from case import Wrong, expect, expect_that
 from reference import croquet, log_text, read_log
-from websocket import BINARY, CLOSE, Wire, frame
+from websocket import BINARY, CLOSE, PING, PONG, Wire, frame
 
 EMPTY = b"class Root{init(o){}}"
 LAST_LINE = re.compile(r"entries (\d+) time (\d+)")
 LEAVE, ALIVE = croquet.LEAVE, croquet.ALIVE
+# Frames that may come at any time.
+EXPECTED = ("recv", "tick", "sync", "alive", "ping")
 
 
 def hold_port():
@@ -43,10 +45,10 @@ class Reflector:
         self.ident = croquet.session_id(b"a", source)
         self.holder = None if port else hold_port()
         self.port = port or self.holder.getsockname()[1]
-        self.begun = time.monotonic()
+        self.begun, self.address = time.monotonic(), f"127.0.0.1:{self.port}"
         self.run = program.start(
-            ["reflect", "p", "a", f"127.0.0.1:{self.port}", "--connections", str(connections),
-             "--log", "f"], {"p": source})
+            ["reflect", "p", "a", self.address, "--connections", str(connections), "--log", "f"],
+            {"p": source}, f"listening at {self.address}, session {self.ident.hex()}\n".encode())
         self.wires = []
 
     def connect(self, receive_buffer=None):
@@ -103,9 +105,12 @@ class View:
         self.wire.say(frame(BINARY, content, os.urandom(4)))
 
     def hear(self):
-        """The name and the fields of the next frame; `close` and its bytes."""
+        """The name and the fields of the next frame; `close` and its bytes. A ping is answered."""
         final, opcode, mask, content = self.wire.read_frame()
         expect_that(final and mask is None, "a whole frame without a mask", (final, mask))
+        if opcode == PING:
+            self.wire.say(frame(PONG, content, os.urandom(4)))
+            return "ping", (content,)
         if opcode == CLOSE:
             return "close", content
         expect(BINARY, opcode)
@@ -137,7 +142,7 @@ class View:
         name = None
         for _ in self.waiting(lambda: name == wanted, wanted):
             name, fields = self.hear()
-            expect_that(name in (wanted, "recv", "tick", "sync", "alive"), wanted, (name, fields))
+            expect_that(name in (wanted, *EXPECTED), wanted, (name, fields))
         return fields
 
     def until_tick(self, time_):

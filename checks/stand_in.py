@@ -2,6 +2,7 @@
 
 Wrong programs are this one with one thing changed, so that it can be seen what finds them.
 """
+import os
 import sys
 import threading
 
@@ -75,16 +76,50 @@ def read_file(name, kind):
 
 
 def write_file(name, content):
+    """Puts a file whole or not at all, where it is a plain one, or none, and its folder takes another."""
     try:
-        with open(name, "wb") as file:
-            file.write(content)
+        if os.path.lexists(name) and (os.path.islink(name) or not os.path.isfile(name)):
+            return write_over(name, content)
+        try:
+            return replace(name, content)
+        except PermissionError:
+            return write_over(name, content)
     except OSError:
         raise croquet.Ended("write-fault", 5) from None
+
+
+def write_over(name, content):
+    with open(name, "wb") as file:
+        file.write(content)
+
+
+def replace(name, content):
+    """Writes a file beside the name, and moves it there."""
+    for number in range(100):
+        new = f"{name}.{number}.new"
+        try:
+            file = open(new, "xb")
+        except FileExistsError:
+            continue
+        try:
+            with file:
+                file.write(content)
+            return os.replace(new, name)
+        except OSError:
+            os.remove(new)
+            raise
+    raise OSError("all names are in use")
 
 
 def say(line):
     sys.stdout.buffer.write(line.encode() + b"\n")
     sys.stdout.buffer.flush()
+
+
+def tell(line):
+    """Writes a line on the standard error."""
+    sys.stderr.write(line + "\n")
+    sys.stderr.flush()
 
 
 class Output:
@@ -388,7 +423,9 @@ def reflect(plain, options):
     try:
         listener = links.listen(links.socket_address(plain[2]))
     except OSError:
+        tell(f"cannot listen at {plain[2]}: the port is in use")
         raise croquet.Ended("net-fault", 6) from None
+    tell(f"listening at {plain[2]}, session {shared.ident.hex()}")
     threads = []
     for place in range(count):
         accepted.append(links.accept(listener))

@@ -1,6 +1,7 @@
-"""The links of the program that stands in for `croquet`: WebSockets that are heard for 10 milliseconds."""
+"""The links of the program that stands in for `croquet`: WebSockets whose receives are woken by news."""
 import base64
 import os
+import select
 import socket
 import struct
 import time
@@ -10,8 +11,11 @@ from case import Wrong
 from websocket import BINARY, CLOSE, PING, PONG, frame, masked
 
 LONGEST = 8_388_608
-RECEIVE_SECONDS, SEND_SECONDS, CLOSE_SECONDS = 0.01, 5, 1
+ACCEPTED_SECONDS, MADE_SECONDS, PART_SECONDS = 0.05, 0.01, 1
+SEND_SECONDS, CLOSE_SECONDS, PING_SECONDS, NEWS_GAP = 5, 1, 15, 0.004
+ALIVE = b"\x05"
 BEGUN = time.monotonic()
+ACCEPTED = []  # all links that were accepted
 
 
 class Failed(Exception):
@@ -42,7 +46,18 @@ def listen(address):
 
 
 def accept(listener):
-    return Link(listener.accept()[0], is_client=False)
+    link = Link(listener.accept()[0], is_client=False)
+    ACCEPTED.append(link)
+    return link
+
+
+def wake(links):
+    """Ends the receives of links, those that go on or their next ones."""
+    for link in links:
+        try:
+            link.waker.send(b"n")
+        except OSError:  # It is woken already, or closed.
+            pass
 
 
 class Link:
@@ -52,20 +67,23 @@ class Link:
         self.socket, self.is_client = connection, is_client
         self.socket.setsockopt(socket.IPPROTO_TCP, socket.TCP_NODELAY, 1)
         self.held, self.parts, self.last, self.is_open = bytearray(), None, None, False
-        self.has_closed = False
+        self.has_closed = self.has_part = self.owes_news = False
+        self.silent, self.woken = None, 0
+        self.news, self.waker = socket.socketpair()
+        self.news.setblocking(False)
+        self.waker.setblocking(False)
         self.key = base64.b64encode(os.urandom(16))
         if is_client:
             self.put(websocket.request_of(self.key))
 
     # -- bytes
 
-    def read(self):
-        """Reads what has come; whether there was anything."""
-        self.socket.settimeout(RECEIVE_SECONDS)
+    def read(self, seconds=MADE_SECONDS, news=()):
+        """Reads what comes within these seconds, or until news; whether there was anything."""
+        if self.socket not in select.select([self.socket, *news], [], [], max(0, seconds))[0]:
+            return False
         try:
             piece = self.socket.recv(262_144)
-        except TimeoutError:
-            return False
         except OSError:
             raise Failed() from None
         if not piece:
@@ -74,9 +92,17 @@ class Link:
         return True
 
     def put(self, content):
-        self.socket.settimeout(SEND_SECONDS)
+        """Writes bytes; fails where none is taken for 5 seconds."""
+        self.socket.setblocking(False)
+        rest, since = memoryview(content), time.monotonic()
         try:
-            self.socket.sendall(content)
+            while rest:
+                try:
+                    rest, since = rest[self.socket.send(rest):], time.monotonic()
+                except BlockingIOError:
+                    if time.monotonic() - since > SEND_SECONDS:
+                        raise Failed() from None
+                    select.select([], [self.socket], [], 0.05)
         except OSError:
             raise Failed() from None
 
@@ -97,18 +123,41 @@ class Link:
             self.end(end, 1000)
 
     def heard(self):
+        begun, self.has_part = time.monotonic(), False
         while True:
             if not self.is_open and not self.shake():
                 return None
-            if self.is_open:
-                said = self.next_frame()
-                if said is not None:
-                    message = self.take(*said)
-                    if message is not None:
-                        return message
-                    continue
-            if not self.read():
-                return None
+            said = self.next_frame()
+            if said is not None:
+                message = self.take(*said)
+                if message is not None:
+                    return message
+            elif not self.wait(begun):
+                return self.quiet()
+
+    def wait(self, begun):
+        """Waits for bytes of a message; whether some came before the time of the receive, or news, ended that."""
+        if self.has_part:
+            return self.read(begun + PART_SECONDS - time.monotonic())
+        if self.is_client:
+            self.has_part = self.read(begun + MADE_SECONDS - time.monotonic())
+            return self.has_part
+        gap = self.woken + NEWS_GAP - time.monotonic()
+        self.has_part = self.read(min(gap, ACCEPTED_SECONDS)) if gap > 0 else False
+        self.has_part = self.has_part or self.read(begun + ACCEPTED_SECONDS - time.monotonic(), [self.news])
+        return self.has_part
+
+    def quiet(self):
+        """Takes the news, and sends a ping to who has said something, and nothing for 15 seconds."""
+        try:
+            self.news.recv(4_096)
+            self.woken = time.monotonic()
+        except OSError:  # There was none.
+            pass
+        if self.silent is not None and not self.is_client and time.monotonic() - self.silent > PING_SECONDS:
+            self.silent = time.monotonic()
+            self.put_frame(PING, b"")
+        return None
 
     def send(self, content):
         until = time.monotonic() + SEND_SECONDS
@@ -120,6 +169,9 @@ class Link:
                     self.read()
             if self.last is not None:
                 raise Failed()
+            if self.owes_news:
+                self.owes_news = False
+                wake(ACCEPTED)
             self.put_frame(BINARY, content)
         except (Failed, LinkEnd):
             self.end(Failed(), 1002)
@@ -190,17 +242,25 @@ class Link:
 
     def take(self, final, opcode, content):
         """The message that a frame completes."""
-        if opcode == PING:
-            return self.put_frame(PONG, content)
-        if opcode == PONG:
-            return None
+        if opcode in (PING, PONG):
+            if opcode == PING:
+                self.put_frame(PONG, content)
+            return self.sign_of_life()
         if opcode == CLOSE:
             raise LinkEnd()
         self.parts = (self.parts or b"") + content
         if not final:
             return None
         message, self.parts = self.parts, None
+        self.silent, self.owes_news = time.monotonic(), True
         return message
+
+    def sign_of_life(self):
+        """What a ping or a pong is told as, of who has sent a frame to a link that was accepted."""
+        if self.silent is None or self.is_client:
+            return None
+        self.silent = time.monotonic()
+        return ALIVE
 
 
 def close_all(links):

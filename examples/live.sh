@@ -15,21 +15,15 @@ fail() {
     exit "$1"
 }
 
-# Whether somebody listens at the port. To connect would use up a connection of the reflector.
-is_listening() {
-    awk -v port="$(printf ':%04X$' "${address#*:}")" '$4 == "0A" && $2 ~ port { found = 1 } END { exit !found }' /proc/net/tcp
-}
-
-# Starts the reflector of so many connections, and waits until it listens. The program is built before anything waits for it.
+# Starts the reflector of so many connections, and waits until it says that it listens. The program is built before anything waits for it.
 reflect() {
     local tries
     "$top/croquet" check "$program" >/dev/null || fail 1 "the program does not run"
-    ! is_listening || fail 6 "$address is taken"
-    "$top/croquet" reflect "$program" "$example" "$address" --connections "$1" --log "$work/log" >"$work/reflect" &
+    "$top/croquet" reflect "$program" "$example" "$address" --connections "$1" --log "$work/log" >"$work/reflect" 2>"$work/told" &
     reflector=$!
     for tries in {1..300}; do
-        kill -0 "$reflector" 2>/dev/null || fail 6 "the reflector ended: $(cat "$work/reflect")"
-        if is_listening; then
+        kill -0 "$reflector" 2>/dev/null || fail 6 "the reflector ended: $(cat "$work/told" "$work/reflect")"
+        if grep -q '^listening' "$work/told"; then
             # How many points a game of pong has depends on when it begins: the pages show one that begins so late.
             sleep 1.1
             return

@@ -2,9 +2,13 @@
 //! over WebSockets.
 #![tactic(auto)]
 
+mod served;
 mod system;
+mod told_net;
 
+use crate::served::Served;
 use crate::system::{Output, SystemClock, SystemFiles, given_words};
+use crate::told_net::ToldNet;
 use croquet::{croquet, tell_want_of_memory};
 use std::process::ExitCode;
 use tea_base::WantOfMemory;
@@ -12,25 +16,24 @@ use tea_io::OpenGate;
 use ws_link::WsNet;
 
 fn main(rt: HostRuntime) -> ExitCode {
-    let mut files = SystemFiles::new(&rt);
-    let clock = SystemClock::new(&rt);
-    let net = WsNet::new(rt.alloc(), rt);
     let mut out = Output::new(&rt);
-    let status = match given_words(&rt) {
-        Ok(words) => {
-            let (_net, status) = croquet(
-                &rt,
-                rt.alloc(),
-                &words,
-                &mut files,
-                &clock,
-                net,
-                &OpenGate,
-                &mut out,
-            );
-            status
-        }
-        Err(WantOfMemory) => tell_want_of_memory(&mut out),
+    let words = match given_words(&rt) {
+        Ok(words) => words,
+        Err(WantOfMemory) => return ExitCode::from(tell_want_of_memory(&mut out).number()),
     };
+    let served = Served::of(rt.alloc(), &words);
+    let mut files = SystemFiles::new(&rt, &served);
+    let clock = SystemClock::new(&rt);
+    let net = ToldNet::new(&rt, WsNet::new(rt.alloc(), rt), &served);
+    let (_net, status) = croquet(
+        &rt,
+        rt.alloc(),
+        &words,
+        &mut files,
+        &clock,
+        net,
+        &OpenGate,
+        &mut out,
+    );
     ExitCode::from(status.number())
 }

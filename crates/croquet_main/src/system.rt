@@ -1,11 +1,12 @@
 //! The words, the files, the clock and the standard output of the system. They tell no content, only how often they failed.
-ghost use Rattle.std.specs.Prelude.{◌≡◌, ⊤, None, IfOk, IfErr};
+ghost use Rattle.std.specs.Prelude.{◌≡◌, ◌≤◌, ◌^◌, None, IfOk, IfErr};
 ghost use Rattle.tea_io.specs.declared.files.FileFault.TheVariants.{Failed};
 ghost use Rattle.tea_io.specs.Files.{Untold, FileCause};
 ghost use Rattle.croquet_main.specs.System.{IsCounted, IsWithin};
 
+use crate::served::Served;
 use std::env::{Env, FillError};
-use std::fs::{File, OpenFile};
+use std::fs::{self, File, OpenFile};
 use std::io::{self, ErrorKind, Read, Write};
 use std::rt;
 use std::time::Instant;
@@ -50,19 +51,25 @@ pub fn given_words<R: Env + AllocGlobal>(rt: &R) -> Result<Words, WantOfMemory> 
     Ok(words)
 }
 
-/// The files of the system.
+/// The files of the system. What is read is noted for the session that is served. What is written is put under its name whole, or not
+/// at all, where that is the name of a plain file or of none, and its folder takes a new file.
 #[derive(Drop)]
 pub struct SystemFiles<'a, R> {
     rt: &'a R,
+    served: &'a Served,
     faults: u64,
 }
 
 impl<'a, R: rt::Files + AllocGlobal> SystemFiles<'a, R> {
     /// No call has failed yet.
-    pub fn new(rt: &'a R) -> SystemFiles<'a, R>
+    pub fn new(rt: &'a R, served: &'a Served) -> SystemFiles<'a, R>
         ensures { result.faults ≡ 0 }
     {
-        SystemFiles { rt, faults: 0 }
+        SystemFiles {
+            rt,
+            served,
+            faults: 0,
+        }
     }
 }
 
@@ -85,13 +92,89 @@ fn count_fault(faults: &mut u64, error: io::Error) -> FileFault
     count_failure(faults)
 }
 
-/// Writes the bytes of a file that was just made empty. Each error is a failure: want of memory would say that the file still
-/// holds what it held.
-fn fill<W: Write + Drop>(mut file: W, bytes: &[u8], faults: &mut u64) -> Result<(), FileFault>
+/// How many names beside a file are tried for the new one. One is in use, or was left there, where another run writes the same file, or
+/// was killed in the midst of it.
+const MOST_NAMES: u32 = 100;
+
+/// Writes the bytes of a file, and has the system keep them.
+fn fill<F: Write + OpenFile>(file: &mut F, bytes: &[u8]) -> io::Result<()> {
+    file.write_all(bytes)?;
+    file.sync_all()
+}
+
+/// A new file beside a name, and the name of its own.
+fn new_beside<R: rt::Files + AllocGlobal>(rt: &R, path: &str) -> io::Result<(String, R::File)> {
+    for number in 0..MOST_NAMES {
+        let name = format!(in rt.alloc(); "{path}.{number}.new")?;
+        match File::create_new(rt, name.as_str()) {
+            Ok(file) => return Ok((name, file)),
+            Err(error) if error.kind() == ErrorKind::AlreadyExists => {}
+            Err(error) => return Err(error),
+        }
+    }
+    Err(io::Error::from(ErrorKind::AlreadyExists))
+}
+
+/// The folder of a file.
+fn folder_of(path: &str) -> &str {
+    match path.rsplit_once('/') {
+        Some(("", _)) => "/",
+        Some((folder, _)) => folder,
+        None => ".",
+    }
+}
+
+/// Moves a file over the one of a name, and has the system keep that.
+fn move_over<R: rt::Files>(rt: &R, new: &str, path: &str) -> io::Result<()> {
+    fs::rename(rt, new, path)?;
+    File::open(rt, folder_of(path))?.sync_all()
+}
+
+/// Writes a file beside a name, and moves it there once it is whole. Where that fails, nothing is left of it.
+fn replace<R: rt::Files + AllocGlobal>(rt: &R, path: &str, bytes: &[u8]) -> io::Result<()> {
+    let (name, mut file) = new_beside(rt, path)?;
+    let done = match fill(&mut file, bytes) {
+        Ok(()) => move_over(rt, name.as_str(), path),
+        Err(error) => Err(error),
+    };
+    if done.is_err() {
+        let _ = fs::remove_file(rt, name.as_str());
+    }
+    done
+}
+
+/// Whether a name is that of a plain file, or of none. A device, a pipe or a symbolic link is written in its place.
+fn is_plain<R: rt::Files>(rt: &R, path: &str) -> bool {
+    match fs::symlink_metadata(rt, path) {
+        Ok(found) => found.is_file(),
+        Err(error) => error.kind() == ErrorKind::NotFound,
+    }
+}
+
+/// Whether an error says that the folder takes no new file, or that none may be moved over the name. The file itself may still be
+/// written.
+fn is_of_folder(error: &io::Error) -> bool {
+    matches!(
+        error.kind(),
+        ErrorKind::PermissionDenied | ErrorKind::ResourceBusy
+    )
+}
+
+/// Writes a file in its place. Each error is a failure: being out of memory would say that it still holds what it held.
+fn write_over<R: rt::Files>(
+    rt: &R,
+    path: &str,
+    bytes: &[u8],
+    faults: &mut u64,
+) -> Result<(), FileFault>
     ensures failed { IfErr result (λ fault. fault ≡ Failed) }
     ensures cause { FileCause faults.old faults.new result }
 {
-    match file.write_all(bytes) {
+    let done = match File::create(rt, path) {
+        Ok(mut file) => file.write_all(bytes),
+        Err(error) => Err(error),
+    };
+    match done {
         Ok(()) => Ok(()),
         Err(_) => Err(count_failure(faults)),
     }
@@ -132,17 +215,25 @@ impl<R: rt::Files + AllocGlobal> Files for SystemFiles<'_, R> {
 
     fn read(&mut self, name: &Text, limit: u64) -> Result<Blob, FileFault> {
         match read_within(self.rt, name.as_str(), limit) {
-            Ok(Found::Bytes(bytes)) => Ok(Blob::from_vec(bytes)),
+            Ok(Found::Bytes(bytes)) => {
+                self.served.note_read(bytes.as_slice());
+                Ok(Blob::from_vec(bytes))
+            }
             Ok(Found::TooLong(len)) => Err(FileFault::TooLarge { len }),
             Err(error) => Err(count_fault(&mut self.faults, error)),
         }
     }
 
     fn write(&mut self, name: &Text, bytes: &[u8]) -> Result<(), FileFault> {
-        match File::create(self.rt, name.as_str()) {
-            Ok(file) => fill(file, bytes, &mut self.faults),
-            Err(error) => Err(count_fault(&mut self.faults, error)),
+        let path = name.as_str();
+        if is_plain(self.rt, path) {
+            match replace(self.rt, path, bytes) {
+                Ok(()) => return Ok(()),
+                Err(error) if is_of_folder(&error) => {}
+                Err(error) => return Err(count_fault(&mut self.faults, error)),
+            }
         }
+        write_over(self.rt, path, bytes, &mut self.faults)
     }
 }
 
@@ -190,7 +281,10 @@ impl<R: Print> Sink for Output<'_, R> {
     }
 }
 
-/// The clock of the system. It counts microseconds from its making, and gives 0 where the system's cannot be read.
+/// The latest time that the clock gives, in microseconds: some 142 years.
+const LATEST: u64 = 1 << 52;
+
+/// The clock of the system. It counts microseconds from when it was made, up to 2^52, and gives 0 where the system's cannot be read.
 #[derive(Drop)]
 pub struct SystemClock<'a, R> {
     rt: &'a R,
@@ -208,13 +302,13 @@ impl<'a, R: rt::Clock> SystemClock<'a, R> {
 }
 
 impl<R: rt::Clock> Clock for SystemClock<'_, R> {
-    ghost gives = { λ clock value. ⊤ };
+    ghost gives = { λ clock value. value ≤ 2 ^ 52 };
 
     fn now(&self) -> u64 {
         match (self.made, Instant::now(self.rt)) {
             (Some(made), Ok(now)) => {
                 let since = now.saturating_duration_since(made).as_micros();
-                u64::try_from(since).unwrap_or(u64::MAX)
+                u64::try_from(since).unwrap_or(LATEST).min(LATEST)
             }
             _ => 0,
         }

@@ -7,7 +7,9 @@ mod counters;
 mod keys;
 mod link;
 mod net;
+mod receives;
 mod stage;
+mod watch;
 mod wire;
 
 pub use link::WsLink;

@@ -12,11 +12,20 @@ use std::time::{Clock, Instant};
 use tea_io::{Heard, Link, LinkFault};
 
 /// A link over a WebSocket (RFC 6455) on TCP: each frame is one binary message of at most 8,388,608 bytes. The handshake is
-/// made at the first calls. A receive that has no message after about 10 milliseconds is quiet, also while the handshake is
-/// not finished. A Close and an orderly end of TCP are the end. All else is a failure: a bad handshake, a text, a message that
-/// is too long, a breach of the protocol, a reset. A receive that wants memory may have lost a message. After each of these the
-/// link answers so at each receive, and no frame is sent. A send fails where the peer has read nothing for 5 seconds, or did not
-/// finish the handshake in about that time.
+/// made at the first calls.
+///
+/// A receive that has no message is quiet: after 50 milliseconds at a link that was accepted, after 10 at one that was made, and after
+/// 50 while the handshake is not finished. One that took a part of a message goes on, up to a second. It is quiet sooner where another
+/// link of its net has news: one that was accepted, received a message, and has then begun to send. News ends no two receives within 4
+/// milliseconds. A receive after 256 frames that were sent waits for nothing.
+///
+/// Pings are answered at any receive. At a link that was accepted, each ping and each pong of a peer that has sent a message is told as
+/// the frame ALIVE, and a peer that was silent for 15 seconds is sent a ping.
+///
+/// A Close and an orderly end of TCP are the end. All else is a failure: a bad handshake, a text, a message that is too long, a breach
+/// of the protocol, a reset. A receive that is out of memory may have lost a message. After each of these the link answers so at each
+/// receive, and no frame is sent. A send fails where for 5 seconds not a byte was taken, or where the peer did not finish the handshake
+/// in about that time.
 #[derive(Drop)]
 pub struct WsLink<R: Clock + RandomSource + Copy> {
     alloc: Global,

@@ -1,15 +1,17 @@
 //! A net of links over WebSockets.
-ghost use Rattle.std.specs.Prelude.{◌≡◌, ◌≤◌, ◌+◌, None};
+ghost use Rattle.std.specs.Prelude.{◌≡◌, ◌≤◌, ◌+◌, None, IfOk, OnOk, OnErr};
 ghost use Rattle.tea_io.specs.declared.net.NetFault.TheVariants.{Failed};
 ghost use Rattle.tea_io.specs.Told.{count_up};
 ghost use Rattle.tea_io.specs.Links.{no_counts};
+ghost use Rattle.tea_io.specs.Nets.{NetCause};
 ghost use Rattle.ws_link.specs.Counting.{counts_of};
 
 use crate::address::socket_address;
 use crate::counters::Counters;
 use crate::keys::Keys;
 use crate::link::WsLink;
-use crate::stage::{Connecting, Stage, limits};
+use crate::stage::{Stage, limits};
+use crate::watch::{News, Watch};
 use crate::wire::Wire;
 use std::alloc::Global;
 use std::io::ErrorKind;
@@ -30,7 +32,9 @@ const CONNECT_TIME: u64 = 5000;
 pub struct WsNet<R> {
     alloc: Global,
     rt: R,
-    listener: Option<TcpListener>,
+    listening: Option<(TcpListener, News)>,
+    /// Why the last `listen` failed.
+    refusal: Option<ErrorKind>,
     faults: u64,
     lent: usize,
     sums: Counters,
@@ -48,7 +52,8 @@ impl<R> WsNet<R> {
         WsNet {
             alloc,
             rt,
-            listener: None,
+            listening: None,
+            refusal: None,
             faults: 0,
             lent: 0,
             sums: Counters::new(),
@@ -61,6 +66,13 @@ impl<R> WsNet<R> {
         ensures { result ≡ self.now.faults }
     {
         self.faults
+    }
+
+    /// Why the last `listen` failed, where it did.
+    pub fn refusal(&self) -> Option<ErrorKind>
+        ensures { result ≡ self.now.refusal }
+    {
+        self.refusal
     }
 
     /// Counts a call that failed.
@@ -76,13 +88,51 @@ impl<R> WsNet<R> {
     }
 }
 
+impl<R: Clock + RandomSource + Copy> WsNet<R> {
+    /// Lends a link of this stage. Where there is none, the failure is counted; being out of memory is none.
+    fn lend(&mut self, made: Result<Stage<R>, NetFault>) -> Result<WsLink<R>, NetFault>
+        ensures lent { OnOk result (self.new.lent ≡ self.old.lent + 1) }
+        ensures none_lent { OnErr result (self.new.lent ≡ self.old.lent) }
+        ensures fresh { IfOk result (λ link. counts_of link.counters ≡ no_counts) }
+        ensures sums { self.new.sums ≡ self.old.sums }
+        ensures cause { NetCause self.old.faults self.new.faults result }
+    {
+        let Some(lent) = self.lent.checked_add(1) else {
+            return Err(self.fail());
+        };
+        match made {
+            Ok(stage) => {
+                self.lent = lent;
+                self.closing = None;
+                Ok(WsLink::new(self.alloc, stage))
+            }
+            Err(NetFault::Failed) => Err(self.fail()),
+            Err(NetFault::WantOfMemory) => Err(NetFault::WantOfMemory),
+        }
+    }
+}
+
 /// A listener at an address, taken at once again after an earlier run.
-fn listener_at<R>(rt: &R, address: &Text) -> Option<TcpListener>
+fn listener_at<R>(rt: &R, address: &Text) -> Result<TcpListener, ErrorKind>
 where
     R: Sockets<Listener = TcpListener, Stream = TcpStream>,
 {
-    let at = socket_address(address.as_str())?;
-    TcpListener::bind(rt, at).ok()
+    let Some(at) = socket_address(address.as_str()) else {
+        return Err(ErrorKind::InvalidInput);
+    };
+    TcpListener::bind(rt, at).map_err(|error| error.kind())
+}
+
+/// A listener, and the news of its links.
+fn listening_at<R>(rt: &R, address: &Text) -> Result<(TcpListener, News), ErrorKind>
+where
+    R: Sockets<Listener = TcpListener, Stream = TcpStream>,
+{
+    let listener = listener_at(rt, address)?;
+    match News::new() {
+        Some(news) => Ok((listener, news)),
+        None => Err(ErrorKind::Other),
+    }
 }
 
 /// The next connection of a listener. One that its client has given up before it was taken is no fault of the listener.
@@ -99,8 +149,32 @@ fn next_stream(listener: &TcpListener) -> Option<TcpStream> {
     None
 }
 
-/// A connection to an address, whose handshake is to come.
-fn connection_to<R>(alloc: Global, rt: R, address: &Text) -> Result<Connecting<R>, NetFault>
+/// The next link of a listener, whose handshake is to come.
+fn accepted<R>(
+    alloc: Global,
+    rt: R,
+    listening: &Option<(TcpListener, News)>,
+) -> Result<Stage<R>, NetFault>
+where
+    R: Sockets<Listener = TcpListener, Stream = TcpStream> + Clock + RandomSource + Copy,
+{
+    let Some((listener, news)) = listening else {
+        return Err(NetFault::Failed);
+    };
+    let Some(stream) = next_stream(listener) else {
+        return Err(NetFault::Failed);
+    };
+    let Some(news) = news.share() else {
+        return Err(NetFault::Failed);
+    };
+    let watch = Watch::new(alloc, &rt, &stream, Some(news))?;
+    let wire = Wire::new(alloc, rt, stream, watch);
+    let handshake = server::start(alloc, wire, NoCallback, Some(limits()));
+    Ok(Stage::Accepting(handshake))
+}
+
+/// A link to an address, whose handshake is to come.
+fn connected<R>(alloc: Global, rt: R, address: &Text) -> Result<Stage<R>, NetFault>
 where
     R: Sockets<Listener = TcpListener, Stream = TcpStream> + Clock + RandomSource + Copy,
 {
@@ -123,9 +197,10 @@ where
         return Err(NetFault::Failed);
     };
     let keys = Keys::Client(RandomKeys::new(rt));
-    let wire = Wire::new(alloc, rt, stream);
+    let watch = Watch::new(alloc, &rt, &stream, None)?;
+    let wire = Wire::new(alloc, rt, stream, watch);
     match client::start(alloc, nonce, keys, request, wire, Some(limits())) {
-        Ok(handshake) => Ok(handshake),
+        Ok(handshake) => Ok(Stage::Connecting(handshake)),
         Err(Error::OutOfMemory) => Err(NetFault::WantOfMemory),
         Err(_) => Err(NetFault::Failed),
     }
@@ -150,41 +225,28 @@ where
     ghost link_counts = { λ net. counts_of net.sums };
 
     fn listen(&mut self, address: &Text) -> Result<(), NetFault> {
-        self.listener = None;
-        self.listener = listener_at(&self.rt, address);
-        if self.listener.is_none() {
-            return Err(self.fail());
+        self.listening = None;
+        match listening_at(&self.rt, address) {
+            Ok(listening) => {
+                self.listening = Some(listening);
+                self.refusal = None;
+                Ok(())
+            }
+            Err(kind) => {
+                self.refusal = Some(kind);
+                Err(self.fail())
+            }
         }
-        Ok(())
     }
 
     fn accept(&mut self) -> Result<WsLink<R>, NetFault> {
-        let (Some(listener), Some(lent)) = (&self.listener, self.lent.checked_add(1)) else {
-            return Err(self.fail());
-        };
-        let Some(stream) = next_stream(listener) else {
-            return Err(self.fail());
-        };
-        self.lent = lent;
-        self.closing = None;
-        let wire = Wire::new(self.alloc, self.rt, stream);
-        let handshake = server::start(self.alloc, wire, NoCallback, Some(limits()));
-        Ok(WsLink::new(self.alloc, Stage::Accepting(handshake)))
+        let made = accepted(self.alloc, self.rt, &self.listening);
+        self.lend(made)
     }
 
     fn connect(&mut self, address: &Text) -> Result<WsLink<R>, NetFault> {
-        let Some(lent) = self.lent.checked_add(1) else {
-            return Err(self.fail());
-        };
-        match connection_to(self.alloc, self.rt, address) {
-            Ok(handshake) => {
-                self.lent = lent;
-                self.closing = None;
-                Ok(WsLink::new(self.alloc, Stage::Connecting(handshake)))
-            }
-            Err(NetFault::Failed) => Err(self.fail()),
-            Err(NetFault::WantOfMemory) => Err(NetFault::WantOfMemory),
-        }
+        let made = connected(self.alloc, self.rt, address);
+        self.lend(made)
     }
 
     fn back(&mut self, conn: WsLink<R>) {

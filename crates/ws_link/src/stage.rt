@@ -10,17 +10,18 @@ use std::time::{Clock, Instant};
 use tea_base::Blob;
 use tea_io::{Heard, LinkFault};
 use tungstenite::{
-    ClientHandshake, CloseCode, CloseFrame, Error, HandshakeError, Message, MidHandshake,
+    Bytes, ClientHandshake, CloseCode, CloseFrame, Error, HandshakeError, Message, MidHandshake,
     NoCallback, Role, ServerHandshake, Utf8Bytes, WebSocket, WebSocketConfig,
 };
 use websocket::error::ProtocolError;
+use wire_frames::ALIVE_TAG;
 
 /// The longest message that is taken or sent, in bytes.
 const LONGEST_MESSAGE: usize = 8_388_608;
 /// How many bytes may wait to be sent: a message, and replies to pings.
 const LONGEST_OUTPUT: usize = 16_777_216;
-/// How often a send goes on with a handshake that is not finished. Each time takes about the time of a receive.
-const SEND_TRIES: u32 = 500;
+/// How often a send goes on with a handshake that is not finished. Each time waits up to 50 milliseconds.
+const SEND_TRIES: u32 = 100;
 
 /// A server's handshake that is not finished.
 pub type Accepting<R> = MidHandshake<ServerHandshake<Wire<R>, NoCallback>>;
@@ -89,7 +90,6 @@ fn continue_accepting<R: Clock + RandomSource + Copy>(
     alloc: Global,
     mut handshake: Accepting<R>,
 ) -> Stage<R> {
-    handshake.get_mut().begin();
     if handshake.get_ref().set_options().is_err() {
         return Stage::Over(None, Last::Failed);
     }
@@ -104,31 +104,75 @@ fn continue_accepting<R: Clock + RandomSource + Copy>(
                 Some(limits()),
             ))
         }
-        Err(HandshakeError::Interrupted(handshake)) => Stage::Accepting(handshake),
+        Err(HandshakeError::Interrupted(mut handshake)) => {
+            handshake.get_mut().wait_for_handshake();
+            Stage::Accepting(handshake)
+        }
         Err(HandshakeError::Failure(error)) => Stage::Over(None, last_of(&error)),
     }
 }
 
 /// Goes on with a client's handshake.
 fn continue_connecting<R: Clock + RandomSource + Copy>(mut handshake: Connecting<R>) -> Stage<R> {
-    handshake.get_mut().begin();
     if handshake.get_ref().set_options().is_err() {
         return Stage::Over(None, Last::Failed);
     }
     match handshake.handshake() {
         Ok((socket, _)) => Stage::Open(socket),
-        Err(HandshakeError::Interrupted(handshake)) => Stage::Connecting(handshake),
+        Err(HandshakeError::Interrupted(mut handshake)) => {
+            handshake.get_mut().wait_for_handshake();
+            Stage::Connecting(handshake)
+        }
         Err(HandshakeError::Failure(error)) => Stage::Over(None, last_of(&error)),
     }
 }
 
-/// What the connection says next. Pings are answered, and neither they nor pongs are told.
+/// What follows a read.
+#[derive(Clone, Copy)]
+enum Next {
+    /// It ends the receive.
+    Tell,
+    /// It was a ping, which was answered, or a pong.
+    Ping,
+    /// Nothing has come.
+    Wait,
+}
+
+/// What follows a read that gave this.
+fn next_of(read: &Result<Message, Error>) -> Next {
+    match read {
+        Ok(Message::Ping(_) | Message::Pong(_)) => Next::Ping,
+        Err(Error::Io(error)) => {
+            if error.kind() == ErrorKind::WouldBlock {
+                Next::Wait
+            } else {
+                Next::Tell
+            }
+        }
+        _ => Next::Tell,
+    }
+}
+
+/// What a connection says next. Pings are answered. Of pings and pongs only signs of life are given.
 fn next_message<R: Clock + RandomSource + Copy>(socket: &mut Socket<R>) -> Result<Message, Error> {
     socket.get_mut().begin();
     for _ in 0..u64::MAX {
-        match socket.read() {
-            Ok(Message::Ping(_) | Message::Pong(_)) => {}
-            said => return said,
+        let read = socket.read();
+        match next_of(&read) {
+            Next::Tell => return read,
+            Next::Ping => {
+                if socket.get_mut().is_sign_of_life() {
+                    return read;
+                }
+                if socket.get_ref().is_late() {
+                    break;
+                }
+            }
+            Next::Wait => {
+                if !socket.get_mut().wait() {
+                    return read;
+                }
+            }
         }
     }
     Err(Error::Io(io::Error::from(ErrorKind::WouldBlock)))
@@ -151,22 +195,38 @@ fn heard_of(error: &Error) -> Heard {
     }
 }
 
-/// What a connection tells. A text message is a failure.
+/// A message that came, as a frame.
+fn frame_of(alloc: Global, bytes: &[u8]) -> Heard {
+    match Blob::copy(alloc, bytes) {
+        Ok(frame) => Heard::Frame(frame),
+        Err(_) => Heard::WantOfMemory,
+    }
+}
+
+/// What a connection tells. A text message is a failure. A sign of life by a ping or a pong is told as the frame by which a client
+/// says that it is there.
 fn hear<R: Clock + RandomSource + Copy>(alloc: Global, socket: &mut Socket<R>) -> Heard {
     match next_message(socket) {
-        Ok(Message::Binary(bytes)) => match Blob::copy(alloc, bytes.as_slice()) {
-            Ok(frame) => Heard::Frame(frame),
-            Err(_) => Heard::WantOfMemory,
-        },
+        Ok(Message::Binary(bytes)) => {
+            socket.get_mut().note_message();
+            frame_of(alloc, bytes.as_slice())
+        }
+        Ok(Message::Ping(_) | Message::Pong(_)) => frame_of(alloc, &[ALIVE_TAG]),
         Ok(Message::Close(_)) => Heard::End,
         Ok(_) => Heard::Failed,
         Err(error) => heard_of(&error),
     }
 }
 
+/// Sends a ping to a peer that is due one. Where that fails, the next frame that is sent fails too.
+fn ping_the_silent<R: Clock + RandomSource + Copy>(socket: &mut Socket<R>) {
+    if socket.get_mut().takes_ping() {
+        let _ = socket.send(Message::Ping(Bytes::new()));
+    }
+}
+
 /// Sends Close with a code where it was not sent yet (RFC 6455, 5.5.1), and nothing more.
 fn say_close<R: Clock + RandomSource + Copy>(socket: &mut Socket<R>, code: CloseCode) {
-    socket.get_mut().begin();
     let reason = Utf8Bytes::new();
     let _ = socket.close(Some(CloseFrame { code, reason }));
     socket.get_ref().stop_sending();
@@ -178,7 +238,7 @@ fn end<R: Clock + RandomSource + Copy>(mut socket: Socket<R>, last: Last) -> Sta
     Stage::Over(Some(socket), last)
 }
 
-/// A connection behind a receive. One that told no frame and was not quiet is over.
+/// A connection after a receive. One that told no frame and was not quiet is over.
 fn after_hearing<R: Clock + RandomSource + Copy>(socket: Socket<R>, heard: &Heard) -> Stage<R> {
     match heard {
         Heard::Frame(_) | Heard::Quiet => Stage::Open(socket),
@@ -200,7 +260,7 @@ fn put<R: Clock + RandomSource + Copy>(
     let Ok(message) = Message::binary(alloc, frame) else {
         return Err(LinkFault::WantOfMemory);
     };
-    socket.get_mut().begin();
+    socket.get_mut().note_frame();
     match socket.send(message) {
         Ok(()) => Ok(()),
         Err(Error::OutOfMemory) => Err(LinkFault::WantOfMemory),
@@ -235,6 +295,9 @@ impl<R: Clock + RandomSource + Copy> Stage<R> {
         match self.shake_hands(alloc) {
             Stage::Open(mut socket) => {
                 let heard = hear(alloc, &mut socket);
+                if matches!(&heard, Heard::Quiet) {
+                    ping_the_silent(&mut socket);
+                }
                 let stage = after_hearing(socket, &heard);
                 (stage, heard)
             }

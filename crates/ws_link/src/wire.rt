@@ -1,32 +1,47 @@
 //! A TCP stream whose calls end in time.
-ghost use Rattle.std.specs.Io.{ReadsAtMost};
+ghost use Rattle.std.specs.Io.{ReadsAtMost, WritesAtMost};
 
+use crate::receives::{Receives, left_of};
+use crate::watch::{Watch, wait_to_read, wait_to_write};
 use std::alloc::Global;
 use std::io::{self, ErrorKind, Read, Write};
 use std::net::{Shutdown, TcpStream};
-use std::time::{Clock, Duration, Instant};
+use std::time::{Clock, Instant};
 
-/// How long a receive waits for bytes, and how long it takes them, in milliseconds.
-const RECEIVE_TIME: u64 = 10;
-/// How long a peer may leave what it is sent unread, in milliseconds.
+/// How long a peer may take no byte of what it is sent, in milliseconds.
 const SEND_TIME: u64 = 5000;
+/// How long a send waits before it tries again, in milliseconds. The system says that a stream may be written only once a good part
+/// of what waits in it was taken. A slow peer may need longer for that than it may take no byte.
+const SEND_STEP: i32 = 50;
+/// How long an accepted link's peer may be silent before it is sent a ping, in milliseconds.
+const PING_TIME: u64 = 15_000;
 /// How long a link that is given back sends its Close, and how long it reads on, in milliseconds.
 const CLOSE_TIME: u64 = 1000;
+/// How long a Close is sent where that time is over, in milliseconds.
+const LATE_CLOSE_TIME: u64 = 50;
+/// How long a handshake, or a link that is given back, waits for bytes before it looks at the time, in milliseconds.
+const READ_STEP: i32 = 50;
 /// How many bytes one read of a head, or of what comes after the end, asks for.
 const CHUNK: usize = 4096;
 /// The longest head of a handshake that is waited for.
 const LONGEST_HEAD: usize = 65536;
 
-/// A TCP stream. Its reads would block where a receive has taken its time, and its writes fail where the peer reads nothing
-/// for too long. The head of a handshake is given only once it is whole, so that a peer may send it in pieces of any size.
+/// A TCP stream. Its reads wait for nothing, and its writes fail where the peer takes no byte for too long. The head of a handshake is
+/// given only once it is whole, so that a peer may send it in pieces of any size.
 #[derive(Drop)]
 pub struct Wire<R> {
     rt: R,
     stream: TcpStream,
-    /// When the call that goes on began, where the clock told it.
-    began: Option<Instant>,
-    /// Whether this call has read yet. Each may read once, however late it comes to it.
-    has_read: bool,
+    watch: Watch,
+    receives: Receives,
+    /// Whether nothing is left to read, until the watch says that more has come.
+    is_drained: bool,
+    /// Whether a message came after which nothing was sent yet.
+    owes_news: bool,
+    /// Since when the peer is silent, where it has sent a message before.
+    silent: Option<Instant>,
+    /// How many milliseconds a peer may take no byte of what is written.
+    patience: u64,
     /// The head so far, or what is not yet given of it.
     head: Vec<u8>,
     has_head: bool,
@@ -35,53 +50,118 @@ pub struct Wire<R> {
 
 impl<R: Clock + Copy> Wire<R> {
     /// A stream whose handshake is to come. Takes no memory.
-    pub fn new(alloc: Global, rt: R, stream: TcpStream) -> Wire<R> {
+    pub fn new(alloc: Global, rt: R, stream: TcpStream, watch: Watch) -> Wire<R> {
+        let receives = Receives::new(watch.is_of_net());
         Wire {
             rt,
             stream,
-            began: None,
-            has_read: false,
+            watch,
+            receives,
+            is_drained: false,
+            owes_news: false,
+            silent: None,
+            patience: SEND_TIME,
             head: Vec::new(alloc),
             has_head: false,
             is_stuck: false,
         }
     }
 
-    /// Has the system send each write at once, and end each read and write in time.
+    /// Has the system send each write at once, and wait at no read and no write.
     pub fn set_options(&self) -> io::Result<()> {
         self.stream.set_nodelay(true)?;
-        self.stream
-            .set_read_timeout(Some(Duration::from_millis(RECEIVE_TIME)))?;
-        self.stream
-            .set_write_timeout(Some(Duration::from_millis(SEND_TIME)))
+        self.stream.set_nonblocking(true)
     }
 
-    /// Has each write end in what is left of the time of a close, or in the time of a receive.
+    /// Has each write end in the time of a close that began then, or soon where that time is over.
     pub fn hurry(&mut self, since: Option<Instant>) {
-        self.began = since;
-        let millis = if self.is_over(CLOSE_TIME) {
-            RECEIVE_TIME
+        self.patience = if left_of(since, self.now(), CLOSE_TIME).is_zero() {
+            LATE_CLOSE_TIME
         } else {
             CLOSE_TIME
         };
-        let _ = self
-            .stream
-            .set_write_timeout(Some(Duration::from_millis(millis)));
     }
 
-    /// A call begins now.
+    /// The time, where the clock tells it.
+    fn now(&self) -> Option<Instant> {
+        Instant::now(&self.rt).ok()
+    }
+
+    /// A receive begins.
     pub fn begin(&mut self) {
-        self.began = Instant::now(&self.rt).ok();
-        self.has_read = false;
+        let now = self.now();
+        self.receives.begin(now);
     }
 
-    /// Whether the call that goes on has taken so many milliseconds. It has where the clock cannot be read.
-    fn is_over(&self, millis: u64) -> bool {
-        match (self.began, Instant::now(&self.rt)) {
-            (Some(began), Ok(now)) => now.saturating_duration_since(began)
-                >= Duration::from_millis(millis),
-            _ => true,
+    /// A frame is sent. The other links of the net wake where a message came since the last one.
+    pub fn note_frame(&mut self) {
+        self.receives.note_frame();
+        if self.owes_news {
+            self.owes_news = false;
+            self.watch.tell();
         }
+    }
+
+    /// A message came. The next frame that is sent wakes the other links.
+    pub fn note_message(&mut self) {
+        self.owes_news = true;
+        self.silent = self.now();
+    }
+
+    /// A ping or a pong came. Says whether that is a sign of life: at a link that was accepted, from a peer that has sent a message.
+    pub fn is_sign_of_life(&mut self) -> bool {
+        self.receives.forget_part();
+        if self.silent.is_none() || !self.watch.is_of_net() {
+            return false;
+        }
+        self.silent = self.now();
+        true
+    }
+
+    /// Whether the time of the receive is over.
+    pub fn is_late(&self) -> bool {
+        self.receives.left(self.now()).is_zero()
+    }
+
+    /// Whether the peer of a link that was accepted is due a ping. The next one is due as much later.
+    pub fn takes_ping(&mut self) -> bool {
+        if self.silent.is_none() || !self.watch.is_of_net() {
+            return false;
+        }
+        let now = self.now();
+        if !left_of(self.silent, now, PING_TIME).is_zero() {
+            return false;
+        }
+        self.silent = now;
+        true
+    }
+
+    /// Waits for bytes in the time of a receive, and says whether some may have come. News ends the wait, but not in the midst of a
+    /// message, and no sooner than the gap after the last time.
+    pub fn wait(&mut self) -> bool {
+        for _ in 0..u64::MAX {
+            let left = self.receives.left(self.now());
+            let ready = self.watch.wait(left);
+            if ready.news {
+                self.receives.note_news();
+            }
+            if ready.bytes {
+                self.is_drained = false;
+                return true;
+            }
+            if !ready.news || left.is_zero() {
+                break;
+            }
+        }
+        let now = self.now();
+        self.receives.end_quiet(now);
+        false
+    }
+
+    /// Waits a little for bytes of a handshake. News does not end it.
+    pub fn wait_for_handshake(&mut self) {
+        wait_to_read(&self.stream, READ_STEP);
+        self.is_drained = false;
     }
 
     /// Says that nothing more is sent.
@@ -89,42 +169,49 @@ impl<R: Clock + Copy> Wire<R> {
         let _ = self.stream.shutdown(Shutdown::Write);
     }
 
-    /// Reads what still comes, up to the peer's end, or for a second since that time. It reads once at the least. Bytes that stand
+    /// Reads what still comes, up to the peer's end, or for a second since that time. It reads once at the least. Bytes that are
     /// unread where a stream is closed would have the system reset it, and the peer lose what it was sent.
     pub fn read_on(&mut self, since: Option<Instant>) {
         if self.set_options().is_err() {
             return;
         }
-        self.began = since;
         let mut chunk = [0u8; CHUNK];
         for _ in 0..u64::MAX {
             match self.stream.read(&mut chunk) {
                 Ok(0) => return,
                 Ok(_) => {}
                 Err(error) => match error.kind() {
-                    ErrorKind::WouldBlock | ErrorKind::Interrupted => {}
+                    ErrorKind::WouldBlock => wait_to_read(&self.stream, READ_STEP),
+                    ErrorKind::Interrupted => {}
                     _ => return,
                 },
             }
-            if self.is_over(CLOSE_TIME) {
+            if left_of(since, self.now(), CLOSE_TIME).is_zero() {
                 return;
             }
         }
     }
 
-    /// Reads what has come, in the time of a receive. A process that was stopped reads again later.
+    /// Reads what has come.
     fn read_stream(&mut self, buf: &mut [u8]) -> io::Result<usize>
         ensures { ReadsAtMost result buf.new }
     {
-        if self.has_read && self.is_over(RECEIVE_TIME) {
+        if self.is_drained {
             return Err(io::Error::from(ErrorKind::WouldBlock));
         }
-        self.has_read = true;
         match self.stream.read(buf) {
-            Err(error) if error.kind() == ErrorKind::Interrupted => {
-                Err(io::Error::from(ErrorKind::WouldBlock))
+            Ok(count) => {
+                self.receives.note_part();
+                Ok(count)
             }
-            done => done,
+            Err(error) => match error.kind() {
+                ErrorKind::WouldBlock => {
+                    self.is_drained = true;
+                    Err(error)
+                }
+                ErrorKind::Interrupted => Err(io::Error::from(ErrorKind::WouldBlock)),
+                _ => Err(error),
+            },
         }
     }
 
@@ -143,6 +230,30 @@ impl<R: Clock + Copy> Wire<R> {
         }
         Err(io::Error::from(ErrorKind::WouldBlock))
     }
+
+    /// Writes to a stream that took no byte just now, as soon as it takes one.
+    fn write_late(&mut self, buf: &[u8]) -> io::Result<usize>
+        ensures { WritesAtMost result buf.now }
+    {
+        let since = self.now();
+        for _ in 0..u64::MAX {
+            wait_to_write(&self.stream, SEND_STEP);
+            match self.stream.write(buf) {
+                Err(error) if is_for_later(&error) => {}
+                done => return done,
+            }
+            if left_of(since, self.now(), self.patience).is_zero() {
+                break;
+            }
+        }
+        self.is_stuck = true;
+        Err(io::Error::from(ErrorKind::TimedOut))
+    }
+}
+
+/// Whether a call is to be tried again.
+fn is_for_later(error: &io::Error) -> bool {
+    matches!(error.kind(), ErrorKind::WouldBlock | ErrorKind::Interrupted)
 }
 
 /// Whether a head ends within these bytes: by an empty line (RFC 9112, 2.1).
@@ -167,15 +278,11 @@ impl<R: Clock + Copy> Read for Wire<R> {
 
 impl<R: Clock + Copy> Write for Wire<R> {
     fn write(&mut self, buf: &[u8]) -> io::Result<usize> {
-        if self.is_stuck || self.is_over(SEND_TIME) {
-            self.is_stuck = true;
+        if self.is_stuck {
             return Err(io::Error::from(ErrorKind::TimedOut));
         }
         match self.stream.write(buf) {
-            Err(error) if error.kind() == ErrorKind::WouldBlock => {
-                self.is_stuck = true;
-                Err(io::Error::from(ErrorKind::TimedOut))
-            }
+            Err(error) if is_for_later(&error) => self.write_late(buf),
             done => done,
         }
     }
