@@ -1,6 +1,7 @@
 """Files that are put whole or not at all, and what a name may be."""
 import os
 import stat
+import subprocess
 
 from case import Case, expect, expect_that
 from reference import croquet
@@ -73,6 +74,35 @@ def a_folder_that_takes_no_file_has_the_file_written(program):
     expect(f"{JOINED} / {length} / f", run.told())
 
 
+def a_folder_that_cannot_be_read_has_the_file_put(program):
+    """Once it has its name, it counts as written."""
+    run = in_a_folder(program, "echo old > d/f; chmod 333 d", "chmod 755 d; wc -c < d/f; ls -A d; rm -r d")
+    length = len(croquet.stamped(b"join 7 0\n")[0].encoded())
+    expect(f"{JOINED} / {length} / f", run.told())
+
+
+def a_file_that_may_not_be_written_is_left(program):
+    run = in_a_folder(program, "echo old > d/f; chmod 444 d/f", "cat d/f; ls -A d; rm -rf d")
+    expect("write-fault / old / f [5]", run.told())
+
+
+def a_name_may_be_as_long_as_the_system_takes(program):
+    name = "n" * 255
+    run = program.run(["stamp", "s", "--log", name], {"s": b"join 7 0\n"})
+    expect((JOINED, [name]), (run.told(), list(run.files)))
+
+
+def a_disk_that_is_full_keeps_the_old_file(program):
+    """A file system of 64 KiB, where the system lets a process have one of its own."""
+    if subprocess.run(["unshare", "-rm", "true"], stderr=subprocess.DEVNULL, check=False).returncode != 0:
+        return
+    inner = "mount -t tmpfs -o size=64k none d && echo old > d/f && \"$@\"; status=$?; cat d/f; ls -A d; exit $status"
+    script = f"mkdir d; unshare -rm /bin/sh -c '{inner}' sh \"$@\"; status=$?; rmdir d; exit $status"
+    long = b"join 7 0\n" + b"".join(b"send 7 1 %d 0 %s\n" % (number, b"ab" * 200) for number in range(1, 401))
+    run = program.launched_by("/bin/sh", "-c", script, "sh").run(["stamp", "s", "--log", "d/f"], {"s": long})
+    expect("write-fault / old / f [5]", run.told())
+
+
 def a_device_is_written_as_it_is(program):
     run = program.run(["stamp", "s", "--log", "/dev/null"], {"s": b"join 7 0\n"})
     expect((JOINED, {}), (run.told(), run.files))
@@ -84,5 +114,7 @@ def a_device_is_written_as_it_is(program):
 CHECKS = [a_file_that_cannot_be_whole_leaves_the_old_one, a_file_that_cannot_be_whole_is_not_there,
           a_kill_in_the_midst_leaves_the_old_file, a_file_takes_the_place_of_the_old_one,
           no_other_name_is_left, a_name_that_is_in_use_beside_it_is_left, a_symbolic_link_stays_one,
-          a_folder_that_takes_no_file_has_the_file_written, a_device_is_written_as_it_is]
+          a_folder_that_takes_no_file_has_the_file_written, a_folder_that_cannot_be_read_has_the_file_put,
+          a_file_that_may_not_be_written_is_left, a_name_may_be_as_long_as_the_system_takes,
+          a_disk_that_is_full_keeps_the_old_file, a_device_is_written_as_it_is]
 PARTS = {"files": lambda: [Case(check.__name__.replace("_", " "), check) for check in CHECKS]}

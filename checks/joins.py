@@ -1,5 +1,6 @@
 """`join` over sockets, byte by byte: the other side is a server by hand."""
 import contextlib
+import select
 import socket
 import time
 
@@ -100,12 +101,17 @@ def expect_run(run, line, status):
     expect((line, status, {}), (run.text.decode().rstrip("\n").split("\n")[-1], run.status, run.files))
 
 
-def expect_joined(run):
-    """The view came to time 2."""
+def joined_line(time_):
+    """The last line of a view that came to a time, and of whose session one entry is known."""
     world = croquet.World.first(croquet.read_program(EMPTY), IDENT)
     entry = croquet.Entry(1, 1, 7, "join")
-    digest = croquet.hashlib.sha256(croquet.replayed(world, [entry], 2).snapshot()).hexdigest()
-    expect(f"time 2 / view 7 time 2 seq 1 digest {digest}", run.told())
+    digest = croquet.hashlib.sha256(croquet.replayed(world, [entry], time_).snapshot()).hexdigest()
+    return f"view 7 time {time_} seq 1 digest {digest}"
+
+
+def expect_joined(run):
+    """The view came to time 2."""
+    expect(f"time 2 / {joined_line(2)}", run.told())
 
 
 # ---------------------------------------------------------------- that go well
@@ -123,6 +129,35 @@ def a_view_speaks_by_the_standard(program):
         wire.close()
         expect_joined(host.end())
     expect_that(len(masks - {None, bytes(4)}) >= 6, "masks that differ", sorted(masks, key=repr))
+
+
+def who_publishes_listens_behind_4096_events(program):
+    """The next event comes only once one more is acknowledged."""
+    with hosting(program, b'publish "a" "b" 5\n' * 4_099) as host:
+        wire = host.greet()
+        expect(JOIN_FRESH, heard(wire))
+        wire.say(binary(SYNC) + binary(JOIN))
+        for number in range(1, 4_098):
+            expect(number, number_of_send(heard(wire)))
+        for number in (1, 2):
+            expect_that(not wire.held and not select.select([wire.socket], [], [], 0.3)[0],
+                        "no event before an answer", wire.held)
+            wire.say(binary(done_frame(number)))
+            expect(4_097 + number, number_of_send(heard(wire)))
+        wire.say(binary(done_frame(3)))
+        ends_well(wire)
+        expect_run(host.end(), joined_line(1), 0)
+
+
+def number_of_send(content):
+    """The number of a SEND."""
+    expect(2, content[0])
+    return int.from_bytes(content[1:5], "big")
+
+
+def done_frame(number):
+    return croquet.framed(68, croquet.number(number, 4), croquet.number(number + 1, 4),
+                          croquet.number(number + 1, 8))
 
 
 def bytes_may_come_one_at_a_time(program):
@@ -285,7 +320,8 @@ def a_server_that_does_not_read_is_given_up(program):
 
 CHECKS = [a_server_that_does_not_read_is_given_up, a_server_that_does_not_answer_is_given_up,
           a_quiet_link_is_told_that_the_view_is_alive, the_longest_frame_is_taken,
-          a_view_speaks_by_the_standard, bytes_may_come_one_at_a_time,
+          a_view_speaks_by_the_standard, who_publishes_listens_behind_4096_events,
+          bytes_may_come_one_at_a_time,
           pings_are_answered_and_fragments_are_one_frame, a_peer_that_does_not_end_is_left,
           a_reset_is_a_fault]
 

@@ -2,6 +2,7 @@
 
 Wrong programs are this one with one thing changed, so that it can be seen what finds them.
 """
+import errno
 import os
 import sys
 import threading
@@ -75,14 +76,21 @@ def read_file(name, kind):
     return content
 
 
+# No new file can be made beside the name, or moved over it.
+NOT_BESIDE = {errno.EACCES, errno.EPERM, errno.EBUSY, errno.EROFS, errno.ENAMETOOLONG, errno.EEXIST}
+
+
 def write_file(name, content):
     """Puts a file whole or not at all, where it is a plain one, or none, and its folder takes another."""
     try:
-        if os.path.lexists(name) and (os.path.islink(name) or not os.path.isfile(name)):
+        if os.path.lexists(name) and (os.path.islink(name) or not os.path.isfile(name)
+                                      or not os.access(name, os.W_OK)):
             return write_over(name, content)
         try:
             return replace(name, content)
-        except PermissionError:
+        except OSError as error:
+            if error.errno not in NOT_BESIDE:
+                raise
             return write_over(name, content)
     except OSError:
         raise croquet.Ended("write-fault", 5) from None
@@ -108,7 +116,7 @@ def replace(name, content):
         except OSError:
             os.remove(new)
             raise
-    raise OSError("all names are in use")
+    raise OSError(errno.EEXIST, "all names are in use")
 
 
 def say(line):

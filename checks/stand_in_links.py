@@ -12,7 +12,7 @@ from websocket import BINARY, CLOSE, PING, PONG, frame, masked
 
 LONGEST = 8_388_608
 ACCEPTED_SECONDS, MADE_SECONDS, PART_SECONDS = 0.05, 0.01, 1
-SEND_SECONDS, CLOSE_SECONDS, PING_SECONDS, NEWS_GAP = 5, 1, 15, 0.004
+SEND_SECONDS, CLOSE_SECONDS, PING_SECONDS, PING_QUIETS, NEWS_GAP = 5, 1, 15, 1000, 0.004
 ALIVE = b"\x05"
 BEGUN = time.monotonic()
 ACCEPTED = []  # all links that were accepted
@@ -68,7 +68,7 @@ class Link:
         self.socket.setsockopt(socket.IPPROTO_TCP, socket.TCP_NODELAY, 1)
         self.held, self.parts, self.last, self.is_open = bytearray(), None, None, False
         self.has_closed = self.has_part = self.owes_news = False
-        self.silent, self.woken = None, 0
+        self.silent, self.woken, self.quiets = None, 0, 0
         self.news, self.waker = socket.socketpair()
         self.news.setblocking(False)
         self.waker.setblocking(False)
@@ -148,14 +148,16 @@ class Link:
         return self.has_part
 
     def quiet(self):
-        """Takes the news, and sends a ping to who has said something, and nothing for 15 seconds."""
+        """Takes the news, and sends a ping to who has said something, and nothing for long."""
         try:
             self.news.recv(4_096)
             self.woken = time.monotonic()
         except OSError:  # There was none.
             pass
-        if self.silent is not None and not self.is_client and time.monotonic() - self.silent > PING_SECONDS:
-            self.silent = time.monotonic()
+        self.quiets += 1
+        is_due = self.quiets >= PING_QUIETS or time.monotonic() - (self.silent or 0) > PING_SECONDS
+        if self.silent is not None and not self.is_client and is_due:
+            self.silent, self.quiets = time.monotonic(), 0
             self.put_frame(PING, b"")
         return None
 
@@ -252,14 +254,15 @@ class Link:
         if not final:
             return None
         message, self.parts = self.parts, None
-        self.silent, self.owes_news = time.monotonic(), True
+        self.silent, self.quiets = time.monotonic(), 0
+        self.owes_news = self.owes_news or message != ALIVE
         return message
 
     def sign_of_life(self):
         """What a ping or a pong is told as, of who has sent a frame to a link that was accepted."""
         if self.silent is None or self.is_client:
             return None
-        self.silent = time.monotonic()
+        self.silent, self.quiets = time.monotonic(), 0
         return ALIVE
 
 

@@ -1,4 +1,5 @@
 """How long things take at the links of `reflect`, and what its clock gives."""
+import re
 import select
 import statistics
 import threading
@@ -7,7 +8,7 @@ import time
 import websocket
 from case import Case, expect, expect_that
 from reference import croquet
-from reflector import (LEAVE, expect_words, join_frame, leave_all, reflecting, send_frame,
+from reflector import (ALIVE, EMPTY, LEAVE, expect_words, join_frame, leave_all, reflecting, send_frame,
                        served_log, snap_frame)
 from websocket import BINARY, PING, PONG, Wire, frame
 
@@ -61,6 +62,29 @@ def an_idle_view_has_few_ticks(program):
         expect_that(4 <= ticks <= 43, "4 to 43 ticks in 2 seconds", ticks)
         leave_all(view)
         served_log(reflector.end(), [view])
+
+
+def who_says_alive_wakes_nobody(program):
+    """An idle view has as few ticks beside one that says ALIVE 50 times a second."""
+    with reflecting(program, 2) as reflector:
+        lively, idle = reflector.view(1), reflector.view(2)
+        lively.joined()
+        idle.joined()
+        idle.until("tick")
+        talk = threading.Thread(target=say_alive, args=(lively, time.monotonic() + 2.2))
+        talk.start()
+        ticks = ticks_within(idle, 2)
+        talk.join()
+        expect_that(ticks <= 43, "at most 43 ticks in 2 seconds", ticks)
+        leave_all(lively, idle)
+        served_log(reflector.end(), [lively, idle])
+
+
+def say_alive(view, until):
+    while time.monotonic() < until:
+        view.say(ALIVE)
+        view.until("alive")
+        time.sleep(0.02)
 
 
 def ticks_within(view, seconds):
@@ -150,7 +174,23 @@ def who_is_silent_has_a_ping(program):
         served_log(reflector.end(), [silent, busy])
 
 
-def talk_until(view, until):
+def who_is_silent_among_many_events_has_a_ping_soon(program):
+    """After some 1,000 receives, each of which the news of an event has ended: long before 15 seconds."""
+    with reflecting(program, 2) as reflector:
+        silent, busy = reflector.view(1), reflector.view(2)
+        silent.joined()
+        begun = time.monotonic()
+        talk = threading.Thread(target=talk_until, args=(busy, begun + 12, 0.003))
+        talk.start()
+        while silent.hear()[0] != "ping":
+            expect_that(time.monotonic() < begun + 12, "a ping within 12 seconds", "none")
+        silent.until("alive")
+        talk.join()
+        leave_all(silent, busy)
+        served_log(reflector.end(), [silent, busy])
+
+
+def talk_until(view, until, pause=1):
     """Sends an event each second, and keeps the names of what is heard."""
     view.joined()
     view.heard = []
@@ -159,7 +199,7 @@ def talk_until(view, until):
         while not view.heard or view.heard[-1] != "done":
             view.heard.append(view.hear()[0])
         view.heard.append("and on")
-        time.sleep(1)
+        time.sleep(pause)
 
 
 # ---------------------------------------------------------------- progress
@@ -195,6 +235,18 @@ def read_slowly(wire, size, rate):
         wire.held += piece
         taken += len(piece)
         time.sleep(max(0, begun + taken / rate - time.monotonic()))
+
+
+def a_view_may_publish_300000_lines(program):
+    """It listens meanwhile, so neither side waits for the other for ever. All its events are in the log."""
+    script = b'publish "a" "b" nil\n' * 300_000
+    with reflecting(program, 1) as reflector:
+        run = program.start(["join", "p", "a", reflector.address, "7", "s"], {"p": EMPTY, "s": script})
+        told = run.end().told()
+        expect_that(re.fullmatch(r"view 7 time \d+ seq \d+ digest [0-9a-f]{64}", told), "a last line", told)
+        run = reflector.end()
+    expect_words(run, ["left"])
+    expect(300_002, len(served_log(run, [])))
 
 
 # ---------------------------------------------------------------- a flood
@@ -257,9 +309,10 @@ def named(checks):
 
 
 PARTS = {
-    "times": named([another_has_news_soon, an_idle_view_has_few_ticks,
+    "times": named([another_has_news_soon, an_idle_view_has_few_ticks, who_says_alive_wakes_nobody,
                     a_part_of_a_message_is_no_silence, the_clock_counts_microseconds,
                     a_ping_is_told_as_alive]),
-    "long-times": named([who_is_silent_has_a_ping, a_slow_reader_has_a_long_snapshot_whole,
-                         a_flood_puts_nobody_out]),
+    "long-times": named([who_is_silent_has_a_ping, who_is_silent_among_many_events_has_a_ping_soon,
+                         a_slow_reader_has_a_long_snapshot_whole, a_flood_puts_nobody_out]),
+    "long-publish": named([a_view_may_publish_300000_lines]),
 }

@@ -4,6 +4,7 @@ import hashlib
 import os
 import socket
 import struct
+import time
 
 from case import Wrong
 
@@ -62,9 +63,11 @@ class Wire:
     def say(self, content):
         self.socket.sendall(content)
 
-    def say_slowly(self, content):
+    def say_slowly(self, content, pause=0.002):
+        """Says byte after byte, so far apart that each is read alone."""
         for place in range(len(content)):
             self.say(content[place:place + 1])
+            time.sleep(pause)
 
     def more(self):
         """Reads what comes next; `Ended` where that is the end."""

@@ -29,7 +29,10 @@ function serve(links) {
   const words = program
     ? [program, "reflect", model, "live", `127.0.0.1:${port}`, "--connections", String(links), "--log", path.join(folder, "log")]
     : [process.execPath, path.join(__dirname, "plain_reflector.js"), String(port)];
-  return spawn(words[0], words.slice(1), { stdio: "ignore" });
+  const server = spawn(words[0], words.slice(1), { stdio: "ignore" });
+  process.on("exit", () => { server.kill("SIGKILL"); fs.rmSync(folder, { recursive: true, force: true }); });
+  for (const signal of ["SIGINT", "SIGTERM"]) process.on(signal, () => process.exit(1));
+  return server;
 }
 
 function connect(view, hear) {
@@ -156,9 +159,8 @@ print(taken)
 `;
 
 (async () => {
+  if (!figures[figure]) throw new Error(`the figures are ${Object.keys(figures).join(", ")}`);
   const links = { fan: 32, idle: 60 }[figure] || 2, server = serve(links);
   console.log(`${program ? "croquet" : "node   "} ${figure}: ${await figures[figure](server.pid)}`);
-  server.kill("SIGKILL");
-  fs.rmSync(folder, { recursive: true });
   process.exit(0);
 })().catch(error => { console.error(error); process.exit(1); });

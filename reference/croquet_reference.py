@@ -2062,7 +2062,10 @@ class Replica:
                 for k in range(first, self.given)]
 
     def settled(self):
-        return self.acknowledged == len(self.payloads)
+        return self.unacknowledged() == 0
+
+    def unacknowledged(self):
+        return len(self.payloads) - self.acknowledged
 
     def take(self, name, fields):
         if name == "refused":
@@ -2293,6 +2296,7 @@ class Output(Calls):
 
 MOST_QUIET = 6_000
 RECEIVES_TO_ALIVE = 1_000
+MOST_UNANSWERED = 4_096
 
 
 class ViewRun:
@@ -2370,6 +2374,7 @@ class ViewRun:
                 self.update()
                 if own is not None:
                     self.out.write(own)
+            self.rest()
             self.send(LEAVE)
             self.out.write(self.last_line())
         except Failed:
@@ -2384,6 +2389,11 @@ class ViewRun:
         except BadBase:
             self.connect("whole")
             self.synced()
+
+    def rest(self):
+        """Nothing is due any more at the world's own time, and what came of that is told."""
+        self.replica.take_tick(self.replica.world.time)
+        self.update()
 
     def last_line(self):
         world = self.replica.world
@@ -2403,6 +2413,8 @@ class ViewRun:
     def do_publish(self, scope, event, v):
         self.replica.publish(scope, event, v)
         self.send_unsent()
+        while self.replica.unacknowledged() > MOST_UNANSWERED:
+            self.receive()
 
     def do_watch(self, scope, event, handling):
         self.topics[scope, event] = handling

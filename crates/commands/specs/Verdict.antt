@@ -1,5 +1,5 @@
 -- What comes of a command: the steps that it does, one after the other, and how it is closed.
-use Rattle.std.specs.Prelude.{◌≡◌, ◌≢◌, ◌⊎◌, ℕ, ℤ, ◌≤◌, ◌<◌, Bool, true, false, nat_lt, if◌then◌else◌, List, [], ◌∷◌, ◌++◌, encode_utf8_all, Option, Some, None}
+use Rattle.std.specs.Prelude.{◌≡◌, ◌≢◌, ◌⊎◌, ℕ, ℤ, ◌≤◌, ◌<◌, Bool, true, false, nat_lt, ⊤, if◌then◌else◌, List, [], ◌∷◌, ◌++◌, encode_utf8_all, Option, Some, None}
 use Rattle.tea_base.specs.Legal.{IsLegal}
 use Rattle.tea_base.specs.declared.entry.Entry.{Entry}
 use Rattle.connection.specs.declared.ending.Ended.{Ended}
@@ -262,6 +262,13 @@ OfWords (Some command) = OfCommand command
 -- what comes of a run
 abbrev pub Comes : Option Command → Coming
 Comes command = Free (OfWords command)
+
+-- the words ask for a command that goes on as the run of a view or of a reflector, or as a drill, and may wait then
+abbrev pub RunsOn : Option Command → Type 0
+RunsOn (Some (Join request)) = ⊤
+RunsOn (Some (Reflect request)) = ⊤
+RunsOn (Some (Drill request)) = ⊤
+RunsOn command = ⊥
 
 -- ---- laws
 

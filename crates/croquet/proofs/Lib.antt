@@ -1,4 +1,5 @@
 pub mod Acts
+pub mod Overs
 pub mod Runs
 pub mod VisitRuns
 pub mod ReflectorRuns

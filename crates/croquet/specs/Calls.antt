@@ -65,6 +65,11 @@ Turns tells (turn.Visits request) coming old new = Reaches tells coming (ByVisit
 Turns tells (turn.Reflects reflection) coming old new = Reaches tells coming (ByReflecting reflection) old new
 Turns tells (turn.Drills request) coming old new = Reaches tells coming (ByDrill request) old new
 
+-- a command is over
+abbrev pub IsOver : Turn → Type 0
+IsOver (turn.Over status) = ⊤
+IsOver other = ⊥
+
 -- a reflector accepts from 1 to 64 links, and a drill is of the size that its words may ask for
 abbrev pub IsBoundedTurn : Turn → Type 0
 IsBoundedTurn (turn.Reflects reflection) = AreConnections reflection.connections

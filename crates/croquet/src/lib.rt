@@ -15,4 +15,4 @@ mod visiting;
 
 pub use status::Status;
 pub use telling::tell_want_of_memory;
-pub use top::croquet;
+pub use top::{Turn, begin, croquet};

@@ -3,10 +3,11 @@ ghost use Rattle.std.specs.Prelude.{◌≡◌, None};
 ghost use Rattle.run_steps.specs.Calls.{came_of, given_of};
 ghost use Rattle.run_steps.specs.Outside.{ReadsFile, desk, desk_tells, files_tell, links_tell, net_tells, output_tells, outside, outside_tells};
 ghost use Rattle.command_words.specs.CommandWords.{UsesNet, command_of};
-ghost use Rattle.commands.specs.Verdict.{Comes, IsFunction, LogsTellTheirEvents, SnapshotsAgree, SomeVerdictComes};
+ghost use Rattle.commands.specs.Verdict.{Comes, IsFunction, LogsTellTheirEvents, RunsOn, SnapshotsAgree, SomeVerdictComes};
 ghost use Rattle.commands.specs.Work.{ComesNext, IsBoundedNext, ask_of};
+ghost use Rattle.view_follows.specs.ViewsReplay.{VisitsEndInReplay};
 ghost use Rattle.view_shell.specs.OneRun.{IsOneRun};
-ghost use Rattle.croquet.specs.Calls.{IsBoundedTurn, Turns};
+ghost use Rattle.croquet.specs.Calls.{IsBoundedTurn, IsOver, Turns};
 ghost use Rattle.croquet.specs.Run.{Ran};
 
 use crate::drilling::tell_drilled;
@@ -28,14 +29,19 @@ use std::sync::Wait;
 use std::thread::Threads;
 use tea_base::{Blob, WantOfMemory, Words};
 use tea_io::{Clock, Files, Gate, Net, Sink};
+use view_follows::views_replay;
 use view_shell::one_run;
 
 /// A command is over, or the run goes on as a view's, a reflector's, or a drill.
 #[derive(Drop)]
-enum Turn {
+pub enum Turn {
+    /// The command is over, with this status.
     Over(Status),
+    /// The run goes on as a view's.
     Visits(VisitRequest),
+    /// The run goes on as a reflector's.
     Reflects(Reflection),
+    /// The run goes on as a drill.
     Drills(DrillRequest),
 }
 
@@ -68,11 +74,13 @@ fn go_on<F: Files, W: Sink>(alloc: Global, next: Next, files: &mut F, out: &mut 
     }
 }
 
-/// Runs what the words ask for up to its end, or up to a view's run, a reflector's, or a drill.
-fn begin<F: Files, W: Sink>(alloc: Global, words: &Words, files: &mut F, out: &mut W) -> Turn
+/// Runs what the words ask for up to its end, or up to a view's run, a reflector's, or a drill. [`croquet`] begins so. It waits for nobody, so it
+/// returns: `stamp`, `check` and `replay` are over then, and so are words that are refused.
+pub fn begin<F: Files, W: Sink>(alloc: Global, words: &Words, files: &mut F, out: &mut W) -> Turn
     ensures turns { Turns (desk_tells (files_tell F.held F.asked F.faults) (output_tells W.written W.faults W.wants))
         result (Comes (command_of words.now)) (desk files.old out.old) (desk files.new out.new) }
     ensures bounded { IsBoundedTurn result }
+    ensures over { ¬ RunsOn (command_of words.now) → IsOver result }
 {
     match read_command(alloc, words) {
         Ok(command) => go_on(alloc, Next::of_command(command), files, out),
@@ -113,6 +121,8 @@ pub fn croquet<
     ensures function { IsFunction }
     // A view prints one text and sends the same frames, for what its links tell.
     ensures view { IsOneRun }
+    // A view's run that is done printed last the line of the replay of the log, where one legal log served its links, with honest bases.
+    ensures replays { VisitsEndInReplay }
     // Some verdict comes that is not want of memory, whatever the files give.
     ensures some { SomeVerdictComes }
     // The log that a script leaves has each event that was answered Stamped, once and in order.
@@ -124,6 +134,7 @@ pub fn croquet<
 {
     one_verdict();
     one_run();
+    views_replay();
     some_verdict();
     logs_tell_their_events();
     snapshots_agree();

@@ -124,10 +124,13 @@ fn folder_of(path: &str) -> &str {
     }
 }
 
-/// Moves a file over the one of a name, and has the system keep that.
+/// Moves a file over the one of a name, and has the system keep that where it can: from then on the name has the new bytes.
 fn move_over<R: rt::Files>(rt: &R, new: &str, path: &str) -> io::Result<()> {
     fs::rename(rt, new, path)?;
-    File::open(rt, folder_of(path))?.sync_all()
+    if let Ok(folder) = File::open(rt, folder_of(path)) {
+        let _ = folder.sync_all();
+    }
+    Ok(())
 }
 
 /// Writes a file beside a name, and moves it there once it is whole. Where that fails, nothing is left of it.
@@ -143,20 +146,24 @@ fn replace<R: rt::Files + AllocGlobal>(rt: &R, path: &str, bytes: &[u8]) -> io::
     done
 }
 
-/// Whether a name is that of a plain file, or of none. A device, a pipe or a symbolic link is written in its place.
-fn is_plain<R: rt::Files>(rt: &R, path: &str) -> bool {
+/// Whether a name is that of a plain file that may be written, or of none. What else it names is written in its place, as a device, a
+/// pipe and a symbolic link, or refuses that.
+fn is_replaced<R: rt::Files>(rt: &R, path: &str) -> bool {
     match fs::symlink_metadata(rt, path) {
-        Ok(found) => found.is_file(),
+        Ok(found) => found.is_file() && File::options().write(true).open(rt, path).is_ok(),
         Err(error) => error.kind() == ErrorKind::NotFound,
     }
 }
 
-/// Whether an error says that the folder takes no new file, or that none may be moved over the name. The file itself may still be
-/// written.
+/// Whether an error says that no new file can be made beside a name, or moved over it. The file itself may still be written.
 fn is_of_folder(error: &io::Error) -> bool {
     matches!(
         error.kind(),
-        ErrorKind::PermissionDenied | ErrorKind::ResourceBusy
+        ErrorKind::PermissionDenied
+            | ErrorKind::ResourceBusy
+            | ErrorKind::ReadOnlyFilesystem
+            | ErrorKind::InvalidFilename
+            | ErrorKind::AlreadyExists
     )
 }
 
@@ -226,7 +233,7 @@ impl<R: rt::Files + AllocGlobal> Files for SystemFiles<'_, R> {
 
     fn write(&mut self, name: &Text, bytes: &[u8]) -> Result<(), FileFault> {
         let path = name.as_str();
-        if is_plain(self.rt, path) {
+        if is_replaced(self.rt, path) {
             match replace(self.rt, path, bytes) {
                 Ok(()) => return Ok(()),
                 Err(error) if is_of_folder(&error) => {}

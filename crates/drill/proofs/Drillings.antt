@@ -108,7 +108,7 @@ module _ (gives : ℕ → Type 0) (size : Size) (shared : SharedState TrustRepla
     others = nobody_else;
   }
 
-  whole : IsDrillHistory gives size.views keeper.seen
+  pub whole : IsDrillHistory gives size.views keeper.seen
   whole = drill_history gives size.views size.events keeper.seen closed.fits.views closed.fits.events asks
 
   has_left : (one : Finished) → IsSeen one → HasLeft gives size shared s one

@@ -25,7 +25,7 @@ use Rattle.drill.specs.Ending.{root_total}
 use Rattle.drill.specs.Program.{IsDrillProgram}
 use Rattle.drill.specs.Reports as reports
 use Rattle.drill.specs.Reports.{Reports}
-use Rattle.drill.proofs.Drillings.{HasLeft, IsClosed, all_drilled, all_left, first_view, rest_views}
+use Rattle.drill.proofs.Drillings.{HasLeft, IsClosed, all_drilled, all_left, first_view, rest_views, whole}
 
 module _ (gives : ℕ → Type 0) (size : Size) (shared : SharedState TrustReplay) (s : PlainSession) where
   may_rest_all : (ended : List Finished) → AllByRecursion (HasLeft gives size shared s) ended → AllByRecursion (MayRest s) (map rested_of ended)
@@ -136,6 +136,12 @@ module _ (gives : ℕ → Type 0) (size : Size) (shared : SharedState TrustRepla
           record {
             tree = tree;
             is_program = subst (λ (p : List Class). IsDrillProgram (program_tree p)) (sym same_program) is_program;
+            session = record {
+              history = keeper.seen;
+              play = sym as_told ∙ closed.plays;
+              sound = closed.sound;
+              asked = whole gives size shared ended keeper s closed;
+            };
             drilled = subst (λ (t : PlainSession). Drilled size.seed size.views size.events gives t.log t.horizon) as_told (all_drilled gives size shared ended keeper s closed);
             replicas =
                 subst (λ (rs : List ReplicaView). AreReplays report.session.plain tree drill_id 1 rs) (sym told.same_replicas)

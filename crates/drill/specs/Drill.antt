@@ -6,10 +6,14 @@ use Rattle.tea_base.specs.Limits.{end_of_time}
 use Rattle.model_tree.specs.Tree.{ProgramTree}
 use Rattle.model_tree.specs.TreeView.{program_tree}
 use Rattle.reflector_core.specs.PlainSession.{PlainSession}
+use Rattle.reflector_core.specs.Play.{first_session}
+use Rattle.session_lock.specs.History.{IsSoundThrough, play}
+use Rattle.session_lock.specs.declared.knowledge.Item.{Item}
 use Rattle.replica.specs.View.{ReplicaView}
 use Rattle.world.specs.Worlds.{replay}
 use Rattle.drill.specs.declared.size.Size.{Size}
 use Rattle.drill.specs.declared.report.DrillReport.{DrillReport}
+use Rattle.drill.specs.Asking.{IsDrillHistory}
 use Rattle.drill.specs.Doing.{HasBase, loss_interval}
 use Rattle.drill.specs.Drilled.{Drilled}
 use Rattle.drill.specs.Ending.{root_total}
@@ -39,9 +43,17 @@ abbrev pub AreBased : PlainSession → ℕ → ℕ → List ReplicaView → Type
 AreBased s number view [] = Unit {0}
 AreBased s number view (r ∷ replicas) = HasBase s view number r.plain.base × AreBased s number (view + 1) replicas
 
+-- The session is what the calls of one history leave, one after the other, and was sound at each place of it. Nobody called but the views of the drill, each for itself.
+pub record PlaysDrill (gives : ℕ → Type 0) (views : ℕ) (s : PlainSession) : Type 0 where
+  pub history : List Item
+  pub play : s ≡ play history
+  pub sound : IsSoundThrough first_session history
+  pub asked : IsDrillHistory gives views history
+
 pub record HasDrilled (gives : ℕ → Type 0) (size : Size) (report : DrillReport) : Type 0 where
   pub tree : ProgramTree
   pub is_program : IsDrillProgram tree
+  pub session : PlaysDrill gives size.views report.session.plain
   pub drilled : Drilled size.seed size.views size.events gives report.session.plain.log report.session.plain.horizon
   pub replicas : AreReplays report.session.plain tree drill_id 1 report.replicas
   pub number : length report.replicas ≡ size.views

@@ -1,5 +1,5 @@
 //! Replicas.
-ghost use Rattle.std.specs.Prelude.{◌≡◌, ◌↔◌, ◌≤◌, ◌<◌, ◌+◌, false, nat_eq, [], map, None, Some, IfOk, OnOk, OnErr, IsTrue};
+ghost use Rattle.std.specs.Prelude.{◌≡◌, ◌↔◌, ◌≤◌, ◌<◌, ◌+◌, false, nat_eq, [], length, map, None, Some, IfOk, OnOk, OnErr, IsTrue};
 ghost use Rattle.std.specs.Arc.{arc_value};
 ghost use Rattle.tea_base.specs.Limits.{time_limit};
 ghost use Rattle.model_value.specs.Payload.{payload_spelling};
@@ -20,6 +20,7 @@ use model_solved::Checked;
 use model_value::{Value, payload};
 use replica_plain::{How, PublishRefusal, ReplicaFault};
 use std::alloc::Global;
+use std::collections::VecDeque;
 use std::marker::Model;
 use std::sync::Arc;
 use tea_base::{Blob, Entry, List, MOST_PAYLOAD, SessionId, Text, WantOfMemory};
@@ -44,7 +45,7 @@ pub struct Replica {
     view: u32,
     world: SessionWorld,
     seen: u32,
-    outbox: Vec<Blob>,
+    outbox: VecDeque<Blob>,
     acknowledged: u32,
     given: u32,
     awaited: Option<How>,
@@ -106,7 +107,7 @@ impl Replica {
             view,
             world,
             seen: 0,
-            outbox: Vec::new(alloc),
+            outbox: VecDeque::new(alloc),
             acknowledged: 0,
             given: 0,
             awaited: None,
@@ -327,7 +328,7 @@ impl Replica {
                 found: number,
             });
         }
-        let _payload = self.outbox.remove(0);
+        let _payload = self.outbox.pop_front();
         self.acknowledged = number;
         self.given = self.given.max(number);
         Ok(())
@@ -381,7 +382,9 @@ impl Replica {
         ensures ok { OnOk result (self.new ≡ with_plain self.old (publishes self.old.plain payload)) }
         ensures err { OnErr result (self.new ≡ self.old) }
     {
-        self.outbox.push(payload)?;
+        if self.outbox.push_back(payload).is_err() {
+            return Err(WantOfMemory);
+        }
         Ok(())
     }
 
@@ -404,7 +407,8 @@ impl Replica {
             return Ok(List::new(self.alloc));
         }
         let sent = (self.given - self.acknowledged) as usize;
-        let frames = sends(self.alloc, self.given, &self.outbox.as_slice()[sent..])?;
+        let payloads: &[Blob] = self.outbox.make_contiguous();
+        let frames = sends(self.alloc, self.given, &payloads[sent..])?;
         self.given = self.acknowledged + self.outbox.len() as u32;
         Ok(frames)
     }
@@ -443,6 +447,15 @@ impl Replica {
     {
         self.tell();
         self.base
+    }
+
+    /// How many events that it published are not acknowledged. Takes no memory.
+    pub fn unacknowledged(&self) -> usize
+        ensures count { result ≡ length self.now.plain.outbox }
+        ensures sound { IsSoundReplica self.now }
+    {
+        self.tell();
+        self.outbox.len()
     }
 
     /// Whether each event that it published is acknowledged. Takes no memory.

@@ -20,7 +20,7 @@ use Rattle.view_shell.specs.declared.hearing.Stop.{Stop}
 use Rattle.view_shell.specs.declared.hearing.Stop.TheVariants as stop
 use Rattle.view_shell.specs.declared.hearing.SnapAnswer.{SnapAnswer}
 use Rattle.view_shell.specs.declared.hearing.Synced.{Synced}
-use Rattle.view_shell.specs.Phases.{Viewer, Phase, Aim, ToJoin, ToReach, ToSettle, ToSnap, Task, Begins, Receives, TellsText, Receiving, Over, Hearing, bad_base, after_giving, go_on, heard_frame, heard_quiet, quiet, reads, send_all, after_sync}
+use Rattle.view_shell.specs.Phases.{Viewer, Phase, Aim, ToJoin, ToReach, ToSettle, ToCatchUp, ToSnap, Task, Begins, Receives, TellsText, Receiving, Over, Hearing, bad_base, after_giving, go_on, heard_frame, heard_quiet, quiet, reads, send_all, after_sync}
 use Rattle.view_shell.proofs.Going.{Follows, goes_and_stops, goes_on}
 use Rattle.view_shell.specs.ViewText.{rejoined_line}
 use Rattle.view_shell.specs.ViewRun.{Doing, Goes, Stops, LinkActs}
@@ -35,6 +35,8 @@ goes_on_for v (ToReach time) None goes = refl
 goes_on_for v (ToReach time) (Some frame) goes = refl
 goes_on_for v ToSettle None goes = refl
 goes_on_for v ToSettle (Some frame) goes = refl
+goes_on_for v ToCatchUp None goes = refl
+goes_on_for v ToCatchUp (Some frame) goes = refl
 goes_on_for v (ToJoin how) frame goes = absurd goes
 goes_on_for v ToSnap frame goes = absurd goes
 
@@ -156,6 +158,7 @@ stopped_base does why from v aim old new is stops = subst (λ (one : Stop). Stop
 pub bad_base_for : (v : Viewer) (aim : Aim) → GoesOnFor aim → bad_base v aim ≡ Over ending.Peer
 bad_base_for v (ToReach time) goes = refl
 bad_base_for v ToSettle goes = refl
+bad_base_for v ToCatchUp goes = refl
 bad_base_for v (ToJoin how) goes = absurd goes
 bad_base_for v ToSnap goes = absurd goes
 

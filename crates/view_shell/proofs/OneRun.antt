@@ -3,7 +3,7 @@ use Rattle.std.proofs.Common.{◌≡◌, [], ◌∷◌, refl, sym, ap, subst, �
 use Rattle.tea_io.specs.declared.link.Heard.{Heard}
 use Rattle.tea_io.specs.declared.link.Heard.TheVariants as heard
 use Rattle.run_steps.specs.Steps.{Step, Prints, Connects, Returns, Hears, Sends}
-use Rattle.view_shell.specs.Phases.{Viewer, Phase, Aim, Connecting, Sending, Receiving, Printing, PrintingLast, Returning, Over, Hearing, Moves, Walks}
+use Rattle.view_shell.specs.Phases.{Viewer, Phase, Aim, Connecting, Sending, Receiving, Printing, Leaving, PrintingLast, Returning, Over, Hearing, Moves, Walks}
 use Rattle.view_shell.specs.declared.ending.ViewEnd.{ViewEnd}
 use Rattle.view_shell.specs.OneRun.{AreSteppedAlike, AreWalkedAlike, IsOneRun, IsOver}
 
@@ -25,6 +25,8 @@ one_move (Sending v frame frames task) (Sends bytes) (Sends also) next later (is
 one_move (Sending v frame frames task) (Sends bytes) other next later first second = absurd second
 one_move (Printing v text) (Prints piece) (Prints also) next later (is, goes) (same, moves) = (ap Prints (is ∙ sym same), goes ∙ sym moves)
 one_move (Printing v text) (Prints piece) other next later first second = absurd second
+one_move (Leaving v text) (Prints piece) (Prints also) next later (is, goes) (same, moves) = (ap Prints (is ∙ sym same), goes ∙ sym moves)
+one_move (Leaving v text) (Prints piece) other next later first second = absurd second
 one_move (PrintingLast text) (Prints piece) (Prints also) next later (is, goes) (same, moves) = (ap Prints (is ∙ sym same), goes ∙ sym moves)
 one_move (PrintingLast text) (Prints piece) other next later first second = absurd second
 one_move (Returning v how) Returns Returns next later first second = (refl, first ∙ sym second)

@@ -6,7 +6,8 @@ use Rattle.run_steps.specs.Outside.{OutputTells, LinksTell, Well, Failed, Wanted
 use Rattle.replica_plain.specs.Calls.{takes_out}
 use Rattle.view_shell.specs.declared.ending.ViewEnd.{ViewEnd}
 use Rattle.view_shell.specs.declared.ending.ViewEnd.TheVariants as ending
-use Rattle.view_shell.specs.Phases.{Viewer, Phase, Printing, PrintingLast, Over, finish, run, shown_text}
+use Rattle.wire_frames.specs.declared.frame.ClientFrame.TheVariants as client
+use Rattle.view_shell.specs.Phases.{Viewer, Phase, Sending, Printing, PrintingLast, Over, Leaves, Moves, after_rest, after_telling, finish, leave_session, run, shown_text}
 use Rattle.view_shell.specs.ViewRun.{Goes, LinkActs, Stops, StopsPrinting}
 use Rattle.view_shell.proofs.Going.{all_acts_behind, goes_and_stops, goes_in_window, goes_on, wants}
 
@@ -22,73 +23,63 @@ pub prints_nothing : {W : Type 0} (out : OutputTells W) (w : W) → PrintsText o
 prints_nothing out w = record { written = with_more_nothing (out.written w); counted = stays (out.faults w); wanted = stays (out.wants w) }
 
 module _ {W L : Type 0} (out : OutputTells W) (links : LinksTell L) (l : L) (w w' : W) where
+  -- a text is due in this phase
+  text_goes : (from next : Phase) (text : List ℕ) → Moves from (Prints text) next → PrintsText out Well text w w' → Goes (Acts (window_tells out links)) from next (window w l) (window w' l)
+  text_goes from next text moves prints = record { steps = Prints text ∷ []; walks = (next, moves, refl); acts = inl (window w' l, (prints, refl), refl) }
+
+  text_stops : (from next : Phase) (text : List ℕ) (end : ViewEnd) → Moves from (Prints text) next → StopsPrinting out end text w w' → Stops (Acts (window_tells out links)) from end (window w l) (window w' l)
+  text_stops from next text ending.WriteFault moves prints = record {
+    steps = Prints text ∷ [];
+    last = next;
+    cut = Some (record { step = Prints text; came = Failed });
+    walks = (next, moves, refl);
+    acts = inr (inl ((prints, refl), refl));
+    ends = refl;
+  }
+  text_stops from next text ending.WantOfMemory moves (inl prints) = record {
+    steps = Prints text ∷ [];
+    last = next;
+    cut = Some (record { step = Prints text; came = WantedMemory });
+    walks = (next, moves, refl);
+    acts = inr (inr ((prints, refl), refl));
+    ends = refl;
+  }
+  text_stops from next text ending.WantOfMemory moves (inr kept) = record {
+    steps = [];
+    last = from;
+    cut = None;
+    walks = refl;
+    acts = ap (λ (o : W). window o l) kept;
+    ends = inr refl;
+  }
+  text_stops from next text ending.Done moves never = absurd never
+  text_stops from next text (ending.Refused code kept) moves never = absurd never
+  text_stops from next text ending.NetFault moves never = absurd never
+  text_stops from next text ending.Ended moves never = absurd never
+  text_stops from next text ending.Peer moves never = absurd never
+
   pub printed_goes : (v : Viewer) (text : List ℕ) → PrintsText out Well text w w' → Goes (Acts (window_tells out links)) (Printing v text) (run v v.lines) (window w l) (window w' l)
-  printed_goes v text prints = record { steps = Prints text ∷ []; walks = (run v v.lines, (refl, refl), refl); acts = inl (window w' l, (prints, refl), refl) }
+  printed_goes v text prints = text_goes (Printing v text) (run v v.lines) text (refl, refl) prints
 
   pub printed_last : (text : List ℕ) → PrintsText out Well text w w' → Goes (Acts (window_tells out links)) (PrintingLast text) (Over ending.Done) (window w l) (window w' l)
-  printed_last text prints = record { steps = Prints text ∷ []; walks = (Over ending.Done, (refl, refl), refl); acts = inl (window w' l, (prints, refl), refl) }
+  printed_last text prints = text_goes (PrintingLast text) (Over ending.Done) text (refl, refl) prints
 
   pub print_stops : (v : Viewer) (text : List ℕ) (end : ViewEnd) → StopsPrinting out end text w w' → Stops (Acts (window_tells out links)) (Printing v text) end (window w l) (window w' l)
-  print_stops v text ending.WriteFault prints = record {
-    steps = Prints text ∷ [];
-    last = run v v.lines;
-    cut = Some (record { step = Prints text; came = Failed });
-    walks = (run v v.lines, (refl, refl), refl);
-    acts = inr (inl ((prints, refl), refl));
-    ends = refl;
-  }
-  print_stops v text ending.WantOfMemory (inl prints) = record {
-    steps = Prints text ∷ [];
-    last = run v v.lines;
-    cut = Some (record { step = Prints text; came = WantedMemory });
-    walks = (run v v.lines, (refl, refl), refl);
-    acts = inr (inr ((prints, refl), refl));
-    ends = refl;
-  }
-  print_stops v text ending.WantOfMemory (inr kept) = record {
-    steps = [];
-    last = Printing v text;
-    cut = None;
-    walks = refl;
-    acts = ap (λ (o : W). window o l) kept;
-    ends = inr refl;
-  }
-  print_stops v text ending.Done never = absurd never
-  print_stops v text (ending.Refused code kept) never = absurd never
-  print_stops v text ending.NetFault never = absurd never
-  print_stops v text ending.Ended never = absurd never
-  print_stops v text ending.Peer never = absurd never
+  print_stops v text end stops = text_stops (Printing v text) (run v v.lines) text end (refl, refl) stops
 
   pub print_last_stops : (text : List ℕ) (end : ViewEnd) → StopsPrinting out end text w w' → Stops (Acts (window_tells out links)) (PrintingLast text) end (window w l) (window w' l)
-  print_last_stops text ending.WriteFault prints = record {
-    steps = Prints text ∷ [];
-    last = Over ending.Done;
-    cut = Some (record { step = Prints text; came = Failed });
-    walks = (Over ending.Done, (refl, refl), refl);
-    acts = inr (inl ((prints, refl), refl));
-    ends = refl;
-  }
-  print_last_stops text ending.WantOfMemory (inl prints) = record {
-    steps = Prints text ∷ [];
-    last = Over ending.Done;
-    cut = Some (record { step = Prints text; came = WantedMemory });
-    walks = (Over ending.Done, (refl, refl), refl);
-    acts = inr (inr ((prints, refl), refl));
-    ends = refl;
-  }
-  print_last_stops text ending.WantOfMemory (inr kept) = record {
-    steps = [];
-    last = PrintingLast text;
-    cut = None;
-    walks = refl;
-    acts = ap (λ (o : W). window o l) kept;
-    ends = inr refl;
-  }
-  print_last_stops text ending.Done never = absurd never
-  print_last_stops text (ending.Refused code kept) never = absurd never
-  print_last_stops text ending.NetFault never = absurd never
-  print_last_stops text ending.Ended never = absurd never
-  print_last_stops text ending.Peer never = absurd never
+  print_last_stops text end stops = text_stops (PrintingLast text) (Over ending.Done) text end (refl, refl) stops
+
+  -- the script is done: the view rests, tells what came of that, and leaves
+  pub rested_goes : (v v' : Viewer) → v' ≡ after_telling (after_rest v) → PrintsText out Well (shown_text (after_rest v) []) w w' → Goes (Acts (window_tells out links)) (leave_session v) (Sending v' client.Leave [] Leaves) (window w l) (window w' l)
+  unfolding leave_session
+  rested_goes v v' is prints =
+      subst (λ (u : Viewer). Goes (Acts (window_tells out links)) (leave_session v) (Sending u client.Leave [] Leaves) (window w l) (window w' l)) (sym is)
+      (text_goes (leave_session v) (Sending (after_telling (after_rest v)) client.Leave [] Leaves) (shown_text (after_rest v) []) (refl, refl) prints)
+
+  pub rest_stops : (v : Viewer) (end : ViewEnd) → StopsPrinting out end (shown_text (after_rest v) []) w w' → Stops (Acts (window_tells out links)) (leave_session v) end (window w l) (window w' l)
+  unfolding leave_session
+  rest_stops v end stops = text_stops (leave_session v) (Sending (after_telling (after_rest v)) client.Leave [] Leaves) (shown_text (after_rest v) []) end (refl, refl) stops
 
   -- a line of the script is done, and told
   pub finished_goes : (v v' : Viewer) (text : List ℕ) → v' ≡ record v { replica = takes_out v.replica } → PrintsText out Well (shown_text v text) w w' → Goes (Acts (window_tells out links)) (finish v text) (run v' v'.lines) (window w l) (window w' l)

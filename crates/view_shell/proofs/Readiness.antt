@@ -1,13 +1,13 @@
 -- A view that may hear its link.
 use Rattle.std.proofs.Common.{◌≡◌, ℕ, List, Ok, Err, sym, ap, ◌∙◌, subst, arith}
 use Rattle.view_shell.specs.declared.watcher.Watcher.{Watcher}
-use Rattle.replica.specs.View.{ReplicaView, with_plain}
+use Rattle.replica.specs.View.{ReplicaView, with_plain, worlds_of}
 use Rattle.replica_plain.specs.Calls.{joining, publishes, takes_out}
 use Rattle.replica_plain.specs.declared.how.How.{How}
 use Rattle.std.specs.Prelude.{⊤, Result, OnOk}
 use Rattle.view_bridge.specs.declared.topic.Topic.{Topic}
 use Rattle.view_shell.specs.declared.ending.ViewEnd.{ViewEnd}
-use Rattle.view_shell.specs.Phases.{after_join, after_publish}
+use Rattle.view_shell.specs.Phases.{after_join, after_publish, after_rest, after_telling, rested}
 use Rattle.view_script.specs.PlainLine.{PlainLine}
 use Rattle.view_shell.specs.Viewers.{IsReady, KnowsItself, viewer}
 use Rattle.view_shell.proofs.Keeping.{Keeps}
@@ -30,6 +30,18 @@ viewer_sent address lines w w' kept = ap (λ (one : Watcher). viewer address one
 pub viewer_told : (address : List ℕ) (lines : List PlainLine) (w w' : Watcher) → w' ≡ record w { replica = w'.replica } → w'.replica ≡ with_plain w.replica (takes_out w.replica.plain)
     → viewer address w' lines ≡ record (viewer address w lines) { replica = takes_out w.replica.plain }
 viewer_told address lines w w' kept is =
+    ap (λ (one : Watcher). viewer address one lines) kept ∙ ap (λ (r : ReplicaView). viewer address (record w { replica = r }) lines) is
+
+-- a view that rested
+pub viewer_at_rest : (address : List ℕ) (lines : List PlainLine) (w w' : Watcher) → w' ≡ record w { replica = w'.replica } → w'.replica ≡ with_plain w.replica (rested (worlds_of w.replica) w.replica.plain)
+    → viewer address w' lines ≡ after_rest (viewer address w lines)
+viewer_at_rest address lines w w' kept is =
+    ap (λ (one : Watcher). viewer address one lines) kept ∙ ap (λ (r : ReplicaView). viewer address (record w { replica = r }) lines) is
+
+-- a view that rested and told what came of it
+pub viewer_rested : (address : List ℕ) (lines : List PlainLine) (w w' : Watcher) → w' ≡ record w { replica = w'.replica } → w'.replica ≡ with_plain w.replica (takes_out (rested (worlds_of w.replica) w.replica.plain))
+    → viewer address w' lines ≡ after_telling (after_rest (viewer address w lines))
+viewer_rested address lines w w' kept is =
     ap (λ (one : Watcher). viewer address one lines) kept ∙ ap (λ (r : ReplicaView). viewer address (record w { replica = r }) lines) is
 
 -- a view that sent one frame

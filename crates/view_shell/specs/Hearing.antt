@@ -14,7 +14,7 @@ use Rattle.view_shell.specs.declared.hearing.SnapAnswer.{SnapAnswer}
 use Rattle.view_shell.specs.declared.hearing.SnapAnswer.TheVariants as answer
 use Rattle.view_shell.specs.declared.hearing.Synced.{Synced}
 use Rattle.view_shell.specs.ViewText.{snapped_line, snap_refused_line, rejoined_line}
-use Rattle.view_shell.specs.Phases.{Viewer, Phase, Aim, ToJoin, ToReach, ToSettle, ToSnap, TellsText, Printing, Receives, Receiving, Over, bad_base, finish, after_giving, go_on, send_all, after_frame}
+use Rattle.view_shell.specs.Phases.{Viewer, Phase, Aim, ToJoin, ToReach, ToSettle, ToCatchUp, ToSnap, TellsText, Printing, Receives, Receiving, Over, bad_base, finish, after_giving, go_on, send_all, after_frame}
 use Rattle.view_shell.specs.ViewRun.{Doing, Goes, Stops}
 
 -- the phase behind a frame that was taken, or behind a link that was quiet
@@ -41,6 +41,7 @@ stop_for other = stop.End ending.Peer
 abbrev pub GoesOnFor : Aim → Type 0
 GoesOnFor (ToReach time) = Unit {0}
 GoesOnFor ToSettle = Unit {0}
+GoesOnFor ToCatchUp = Unit {0}
 GoesOnFor aim = ⊥
 
 -- the answer to a snapshot

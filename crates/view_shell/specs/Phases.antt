@@ -1,5 +1,5 @@
 -- The run of a view, phase by phase: where it stands, which step is due, and what the step makes of it.
-use Rattle.std.specs.Prelude.{◌≡◌, ℕ, ◌+◌, ◌==◌, nat_le, if◌then◌else◌, List, [], ◌∷◌, ◌++◌, Option, Some, None}
+use Rattle.std.specs.Prelude.{◌≡◌, ℕ, ◌+◌, ◌==◌, nat_le, if◌then◌else◌, List, [], ◌∷◌, ◌++◌, length, Option, Some, None}
 use Rattle.byte_fields.specs.Fields.{whole}
 use Rattle.tea_io.specs.declared.link.Heard.{Heard}
 use Rattle.tea_io.specs.declared.link.Heard.TheVariants as heard
@@ -29,6 +29,10 @@ use Rattle.view_shell.specs.declared.ending.ViewEnd.{ViewEnd}
 use Rattle.view_shell.specs.declared.ending.ViewEnd.TheVariants as ending
 use Rattle.view_shell.specs.ViewText.{events_text, time_line, settled_line, snapped_line, snap_refused_line, rejoined_line, view_line}
 
+-- what becomes of a replica that takes a tick of its own time
+abbrev pub rested : Worlds WorldRecord PlainOutgoing → PlainReplica WorldRecord PlainOutgoing → PlainReplica WorldRecord PlainOutgoing
+rested m r = (taken m r (server.Tick (m.time r.world))).replica
+
 -- A view while it runs. worlds: those of its session. address: where the session's reflector is. replica and topics: what it knows and
 -- what it watches. lines: what is left of its script. receives: how often the link was heard since a frame was sent on it.
 -- quiets: how often the link was quiet since it last said something else.
@@ -45,6 +49,10 @@ pub record Viewer : Type 0 where
 abbrev pub most_receives : ℕ
 most_receives = 1000
 
+-- a view that has more events that are not acknowledged hears its link before it goes on
+abbrev pub most_unanswered : ℕ
+most_unanswered = 4096
+
 -- what a view hears its link for
 pub data Aim : Type 0 where
   -- a Sync
@@ -53,6 +61,8 @@ pub data Aim : Type 0 where
   ToReach : ℕ → Aim
   -- that each event is acknowledged
   ToSettle : Aim
+  -- that few enough events are not acknowledged
+  ToCatchUp : Aim
   -- the answer to its snapshot
   ToSnap : Aim
 
@@ -77,6 +87,8 @@ pub data Phase : Type 0 where
   Receiving : Viewer → Aim → Phase
   -- a text is to be printed
   Printing : Viewer → List ℕ → Phase
+  -- the text of the last events is to be printed, and then the view leaves
+  Leaving : Viewer → List ℕ → Phase
   -- the last text is to be printed
   PrintingLast : List ℕ → Phase
   -- the link is to be given back, and then another one made
@@ -89,9 +101,12 @@ pub data Phase : Type 0 where
 abbrev pub shown_text : Viewer → List ℕ → List ℕ
 shown_text v text = events_text (handled_events v.topics v.replica.out) ++ text
 
+abbrev pub after_telling : Viewer → Viewer
+after_telling v = record v { replica = takes_out v.replica }
+
 -- a line of the script is done
 abbrev pub finish : Viewer → List ℕ → Phase
-finish v text = Printing (record v { replica = takes_out v.replica }) (shown_text v text)
+finish v text = Printing (after_telling v) (shown_text v text)
 
 abbrev pub settle_on : Viewer → List (List ℕ) → Phase
 settle_on v [] = finish v (settled_line v.replica.acknowledged)
@@ -101,10 +116,16 @@ settle_on v (payload ∷ rest) = Receiving v ToSettle
 abbrev pub receive : Viewer → Aim → Phase
 receive v (ToReach time) = if nat_le time v.replica.world.time then finish v (time_line v.replica.world.time) else Receiving v (ToReach time)
 receive v ToSettle = settle_on v v.replica.outbox
+receive v ToCatchUp = if nat_le (length v.replica.outbox) most_unanswered then finish v [] else Receiving v ToCatchUp
 receive v aim = Receiving v aim
 
-abbrev pub leave_session : Viewer → Phase
-leave_session v = Sending v client.Leave [] Leaves
+-- a tick of its own time is taken, so that nothing is due at that time
+abbrev pub after_rest : Viewer → Viewer
+after_rest v = record v { replica = rested v.worlds v.replica }
+
+-- the script is done: the view rests, tells what came of that, and leaves
+unfoldable pub leave_session : Viewer → Phase
+leave_session v = Leaving (after_telling (after_rest v)) (shown_text (after_rest v) [])
 
 -- the events that were not given yet count as given: they are sent next
 abbrev pub after_giving : Viewer → Viewer
@@ -133,7 +154,7 @@ abbrev pub run : Viewer → List PlainLine → Phase
 run v [] = leave_session v
 run v (Publish scope event value ∷ rest) =
     let w = after_publish (with_lines v rest) (payload_spelling (record { scope = scope; event = event; value = value })) in
-    send_all (after_giving w) (unsent w.replica) (TellsText [])
+    send_all (after_giving w) (unsent w.replica) (Receives ToCatchUp)
 run v (Watch scope event handling ∷ rest) = finish (record v { lines = rest; topics = subscribes v.topics scope event handling }) []
 run v (Wait time ∷ rest) = receive (with_lines v rest) (ToReach time)
 run v (Settle ∷ rest) = send_all (after_giving (with_lines v rest)) (unsent v.replica) (Receives ToSettle)
@@ -220,6 +241,7 @@ Moves (Connecting v how) (Connects address) next = (address ≡ v.address) × (n
 Moves (Sending v frame frames task) (Sends bytes) next = (bytes ≡ client_spelling frame) × (next ≡ send_all (record v { receives = 0 }) frames task)
 Moves (Receiving v aim) (Hears what) next = Hearing v aim what next
 Moves (Printing v text) (Prints piece) next = (piece ≡ text) × (next ≡ run v v.lines)
+Moves (Leaving v text) (Prints piece) next = (piece ≡ text) × (next ≡ Sending v client.Leave [] Leaves)
 Moves (PrintingLast text) (Prints piece) next = (piece ≡ text) × (next ≡ Over ending.Done)
 Moves (Returning v how) Returns next = next ≡ Connecting v how
 Moves phase step next = ⊥

@@ -6,7 +6,7 @@ ghost use Rattle.run_steps.specs.Outside.{links_tell};
 ghost use Rattle.replica.specs.View.{KeepsSession};
 ghost use Rattle.replica_plain.specs.declared.how.How.{How};
 ghost use Rattle.view_script.specs.PlainLine.{PlainLine};
-ghost use Rattle.view_shell.specs.Phases.{Aim, ToJoin, ToReach, ToSettle, ToSnap, Receiving, finish, reads, receive, after_frame};
+ghost use Rattle.view_shell.specs.Phases.{Aim, ToJoin, ToReach, ToSettle, ToCatchUp, ToSnap, Receiving, finish, reads, receive, after_frame};
 ghost use Rattle.view_shell.specs.ViewText.{settled_line, time_line};
 ghost use Rattle.view_shell.specs.Viewers.{HasHeard, IsReady, KnowsItself, viewer};
 ghost use Rattle.view_shell.specs.ViewRun.{Goes, GoesOrStops, LinkActs};
@@ -20,6 +20,10 @@ use std::sync::Wait;
 use tea_base::Blob;
 use tea_io::{Heard, Link, MOST_QUIETS};
 use wire_frames::{FrameFault, ServerFrame, read_server};
+
+/// A view that has more events that are not acknowledged hears its link before it goes on. Else what it is sent would fill the buffers of the
+/// system, and both sides would wait for each other.
+const MOST_UNANSWERED: usize = 4096;
 
 /// Why a view does not go on on its link.
 #[derive(Clone, Copy, Debug, PartialEq, Eq)]
@@ -153,6 +157,30 @@ pub fn settle<R: Wait, L: Link>(rt: &R, watcher: &mut Watcher, link: &mut L) -> 
 {
     for _ in rt.forever() {
         if watcher.replica.settled() {
+            return Ok(());
+        }
+        match hear_on(watcher, link) {
+            Ok(()) => {}
+            Err(end) => return Err(end),
+        }
+    }
+    unreachable!()
+}
+
+/// Hears the link until few enough events are not acknowledged.
+pub fn catch_up<R: Wait, L: Link>(
+    rt: &R,
+    watcher: &mut Watcher,
+    link: &mut L,
+) -> Result<(), ViewEnd>
+    requires ready { IsReady watcher.old }
+    ensures kept { watcher.new ≡ record watcher.old { replica = watcher.new.replica; receives = watcher.new.receives; quiets = watcher.new.quiets } }
+    ensures ready { OnOk result (IsReady watcher.new) }
+    ensures talk { (address : List ℕ) (lines : List PlainLine) → GoesOrStops (LinkActs (links_tell L.coming L.heard L.sent L.counts))
+        (receive (viewer address watcher.old lines) ToCatchUp) (λ _. finish (viewer address watcher.new lines) []) result link.old link.new }
+{
+    for _ in rt.forever() {
+        if watcher.replica.unacknowledged() <= MOST_UNANSWERED {
             return Ok(());
         }
         match hear_on(watcher, link) {

@@ -10,7 +10,7 @@ ghost use Rattle.tea_base.specs.Limits.{most_payload};
 ghost use Rattle.view_bridge.specs.Topics.{subscribes};
 ghost use Rattle.view_script.specs.PlainLine.{LineFits, PlainLine, most_publishes, payload_length, plain_line, plain_lines, line_publishes};
 ghost use Rattle.std.specs.List.{AllByRecursion};
-ghost use Rattle.view_shell.specs.Phases.{Over, Viewer, Receives, Sending, TellsText, ToReach, ToSettle, ToSnap, finish, after_giving, leave_session, receive, run, send_all, shown_text};
+ghost use Rattle.view_shell.specs.Phases.{Over, Viewer, Receives, Sending, TellsText, ToReach, ToSettle, ToCatchUp, ToSnap, finish, after_giving, after_rest, leave_session, receive, rested, run, send_all, shown_text};
 ghost use Rattle.view_shell.specs.ViewText.{digested_view_line, numbers_line, view_line};
 ghost use Rattle.view_shell.specs.Viewers.{HasRoomBehind, HasRoomFor, IsReady, KnowsItself, viewer};
 ghost use Rattle.view_shell.specs.Flows.{departure_phase, flow_of, flow_phase};
@@ -18,11 +18,12 @@ ghost use Rattle.view_shell.specs.ViewRun.{GoesOrStops, LinkActs, StopsPrinting}
 ghost use Rattle.view_shell.specs.Hearing.{answer_line, rejoined_text};
 
 use crate::ending::ViewEnd;
-use crate::hearing::{SnapAnswer, Synced, await_answer, reach, settle};
+use crate::hearing::{SnapAnswer, Synced, await_answer, catch_up, reach, settle};
 use crate::sending::{send, send_unsent};
 use crate::text::{events_text, numbers_line};
 use crate::watcher::Watcher;
 use model_value::Value;
+use replica::worlds_stand;
 use replica_plain::{How, PublishRefusal};
 use run_steps::{CallFault, print_text};
 use snapshot_codec::digest;
@@ -32,7 +33,7 @@ use tea_io::{Link, Sink};
 use text_lines::spell_numbers;
 use view_bridge::Handling;
 use view_script::ViewLine;
-use wire_frames::ClientFrame;
+use wire_frames::{ClientFrame, ServerFrame};
 
 /// What comes of a line.
 #[derive(Clone, Copy, Debug, PartialEq, Eq)]
@@ -273,6 +274,49 @@ fn publish(watcher: &mut Watcher, scope: &Text, event: &Text, value: &Value) -> 
     }
 }
 
+/// Hears the link where too many events are not acknowledged, and goes on.
+fn await_answers<R: Wait, L: Link, W: Sink>(
+    rt: &R,
+    watcher: &mut Watcher,
+    link: &mut L,
+    out: &mut W,
+) -> Result<(), ViewEnd>
+    requires ready { IsReady watcher.old }
+    ensures kept { watcher.new ≡ record watcher.old { replica = watcher.new.replica; receives = watcher.new.receives; quiets = watcher.new.quiets } }
+    ensures ready { OnOk result (IsReady watcher.new) }
+    ensures talk { (address : List ℕ) (lines : List PlainLine) → GoesOrStops (Acts (window_tells (output_tells W.written W.faults W.wants) (links_tell L.coming L.heard L.sent L.counts)))
+        (receive (viewer address watcher.old lines) ToCatchUp) (λ _. run (viewer address watcher.new lines) lines) result (window out.old link.old) (window out.new link.new) }
+{
+    match catch_up(rt, watcher, link) {
+        Ok(()) => {}
+        Err(end) => return Err(end),
+    }
+    match finish(watcher, out, "") {
+        Ok(()) => Ok(()),
+        Err(end) => Err(end),
+    }
+}
+
+/// Sends the events that were not given yet, and hears the link where too many are not acknowledged.
+fn send_and_hear<R: Wait, L: Link, W: Sink>(
+    rt: &R,
+    watcher: &mut Watcher,
+    link: &mut L,
+    out: &mut W,
+) -> Result<(), ViewEnd>
+    requires ready { IsReady watcher.old }
+    ensures kept { watcher.new ≡ record watcher.old { replica = watcher.new.replica; receives = watcher.new.receives; quiets = watcher.new.quiets } }
+    ensures ready { OnOk result (IsReady watcher.new) }
+    ensures talk { (address : List ℕ) (lines : List PlainLine) → GoesOrStops (Acts (window_tells (output_tells W.written W.faults W.wants) (links_tell L.coming L.heard L.sent L.counts)))
+        (send_all (after_giving (viewer address watcher.old lines)) (unsent watcher.old.replica.plain) (Receives ToCatchUp)) (λ _. run (viewer address watcher.new lines) lines) result (window out.old link.old) (window out.new link.new) }
+{
+    match send_unsent(watcher, link) {
+        Ok(()) => {}
+        Err(end) => return Err(end),
+    }
+    await_answers(rt, watcher, link, out)
+}
+
 /// Tells that the view has joined again, or nothing of its own.
 fn tell_synced<W: Sink>(
     watcher: &mut Watcher,
@@ -378,14 +422,53 @@ fn last_line(watcher: &Watcher) -> Result<String, WantOfMemory>
     }
 }
 
-/// Leaves the session, and tells the last line.
+/// Takes a tick of its own time, so that nothing is due at that time: the world is then the replay of the log to it.
+fn rest(watcher: &mut Watcher) -> Result<(), ViewEnd>
+    requires ready { IsReady watcher.old }
+    ensures kept { watcher.new ≡ record watcher.old { replica = watcher.new.replica } }
+    ensures rests { OnOk result (watcher.new.replica ≡ with_plain watcher.old.replica (rested (worlds_of watcher.old.replica) watcher.old.replica.plain)) }
+    ensures ready { OnOk result (IsReady watcher.new) }
+    ensures want { IfErr result (λ end. end ≡ ViewEnd.WantOfMemory) }
+{
+    worlds_stand();
+    if watcher.replica.broken() {
+        return Err(ViewEnd::WantOfMemory);
+    }
+    let time = watcher.replica.time();
+    match watcher.replica.take(&ServerFrame::Tick(time)) {
+        Ok(()) => Ok(()),
+        // A view that has joined takes each tick that does not lie behind, but for want of memory.
+        Err(_) => Err(ViewEnd::WantOfMemory),
+    }
+}
+
+/// Rests, and tells the events that models published by that.
+fn rest_and_tell<W: Sink>(watcher: &mut Watcher, out: &mut W) -> Result<(), ViewEnd>
+    requires ready { IsReady watcher.old }
+    ensures kept { watcher.new ≡ record watcher.old { replica = watcher.new.replica } }
+    ensures ready { OnOk result (IsReady watcher.new) }
+    ensures ok { OnOk result (watcher.new.replica ≡ with_plain watcher.old.replica (takes_out (rested (worlds_of watcher.old.replica) watcher.old.replica.plain))) }
+    ensures printed { (address : List ℕ) (lines : List PlainLine) → OnOk result (PrintsText (output_tells W.written W.faults W.wants) Well (shown_text (after_rest (viewer address watcher.old lines)) []) out.old out.new) }
+    ensures err { (address : List ℕ) (lines : List PlainLine) → IfErr result (λ end. StopsPrinting (output_tells W.written W.faults W.wants) end (shown_text (after_rest (viewer address watcher.old lines)) []) out.old out.new) }
+{
+    match rest(watcher) {
+        Ok(()) => finish(watcher, out, ""),
+        Err(end) => Err(end),
+    }
+}
+
+/// Rests and tells what came of it, leaves the session, and tells the last line.
 fn leave<L: Link, W: Sink>(watcher: &mut Watcher, link: &mut L, out: &mut W) -> Result<(), ViewEnd>
     requires ready { IsReady watcher.old }
-    ensures kept { watcher.new ≡ record watcher.old { receives = watcher.new.receives } }
+    ensures kept { watcher.new ≡ record watcher.old { receives = watcher.new.receives; replica = watcher.new.replica } }
     ensures ready { OnOk result (IsReady watcher.new) }
     ensures talk { (address : List ℕ) (lines : List PlainLine) → GoesOrStops (Acts (window_tells (output_tells W.written W.faults W.wants) (links_tell L.coming L.heard L.sent L.counts)))
         (leave_session (viewer address watcher.old lines)) (λ _. Over ViewEnd.Done) result (window out.old link.old) (window out.new link.new) }
 {
+    match rest_and_tell(watcher, out) {
+        Ok(()) => {}
+        Err(end) => return Err(end),
+    }
     match send(watcher, link, &ClientFrame::Leave) {
         Ok(()) => {}
         Err(end) => return Err(end),
@@ -434,7 +517,7 @@ fn run_line<R: Wait, L: Link, W: Sink>(
             event,
             value,
         } => match publish(watcher, scope, event, value) {
-            Ok(()) => flow_of(send_and_tell(watcher, link, out, None)),
+            Ok(()) => flow_of(send_and_hear(rt, watcher, link, out)),
             Err(end) => Err(end),
         },
         ViewLine::Watch {

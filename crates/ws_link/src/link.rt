@@ -16,11 +16,11 @@ use tea_io::{Heard, Link, LinkFault};
 ///
 /// A receive that has no message is quiet: after 50 milliseconds at a link that was accepted, after 10 at one that was made, and after
 /// 50 while the handshake is not finished. One that took a part of a message goes on, up to a second. It is quiet sooner where another
-/// link of its net has news: one that was accepted, received a message, and has then begun to send. News ends no two receives within 4
+/// link of its net has news: one that was accepted, received a message other than ALIVE, and has then begun to send. News ends no two receives within 4
 /// milliseconds. A receive after 256 frames that were sent waits for nothing.
 ///
 /// Pings are answered at any receive. At a link that was accepted, each ping and each pong of a peer that has sent a message is told as
-/// the frame ALIVE, and a peer that was silent for 15 seconds is sent a ping.
+/// the frame ALIVE, and a peer that was silent for 15 seconds, or for 1,000 receives, is sent a ping.
 ///
 /// A Close and an orderly end of TCP are the end. All else is a failure: a bad handshake, a text, a message that is too long, a breach
 /// of the protocol, a reset. A receive that is out of memory may have lost a message. After each of these the link answers so at each

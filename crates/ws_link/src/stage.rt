@@ -20,7 +20,7 @@ use wire_frames::ALIVE_TAG;
 const LONGEST_MESSAGE: usize = 8_388_608;
 /// How many bytes may wait to be sent: a message, and replies to pings.
 const LONGEST_OUTPUT: usize = 16_777_216;
-/// How often a send goes on with a handshake that is not finished. Each time waits up to 50 milliseconds.
+/// How often a send goes on with a handshake that is not finished. Each time takes up to 50 milliseconds.
 const SEND_TRIES: u32 = 100;
 
 /// A server's handshake that is not finished.
@@ -104,10 +104,7 @@ fn continue_accepting<R: Clock + RandomSource + Copy>(
                 Some(limits()),
             ))
         }
-        Err(HandshakeError::Interrupted(mut handshake)) => {
-            handshake.get_mut().wait_for_handshake();
-            Stage::Accepting(handshake)
-        }
+        Err(HandshakeError::Interrupted(handshake)) => Stage::Accepting(handshake),
         Err(HandshakeError::Failure(error)) => Stage::Over(None, last_of(&error)),
     }
 }
@@ -119,10 +116,7 @@ fn continue_connecting<R: Clock + RandomSource + Copy>(mut handshake: Connecting
     }
     match handshake.handshake() {
         Ok((socket, _)) => Stage::Open(socket),
-        Err(HandshakeError::Interrupted(mut handshake)) => {
-            handshake.get_mut().wait_for_handshake();
-            Stage::Connecting(handshake)
-        }
+        Err(HandshakeError::Interrupted(handshake)) => Stage::Connecting(handshake),
         Err(HandshakeError::Failure(error)) => Stage::Over(None, last_of(&error)),
     }
 }
@@ -208,7 +202,9 @@ fn frame_of(alloc: Global, bytes: &[u8]) -> Heard {
 fn hear<R: Clock + RandomSource + Copy>(alloc: Global, socket: &mut Socket<R>) -> Heard {
     match next_message(socket) {
         Ok(Message::Binary(bytes)) => {
-            socket.get_mut().note_message();
+            // A view that says that it is there is no news to the others.
+            let is_news = bytes.as_slice() != [ALIVE_TAG].as_slice();
+            socket.get_mut().note_message(is_news);
             frame_of(alloc, bytes.as_slice())
         }
         Ok(Message::Ping(_) | Message::Pong(_)) => frame_of(alloc, &[ALIVE_TAG]),
@@ -218,9 +214,9 @@ fn hear<R: Clock + RandomSource + Copy>(alloc: Global, socket: &mut Socket<R>) -
     }
 }
 
-/// Sends a ping to a peer that is due one. Where that fails, the next frame that is sent fails too.
-fn ping_the_silent<R: Clock + RandomSource + Copy>(socket: &mut Socket<R>) {
-    if socket.get_mut().takes_ping() {
+/// A receive was quiet: a peer that is due a ping is sent one. Where that fails, the next frame that is sent fails too.
+fn after_quiet<R: Clock + RandomSource + Copy>(socket: &mut Socket<R>) {
+    if socket.get_mut().note_quiet() {
         let _ = socket.send(Message::Ping(Bytes::new()));
     }
 }
@@ -296,7 +292,7 @@ impl<R: Clock + RandomSource + Copy> Stage<R> {
             Stage::Open(mut socket) => {
                 let heard = hear(alloc, &mut socket);
                 if matches!(&heard, Heard::Quiet) {
-                    ping_the_silent(&mut socket);
+                    after_quiet(&mut socket);
                 }
                 let stage = after_hearing(socket, &heard);
                 (stage, heard)

@@ -131,22 +131,24 @@ fn watching<R: Sockets>(rt: &R, stream: &TcpStream, news: &Option<News>) -> io::
     Ok(poll)
 }
 
-/// Waits until a stream may be read, for at most so many milliseconds.
-pub fn wait_to_read(stream: &TcpStream, millis: i32) {
-    wait_for(stream, c::POLLIN, millis);
+/// Waits until a stream may be read, for at most so long.
+pub fn wait_to_read(stream: &TcpStream, time: Duration) {
+    wait_for(stream, c::POLLIN, time);
 }
 
-/// Waits until a stream may be written, for at most so many milliseconds.
-pub fn wait_to_write(stream: &TcpStream, millis: i32) {
-    wait_for(stream, c::POLLOUT, millis);
+/// Waits until a stream may be written, for at most so long.
+pub fn wait_to_write(stream: &TcpStream, time: Duration) {
+    wait_for(stream, c::POLLOUT, time);
 }
 
 /// Waits by poll(2) for one of these events of a stream.
-fn wait_for(stream: &TcpStream, events: i16, millis: i32) {
+fn wait_for(stream: &TcpStream, events: i16, time: Duration) {
+    let millis = i32::try_from(time.as_millis()).unwrap_or(i32::MAX);
     let mut fds = [pollfd {
         fd: stream.as_raw_fd(),
         events,
         revents: 0,
     }];
-    let _ = c::poll(&mut fds, millis);
+    // The system counts whole milliseconds: one more, so that it does not return before the time is over.
+    let _ = c::poll(&mut fds, millis.saturating_add(1));
 }

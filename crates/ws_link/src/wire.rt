@@ -6,21 +6,26 @@ use crate::watch::{Watch, wait_to_read, wait_to_write};
 use std::alloc::Global;
 use std::io::{self, ErrorKind, Read, Write};
 use std::net::{Shutdown, TcpStream};
-use std::time::{Clock, Instant};
+use std::time::{Clock, Duration, Instant};
 
 /// How long a peer may take no byte of what it is sent, in milliseconds.
 const SEND_TIME: u64 = 5000;
 /// How long a send waits before it tries again, in milliseconds. The system says that a stream may be written only once a good part
 /// of what waits in it was taken. A slow peer may need longer for that than it may take no byte.
-const SEND_STEP: i32 = 50;
+const SEND_STEP: u64 = 50;
 /// How long an accepted link's peer may be silent before it is sent a ping, in milliseconds.
 const PING_TIME: u64 = 15_000;
+/// At how many quiet receives in a row it is sent one sooner. Callers give a link up after some thousands, and where others send, or where a
+/// long row of frames was sent, these come in seconds.
+const PING_QUIETS: u32 = 1000;
+/// How long a call goes on with a handshake, in milliseconds.
+const HANDSHAKE_TIME: u64 = 50;
 /// How long a link that is given back sends its Close, and how long it reads on, in milliseconds.
 const CLOSE_TIME: u64 = 1000;
 /// How long a Close is sent where that time is over, in milliseconds.
 const LATE_CLOSE_TIME: u64 = 50;
-/// How long a handshake, or a link that is given back, waits for bytes before it looks at the time, in milliseconds.
-const READ_STEP: i32 = 50;
+/// How long a link that is given back waits for bytes before it looks at the time, in milliseconds.
+const CLOSE_STEP: u64 = 50;
 /// How many bytes one read of a head, or of what comes after the end, asks for.
 const CHUNK: usize = 4096;
 /// The longest head of a handshake that is waited for.
@@ -38,8 +43,10 @@ pub struct Wire<R> {
     is_drained: bool,
     /// Whether a message came after which nothing was sent yet.
     owes_news: bool,
-    /// Since when the peer is silent, where it has sent a message before.
+    /// Since when the peer is silent, or was last sent a ping, where it has sent a message before.
     silent: Option<Instant>,
+    /// How many receives were quiet since then.
+    quiets: u32,
     /// How many milliseconds a peer may take no byte of what is written.
     patience: u64,
     /// The head so far, or what is not yet given of it.
@@ -60,6 +67,7 @@ impl<R: Clock + Copy> Wire<R> {
             is_drained: false,
             owes_news: false,
             silent: None,
+            quiets: 0,
             patience: SEND_TIME,
             head: Vec::new(alloc),
             has_head: false,
@@ -102,10 +110,16 @@ impl<R: Clock + Copy> Wire<R> {
         }
     }
 
-    /// A message came. The next frame that is sent wakes the other links.
-    pub fn note_message(&mut self) {
-        self.owes_news = true;
+    /// A message came. Where it is news, the next frame that is sent wakes the other links.
+    pub fn note_message(&mut self, is_news: bool) {
+        self.owes_news = self.owes_news || is_news;
+        self.note_life();
+    }
+
+    /// The peer is there.
+    fn note_life(&mut self) {
         self.silent = self.now();
+        self.quiets = 0;
     }
 
     /// A ping or a pong came. Says whether that is a sign of life: at a link that was accepted, from a peer that has sent a message.
@@ -114,7 +128,7 @@ impl<R: Clock + Copy> Wire<R> {
         if self.silent.is_none() || !self.watch.is_of_net() {
             return false;
         }
-        self.silent = self.now();
+        self.note_life();
         true
     }
 
@@ -123,17 +137,18 @@ impl<R: Clock + Copy> Wire<R> {
         self.receives.left(self.now()).is_zero()
     }
 
-    /// Whether the peer of a link that was accepted is due a ping. The next one is due as much later.
-    pub fn takes_ping(&mut self) -> bool {
+    /// A receive was quiet. Says whether the peer of a link that was accepted is due a ping. The next one is due as much later.
+    pub fn note_quiet(&mut self) -> bool {
         if self.silent.is_none() || !self.watch.is_of_net() {
             return false;
         }
-        let now = self.now();
-        if !left_of(self.silent, now, PING_TIME).is_zero() {
-            return false;
+        self.quiets = self.quiets.saturating_add(1);
+        let is_due = self.quiets >= PING_QUIETS
+            || left_of(self.silent, self.now(), PING_TIME).is_zero();
+        if is_due {
+            self.note_life();
         }
-        self.silent = now;
-        true
+        is_due
     }
 
     /// Waits for bytes in the time of a receive, and says whether some may have come. News ends the wait, but not in the midst of a
@@ -158,12 +173,6 @@ impl<R: Clock + Copy> Wire<R> {
         false
     }
 
-    /// Waits a little for bytes of a handshake. News does not end it.
-    pub fn wait_for_handshake(&mut self) {
-        wait_to_read(&self.stream, READ_STEP);
-        self.is_drained = false;
-    }
-
     /// Says that nothing more is sent.
     pub fn stop_sending(&self) {
         let _ = self.stream.shutdown(Shutdown::Write);
@@ -181,7 +190,9 @@ impl<R: Clock + Copy> Wire<R> {
                 Ok(0) => return,
                 Ok(_) => {}
                 Err(error) => match error.kind() {
-                    ErrorKind::WouldBlock => wait_to_read(&self.stream, READ_STEP),
+                    ErrorKind::WouldBlock => {
+                        wait_to_read(&self.stream, Duration::from_millis(CLOSE_STEP));
+                    }
                     ErrorKind::Interrupted => {}
                     _ => return,
                 },
@@ -215,11 +226,31 @@ impl<R: Clock + Copy> Wire<R> {
         }
     }
 
-    /// Reads up to the end of the head, or of what comes.
+    /// Reads what comes within a time. News does not end it.
+    fn read_until(&mut self, chunk: &mut [u8], since: Option<Instant>) -> io::Result<usize>
+        ensures { ReadsAtMost result chunk.new }
+    {
+        for _ in 0..u64::MAX {
+            match self.read_stream(chunk) {
+                Err(error) if is_for_later(&error) => {}
+                done => return done,
+            }
+            let left = left_of(since, self.now(), HANDSHAKE_TIME);
+            if left.is_zero() {
+                break;
+            }
+            wait_to_read(&self.stream, left);
+            self.is_drained = false;
+        }
+        Err(io::Error::from(ErrorKind::WouldBlock))
+    }
+
+    /// Reads up to the end of the head, or of what comes in the time of a call.
     fn read_head(&mut self) -> io::Result<()> {
+        let since = self.now();
         let mut chunk = [0u8; CHUNK];
         for _ in 0..u64::MAX {
-            let count = self.read_stream(&mut chunk)?;
+            let count = self.read_until(&mut chunk, since)?;
             if self.head.extend_from_slice(&chunk[..count]).is_err() {
                 return Err(io::Error::from(ErrorKind::OutOfMemory));
             }
@@ -237,7 +268,7 @@ impl<R: Clock + Copy> Wire<R> {
     {
         let since = self.now();
         for _ in 0..u64::MAX {
-            wait_to_write(&self.stream, SEND_STEP);
+            wait_to_write(&self.stream, Duration::from_millis(SEND_STEP));
             match self.stream.write(buf) {
                 Err(error) if is_for_later(&error) => {}
                 done => return done,

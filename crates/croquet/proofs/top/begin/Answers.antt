@@ -3,6 +3,7 @@ use Rattle.command_words.specs.declared.words.Command.{Command}
 use Rattle.command_words.specs.CommandWords.{command_of}
 use Rattle.commands.specs.Verdict.{OfWords}
 use Rattle.commands.specs.Work.{ComesNext}
+use Rattle.croquet.proofs.Overs.{over_by}
 use Rattle.croquet.proofs.Runs.{ran_wanting, turns_freely}
 use Rattle.croquet.proofs.top.begin.Goals as goal
 
@@ -15,3 +16,6 @@ returns-in-Ok-clause-turns g c =
 pub returns-in-Err-clause-turns : goal.returns-in-Err-clause-turns
 returns-in-Err-clause-turns g c =
     ran_wanting _ _ (OfWords (command_of c.args.words.now)) c.args.files.now c.args.out.now c.tell_want_of_memory.new.out c.tell_want_of_memory.result c.tell_want_of_memory.ensures
+
+pub returns-in-Ok-clause-over : goal.returns-in-Ok-clause-over
+returns-in-Ok-clause-over g c other = over_by _ (command_of c.args.words.now) _ _ c.go_on.result other (returns-in-Ok-clause-turns g c)

@@ -8,7 +8,7 @@ use Rattle.view_bridge.specs.Topics.{subscribes}
 use Rattle.view_script.specs.PlainLine.{plain_line}
 use Rattle.view_script.specs.declared.line.ViewLine.{ViewLine}
 use Rattle.view_shell.specs.declared.ending.ViewEnd.TheVariants as ending
-use Rattle.view_shell.specs.Phases.{Viewer, Over, Receives, Sending, TellsText, ToReach, ToSettle, ToSnap, finish, after_giving, leave_session, after_publish, receive, run, send_all}
+use Rattle.view_shell.specs.Phases.{Viewer, Over, Receives, Sending, ToReach, ToSettle, ToCatchUp, ToSnap, finish, after_giving, leave_session, after_publish, receive, run, send_all}
 use Rattle.view_shell.specs.Viewers.{viewer}
 use Rattle.view_shell.proofs.Flowing.{done_behind, done_printing, flow_from}
 use Rattle.view_shell.proofs.Going.{all_acts_behind, goes_from, goes_in_window, stops_from, stops_in_window, wants}
@@ -24,10 +24,10 @@ returns-in-Ok-clause-talk g c address lines =
     let u = viewer address c.publish.new.watcher lines in
     let payload = payload_spelling (record { scope = c.in-Publish.scope; event = c.in-Publish.event; value = plain c.in-Publish.value }) in
     let same : after_publish (viewer address old lines) payload ≡ u = viewer_published address lines old c.publish.new.watcher payload c.publish.ensures.kept c.in-Ok.ensures.publishes in
-    flow_from (Acts (window_tells out links)) first (send_all (after_giving u) (unsent u.replica) (TellsText [])) (viewer address c.send_and_tell.new.watcher lines) lines (window c.args.out.now c.args.link.now) (window c.send_and_tell.new.out c.send_and_tell.new.link)
-    c.send_and_tell.result c.flow_of.result c.flow_of.ensures
-    (ap (λ (l : ViewLine). run (viewer address old (plain_line l ∷ lines)) (plain_line l ∷ lines)) c.in-Publish.is ∙ ap (λ (v : Viewer). send_all (after_giving v) (unsent v.replica) (TellsText [])) same)
-    (c.send_and_tell.ensures.talk address lines)
+    flow_from (Acts (window_tells out links)) first (send_all (after_giving u) (unsent u.replica) (Receives ToCatchUp)) (viewer address c.send_and_hear.new.watcher lines) lines (window c.args.out.now c.args.link.now) (window c.send_and_hear.new.out c.send_and_hear.new.link)
+    c.send_and_hear.result c.flow_of.result c.flow_of.ensures
+    (ap (λ (l : ViewLine). run (viewer address old (plain_line l ∷ lines)) (plain_line l ∷ lines)) c.in-Publish.is ∙ ap (λ (v : Viewer). send_all (after_giving v) (unsent v.replica) (Receives ToCatchUp)) same)
+    (c.send_and_hear.ensures.talk address lines)
 
 pub returns-in-Err-clause-talk : goal.returns-in-Err-clause-talk
 returns-in-Err-clause-talk g c address lines =

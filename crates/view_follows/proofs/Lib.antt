@@ -1,0 +1,4 @@
+pub mod SnapSpellings
+pub mod Stands
+pub mod Walking
+pub mod Meeting

@@ -1,0 +1,4 @@
+pub mod Links
+pub mod BothEnds
+pub mod Offers
+pub mod ViewsReplay

@@ -1,0 +1,72 @@
+-- That the last line of a view is the replay of the log that its links told.
+use Rattle.std.specs.Prelude.{◌≡◌, ◌<◌, ◌^◌, ◌++◌, ◌∷◌, [], ℕ, List, length}
+use Rattle.std.specs.List.{AllByRecursion}
+use Rattle.tea_base.specs.Legal.{IsLegal}
+use Rattle.tea_base.specs.Readings.{count_until}
+use Rattle.tea_base.specs.declared.entry.Entry.{Entry}
+use Rattle.model_tree.specs.Program.{IsProgram}
+use Rattle.model_tree.specs.Tree.{ProgramTree}
+use Rattle.world_plain.specs.Messages.{PlainOutgoing}
+use Rattle.world_plain.specs.World.{WorldRecord}
+use Rattle.world.specs.Worlds.{replay}
+use Rattle.replica_plain.specs.PlainReplica.{PlainReplica, new_replica}
+use Rattle.replica_plain.specs.Following.{FollowsLog}
+use Rattle.replica.specs.RealWorlds.{worlds}
+use Rattle.run_steps.specs.Steps.{Step, Prints}
+use Rattle.view_script.specs.PlainLine.{PlainLine}
+use Rattle.view_shell.specs.declared.ending.ViewEnd.TheVariants as ending
+use Rattle.view_shell.specs.Phases.{Over, Phase, PrintingLast, Walks}
+use Rattle.view_shell.specs.ViewText.{view_line}
+use Rattle.view_shell.specs.Viewers.{first_phase}
+use Rattle.view_follows.specs.Links.{IsServedBy, links_in}
+use Rattle.view_follows.specs.Offers.{OffersFollow}
+
+-- The line is that of a replica of this view that follows the log, so that its seq is the number of entries up to its time. Its world is
+-- the replay of the log to that time, and so its digest that of the replay.
+pub record IsReplayLine (tree : ProgramTree) (id : List ℕ) (view : ℕ) (log : List Entry) (line : List ℕ) : Type 0 where
+  pub replica : PlainReplica WorldRecord PlainOutgoing
+  pub own : replica.view ≡ view
+  pub follows : FollowsLog (worlds tree id) log replica
+  pub replayed : replica.world ≡ (replay tree id log replica.world.time).world
+  pub told : line ≡ view_line replica
+
+-- the same in plain words: the line of a replica that has the replay of the log to a time, and has seen the entries until then
+abbrev pub replayed : ProgramTree → List ℕ → ℕ → List Entry → ℕ → PlainReplica WorldRecord PlainOutgoing
+replayed tree id view log t = record (new_replica (worlds tree id) view) { world = (replay tree id log t).world; seen = count_until log t }
+
+-- the line is the one that a replay of the log prints, at some time
+pub record TellsReplayOf (tree : ProgramTree) (id : List ℕ) (view : ℕ) (log : List Entry) (line : List ℕ) : Type 0 where
+  pub time : ℕ
+  pub timed : (replay tree id log time).world.time ≡ time
+  pub told : line ≡ view_line (replayed tree id view log time)
+
+-- the text that was printed last is such a line
+pub record EndsInReplay (tree : ProgramTree) (id : List ℕ) (view : ℕ) (log : List Entry) (steps : List Step) : Type 0 where
+  pub front : List Step
+  pub line : List ℕ
+  pub last : steps ≡ front ++ Prints line ∷ []
+  pub tells : TellsReplayOf tree id view log line
+
+-- a view, a script, a legal log and steps that lead to this phase, where the log serves each link
+pub record IsServedVisit (tree : ProgramTree) (id : List ℕ) (view : ℕ) (address : List ℕ) (lines : List PlainLine) (log : List Entry) (steps : List Step) (last : Phase) : Type 0 where
+  pub program : IsProgram tree
+  pub session : length id ≡ 32
+  pub number : view < 2 ^ 32
+  pub legal : IsLegal log
+  pub walks : Walks (first_phase tree id view address lines) steps last
+  pub serves : AllByRecursion (IsServedBy (worlds tree id) log) (links_in steps)
+
+-- whoever comes to his last line is told the replay
+abbrev pub ViewsReplay : Type 0
+ViewsReplay = (tree : ProgramTree) (id : List ℕ) (view : ℕ) (address : List ℕ) (lines : List PlainLine) (log : List Entry) (steps : List Step) (line : List ℕ)
+    → IsServedVisit tree id view address lines log steps (PrintingLast line) → IsReplayLine tree id view log line × TellsReplayOf tree id view log line
+
+-- and so is whoever is done
+abbrev pub VisitsEndInReplay : Type 0
+VisitsEndInReplay = (tree : ProgramTree) (id : List ℕ) (view : ℕ) (address : List ℕ) (lines : List PlainLine) (log : List Entry) (steps : List Step)
+    → IsServedVisit tree id view address lines log steps (Over ending.Done) → EndsInReplay tree id view log steps
+
+-- each snapshot that it offers, in whatever phase it is, is of a replica that follows the log
+abbrev pub VisitsOfferFollowers : Type 0
+VisitsOfferFollowers = (tree : ProgramTree) (id : List ℕ) (view : ℕ) (address : List ℕ) (lines : List PlainLine) (log : List Entry) (steps : List Step) (last : Phase)
+    → IsServedVisit tree id view address lines log steps last → OffersFollow (worlds tree id) log steps
