@@ -75,15 +75,19 @@ def who_says_alive_wakes_nobody(program):
         talk.start()
         ticks = ticks_within(idle, 2)
         talk.join()
+        expect_that(lively.answers > 30, "more than 30 answers to ALIVE", lively.answers)
         expect_that(ticks <= 43, "at most 43 ticks in 2 seconds", ticks)
         leave_all(lively, idle)
         served_log(reflector.end(), [lively, idle])
 
 
 def say_alive(view, until):
+    """Says ALIVE again and again, and counts the answers."""
+    view.answers = 0
     while time.monotonic() < until:
         view.say(ALIVE)
         view.until("alive")
+        view.answers += 1
         time.sleep(0.02)
 
 
