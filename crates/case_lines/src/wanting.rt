@@ -11,6 +11,7 @@ pub struct WantingFiles {
     pub files: MemFiles,
     pub calls: u32,
     pub wanting: u32,
+    pub wants: u64,
 }
 
 impl Files for WantingFiles {
@@ -20,20 +21,40 @@ impl Files for WantingFiles {
 
     ghost faults = { λ all. all.files.faults };
 
+    ghost wants = { λ all. all.wants };
+
     fn read(&mut self, name: &Text, limit: u64) -> Result<Blob, FileFault> {
         self.calls = self.calls.saturating_add(1);
         if self.calls == self.wanting {
+            self.wants = self.wants.saturating_add(1);
             return Err(FileFault::WantOfMemory);
         }
-        self.files.read(name, limit)
+        match self.files.read(name, limit) {
+            Ok(bytes) => Ok(bytes),
+            Err(FileFault::Failed) => Err(FileFault::Failed),
+            Err(FileFault::TooLarge { len }) => Err(FileFault::TooLarge { len }),
+            Err(FileFault::WantOfMemory) => {
+                self.wants = self.wants.saturating_add(1);
+                Err(FileFault::WantOfMemory)
+            }
+        }
     }
 
     fn write(&mut self, name: &Text, bytes: &[u8]) -> Result<(), FileFault> {
         self.calls = self.calls.saturating_add(1);
         if self.calls == self.wanting {
+            self.wants = self.wants.saturating_add(1);
             return Err(FileFault::WantOfMemory);
         }
-        self.files.write(name, bytes)
+        match self.files.write(name, bytes) {
+            Ok(()) => Ok(()),
+            Err(FileFault::Failed) => Err(FileFault::Failed),
+            Err(FileFault::TooLarge { len }) => Err(FileFault::TooLarge { len }),
+            Err(FileFault::WantOfMemory) => {
+                self.wants = self.wants.saturating_add(1);
+                Err(FileFault::WantOfMemory)
+            }
+        }
     }
 }
 

@@ -63,7 +63,7 @@ pub(crate) fn tell_drilled<F: Files, W: Sink>(
     files: &mut F,
     out: &mut W,
 ) -> Status
-    ensures { RanBySteps (desk_tells (files_tell F.held F.asked F.faults) (output_tells W.written W.faults W.wants))
+    ensures { RanBySteps (desk_tells (files_tell F.held F.asked F.faults F.wants) (output_tells W.written W.faults W.wants))
         (OfReport request answer) (desk files.old out.old) (desk files.new out.new) result }
 {
     let Ok(report) = answer else {

@@ -13,9 +13,9 @@ use tea_io::{Files, Sink};
 
 /// Puts a file, or tells why it was not put.
 fn put_or_tell<F: Files, W: Sink>(put: &Put, files: &mut F, out: &mut W) -> Result<(), Status>
-    ensures put { OnOk result (PutsFile (files_tell F.held F.asked F.faults) Well put.now.name put.now.bytes files.old files.new) }
+    ensures put { OnOk result (PutsFile (files_tell F.held F.asked F.faults F.wants) Well put.now.name put.now.bytes files.old files.new) }
     ensures quiet { OnOk result (out.new ≡ out.old) }
-    ensures told { IfErr result (TellsUnput (files_tell F.held F.asked F.faults) (output_tells W.written W.faults W.wants)
+    ensures told { IfErr result (TellsUnput (files_tell F.held F.asked F.faults F.wants) (output_tells W.written W.faults W.wants)
         put.now files.old out.old files.new out.new) }
 {
     match put_file(files, &put.name, put.bytes.bytes()) {
@@ -31,7 +31,7 @@ pub(crate) fn give<F: Files, W: Sink>(
     files: &mut F,
     out: &mut W,
 ) -> Result<(), Status>
-    ensures { Completes (desk_tells (files_tell F.held F.asked F.faults) (output_tells W.written W.faults W.wants))
+    ensures { Completes (desk_tells (files_tell F.held F.asked F.faults F.wants) (output_tells W.written W.faults W.wants))
         (steps_of outcome.now.files outcome.now.text) result (desk files.old out.old) (desk files.new out.new) }
 {
     for put in outcome.files.as_slice() {
@@ -49,7 +49,7 @@ pub(crate) fn give<F: Files, W: Sink>(
 
 /// Puts the files of a command and prints its text, which is all that it does.
 pub(crate) fn finish<F: Files, W: Sink>(outcome: &Outcome, files: &mut F, out: &mut W) -> Status
-    ensures { Does (desk_tells (files_tell F.held F.asked F.faults) (output_tells W.written W.faults W.wants))
+    ensures { Does (desk_tells (files_tell F.held F.asked F.faults F.wants) (output_tells W.written W.faults W.wants))
         (steps_of outcome.now.files outcome.now.text) EndsWell (desk files.old out.old) (desk files.new out.new) result }
 {
     match give(outcome, files, out) {

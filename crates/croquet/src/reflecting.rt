@@ -32,7 +32,7 @@ fn give_reflected<F: Files, W: Sink>(
     files: &mut F,
     out: &mut W,
 ) -> Status
-    ensures { RanBySteps (desk_tells (files_tell F.held F.asked F.faults) (output_tells W.written W.faults W.wants))
+    ensures { RanBySteps (desk_tells (files_tell F.held F.asked F.faults F.wants) (output_tells W.written W.faults W.wants))
         (Free (Only (reflected_verdict log reflected.now.ends reflected.now.session.plain reflected.now.net_failed)))
         (desk files.old out.old) (desk files.new out.new) result }
 {
@@ -64,7 +64,7 @@ pub(crate) fn tell_reflected<F: Files, W: Sink>(
     files: &mut F,
     out: &mut W,
 ) -> Status
-    ensures { RanBySteps (desk_tells (files_tell F.held F.asked F.faults) (output_tells W.written W.faults W.wants))
+    ensures { RanBySteps (desk_tells (files_tell F.held F.asked F.faults F.wants) (output_tells W.written W.faults W.wants))
         (OfReflected log answer) (desk files.old out.old) (desk files.new out.new) result }
 {
     match answer {

@@ -47,7 +47,7 @@ pub enum Turn {
 
 /// Reads the file that a command waits for.
 fn read_asked<F: Files>(files: &mut F, waiting: &Waiting) -> Result<Option<Blob>, CallFault>
-    ensures { ReadsFile (files_tell F.held F.asked F.faults) (came_of result) (ask_of waiting.now) (given_of result) files.old files.new }
+    ensures { ReadsFile (files_tell F.held F.asked F.faults F.wants) (came_of result) (ask_of waiting.now) (given_of result) files.old files.new }
 {
     read_file(files, waiting.name(), waiting.limit())
 }
@@ -55,7 +55,7 @@ fn read_asked<F: Files>(files: &mut F, waiting: &Waiting) -> Result<Option<Blob>
 /// Runs a command from here on.
 fn go_on<F: Files, W: Sink>(alloc: Global, next: Next, files: &mut F, out: &mut W) -> Turn
     requires { IsBoundedNext next }
-    ensures turns { Turns (desk_tells (files_tell F.held F.asked F.faults) (output_tells W.written W.faults W.wants))
+    ensures turns { Turns (desk_tells (files_tell F.held F.asked F.faults F.wants) (output_tells W.written W.faults W.wants))
         result (ComesNext next) (desk files.old out.old) (desk files.new out.new) }
     ensures bounded { IsBoundedTurn result }
 {
@@ -77,7 +77,7 @@ fn go_on<F: Files, W: Sink>(alloc: Global, next: Next, files: &mut F, out: &mut 
 /// Runs what the words ask for up to its end, or up to a view's run, a reflector's, or a drill. [`croquet`] begins so. It waits for nobody, so it
 /// returns: `stamp`, `check` and `replay` are over then, and so are words that are refused.
 pub fn begin<F: Files, W: Sink>(alloc: Global, words: &Words, files: &mut F, out: &mut W) -> Turn
-    ensures turns { Turns (desk_tells (files_tell F.held F.asked F.faults) (output_tells W.written W.faults W.wants))
+    ensures turns { Turns (desk_tells (files_tell F.held F.asked F.faults F.wants) (output_tells W.written W.faults W.wants))
         result (Comes (command_of words.now)) (desk files.old out.old) (desk files.new out.new) }
     ensures bounded { IsBoundedTurn result }
     ensures over { ¬ RunsOn (command_of words.now) → IsOver result }
@@ -113,7 +113,7 @@ pub fn croquet<
     // There are steps and an end that come of the words, and what was read, put, printed, heard and sent is what they give, up to
     // the place where the run was cut, and then the last line. Behind the steps of `reflect` its reflector serves the net, and more
     // steps and an end come of what it answers. Of `drill` the log is put, and of each view the snapshot of the log's replay.
-    ensures ran { Ran (C.gives clock.now) (outside_tells (files_tell F.held F.asked F.faults) (output_tells W.written W.faults W.wants)
+    ensures ran { Ran (C.gives clock.now) (outside_tells (files_tell F.held F.asked F.faults F.wants) (output_tells W.written W.faults W.wants)
         (net_tells N.coming N.over N.asked N.faults N.lent N.link_counts)
         (links_tell N.Conn.coming N.Conn.heard N.Conn.sent N.Conn.counts))
         (Comes (command_of words.now)) (outside files.old out.old net None) (outside files.new out.new result.0 None) result.1 }

@@ -71,6 +71,7 @@ impl Given {
         faults: Faults,
     ) -> Result<Run, WantOfMemory> {
         let mut files = WantingFiles {
+            wants: 0,
             files: self.files(faults)?,
             calls: 0,
             wanting: faults.wanting_file,

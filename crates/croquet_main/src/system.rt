@@ -1,7 +1,7 @@
 //! The words, the files, the clock and the standard output of the system. They tell no content, only how often they failed.
 ghost use Rattle.std.specs.Prelude.{◌≡◌, ◌≤◌, ◌^◌, None, IfOk, IfErr};
 ghost use Rattle.tea_io.specs.declared.files.FileFault.TheVariants.{Failed};
-ghost use Rattle.tea_io.specs.Files.{Untold, FileCause};
+ghost use Rattle.tea_io.specs.Files.{Untold, FileCause, FileWant};
 ghost use Rattle.croquet_main.specs.System.{IsCounted, IsWithin};
 
 use crate::served::Served;
@@ -57,39 +57,51 @@ pub fn given_words<R: Env + AllocGlobal>(rt: &R) -> Result<Words, WantOfMemory> 
 pub struct SystemFiles<'a, R> {
     rt: &'a R,
     served: &'a Served,
+    counts: FileCounts,
+}
+
+/// How often a call of files has failed, and how often one was out of memory.
+#[derive(Clone, Copy)]
+struct FileCounts {
     faults: u64,
+    wants: u64,
 }
 
 impl<'a, R: rt::Files + AllocGlobal> SystemFiles<'a, R> {
     /// No call has failed yet.
     pub fn new(rt: &'a R, served: &'a Served) -> SystemFiles<'a, R>
-        ensures { result.faults ≡ 0 }
+        ensures faults { result.counts.faults ≡ 0 }
+        ensures wants { result.counts.wants ≡ 0 }
     {
         SystemFiles {
             rt,
             served,
-            faults: 0,
+            counts: FileCounts {
+                faults: 0,
+                wants: 0,
+            },
         }
     }
 }
 
 /// Counts a failure.
-fn count_failure(faults: &mut u64) -> FileFault
+fn count_failure(counts: &mut FileCounts) -> FileFault
     ensures failed { result ≡ Failed }
-    ensures counted { IsCounted faults.old faults.new result }
+    ensures counted { IsCounted counts.old counts.new result }
 {
-    *faults = faults.saturating_add(1);
+    counts.faults = counts.faults.saturating_add(1);
     FileFault::Failed
 }
 
 /// Counts a call that failed; one that wanted memory is no failure.
-fn count_fault(faults: &mut u64, error: io::Error) -> FileFault
-    ensures { IsCounted faults.old faults.new result }
+fn count_fault(counts: &mut FileCounts, error: io::Error) -> FileFault
+    ensures { IsCounted counts.old counts.new result }
 {
     if error.kind() == ErrorKind::OutOfMemory {
+        counts.wants = counts.wants.saturating_add(1);
         return FileFault::WantOfMemory;
     }
-    count_failure(faults)
+    count_failure(counts)
 }
 
 /// How many names beside a file are tried for the new one. One is in use, or was left there, where another run writes the same file, or
@@ -172,10 +184,11 @@ fn write_over<R: rt::Files>(
     rt: &R,
     path: &str,
     bytes: &[u8],
-    faults: &mut u64,
+    counts: &mut FileCounts,
 ) -> Result<(), FileFault>
     ensures failed { IfErr result (λ fault. fault ≡ Failed) }
-    ensures cause { FileCause faults.old faults.new result }
+    ensures cause { FileCause counts.old.faults counts.new.faults result }
+    ensures want { FileWant counts.old.wants counts.new.wants result }
 {
     let done = match File::create(rt, path) {
         Ok(mut file) => file.write_all(bytes),
@@ -183,7 +196,7 @@ fn write_over<R: rt::Files>(
     };
     match done {
         Ok(()) => Ok(()),
-        Err(_) => Err(count_failure(faults)),
+        Err(_) => Err(count_failure(counts)),
     }
 }
 
@@ -218,7 +231,9 @@ impl<R: rt::Files + AllocGlobal> Files for SystemFiles<'_, R> {
 
     ghost asked = { λ files. None };
 
-    ghost faults = { λ files. files.faults };
+    ghost faults = { λ files. files.counts.faults };
+
+    ghost wants = { λ files. files.counts.wants };
 
     fn read(&mut self, name: &Text, limit: u64) -> Result<Blob, FileFault> {
         match read_within(self.rt, name.as_str(), limit) {
@@ -227,7 +242,7 @@ impl<R: rt::Files + AllocGlobal> Files for SystemFiles<'_, R> {
                 Ok(Blob::from_vec(bytes))
             }
             Ok(Found::TooLong(len)) => Err(FileFault::TooLarge { len }),
-            Err(error) => Err(count_fault(&mut self.faults, error)),
+            Err(error) => Err(count_fault(&mut self.counts, error)),
         }
     }
 
@@ -237,10 +252,10 @@ impl<R: rt::Files + AllocGlobal> Files for SystemFiles<'_, R> {
             match replace(self.rt, path, bytes) {
                 Ok(()) => return Ok(()),
                 Err(error) if is_of_folder(&error) => {}
-                Err(error) => return Err(count_fault(&mut self.faults, error)),
+                Err(error) => return Err(count_fault(&mut self.counts, error)),
             }
         }
-        write_over(self.rt, path, bytes, &mut self.faults)
+        write_over(self.rt, path, bytes, &mut self.counts)
     }
 }
 

@@ -29,11 +29,12 @@ outside files out net link = record { files = files; out = out; net = net; link 
 
 -- ---- what each part tells in each of its states
 
--- what stands under a name, the calls so far, and how often one has failed
+-- what stands under a name, the calls so far, and how often one has failed, or wanted memory
 pub record FilesTell (F : Type 0) : Type 0 where
   pub held : F → List ℕ → Content
   pub asked : F → Option (List FileCall)
   pub faults : F → ℕ
+  pub wants : F → ℕ
 
 -- what was written, and how often a write has failed, or wanted memory
 pub record OutputTells (W : Type 0) : Type 0 where
@@ -65,8 +66,8 @@ pub record OutsideTells (F W N L : Type 0) : Type 0 where
   pub net : Option (NetTells N L)
   pub links : Option (LinksTell L)
 
-abbrev pub files_tell : {F : Type 0} → (F → List ℕ → Content) → (F → Option (List FileCall)) → (F → ℕ) → FilesTell F
-files_tell held asked faults = record { held = held; asked = asked; faults = faults }
+abbrev pub files_tell : {F : Type 0} → (F → List ℕ → Content) → (F → Option (List FileCall)) → (F → ℕ) → (F → ℕ) → FilesTell F
+files_tell held asked faults wants = record { held = held; asked = asked; faults = faults; wants = wants }
 
 abbrev pub output_tells : {W : Type 0} → (W → Option (List ℕ)) → (W → ℕ) → (W → ℕ) → OutputTells W
 output_tells written faults wants = record { written = written; faults = faults; wants = wants }
@@ -157,6 +158,7 @@ HeldAfter WantedMemory name bytes old new = AreKept old new
 pub record ReadsFile {F : Type 0} (files : FilesTell F) (came : Came) (ask : Ask) (given : Option (List ℕ)) (old new : F) : Type 0 where
   pub noted : Noted came (call.Read ask.name) (files.asked old) (files.asked new)
   pub counted : CountsFault came (files.faults old) (files.faults new)
+  pub wanted : CountsWant came (files.wants old) (files.wants new)
   pub kept : AreKept (files.held old) (files.held new)
   pub gave : MayGive came (files.held old ask.name) ask.limit given
 
@@ -164,6 +166,7 @@ pub record ReadsFile {F : Type 0} (files : FilesTell F) (came : Came) (ask : Ask
 pub record PutsFile {F : Type 0} (files : FilesTell F) (came : Came) (name bytes : List ℕ) (old new : F) : Type 0 where
   pub noted : Noted came (call.Write name) (files.asked old) (files.asked new)
   pub counted : CountsFault came (files.faults old) (files.faults new)
+  pub wanted : CountsWant came (files.wants old) (files.wants new)
   pub held : HeldAfter came name bytes (files.held old) (files.held new)
 
 -- ---- the output

@@ -19,7 +19,7 @@ pub fn read_file<F: Files>(
     name: &Text,
     limit: u64,
 ) -> Result<Option<Blob>, CallFault>
-    ensures { ReadsFile (files_tell F.held F.asked F.faults) (came_of result) (record { name = name.now; limit = limit }) (given_of result) files.old files.new }
+    ensures { ReadsFile (files_tell F.held F.asked F.faults F.wants) (came_of result) (record { name = name.now; limit = limit }) (given_of result) files.old files.new }
 {
     match files.read(name, limit) {
         Ok(bytes) => Ok(Some(bytes)),
@@ -31,7 +31,7 @@ pub fn read_file<F: Files>(
 
 /// Puts bytes under a name.
 pub fn put_file<F: Files>(files: &mut F, name: &Text, bytes: &[u8]) -> Result<(), CallFault>
-    ensures { PutsFile (files_tell F.held F.asked F.faults) (came_of result) name.now bytes.now files.old files.new }
+    ensures { PutsFile (files_tell F.held F.asked F.faults F.wants) (came_of result) name.now bytes.now files.old files.new }
 {
     match files.write(name, bytes) {
         Ok(()) => Ok(()),

@@ -51,6 +51,11 @@ AsksFiles old new call (Err Failed) = new ≡ with_more old (call ∷ [])
 AsksFiles old new call (Err (TooLarge len)) = new ≡ with_more old (call ∷ [])
 AsksFiles old new call (Err WantOfMemory) = (new ≡ old) ⊎ (new ≡ with_more old (call ∷ []))
 
+-- the count of calls that were out of memory does not fall, and `WantOfMemory` comes only where it rose
+pub record FileWant {T : Type 0} (before now : ℕ) (result : Result T FileFault) : Type 0 where
+  pub later : before ≤ now
+  pub wanted : IsErrOf result WantOfMemory → Rose before now
+
 -- the count of faults does not fall, and `Failed` comes only where it rose
 pub record FileCause {T : Type 0} (before now : ℕ) (result : Result T FileFault) : Type 0 where
   pub later : before ≤ now

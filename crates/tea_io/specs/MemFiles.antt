@@ -11,13 +11,14 @@ use Rattle.tea_io.specs.Files.{Content, Absent, Present}
 use Rattle.tea_io.specs.Calls.{fails_at}
 
 -- files in memory: what is held, of two files of one name the first; the calls so far; which
--- calls fail by their numbers, and the number of the next; how many failed
+-- calls fail by their numbers, and the number of the next; how many failed, and how many were out of memory
 pub record MemFilesState : Type 0 where
   pub held : List NamedBlob
   pub asked : List FileCall
   pub failing : List ℕ
   pub next_call : ℕ
   pub faults : ℕ
+  pub wants : ℕ
 
 -- the bytes of the first file of this name
 abbrev pub bytes_of : List NamedBlob → List ℕ → Option (List ℕ)
@@ -74,4 +75,18 @@ abbrev pub files_after
 files_after (Ok value) files call held = record (files_with_call files call) { held = held }
 files_after (Err Failed) files call held = files_with_failure files call
 files_after (Err (TooLarge len)) files call held = files_with_call files call
-files_after (Err WantOfMemory) files call held = files
+files_after (Err WantOfMemory) files call held = record files { wants = count_up files.wants }
+
+-- the same, before it is counted that a call was out of memory
+abbrev pub files_tried
+    : {T : Type 0} → Result T FileFault → MemFilesState → FileCall → List NamedBlob
+    → MemFilesState
+files_tried (Ok value) files call held = record (files_with_call files call) { held = held }
+files_tried (Err Failed) files call held = files_with_failure files call
+files_tried (Err (TooLarge len)) files call held = files_with_call files call
+files_tried (Err WantOfMemory) files call held = files
+
+-- it is counted where a call was out of memory
+abbrev pub files_counting : FileFault → MemFilesState → MemFilesState
+files_counting WantOfMemory files = record files { wants = count_up files.wants }
+files_counting fault files = files

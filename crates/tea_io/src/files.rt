@@ -5,7 +5,7 @@ ghost use Rattle.tea_io.specs.declared.files.FileCall.{FileCall};
 ghost use Rattle.tea_io.specs.declared.files.FileCall.TheVariants.{Read, Write};
 ghost use Rattle.tea_io.specs.declared.files.FileFault.TheVariants.{WantOfMemory};
 ghost use Rattle.tea_io.specs.Files.{Content, MayBe, IsTooLargeFor, IsNotTooLarge, Holds};
-ghost use Rattle.tea_io.specs.Files.{AsksFiles, FileCause};
+ghost use Rattle.tea_io.specs.Files.{AsksFiles, FileCause, FileWant};
 
 use tea_base::{Blob, Text};
 
@@ -16,7 +16,7 @@ pub enum FileFault {
     Failed,
     /// The file is longer than the limit of the read.
     TooLarge { len: u64 },
-    /// An allocation was refused.
+    /// An allocation was refused. This is counted too.
     WantOfMemory,
 }
 
@@ -49,6 +49,9 @@ pub trait Files {
     /// How often a call has failed.
     ghost faults: { Self → ℕ };
 
+    /// How often a call was out of memory.
+    ghost wants: { Self → ℕ };
+
     /// The bytes under a name, if there are at most `limit`. What is held stays, whatever the
     /// answer.
     fn read(&mut self, name: &Text, limit: u64) -> Result<Blob, FileFault>
@@ -57,7 +60,8 @@ pub trait Files {
         ensures too_large { IfErr result (IsTooLargeFor (held self.old name.now) limit) }
         ensures same { (other : List ℕ) → held self.new other ≡ held self.old other }
         ensures asked { AsksFiles (asked self.old) (asked self.new) (Read name.now) result }
-        ensures cause { FileCause (faults self.old) (faults self.new) result };
+        ensures cause { FileCause (faults self.old) (faults self.new) result }
+        ensures want { FileWant (wants self.old) (wants self.new) result };
 
     /// Puts bytes under a name. What is held under all other names stays, whatever the answer. A
     /// write that failed leaves open what is held under its own.
@@ -70,5 +74,6 @@ pub trait Files {
             → held self.new name.now ≡ held self.old name.now }
         ensures no_limit { IfErr result IsNotTooLarge }
         ensures asked { AsksFiles (asked self.old) (asked self.new) (Write name.now) result }
-        ensures cause { FileCause (faults self.old) (faults self.new) result };
+        ensures cause { FileCause (faults self.old) (faults self.new) result }
+        ensures want { FileWant (wants self.old) (wants self.new) result };
 }

@@ -3,9 +3,10 @@ ghost use Rattle.std.specs.Prelude.{◌≡◌, ◌≢◌, ◌≤◌, ℕ, List, 
 ghost use Rattle.std.specs.Prelude.{IfOk, IfErr, OnOk, OnErr, AllPairs};
 ghost use Rattle.std.specs.Option.{option_copied};
 ghost use Rattle.tea_io.specs.declared.files.FileCall.TheVariants.{Read, Write};
-ghost use Rattle.tea_io.specs.Files.{MayBe, IsTooLargeFor, IsNotTooLarge, Holds, AsksFiles, FileCause};
+ghost use Rattle.tea_io.specs.Told.{Rose};
+ghost use Rattle.tea_io.specs.Files.{MayBe, IsTooLargeFor, IsNotTooLarge, Holds, AsksFiles, FileCause, FileWant};
 ghost use Rattle.tea_io.specs.MemFiles.{bytes_of, content_of, within_limit, with_file, files_with_call};
-ghost use Rattle.tea_io.specs.MemFiles.{files_with_failure, files_after, read_answer, write_answer, IsAnswer};
+ghost use Rattle.tea_io.specs.MemFiles.{files_with_failure, files_after, files_counting, files_tried, read_answer, write_answer, IsAnswer};
 
 use crate::calls::is_failing;
 use crate::files::{FileCall, FileFault, Files};
@@ -24,8 +25,8 @@ pub struct NamedBlob {
 pub type NamedBlobs = List<NamedBlob>;
 
 /// Files that are kept in memory. The calls whose numbers it was given fail, and so does a read of
-/// a name that is not held. They are counted from 1. A call that answers want of memory changes
-/// nothing: it is not counted.
+/// a name that is not held. They are counted from 1. A call that is out of memory changes nothing but
+/// the count of such calls.
 #[derive(Drop)]
 pub struct MemFiles {
     alloc: Global,
@@ -34,6 +35,7 @@ pub struct MemFiles {
     failing: Numbers,
     next_call: u64,
     faults: u64,
+    wants: u64,
 }
 
 impl Model for MemFiles {
@@ -47,6 +49,7 @@ impl Model for MemFiles {
       failing = files.failing;
       next_call = files.next_call;
       faults = files.faults;
+      wants = files.wants;
     } };
 }
 
@@ -59,6 +62,7 @@ impl MemFiles {
         ensures failing { result.failing ≡ fail }
         ensures first { result.next_call ≡ 1 }
         ensures faults { result.faults ≡ 0 }
+        ensures wants { result.wants ≡ 0 }
     {
         MemFiles {
             alloc,
@@ -67,6 +71,7 @@ impl MemFiles {
             failing: fail,
             next_call: 1,
             faults: 0,
+            wants: 0,
         }
     }
 
@@ -114,26 +119,26 @@ impl MemFiles {
         self.faults = self.faults.saturating_add(1);
         Ok(())
     }
-}
 
-impl Files for MemFiles {
-    ghost held = { content_of };
+    /// Counts a call that was out of memory.
+    fn counted(&mut self, fault: FileFault) -> FileFault
+        ensures same { result ≡ fault }
+        ensures counts { self.new ≡ files_counting fault self.old }
+        ensures later { self.old.wants ≤ self.new.wants }
+        ensures want { fault ≡ FileFault.WantOfMemory → Rose self.old.wants self.new.wants }
+    {
+        if fault == FileFault::WantOfMemory {
+            self.wants = self.wants.saturating_add(1);
+        }
+        fault
+    }
 
-    ghost asked = { λ files. Some files.asked };
-
-    ghost faults = { λ files. files.faults };
-
-    fn read(&mut self, name: &Text, limit: u64) -> Result<Blob, FileFault>
-        ensures given { IfOk result (MayBe (content_of self.old name.now)) }
-        ensures within { IfOk result (λ blob. length blob ≤ limit) }
-        ensures too_large { IfErr result (IsTooLargeFor (content_of self.old name.now) limit) }
-        ensures same { (other : List ℕ) → content_of self.new other ≡ content_of self.old other }
-        ensures asked { AsksFiles (Some self.old.asked) (Some self.new.asked) (Read name.now) result }
-        ensures cause { FileCause self.old.faults self.new.faults result }
-
-        // What it answers but for want of memory, and all that it leaves.
+    /// Reads, and notes and counts the call, but not that it was out of memory.
+    fn try_read(&mut self, name: &Text, limit: u64) -> Result<Blob, FileFault>
         ensures answer { IsAnswer (read_answer self.old name.now limit) result }
-        ensures leaves { self.new ≡ files_after result self.old (Read name.now) self.old.held }
+        ensures leaves { self.new ≡ files_tried result self.old (Read name.now) self.old.held }
+        ensures later { self.old.faults ≤ self.new.faults }
+        ensures wants { self.new.wants ≡ self.old.wants }
     {
         let call = FileCall::Read(name.try_clone()?);
         match self.answer(name, limit) {
@@ -153,21 +158,13 @@ impl Files for MemFiles {
         }
     }
 
-    fn write(&mut self, name: &Text, bytes: &[u8]) -> Result<(), FileFault>
-        ensures put { OnOk result
-            (Holds (content_of self.old name.now) (content_of self.new name.now) bytes.now) }
-        ensures others { (other : List ℕ) → other ≢ name.now
-            → content_of self.new other ≡ content_of self.old other }
-        ensures refused { result ≡ Err FileFault.WantOfMemory
-            → content_of self.new name.now ≡ content_of self.old name.now }
-        ensures no_limit { IfErr result IsNotTooLarge }
-        ensures asked { AsksFiles (Some self.old.asked) (Some self.new.asked) (Write name.now) result }
-        ensures cause { FileCause self.old.faults self.new.faults result }
-
-        // What it answers but for want of memory, and all that it leaves.
+    /// Writes, and notes and counts the call, but not that it was out of memory.
+    fn try_write(&mut self, name: &Text, bytes: &[u8]) -> Result<(), FileFault>
         ensures answer { IsAnswer (write_answer self.old) result }
         ensures leaves { self.new
-            ≡ files_after result self.old (Write name.now) (with_file name.now bytes.now self.old.held) }
+            ≡ files_tried result self.old (Write name.now) (with_file name.now bytes.now self.old.held) }
+        ensures later { self.old.faults ≤ self.new.faults }
+        ensures wants { self.new.wants ≡ self.old.wants }
     {
         let call = FileCall::Write(name.try_clone()?);
         if is_failing(self.failing.as_slice(), self.next_call) {
@@ -185,6 +182,58 @@ impl Files for MemFiles {
         self.asked.push_reserved(call);
         self.next_call = self.next_call.saturating_add(1);
         Ok(())
+    }
+}
+
+impl Files for MemFiles {
+    ghost held = { content_of };
+
+    ghost asked = { λ files. Some files.asked };
+
+    ghost faults = { λ files. files.faults };
+
+    ghost wants = { λ files. files.wants };
+
+    fn read(&mut self, name: &Text, limit: u64) -> Result<Blob, FileFault>
+        ensures given { IfOk result (MayBe (content_of self.old name.now)) }
+        ensures within { IfOk result (λ blob. length blob ≤ limit) }
+        ensures too_large { IfErr result (IsTooLargeFor (content_of self.old name.now) limit) }
+        ensures same { (other : List ℕ) → content_of self.new other ≡ content_of self.old other }
+        ensures asked { AsksFiles (Some self.old.asked) (Some self.new.asked) (Read name.now) result }
+        ensures cause { FileCause self.old.faults self.new.faults result }
+        ensures want { FileWant self.old.wants self.new.wants result }
+
+        // What it answers but for want of memory, and all that it leaves.
+        ensures answer { IsAnswer (read_answer self.old name.now limit) result }
+        ensures leaves { self.new ≡ files_after result self.old (Read name.now) self.old.held }
+    {
+        match self.try_read(name, limit) {
+            Ok(blob) => Ok(blob),
+            Err(fault) => Err(self.counted(fault)),
+        }
+    }
+
+    fn write(&mut self, name: &Text, bytes: &[u8]) -> Result<(), FileFault>
+        ensures put { OnOk result
+            (Holds (content_of self.old name.now) (content_of self.new name.now) bytes.now) }
+        ensures others { (other : List ℕ) → other ≢ name.now
+            → content_of self.new other ≡ content_of self.old other }
+        ensures refused { result ≡ Err FileFault.WantOfMemory
+            → content_of self.new name.now ≡ content_of self.old name.now }
+        ensures no_limit { IfErr result IsNotTooLarge }
+        ensures asked { AsksFiles (Some self.old.asked) (Some self.new.asked) (Write name.now) result }
+        ensures cause { FileCause self.old.faults self.new.faults result }
+        ensures want { FileWant self.old.wants self.new.wants result }
+
+        // What it answers but for want of memory, and all that it leaves.
+        ensures answer { IsAnswer (write_answer self.old) result }
+        ensures leaves { self.new
+            ≡ files_after result self.old (Write name.now) (with_file name.now bytes.now self.old.held) }
+    {
+        match self.try_write(name, bytes) {
+            Ok(()) => Ok(()),
+            Err(fault) => Err(self.counted(fault)),
+        }
     }
 }
 

@@ -40,11 +40,12 @@ pub record TellsReplayOf (tree : ProgramTree) (id : List ℕ) (view : ℕ) (log 
   pub timed : (replay tree id log time).world.time ≡ time
   pub told : line ≡ view_line (replayed tree id view log time)
 
--- the text that was printed last is such a line
+-- the text that was printed last is such a line, of a replica of this view that follows the log
 pub record EndsInReplay (tree : ProgramTree) (id : List ℕ) (view : ℕ) (log : List Entry) (steps : List Step) : Type 0 where
   pub front : List Step
   pub line : List ℕ
   pub last : steps ≡ front ++ Prints line ∷ []
+  pub replayed : IsReplayLine tree id view log line
   pub tells : TellsReplayOf tree id view log line
 
 -- a view, a script, a legal log and steps that lead to this phase, where the log serves each link

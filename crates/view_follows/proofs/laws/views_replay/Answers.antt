@@ -8,7 +8,7 @@ use Rattle.replica_plain.specs.Worlds.{replay_world}
 use Rattle.replica_plain.specs.PlainReplica.{new_replica}
 use Rattle.replica_plain.proofs.SyncSteps.{first_world_follows}
 use Rattle.view_shell.specs.Viewers.{first_phase}
-use Rattle.view_follows.specs.ViewsReplay.{TellsReplayOf}
+use Rattle.view_follows.specs.ViewsReplay.{IsReplayLine, TellsReplayOf}
 use Rattle.view_follows.proofs.Stands.{TellsReplay, line_of}
 use Rattle.view_follows.proofs.Walking.{walk_ends, walk_offers, walk_tells}
 use Rattle.view_follows.proofs.laws.views_replay.Goals as goal
@@ -23,6 +23,15 @@ tells_replay tree id view log line same told =
       told = told.told ∙ line_of (worlds tree id) r view (count_until log r.world.time) (replay tree id log r.world.time).world told.has.its told.has.follows.counted world;
     }
 
+replay_line : (tree : ProgramTree) (id : List ℕ) (view : ℕ) (log : List Entry) (line : List ℕ) → ((t : ℕ) → (replay tree id log t).world ≡ replay_world (worlds tree id) log t) → TellsReplay (worlds tree id) log view line → IsReplayLine tree id view log line
+replay_line tree id view log line same told = record {
+  replica = told.replica;
+  own = told.has.its;
+  follows = told.has.follows;
+  replayed = told.has.replayed ∙ sym (same told.replica.world.time);
+  told = told.told;
+}
+
 pub returns : goal.returns
 returns c = record {
   line = λ tree id view address lines log steps line visit.
@@ -30,13 +39,7 @@ returns c = record {
       let laws = c.worlds_stand.ensures tree id visit.program in
       let told = walk_tells m laws log visit.legal view visit.session visit.number (first_phase tree id view address lines) steps line
       (record { same = refl; its = refl; follows = first_world_follows m log (new_replica m view) laws visit.legal refl refl refl }) visit.serves visit.walks in (
-        record {
-          replica = told.replica;
-          own = told.has.its;
-          follows = told.has.follows;
-          replayed = told.has.replayed ∙ sym (c.worlds_replay.ensures.replays tree id log told.replica.world.time);
-          told = told.told;
-        },
+        replay_line tree id view log line (c.worlds_replay.ensures.replays tree id log) told,
         tells_replay tree id view log line (c.worlds_replay.ensures.replays tree id log) told,
       );
   done = λ tree id view address lines log steps visit.
@@ -44,7 +47,7 @@ returns c = record {
       let laws = c.worlds_stand.ensures tree id visit.program in
       let ends = walk_ends m laws log visit.legal view visit.session visit.number (first_phase tree id view address lines) steps
       (record { same = refl; its = refl; follows = first_world_follows m log (new_replica m view) laws visit.legal refl refl refl }) visit.serves visit.walks in
-      record { front = ends.front; line = ends.line; last = ends.last; tells = tells_replay tree id view log ends.line (c.worlds_replay.ensures.replays tree id log) ends.tells };
+      record { front = ends.front; line = ends.line; last = ends.last; replayed = replay_line tree id view log ends.line (c.worlds_replay.ensures.replays tree id log) ends.tells; tells = tells_replay tree id view log ends.line (c.worlds_replay.ensures.replays tree id log) ends.tells };
   offers = λ tree id view address lines log steps last visit.
       let m = worlds tree id in
       let laws = c.worlds_stand.ensures tree id visit.program in
