@@ -133,17 +133,37 @@ def a_view_speaks_by_the_standard(program):
 
 def who_publishes_listens_behind_4096_events(program):
     """The next event comes only once one more is acknowledged."""
-    with hosting(program, b'publish "a" "b" 5\n' * 4_099) as host:
+    goes_on_only_once_answered(program, b'publish "a" "b" nil\n' * 4_099, 4_097)
+
+
+def who_publishes_listens_behind_65536_bytes(program):
+    """Payloads of 4,096 bytes: 16 are not too many, and 17 are."""
+    goes_on_only_once_answered(program, publishes(4_096) * 19, 17)
+
+
+def who_publishes_counts_each_byte(program):
+    """The first 17 payloads have 65,537 bytes. Without the first two, 16 have 65,536."""
+    goes_on_only_once_answered(program, publishes(19) + publishes(4_078) + publishes(4_096) * 17, 17)
+
+
+def publishes(length):
+    """A line that publishes a payload of this length."""
+    return b'publish "a" "b" "%s"\n' % (b"x" * (length - 15))
+
+
+def goes_on_only_once_answered(program, script, most):
+    """A view sends so many events, and then one for each answer."""
+    with hosting(program, script) as host:
         wire = host.greet()
         expect(JOIN_FRESH, heard(wire))
         wire.say(binary(SYNC) + binary(JOIN))
-        for number in range(1, 4_098):
+        for number in range(1, most + 1):
             expect(number, number_of_send(heard(wire)))
         for number in (1, 2):
             expect_that(not wire.held and not select.select([wire.socket], [], [], 0.3)[0],
                         "no event before an answer", wire.held)
             wire.say(binary(done_frame(number)))
-            expect(4_097 + number, number_of_send(heard(wire)))
+            expect(most + number, number_of_send(heard(wire)))
         wire.say(binary(done_frame(3)))
         ends_well(wire)
         expect_run(host.end(), joined_line(1), 0)
@@ -310,17 +330,17 @@ def a_server_that_does_not_answer_is_given_up(program):
 
 
 def a_server_that_does_not_read_is_given_up(program):
-    """After 5 seconds in which nothing could be sent."""
-    event = b'publish "a" "b" "' + b"x" * 4000 + b'"\n'
-    with hosting(program, event * 2500 + b"settle\n", receive_buffer=4096) as host:
+    """After 5 seconds in which nothing could be sent. The answers come, so that the view goes on sending."""
+    with hosting(program, publishes(4_015) * 2_500 + b"settle\n", receive_buffer=4096) as host:
         wire = host.greet()
-        wire.say(binary(SYNC))
+        wire.say(binary(SYNC) + b"".join(binary(done_frame(number)) for number in range(1, 2_485)))
         expect_run(host.end(), "net-fault", 6)
 
 
 CHECKS = [a_server_that_does_not_read_is_given_up, a_server_that_does_not_answer_is_given_up,
           a_quiet_link_is_told_that_the_view_is_alive, the_longest_frame_is_taken,
           a_view_speaks_by_the_standard, who_publishes_listens_behind_4096_events,
+          who_publishes_listens_behind_65536_bytes, who_publishes_counts_each_byte,
           bytes_may_come_one_at_a_time,
           pings_are_answered_and_fragments_are_one_frame, a_peer_that_does_not_end_is_left,
           a_reset_is_a_fault]

@@ -1,4 +1,4 @@
-"""Views drawn by chance that stop at an entry: the last line of each is that of the replay."""
+"""Views drawn by chance that stop at an entry, with a base and a cut or without: the last line of each is that of the replay."""
 import random
 import re
 
@@ -23,19 +23,19 @@ def drawn_program(source):
 
 
 def drawn_log(source):
-    """The entries of a session: view 7 joins, and sends; view 8 joins in the midst of that."""
+    """The entries of a session: view 7 joins, and sends; view 8 joins in the midst of that, once or twice."""
     time, number, entries = 0, 0, []
     count = source.randrange(3, 13)
-    late = source.randrange(2, count + 1)
+    joins = sorted(source.sample(range(2, count + 1), min(source.choice([1, 2]), count - 1)))
     for seq in range(1, count + 1):
         time += source.randrange(1, 8)
-        if seq in (1, late):
+        if seq in (1, *joins):
             entries.append(croquet.Entry(seq, time, 7 if seq == 1 else 8, "join"))
         else:
             number += 1
             content = croquet.payload("s", "e", source.randrange(4))
             entries.append(croquet.Entry(seq, time, 7, "event", number, content))
-    return entries, late
+    return entries, joins
 
 
 def entry_bytes(entry):
@@ -47,30 +47,75 @@ def entry_bytes(entry):
     return croquet.framed(66, *fields)
 
 
-def served_frames(source, entries, late):
-    """What a reflector tells view 8: its sync, all entries, and a tick here and there."""
-    frames = [croquet.framed(65, croquet.number(late, 4), croquet.number(0, 4), croquet.number(0, 4), b"\0")]
-    for place, entry in enumerate(entries):
-        frames.append(entry_bytes(entry))
+def sync_bytes(joined, from_, base):
+    told = b"\0" if base is None else b"\1" + croquet.number(base[0], 8) + croquet.bytes_field(base[1])
+    return croquet.framed(65, croquet.number(joined, 4), croquet.number(0, 4), croquet.number(from_, 4), told)
+
+
+def served_frames(source, entries, joined, from_, base=None):
+    """What a reflector tells view 8 once it has joined: its sync, the entries from there on, and a tick here and there.
+
+    Each frame comes with the time to which it leads."""
+    frames = [(0 if base is None else base[0], sync_bytes(joined, from_, base))]
+    for place, entry in enumerate(entries[from_:], from_):
+        frames.append((entry.time, entry_bytes(entry)))
         after = entries[place + 1].time if place + 1 < len(entries) else entry.time + 5
-        if place + 1 >= late and source.random() < 0.4 and entry.time + 1 < after:
-            frames.append(croquet.framed(67, croquet.number(source.randrange(entry.time + 1, after), 8)))
+        if place + 1 >= joined and source.random() < 0.4 and entry.time + 1 < after:
+            time = source.randrange(entry.time + 1, after)
+            frames.append((time, croquet.framed(67, croquet.number(time, 8))))
     return frames
+
+
+def drawn_base(source, program, entries):
+    """The time and the snapshot of a replica that follows these entries, and how many it has seen; or none."""
+    if source.random() < 0.5:
+        return None, 0
+    time = source.randrange(1, entries[-1].time + 1)
+    seen = [entry for entry in entries if entry.time <= time]
+    if seen and source.random() < 0.5:
+        # A snapshot of a world that has just taken an entry: what is due at its time is still to come.
+        world = first_world(program)
+        for entry in seen:
+            world.external(entry)
+        time = world.time
+    else:
+        world = replayed(program, entries, time)
+    return (time, world.snapshot()), len(seen)
+
+
+def stop_from(source, entries, joined):
+    """The time of an entry; seldom that of the join itself, where a view has it at once."""
+    later = entries[joined:] or entries[joined - 1:]
+    return source.choice(later).time
 
 
 def drawn_view(source):
     """A case of a view, the program and the log."""
     program = drawn_program(source)
-    entries, late = drawn_log(source)
-    stop = source.choice(entries[late - 1:]).time
-    script = f'watch "m" "p" queued / watch "m" "t" queued / wait {stop}'
-    frames = " ".join(frame.hex() for frame in served_frames(source, entries, late))
-    return f"a 8 {script} | {program.decode()} | {frames}", program, entries
+    entries, joins = drawn_log(source)
+    base, from_ = drawn_base(source, program, entries[:joins[0] - 1])
+    watched = 'watch "m" "p" queued / watch "m" "t" queued / '
+    if len(joins) == 1:
+        links = [served_frames(source, entries, joins[0], from_, base)]
+        script = f"{watched}wait {stop_from(source, entries, joins[0])}"
+    else:
+        told = entries[:joins[1] - 1]
+        first = served_frames(source, told, joins[0], from_, base)
+        pause = stop_from(source, told, joins[0])
+        reached = next(time for time, _ in first if time >= pause)
+        seen = sum(entry.time <= reached for entry in entries)
+        links = [first, served_frames(source, entries, joins[1], seen)]
+        script = f"{watched}wait {pause} / cut / wait {stop_from(source, entries, joins[1])}"
+    spelled = " | ".join(" ".join(frame.hex() for _, frame in link) for link in links)
+    return f"a 8 {script} | {program.decode()} | {spelled}", program, entries
 
 
-def replayed_digest(program, entries, time):
-    world = croquet.World.first(croquet.read_program(program), croquet.session_id(b"a", program))
-    return croquet.hashlib.sha256(croquet.replayed(world, entries, time).snapshot()).hexdigest()
+def first_world(program):
+    return croquet.World.first(croquet.read_program(program), croquet.session_id(b"a", program))
+
+
+def replayed(program, entries, time):
+    return croquet.replayed(first_world(program), entries, time)
 
 
 def check_rest(case, told, program, entries):
@@ -79,7 +124,8 @@ def check_rest(case, told, program, entries):
     expect_that(match is not None, "the last line of a view", told)
     time = int(match[1])
     seq = sum(entry.time <= time for entry in entries)
-    expect((seq, replayed_digest(program, entries, time)), (int(match[2]), match[3]))
+    digest = croquet.hashlib.sha256(replayed(program, entries, time).snapshot()).hexdigest()
+    expect((seq, digest), (int(match[2]), match[3]))
 
 
 def rest_cases():

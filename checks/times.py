@@ -244,13 +244,25 @@ def read_slowly(wire, size, rate):
 def a_view_may_publish_300000_lines(program):
     """It listens meanwhile, so neither side waits for the other for ever. All its events are in the log."""
     script = b'publish "a" "b" nil\n' * 300_000
-    with reflecting(program, 1) as reflector:
+    publishes_all(program, script, ["left"], 300_000)
+
+
+def a_view_may_publish_long_lines_and_be_cut(program):
+    """All payloads have 4,015 bytes. What is not acknowledged is sent again after each cut."""
+    lines = b'publish "a" "b" "%s"\n' % (b"x" * 4_000) * 1_000
+    publishes_all(program, (lines + b"cut\n") * 3 + lines, ["link-end"] * 3 + ["left"], 4_000)
+
+
+def publishes_all(program, script, ends, count):
+    """A view without a settle. Its connections end so, and the log has its events, so many, once and in order."""
+    with reflecting(program, len(ends)) as reflector:
         run = program.start(["join", "p", "a", reflector.address, "7", "s"], {"p": EMPTY, "s": script})
-        told = run.end().told()
-        expect_that(re.fullmatch(r"view 7 time \d+ seq \d+ digest [0-9a-f]{64}", told), "a last line", told)
+        told = run.end().told().split(" / ")
+        expect_that(re.fullmatch(r"view 7 time \d+ seq \d+ digest [0-9a-f]{64}", told[-1]), "a last line", told)
         run = reflector.end()
-    expect_words(run, ["left"])
-    expect(300_002, len(served_log(run, [])))
+    expect_words(run, ends)
+    events = [entry.number for entry in served_log(run, []) if entry.kind == "event"]
+    expect_that(events == list(range(1, count + 1)), f"{count} events", len(events))
 
 
 # ---------------------------------------------------------------- a flood
@@ -318,5 +330,5 @@ PARTS = {
                     a_ping_is_told_as_alive]),
     "long-times": named([who_is_silent_has_a_ping, who_is_silent_among_many_events_has_a_ping_soon,
                          a_slow_reader_has_a_long_snapshot_whole, a_flood_puts_nobody_out]),
-    "long-publish": named([a_view_may_publish_300000_lines]),
+    "long-publish": named([a_view_may_publish_300000_lines, a_view_may_publish_long_lines_and_be_cut]),
 }

@@ -2039,6 +2039,7 @@ class Replica:
         self.world = World.first(program, id_)
         self.seen = 0
         self.payloads = []  # of all events that were published
+        self.bytes = 0  # of the payloads that are not acknowledged
         self.acknowledged = 0
         self.given = 0
         self.wanted = None  # the join that is awaited
@@ -2052,6 +2053,7 @@ class Replica:
 
     def publish(self, scope, event, value):
         self.payloads.append(payload(scope, event, value))
+        self.bytes += len(self.payloads[-1])
 
     def unsent(self):
         """The SENDs of the events that were not given since the last Sync."""
@@ -2066,6 +2068,9 @@ class Replica:
 
     def unacknowledged(self):
         return len(self.payloads) - self.acknowledged
+
+    def unacknowledged_bytes(self):
+        return self.bytes
 
     def take(self, name, fields):
         if name == "refused":
@@ -2113,6 +2118,7 @@ class Replica:
 
     def take_done(self, number_, _seq, _time):
         peer(number_ == self.acknowledged + 1 and not self.settled())
+        self.bytes -= len(self.payloads[self.acknowledged])
         self.acknowledged = number_
         self.given = max(self.given, number_)
 
@@ -2297,6 +2303,7 @@ class Output(Calls):
 MOST_QUIET = 6_000
 RECEIVES_TO_ALIVE = 1_000
 MOST_UNANSWERED = 4_096
+MOST_UNANSWERED_BYTES = 65_536
 
 
 class ViewRun:
@@ -2413,7 +2420,8 @@ class ViewRun:
     def do_publish(self, scope, event, v):
         self.replica.publish(scope, event, v)
         self.send_unsent()
-        while self.replica.unacknowledged() > MOST_UNANSWERED:
+        while (self.replica.unacknowledged() > MOST_UNANSWERED
+               or self.replica.unacknowledged_bytes() > MOST_UNANSWERED_BYTES):
             self.receive()
 
     def do_watch(self, scope, event, handling):

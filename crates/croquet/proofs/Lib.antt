@@ -4,3 +4,9 @@ pub mod Runs
 pub mod VisitRuns
 pub mod ReflectorRuns
 pub mod DrillRuns
+pub mod Counts
+pub mod LinkCounts
+pub mod RightSteps
+pub mod RightVerdicts
+pub mod VisitEnds
+pub mod Completeness

@@ -2,3 +2,4 @@ pub mod Status
 pub mod Drills
 pub mod Run
 pub mod Calls
+pub mod Complete

@@ -5,9 +5,11 @@ ghost use Rattle.run_steps.specs.Outside.{ReadsFile, desk, desk_tells, files_tel
 ghost use Rattle.command_words.specs.CommandWords.{UsesNet, command_of};
 ghost use Rattle.commands.specs.Verdict.{Comes, IsFunction, LogsTellTheirEvents, RunsOn, SnapshotsAgree, SomeVerdictComes};
 ghost use Rattle.commands.specs.Work.{ComesNext, IsBoundedNext, ask_of};
+ghost use Rattle.view_follows.specs.SessionsReplay.{EndsViews, OfViewSessions};
 ghost use Rattle.view_follows.specs.ViewsReplay.{VisitsEndInReplay};
 ghost use Rattle.view_shell.specs.OneRun.{IsOneRun};
 ghost use Rattle.croquet.specs.Calls.{IsBoundedTurn, IsOver, Turns};
+ghost use Rattle.croquet.specs.Complete.{IsComplete};
 ghost use Rattle.croquet.specs.Run.{Ran};
 
 use crate::drilling::tell_drilled;
@@ -29,7 +31,7 @@ use std::sync::Wait;
 use std::thread::Threads;
 use tea_base::{Blob, WantOfMemory, Words};
 use tea_io::{Clock, Files, Gate, Net, Sink};
-use view_follows::views_replay;
+use view_follows::{views_of_one_session, views_replay};
 use view_shell::one_run;
 
 /// A command is over, or the run goes on as a view's, a reflector's, or a drill.
@@ -117,12 +119,18 @@ pub fn croquet<
         (net_tells N.coming N.over N.asked N.faults N.lent N.link_counts)
         (links_tell N.Conn.coming N.Conn.heard N.Conn.sent N.Conn.counts))
         (Comes (command_of words.now)) (outside files.old out.old net None) (outside files.new out.new result.0 None) result.1 }
+    // Where the inputs of a command are right and no call has failed, it is done, unless memory runs out. Of `join` its links have a say too.
+    ensures complete { IsComplete (files_tell F.held F.asked F.faults F.wants) (output_tells W.written W.faults W.wants)
+        (net_tells N.coming N.over N.asked N.faults N.lent N.link_counts)
+        (command_of words.now) (outside files.old out.old net None) (outside files.new out.new result.0 None) result.1 }
     // One verdict comes of a command and of the bytes that it reads, but for want of memory and for the place of a syntax fault.
     ensures function { IsFunction }
     // A view prints one text and sends the same frames, for what its links tell.
     ensures view { IsOneRun }
     // A view's run that is done printed last the line of the replay of the log, where one legal log served its links, with honest bases.
     ensures replays { VisitsEndInReplay }
+    // In a session of a reflector whose only clients are views each view that is done printed last the line of the replay of the log.
+    ensures views { OfViewSessions (C.gives clock.now) (links_tell N.Conn.coming N.Conn.heard N.Conn.sent N.Conn.counts) EndsViews }
     // Some verdict comes that is not want of memory, whatever the files give.
     ensures some { SomeVerdictComes }
     // The log that a script leaves has each event that was answered Stamped, once and in order.
@@ -135,6 +143,7 @@ pub fn croquet<
     one_verdict();
     one_run();
     views_replay();
+    views_of_one_session::<C, N::Conn>(clock);
     some_verdict();
     logs_tell_their_events();
     snapshots_agree();

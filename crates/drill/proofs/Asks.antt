@@ -10,6 +10,8 @@ use Rattle.session_lock.specs.declared.knowledge.Item.TheVariants.{Did}
 use Rattle.session_lock.specs.History.{IsSoundThrough, Saw, play}
 use Rattle.session_lock.specs.Passes.{Grew, PassState, Replied, Voided, SharedState, caller, numbers_held, own_calls}
 use Rattle.session_lock.proofs.Histories.{history_grows, play_snoc, sound_end, sound_first}
+use Rattle.connection.specs.Exchanges.{Answered, exchanges_in}
+use Rattle.connection.proofs.Callers.{asked_so}
 use Rattle.replica.specs.View.{ReplicaView}
 use Rattle.drill.specs.declared.trust.TrustReplay.{TrustReplay}
 use Rattle.drill.specs.declared.size.Size.{Size}
@@ -55,6 +57,10 @@ module _ (gives : ℕ → Type 0) (size : Size) (shared : SharedState TrustRepla
         session = ap play seen ∙ play_snoc replied.history (Did w.view request);
         replies = replied.replies;
         own = replied.grew.own ∙ ap (λ (n : ℕ). own_calls w.pass ++ Did n request ∷ []) (called_by worker);
+        exchanged =
+            ap (exchanges_in after.seen) (sym (ap caller replied.grew.same ∙ called_by worker))
+            ∙ asked_so (IsTrustedReplay shared) w.pass after request (Ok reply) replied
+            ∙ ap (λ (n : ℕ). exchanges_in w.pass.seen n ++ Answered request reply ∷ []) (called_by worker);
         first = λ whole. history_first gives size.views replied.history (Did w.view request ∷ []) (subst (IsDrillHistory gives size.views) seen whole);
       }
 

@@ -1,5 +1,5 @@
 -- A worker takes batch after batch.
-use Rattle.std.proofs.Common.{◌≡◌, ◌⊎◌, inl, inr, ◌≤◌, ◌<◌, ◌+◌, ◌*◌, ℕ, false, length, refl, sym, ap, ◌∙◌, subst, arith}
+use Rattle.std.proofs.Common.{◌≡◌, ◌⊎◌, inl, inr, ◌≤◌, ◌<◌, ◌+◌, ◌*◌, ℕ, true, false, length, refl, sym, ap, ◌∙◌, subst, arith}
 use Rattle.reflector_core.specs.PlainSession.{IsSoundSession}
 use Rattle.reflector_core.specs.Play.{first_session}
 use Rattle.reflector_core.specs.declared.request.Request.TheVariants as request
@@ -9,14 +9,16 @@ use Rattle.join_sync.specs.Batches.{most_pulled}
 use Rattle.session_lock.specs.History.{play}
 use Rattle.session_lock.specs.Passes.{PassState, SharedState}
 use Rattle.session_lock.proofs.Histories.{sound_end}
+use Rattle.connection.specs.Exchanges.{exchanges_in}
 use Rattle.replica.specs.View.{ReplicaView}
 use Rattle.system_plain.proofs.Sessions.{Grows-legal}
 use Rattle.drill.specs.declared.size.Size.{Size}
 use Rattle.drill.specs.declared.trust.TrustReplay.{TrustReplay}
 use Rattle.drill.specs.declared.worker.Worker.{Worker}
-use Rattle.drill.specs.Turns.{HasCome, HasTakenMore, KeepsEvents}
+use Rattle.drill.specs.Turns.{HasCome, HasPulled, HasRead, HasTakenMore, KeepsEvents}
 use Rattle.drill.specs.Workers.{HasAsked, HasPassed, IsWorker, KeepsSource}
 use Rattle.drill.specs.Working.{ReplicaWorks}
+use Rattle.drill.proofs.CallLaws.{PullsSince, pulls_last, pulls_on}
 use Rattle.drill.proofs.Passing.{has_passed, passes_on}
 use Rattle.drill.proofs.Requests.{tick_log}
 use Rattle.drill.proofs.Workers.{works_grow}
@@ -28,6 +30,7 @@ pub record TakesBatches (gives : ℕ → Type 0) (size : Size) (shared : SharedS
   pub kept : KeepsSource first now
   pub come : most_pulled * count ≤ cursor.after
   pub left : (count ≡ 0) ⊎ (cursor.after < length (play now.pass.seen).log)
+  pub calls : PullsSince first.view first.pass now.pass start cursor count
 
 module _ (gives : ℕ → Type 0) (size : Size) (shared : SharedState TrustReplay) where
   sound_now : (w : Worker) → IsWorker gives size shared w → IsSoundSession (play w.pass.seen)
@@ -57,6 +60,7 @@ module _ (gives : ℕ → Type 0) (size : Size) (shared : SharedState TrustRepla
         kept = same ∙ ap (λ (r : ReplicaView). record w { pass = new.pass; replica = r }) replica;
         come = omega arith;
         left = inl refl;
+        calls = (exchanges_in w.pass.seen w.view, request.Tick now, given, asked.exchanged, (refl, refl), (now, refl));
       }
 
   pub more_on : (first w new : Worker) (start old next : Cursor) → w.view ≡ first.view → HasTakenMore gives size.views first w start old → HasTakenMore gives size.views w new old next → HasTakenMore gives size.views first new start next
@@ -80,15 +84,25 @@ module _ (gives : ℕ → Type 0) (size : Size) (shared : SharedState TrustRepla
 
   -- one more batch, and the log has more
   pub goes_on : (first w new : Worker) (start old next : Cursor) (count : ℕ) → TakesBatches gives size shared first w start old count → IsWorker gives size shared new → KeepsSource w new
-      → HasTakenMore gives size.views w new old next → HasCome (play new.pass.seen) new.replica old next false → TakesBatches gives size shared first new start next (count + 1)
-  goes_on first w new start old next count takes worker kept more come =
+      → HasTakenMore gives size.views w new old next → HasCome (play new.pass.seen) new.replica old next false → HasPulled w.view w.pass new.pass old next false
+      → TakesBatches gives size shared first new start next (count + 1)
+  goes_on first w new start old next count takes worker kept more come pulled =
       record {
         worker = worker;
         more = more_on first w new start old next (ap (λ (w : Worker). w.view) takes.kept) takes.more more;
         kept = kept_on first w new takes.kept kept;
         come = let before = takes.come in let moved = come.1 in omega arith;
         left = inr (let few = come.0 in let moved = come.1 in omega arith);
+        calls = pulls_on first.view count first.pass w.pass new.pass start old next takes.calls
+            (subst (λ (view : ℕ). HasPulled view w.pass new.pass old next false) (ap (λ (w : Worker). w.view) takes.kept) pulled);
       }
+
+  -- the last one
+  pub read_on : (first w new : Worker) (start old next : Cursor) (count : ℕ) → TakesBatches gives size shared first w start old count → HasPulled w.view w.pass new.pass old next true
+      → HasRead first.view first.pass new.pass start next
+  read_on first w new start old next count takes pulled =
+      pulls_last first.view count first.pass w.pass new.pass start old next takes.calls
+      (subst (λ (view : ℕ). HasPulled view w.pass new.pass old next true) (ap (λ (w : Worker). w.view) takes.kept) pulled)
 
   -- a log has no more entries than so many batches
   pub never_more : (first w : Worker) (start cursor : Cursor) (count : ℕ) → 4100 ≤ count → TakesBatches gives size shared first w start cursor count → ⊥

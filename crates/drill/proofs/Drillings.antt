@@ -10,6 +10,8 @@ use Rattle.session_lock.specs.declared.knowledge.Item.{Item}
 use Rattle.session_lock.specs.History.{IsSoundThrough, Saw, calls_of, has, play}
 use Rattle.session_lock.specs.Passes.{PassState, SharedState, own_calls}
 use Rattle.session_lock.proofs.Histories.{none_among, saw_own}
+use Rattle.connection.specs.Exchanges.{exchanges_in}
+use Rattle.connection.proofs.Callers.{exchanges_same}
 use Rattle.drill.specs.declared.finished.Finished.{Finished}
 use Rattle.drill.specs.declared.size.Size.{Size}
 use Rattle.drill.specs.declared.trust.TrustReplay.{TrustReplay}
@@ -19,8 +21,10 @@ use Rattle.drill.specs.Drilled.{Drilled, IsOfDrill, own}
 use Rattle.drill.specs.Drilling.{GathersWorkers, numbers_from, views_of}
 use Rattle.drill.specs.Sizes.{IsOfSize}
 use Rattle.drill.specs.Turns.{HasEnded}
+use Rattle.drill.specs.ViewCalls.{AreCallsOf}
 use Rattle.drill.proofs.Callers.{EachAsks, drill_history}
 use Rattle.drill.proofs.Drills.{drilled}
+use Rattle.drill.proofs.Histories.{history_first}
 use Rattle.drill.proofs.Wholes.{IsDoneIn, done_in}
 
 -- ---- who calls
@@ -120,13 +124,23 @@ module _ (gives : ℕ → Type 0) (size : Size) (shared : SharedState TrustRepla
   pub all_left : AllByRecursion (HasLeft gives size shared s) ended
   all_left = all_weaker IsSeen (HasLeft gives size shared s) has_left ended seen
 
-  finished : (view : ℕ) → IsOfDrill size.views view → HasFinished (play keeper.seen) view (own size.seed view size.events)
+  finished : (view : ℕ) → IsOfDrill size.views view → HasFinished s view (own size.seed view size.events)
   finished view of =
       let one = found view of in
       let left = has_left one.0 one.2 in
-      subst (λ (v : ℕ). HasFinished (play keeper.seen) v (own size.seed v size.events)) one.1
-      (subst (λ (t : PlainSession). HasFinished t one.0.worker.view (own size.seed one.0.worker.view size.events)) closed.plays left.done.ends.finished)
+      subst (λ (v : ℕ). HasFinished s v (own size.seed v size.events)) one.1 left.done.ends.finished
 
-  pub all_drilled : Drilled size.seed size.views size.events gives s.log s.horizon
-  all_drilled = subst (λ (t : PlainSession). Drilled size.seed size.views size.events gives t.log t.horizon) (sym closed.plays)
-      (drilled size.seed size.views size.events gives keeper.seen closed.sound whole finished)
+  -- the calls of each view are those of its worker
+  pub all_called : (view : ℕ) → IsOfDrill size.views view → AreCallsOf view size.events (exchanges_in keeper.seen view)
+  all_called view of =
+      let found_one = found view of in
+      let one = found_one.0 in
+      let own = one.worker.view in
+      let seen = one.worker.pass.seen in
+      let saw = found_one.2.1 in
+      let first : IsDrillHistory gives size.views seen = history_first gives size.views seen saw.0 (subst (IsDrillHistory gives size.views) (sym saw.1) whole) in
+      let same : exchanges_in seen own ≡ exchanges_in keeper.seen own = sym (exchanges_same seen saw.0 own saw.2) ∙ ap (λ (history : List Item). exchanges_in history own) saw.1 in
+      subst (λ (view : ℕ). AreCallsOf view size.events (exchanges_in keeper.seen view)) found_one.1 (subst (AreCallsOf own size.events) same (found_one.2.0.calls first))
+
+  pub all_drilled : Drilled size.seed size.views size.events s.log s.horizon
+  all_drilled = drilled size.seed size.views size.events s finished

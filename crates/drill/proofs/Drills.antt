@@ -8,7 +8,7 @@ use Rattle.tea_base.specs.declared.entry.What.{What}
 use Rattle.tea_base.specs.declared.entry.What.TheVariants as what
 use Rattle.tea_base.specs.Limits.{end_of_time}
 use Rattle.session_log.specs.LogState.{next_entry}
-use Rattle.reflector_core.specs.PlainSession.{PlainSession}
+use Rattle.reflector_core.specs.PlainSession.{IsSoundSession, PlainSession}
 use Rattle.reflector_core.specs.Answer.{answer, append_entry, join, leave, pull, stamp}
 use Rattle.reflector_core.specs.Play.{first_session}
 use Rattle.reflector_core.specs.declared.request.Request.{Request}
@@ -17,11 +17,13 @@ use Rattle.reflector_core.proofs.SoundLaws.{send_along, offer_along}
 use Rattle.wire_frames.specs.declared.start.Want.{Want}
 use Rattle.session_lock.specs.declared.knowledge.Item.{Item}
 use Rattle.session_lock.specs.declared.knowledge.Item.TheVariants.{Did, Void}
-use Rattle.session_lock.specs.History.{after_item, play, play_from, IsSoundThrough}
+use Rattle.session_lock.specs.History.{after_item, play_from}
 use Rattle.session_lock.proofs.Histories.{sound_end}
+use Rattle.drill.specs.declared.size.Size.{Size}
 use Rattle.drill.specs.Drilled.{Drilled, IsCutShort, IsOfDrill, done_by, own}
-use Rattle.drill.specs.Asking.{IsAskedBy, IsAskedInDrill, IsDrillHistory}
+use Rattle.drill.specs.Asking.{IsAskedBy, IsAskedInDrill}
 use Rattle.drill.specs.Doing.{HasFinished}
+use Rattle.drill.specs.Drill.{PlaysDrill}
 
 -- what is so of the session as it was, and of the one with one more entry, is so after a Join, a Leave and a Pull
 join_along : (P : PlainSession → Type 0) (s : PlainSession) (view now : ℕ) (want : Want) → P s → P (append_entry s (stamp s.horizon now) view what.Join) → P (join s view now want).session
@@ -34,11 +36,11 @@ pull_along : (P : PlainSession → Type 0) (s : PlainSession) (after limit : ℕ
 pull_along P s after limit same = grind arith
 
 -- each entry is of a view of the drill, and the horizon is not far beyond a value of the clock
-record HasDrillEntries (gives : ℕ → Type 0) (views : ℕ) (s : PlainSession) : Type 0 where
-  named : All (λ (entry : Entry). IsOfDrill views entry.view) s.log
-  given : ℕ
-  is_given : (given ≡ 0) ⊎ gives given
-  bounded : s.horizon ≤ given + length s.log
+pub record HasDrillEntries (gives : ℕ → Type 0) (views : ℕ) (s : PlainSession) : Type 0 where
+  pub named : All (λ (entry : Entry). IsOfDrill views entry.view) s.log
+  pub given : ℕ
+  pub is_given : (given ≡ 0) ⊎ gives given
+  pub bounded : s.horizon ≤ given + length s.log
 
 first_within : (gives : ℕ → Type 0) (views : ℕ) → HasDrillEntries gives views first_session
 first_within gives views = record { named = All-nil (λ (entry : Entry). IsOfDrill views entry.view); given = 0; is_given = inl refl; bounded = omega arith }
@@ -82,6 +84,17 @@ play_within : (gives : ℕ → Type 0) (views : ℕ) (s : PlainSession) (history
 play_within gives views s [] within asked = within
 play_within gives views s (x ∷ xs) within asked = play_within gives views (after_item s x) xs (item_within gives views s within x asked.0) asked.1
 
+-- ---- a session that plays a drill
+
+pub drill_entries : (gives : ℕ → Type 0) (size : Size) (s : PlainSession) → PlaysDrill gives size s → HasDrillEntries gives size.views s
+drill_entries gives size s plays =
+    subst (HasDrillEntries gives size.views) (sym plays.play) (play_within gives size.views first_session plays.history (first_within gives size.views) plays.asked)
+
+pub drill_is_sound : (gives : ℕ → Type 0) (size : Size) (s : PlainSession) → PlaysDrill gives size s → IsSoundSession s
+drill_is_sound gives size s plays = subst IsSoundSession (sym plays.play) (sound_end first_session plays.history plays.sound)
+
+-- ---- what its views have done
+
 -- below the end of time nobody is cut short
 done_whole : (s : PlainSession) (view : ℕ) (whole : List What) → s.horizon < end_of_time → HasFinished s view whole → done_by view s.log ≡ whole
 done_whole s view whole below (inl done) = done
@@ -92,17 +105,8 @@ done_or_cut s view whole (inl done) = inl done
 done_or_cut s view whole (inr cut) = inr cut.1
 
 -- where each view has finished, this is left
-pub drilled : (seed views events : ℕ) (gives : ℕ → Type 0) (history : List Item) → IsSoundThrough first_session history → IsDrillHistory gives views history
-    → ((view : ℕ) → IsOfDrill views view → HasFinished (play history) view (own seed view events))
-    → Drilled seed views events gives (play history).log (play history).horizon
-drilled seed views events gives history sound asked finished =
-    let within : HasDrillEntries gives views (play history) = play_within gives views first_session history (first_within gives views) asked.asked in
-    record {
-      legal = (sound_end first_session history sound).legal;
-      named = within.named;
-      given = within.given;
-      is_given = within.is_given;
-      bounded = within.bounded;
-      whole = λ below view of. done_whole (play history) view (own seed view events) below (finished view of);
-      cut = λ late view of. done_or_cut (play history) view (own seed view events) (finished view of);
-    }
+pub drilled : (seed views events : ℕ) (s : PlainSession) → ((view : ℕ) → IsOfDrill views view → HasFinished s view (own seed view events)) → Drilled seed views events s.log s.horizon
+drilled seed views events s finished = record {
+  whole = λ below view of. done_whole s view (own seed view events) below (finished view of);
+  cut = λ late view of. done_or_cut s view (own seed view events) (finished view of);
+}

@@ -8,6 +8,7 @@ use Rattle.wire_frames.specs.declared.start.Want.{Want}
 use Rattle.wire_frames.specs.declared.start.Want.TheVariants as want
 use Rattle.reflector_core.specs.PlainSession.{PlainSession}
 use Rattle.reflector_core.specs.Answer.{SessionOutcome, answer, refuses}
+use Rattle.reflector_core.specs.Play.{first_session}
 use Rattle.reflector_core.specs.declared.request.Request.TheVariants.{Join}
 use Rattle.reflector_core.specs.declared.request.Reply.{Reply}
 use Rattle.reflector_core.specs.declared.request.Reply.TheVariants.{Joined, Stamped, Again, Ticked, Left, Kept, Batch, Refused}
@@ -17,6 +18,8 @@ use Rattle.session_lock.specs.History.{calls_of, play}
 use Rattle.session_lock.specs.Passes.{SharedState, own_calls}
 use Rattle.join_sync.specs.declared.cursor.Cursor.{Cursor}
 use Rattle.join_sync.specs.Answers.{first_cursor}
+use Rattle.connection.specs.Exchanges.{exchanges_in}
+use Rattle.connection.proofs.Callers.{exchanges_none}
 use Rattle.model_tree.specs.Program.{IsProgram}
 use Rattle.model_tree.specs.TreeView.{program_tree}
 use Rattle.replica_plain.specs.declared.how.How.{How}
@@ -31,6 +34,7 @@ use Rattle.drill.specs.Doing.{HasDone, HasFinished, IsHereBy}
 use Rattle.drill.specs.Drilled.{drawn_numbers, entries_by, own, own_turns, sources_per_seed}
 use Rattle.drill.specs.Sizes.{IsOfSize}
 use Rattle.drill.specs.Turns.{IsAtTurn, Ends, HasEnded, HasJoined, IsWorkerReady}
+use Rattle.drill.specs.ViewCalls.{AfterTurns, AreCallsOf, Joins, Then}
 use Rattle.drill.specs.Workers.{IsFirst, IsWorker, KeepsSource}
 use Rattle.drill.proofs.Grown.{HasCalled, has_called}
 use Rattle.drill.proofs.Histories.{apart, nothing_done}
@@ -76,6 +80,15 @@ module _ (gives : ℕ → Type 0) (size : Size) (shared : SharedState TrustRepla
   nothing_before : IsDrillHistory gives size.views w.pass.seen → entries_by w.view (play w.pass.seen).log ≡ []
   nothing_before whole =
       apart gives size.views w.view [] w.pass.seen whole (subst (λ (callers : List ℕ). calls_of callers w.pass.seen ≡ []) first.worker.callers first.calls)
+
+  no_calls : exchanges_in w.pass.seen w.view ≡ []
+  no_calls =
+      exchanges_none first_session w.view w.pass.seen (subst (λ (callers : List ℕ). calls_of callers w.pass.seen ≡ []) first.worker.callers first.calls)
+
+  -- it has made one call
+  asks_first : (opened : Option Cursor) → HasJoined gives size.views shared w new Fresh opened → Then (λ calls. calls ≡ []) (Joins w.view 0 opened) (exchanges_in new.pass.seen w.view)
+  asks_first opened has =
+      (exchanges_in w.pass.seen w.view, Join w.view has.now want.Fresh, has.reply, has.asked.exchanged, no_calls, (has.now, want.Fresh, inl (omega arith, refl), refl, has.opened))
 
   call : (how : How) (cursor : Option Cursor) → (has : HasJoined gives size.views shared w new how cursor)
       → HasCalled gives size.views w.view w.pass new.pass (Join w.view has.now (join_want (worlds_of w.replica) w.replica.plain how)) has.asked.history
@@ -125,6 +138,7 @@ module _ (gives : ℕ → Type 0) (size : Size) (shared : SharedState TrustRepla
   pub first_joined : (cursor : Cursor) → HasJoined gives size.views shared w new Fresh (Some cursor) → IsWorkerReady gives size shared new cursor 0
   first_joined cursor has = record {
     worker = worker;
+    calls = subst (λ (view : ℕ). AfterTurns view 0 cursor (exchanges_in new.pass.seen view)) (sym view_kept) (asks_first (Some cursor) has);
     few = omega (arith, few_asked Fresh (Some cursor) has);
     works = has.taken.works;
     connection = cursor_of w.view has.reply cursor has.opened ∙ sym view_kept;
@@ -175,5 +189,6 @@ module _ (gives : ℕ → Type 0) (size : Size) (shared : SharedState TrustRepla
     few = omega (arith, few_asked Fresh None has);
     catches = tt;
     ends = λ whole. ends_if has whole (comes None has whole);
+    calls = λ whole. subst (λ (view : ℕ). AreCallsOf view size.events (exchanges_in new.pass.seen view)) (sym view_kept) (inl (asks_first None has));
     late = λ whole refused. late_if has whole (comes None has whole);
   }

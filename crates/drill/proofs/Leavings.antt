@@ -1,5 +1,5 @@
 -- A worker leaves.
-use Rattle.std.proofs.Common.{◌≡◌, ℕ, ◌+◌, ◌-◌, ◌*◌, ◌≤◌, Bool, true, false, List, [], ◌∷◌, sym, ap, ◌∙◌, subst, arith}
+use Rattle.std.proofs.Common.{◌≡◌, inl, inr, ℕ, ◌+◌, ◌-◌, ◌*◌, ◌≤◌, Bool, true, false, List, [], ◌∷◌, refl, sym, ap, ◌∙◌, subst, arith}
 use Rattle.tea_base.specs.declared.entry.What.{What}
 use Rattle.tea_base.specs.declared.entry.What.TheVariants as what
 use Rattle.tea_base.specs.Readings.{last_number}
@@ -12,6 +12,7 @@ use Rattle.session_lock.specs.History.{play}
 use Rattle.session_lock.specs.Passes.{PassState, SharedState, own_calls}
 use Rattle.session_lock.proofs.Histories.{sound_end}
 use Rattle.join_sync.specs.declared.cursor.Cursor.{Cursor}
+use Rattle.connection.specs.Exchanges.{exchanges_in}
 use Rattle.replica.specs.View.{worlds_of}
 use Rattle.system_plain.proofs.FactsGrow.{follows_log_grows}
 use Rattle.system_plain.proofs.Sessions.{Grows-legal}
@@ -23,7 +24,8 @@ use Rattle.drill.specs.declared.finished.Course.TheVariants as course
 use Rattle.drill.specs.Asking.{IsDrillHistory, entries_used_by, most_asked}
 use Rattle.drill.specs.Doing.{HasDone, HasFinished, IsHereBy}
 use Rattle.drill.specs.Drilled.{drawn_numbers, own, own_turns}
-use Rattle.drill.specs.Turns.{Ends, HasEnded, HasMade, HasStopped, IsWorkerReady, MayCatchUp, LeavesUndone}
+use Rattle.drill.specs.Turns.{Ends, HasEnded, HasMade, HasStopped, IsWorkerReady, MayCatchUp, LeavesUndone, calls_made}
+use Rattle.drill.specs.ViewCalls.{AreCallsOf, MayLeave}
 use Rattle.drill.specs.Workers.{ChangesPass, HasAsked, IsWorker}
 use Rattle.drill.proofs.Grown.{HasCalled, base_later, has_called}
 use Rattle.drill.proofs.Histories.{done_same, here_same}
@@ -42,6 +44,10 @@ module _ (gives : ℕ → Type 0) (size : Size) (shared : SharedState TrustRepla
 
   few_asked : entries_used_by (own_calls w.pass) ≤ 1 + 3 * size.events → entries_used_by (own_calls p) ≤ most_asked size.events
   few_asked few = omega (arith, few, call.few)
+
+  -- it is its last call
+  leaves_last : MayLeave w.view size.events cursor (calls_made w) → AreCallsOf w.view size.events (exchanges_in p.seen w.view)
+  leaves_last may = inr (cursor, (calls_made w, Leave w.view cursor.joined now, reply, asked.exchanged, may, (now, refl)))
 
   leaves : IsDrillHistory gives size.views p.seen → IsHereBy (play w.pass.seen).log w.view cursor.joined
       → HasLeft (play asked.history) w.view (answer (play asked.history) (Leave w.view cursor.joined now))
@@ -87,6 +93,7 @@ module _ (gives : ℕ → Type 0) (size : Size) (shared : SharedState TrustRepla
         few = few_asked ready.few;
         catches = record { program = works.program; follows = works.follows; synced = works.synced; within = works.within };
         ends = λ whole. ends_whole ready whole;
+        calls = λ whole. leaves_last (inl ready.calls);
         late = λ whole refused. absurd cc;
       }
 
@@ -132,6 +139,7 @@ module _ (gives : ℕ → Type 0) (size : Size) (shared : SharedState TrustRepla
     few = few_asked stopped.few;
     catches = catches_on synced stopped.catches;
     ends = λ whole. ends_early (stopped.stops (call.first whole)) whole;
+    calls = λ whole. leaves_last (inr (stopped.calls (call.first whole)));
     late = λ whole refused. let stops = stopped.stops (call.first whole) in omega (arith, stops.ended, call.grows.horizon);
   }
 

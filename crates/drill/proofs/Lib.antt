@@ -1,5 +1,6 @@
 pub mod Asks
 pub mod Callers
+pub mod CallLaws
 pub mod CatchUps
 pub mod Catching
 pub mod Courses

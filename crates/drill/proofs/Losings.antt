@@ -18,7 +18,7 @@ use Rattle.drill.specs.declared.worker.Worker.{Worker}
 use Rattle.drill.specs.Asking.{IsDrillHistory}
 use Rattle.drill.specs.Doing.{HasDone, KeepsFrom, WasSentBy, loss_interval}
 use Rattle.drill.specs.Drilled.{drop_interval, entries_by, own}
-use Rattle.drill.specs.Turns.{HasOffered, IsLost, IsOwed, Loses, left_behind}
+use Rattle.drill.specs.Turns.{HasOffered, IsLost, IsOwed, Loses, calls_made, left_behind}
 use Rattle.drill.specs.Workers.{ChangesPass, HasAsked, IsWorker}
 use Rattle.drill.proofs.Grown.{HasCalled, by_horizon, by_later, has_called, sent_later}
 use Rattle.drill.proofs.Asks.{worker_with}
@@ -39,10 +39,12 @@ module _ (gives : ℕ → Type 0) (size : Size) (shared : SharedState TrustRepla
   pub dropped : number % drop_interval ≡ 0 → (number % loss_interval ≡ 0 → ⊥) → IsLost gives size shared w cursor number payload Resume
   dropped multiple other = record {
     waiting = owed.waiting;
+    calls = (multiple, inl (other, owed.calls));
     few = owed.few;
     connection = owed.connection;
     may = (owed.works.follows, owed.works.within);
     lost = tt;
+    wants = inr (other, (worlds_of w.replica).time w.replica.plain.world, refl);
     does = λ whole. let owes = owed.does whole in record {
       done = join_left multiple whole;
       here = owes.here;
@@ -104,10 +106,15 @@ module _ (gives : ℕ → Type 0) (size : Size) (shared : SharedState TrustRepla
         short = owed.waiting.short;
         acknowledged = owed.waiting.acknowledged;
       };
+      calls = (
+        drop_of_loss number multiple,
+        inr (multiple, (calls_made w, Offer w.view cursor.joined w.replica.plain.world.time bytes, reply, asked.exchanged, owed.calls, (w.replica.plain.world.time, bytes, refl))),
+      );
       few = omega (arith, owed.few, call.few);
       connection = owed.connection;
       may = tt;
       lost = (refl, refl, refl);
+      wants = inl (multiple, refl);
       does = loses_world;
     }
 

@@ -16,7 +16,8 @@ use Rattle.drill.specs.declared.worker.Worker.{Worker}
 use Rattle.drill.specs.Asking.{IsDrillHistory, entries_used_by, most_short}
 use Rattle.drill.specs.Doing.{HasBase, HasDone, IsHereBy, WasSentBy, loss_interval}
 use Rattle.drill.specs.Drilled.{add_payload, drawn_numbers, joins_behind, own, own_turns}
-use Rattle.drill.specs.Turns.{HasPublished, HasUnsent, IsWorkerReady, left_behind}
+use Rattle.drill.specs.Turns.{HasPublished, HasUnsent, IsWorkerReady, calls_made, left_behind}
+use Rattle.drill.specs.ViewCalls.{AfterTurns}
 use Rattle.drill.specs.Workers.{IsWorker}
 use Rattle.drill.specs.Working.{ReplicaWorks}
 use Rattle.drill.proofs.Asks.{worker_with}
@@ -34,6 +35,7 @@ pub record Publishes (size : Size) (s : PlainSession) (w : Worker) (cursor : Cur
 pub record IsPublished (gives : ℕ → Type 0) (size : Size) (shared : SharedState TrustReplay) (w : Worker) (cursor : Cursor) (number : ℕ) (payload : List ℕ) : Type 0 where
   pub worker : IsWorker gives size shared w
   pub turn : number + 1 ≤ size.events
+  pub calls : AfterTurns w.view number cursor (calls_made w)
   pub few : entries_used_by (own_calls w.pass) ≤ 1 + 3 * number
   pub works : ReplicaWorks (play w.pass.seen) w.replica cursor
   pub connection : cursor.view ≡ w.view
@@ -67,6 +69,7 @@ module _ (gives : ℕ → Type 0) (size : Size) (shared : SharedState TrustRepla
   publishes_here w cursor number turn low ready = record {
     worker = worker_with gives size shared w (state_after w.source) (publisher w).replica refl refl refl ready.worker;
     turn = turn;
+    calls = ready.calls;
     few = ready.few;
     works = works_same (play w.pass.seen) w.replica (publisher w).replica.plain cursor refl refl refl refl ready.works;
     connection = ready.connection;

@@ -18,12 +18,13 @@ use Rattle.drill.specs.declared.trust.TrustReplay.{TrustReplay}
 use Rattle.drill.specs.declared.worker.Worker.{Worker}
 use Rattle.drill.specs.Taking.{AreFine, HasTakenAll, after_frames}
 use Rattle.drill.specs.Turns.{HasCome, HasTakenMore, KeepsConnection, KeepsEvents}
+use Rattle.drill.specs.ViewCalls.{has_tick}
 use Rattle.drill.specs.Workers.{HasAsked, HasPassed}
 use Rattle.drill.specs.Working.{ReplicaWorks}
 use Rattle.drill.proofs.Passing.{has_passed}
 use Rattle.drill.proofs.Requests.{pull_session}
 use Rattle.drill.proofs.ViewsKept.{SameView}
-use Rattle.drill.proofs.Workers.{Pulls, has_tick, pulled, works_grow}
+use Rattle.drill.proofs.Workers.{TakesPull, pulled, works_grow}
 
 -- the seq that is asked for is the cursor's
 pub asked_behind : (gives : ℕ → Type 0) (views : ℕ) (shared : SharedState TrustReplay) (view : ℕ) (before after : PassState) (from : ℕ) (cursor : Cursor) (given : Reply)
@@ -36,8 +37,8 @@ module _ (gives : ℕ → Type 0) (views : ℕ) (shared : SharedState TrustRepla
   there : ReplicaWorks (play asked.history) r cursor
   there = works_grow (play before.seen) (play asked.history) r cursor (Grows-legal (play before.seen) (play asked.history) asked.on.grows asked.sound.legal) asked.sound works
 
-  comes : Pulls (play asked.history) r cursor given
-  comes = subst (Pulls (play asked.history) r cursor) (sym asked.replies) (pulled (play asked.history) r cursor laws asked.sound there)
+  comes : TakesPull (play asked.history) r cursor given
+  comes = subst (TakesPull (play asked.history) r cursor) (sym asked.replies) (pulled (play asked.history) r cursor laws asked.sound there)
 
   same : play asked.history ≡ play after.seen
   same = sym (asked.session ∙ pull_session (play asked.history) cursor.after most_pulled)

@@ -13,6 +13,7 @@ use Rattle.session_lock.specs.History.{play}
 use Rattle.session_lock.specs.Passes.{SharedState, own_calls}
 use Rattle.join_sync.specs.declared.cursor.Cursor.{Cursor}
 use Rattle.join_sync.specs.Answers.{first_cursor}
+use Rattle.connection.specs.Exchanges.{exchanges_in}
 use Rattle.model_tree.specs.Program.{IsProgram}
 use Rattle.model_tree.specs.TreeView.{program_tree}
 use Rattle.replica_plain.specs.declared.how.How.{How}
@@ -26,7 +27,8 @@ use Rattle.drill.specs.Asking.{IsDrillHistory, entries_used_by}
 use Rattle.drill.specs.Doing.{HasBase, HasDone, IsHereBy, KeepsFrom, WasSentBy, loss_interval}
 use Rattle.drill.specs.Drilled.{own}
 use Rattle.drill.specs.Sizes.{IsOfSize}
-use Rattle.drill.specs.Turns.{HasJoined, HasStopped, IsBack, IsLost, KeepsForJoin, MayJoinBy, Returns, LeavesUndone, base_after, base_time, left_behind}
+use Rattle.drill.specs.Turns.{HasJoined, HasStopped, IsBack, IsLost, KeepsForJoin, MayJoinBy, Returns, LeavesUndone, base_after, base_time, calls_made, left_behind}
+use Rattle.drill.specs.ViewCalls.{AfterDrop, AfterRefusal, AfterTurns, Joins, Then}
 use Rattle.drill.specs.Workers.{IsWorker, KeepsSource}
 use Rattle.drill.proofs.Grown.{HasCalled, base_later, by_horizon, by_later, has_called, sent_later}
 use Rattle.drill.proofs.Histories.{done_same, here_same}
@@ -102,6 +104,14 @@ module _ (gives : ℕ → Type 0) (size : Size) (shared : SharedState TrustRepla
       (done_same before.log s.log w.view number (what.Join ∷ left_behind size w number) (own size.seed w.view size.events)
       ((call next has).same whole) loses.done)
 
+  -- it is its next call
+  asks_again : (opened : Option Cursor) → HasJoined gives size.views shared w new how opened
+      → Then (AfterDrop new.view number payload (AfterTurns new.view (number - 1)) cursor) (Joins new.view number opened) (calls_made new)
+  asks_again opened has =
+      let want = join_want (worlds_of w.replica) w.replica.plain how in
+      subst (λ (view : ℕ). Then (AfterDrop view number payload (AfterTurns view (number - 1)) cursor) (Joins view number opened) (exchanges_in new.pass.seen view)) (sym view_kept)
+      (calls_made w, Join w.view has.now want, has.reply, has.asked.exchanged, lost.calls, (has.now, want, lost.wants, refl, has.opened))
+
   -- its Sync is taken
   returns_if
       : (next : Cursor) → (has : HasJoined gives size.views shared w new how (Some next)) → IsDrillHistory gives size.views new.pass.seen
@@ -139,6 +149,7 @@ module _ (gives : ℕ → Type 0) (size : Size) (shared : SharedState TrustRepla
       short = lost.waiting.short;
       acknowledged = ap (λ (n : ℕ). n + 1) has.taken.events.acknowledged ∙ lost.waiting.acknowledged;
     };
+    calls = (cursor, asks_again (Some next) has);
     few = few_asked (Some next) has;
     works = has.taken.works;
     connection = cursor_of w.view has.reply next has.opened ∙ sym view_kept;
@@ -186,4 +197,8 @@ module _ (gives : ℕ → Type 0) (size : Size) (shared : SharedState TrustRepla
     connection = lost.connection ∙ sym view_kept;
     catches = tt;
     stops = λ whole. stops_if has whole (comes None has whole);
+    calls = λ whole.
+        let next : number ≡ number - 1 + 1 = omega (arith, lost.waiting.turn.0) in
+        let refused : AfterRefusal new.view number (AfterTurns new.view (number - 1)) cursor (calls_made new) = (payload, inr (asks_again None has)) in
+        (number - 1, omega (arith, lost.waiting.turn), subst (λ (turn : ℕ). AfterRefusal new.view turn (AfterTurns new.view (number - 1)) cursor (calls_made new)) next refused);
   }

@@ -25,7 +25,7 @@ use Rattle.drill.specs.Ending.{root_total}
 use Rattle.drill.specs.Program.{IsDrillProgram}
 use Rattle.drill.specs.Reports as reports
 use Rattle.drill.specs.Reports.{Reports}
-use Rattle.drill.proofs.Drillings.{HasLeft, IsClosed, all_drilled, all_left, first_view, rest_views, whole}
+use Rattle.drill.proofs.Drillings.{HasLeft, IsClosed, all_called, all_drilled, all_left, first_view, rest_views, whole}
 
 module _ (gives : ℕ → Type 0) (size : Size) (shared : SharedState TrustReplay) (s : PlainSession) where
   may_rest_all : (ended : List Finished) → AllByRecursion (HasLeft gives size shared s) ended → AllByRecursion (MayRest s) (map rested_of ended)
@@ -140,9 +140,10 @@ module _ (gives : ℕ → Type 0) (size : Size) (shared : SharedState TrustRepla
               history = keeper.seen;
               play = sym as_told ∙ closed.plays;
               sound = closed.sound;
-              asked = whole gives size shared ended keeper s closed;
+              asked = (whole gives size shared ended keeper s closed).asked;
+              calls = all_called gives size shared ended keeper s closed;
             };
-            drilled = subst (λ (t : PlainSession). Drilled size.seed size.views size.events gives t.log t.horizon) as_told (all_drilled gives size shared ended keeper s closed);
+            drilled = subst (λ (t : PlainSession). Drilled size.seed size.views size.events t.log t.horizon) as_told (all_drilled gives size shared ended keeper s closed);
             replicas =
                 subst (λ (rs : List ReplicaView). AreReplays report.session.plain tree drill_id 1 rs) (sym told.same_replicas)
                 (subst (λ (t : PlainSession). AreReplays t tree drill_id 1 replicas) as_told replays);

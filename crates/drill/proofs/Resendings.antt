@@ -1,5 +1,5 @@
 -- A worker that has joined again sends its event again.
-use Rattle.std.proofs.Common.{◌≡◌, ℕ, ◌+◌, ◌*◌, ◌≤◌, true, List, [], length, Option, Some, None, refl, sym, ap, ◌∙◌, subst, arith}
+use Rattle.std.proofs.Common.{◌≡◌, inr, ℕ, ◌+◌, ◌*◌, ◌≤◌, true, List, [], length, Option, Some, None, refl, sym, ap, ◌∙◌, subst, arith}
 use Rattle.wire_frames.specs.declared.frame.ServerFrame.{ServerFrame}
 use Rattle.wire_frames.specs.declared.frame.ServerFrame.TheVariants.{Done}
 use Rattle.reflector_core.specs.PlainSession.{PlainSession}
@@ -22,7 +22,8 @@ use Rattle.drill.specs.Doing.{HasDone, IsHereBy}
 use Rattle.drill.specs.Drilled.{own}
 use Rattle.drill.specs.Sizes.{IsOfSize}
 use Rattle.drill.specs.Taking.{HasTaken, IsFine}
-use Rattle.drill.specs.Turns.{HasSentIt, HasStopped, IsBack, IsSettled, IsSettling, done_of, left_behind}
+use Rattle.drill.specs.Turns.{HasSentIt, HasStopped, IsBack, IsSettled, IsSettling, calls_made, left_behind}
+use Rattle.drill.specs.ViewCalls.{done_of}
 use Rattle.drill.specs.Workers.{HasAsked, IsWorker, KeepsSource}
 use Rattle.drill.specs.Working.{ReplicaWorks}
 use Rattle.drill.proofs.Grown.{HasCalled, base_later, by_horizon, has_called, works_same}
@@ -85,8 +86,10 @@ module _ (gives : ℕ → Type 0) (size : Size) (shared : SharedState TrustRepla
         based = λ many. base_later before (play p.seen) w.view grows number w.replica.plain.base call.keeps (does.based many);
       }
 
-  is_settled : IsSettled gives size shared (taker w p) cursor number
-  is_settled = record {
+  is_settled : (done : ServerFrame) → Some done ≡ done_of number reply → IsSettled gives size shared (taker w p) cursor number
+  is_settled done told = record {
+    turn = back.waiting.turn.0;
+    calls = (payload, inr (done, (calls_made w, Send w.view cursor.joined number payload now, reply, asked.exchanged, back.calls, (now, refl, told))));
     worker = worker_with gives size shared (sender w p) w.source (taker w p).replica refl refl refl worker;
     few = resent_few;
     works = works_same (play p.seen) w.replica (acknowledges (calls.gives w.replica.plain) []) cursor refl refl refl refl resent_works;
@@ -94,17 +97,16 @@ module _ (gives : ℕ → Type 0) (size : Size) (shared : SharedState TrustRepla
     outbox = refl;
     acknowledged = back.waiting.acknowledged;
     given = omega (arith, all_given, back.waiting.acknowledged);
-    last = record { before = own_calls w.pass; payload = payload; now = now; is = asked.own };
     does = settles;
   }
 
   is_taken : (seq time : ℕ) → taken (worlds_of w.replica) (calls.gives w.replica.plain) (Done number seq time) ≡ takes (acknowledges (calls.gives w.replica.plain) [])
   is_taken seq time = done_taken (worlds_of w.replica) (calls.gives w.replica.plain) payload number seq time back.works.synced back.waiting.outbox back.waiting.acknowledged
 
-  takes_done : (seq time : ℕ) (r : ReplicaView) → HasTaken (sender w p).replica (Done number seq time) r → IsSettled gives size shared (record (sender w p) { replica = r }) cursor number
-  takes_done seq time r has =
+  takes_done : (done : ServerFrame) → Some done ≡ done_of number reply → (seq time : ℕ) (r : ReplicaView) → HasTaken (sender w p).replica (Done number seq time) r → IsSettled gives size shared (record (sender w p) { replica = r }) cursor number
+  takes_done done told seq time r has =
       let is : r ≡ (taker w p).replica = has.is ∙ ap (λ taken. with_plain w.replica taken.replica) (is_taken seq time) in
-      subst (λ (r : ReplicaView). IsSettled gives size shared (record (sender w p) { replica = r }) cursor number) (sym is) is_settled
+      subst (λ (r : ReplicaView). IsSettled gives size shared (record (sender w p) { replica = r }) cursor number) (sym is) (is_settled done told)
 
   -- ---- none came, which cannot be
 
@@ -122,6 +124,7 @@ module _ (gives : ℕ → Type 0) (size : Size) (shared : SharedState TrustRepla
         connection = back.connection;
         catches = record { program = works.program; follows = works.follows; synced = works.synced; within = works.within };
         stops = λ whole. absurd (not_refused is whole);
+        calls = λ whole. absurd (not_refused is whole);
       }
 
 module _ (gives : ℕ → Type 0) (size : Size) (shared : SharedState TrustReplay) (w new : Worker) (cursor : Cursor) (number : ℕ) (payload : List ℕ)
@@ -148,7 +151,7 @@ module _ (gives : ℕ → Type 0) (size : Size) (shared : SharedState TrustRepla
       let asked = asks (Some done) sent in
       let fine : IsFine (with_plain w.replica (calls.gives w.replica.plain)) (Done number is.0 is.1) =
       record { none = ap (λ taken. taken.fault) (is_taken gives size shared w new.pass cursor number sent.now payload sent.reply back there asked is.0 is.1) } in
-      let settled = takes_done gives size shared w new.pass cursor number sent.now payload sent.reply back there asked is.0 is.1 in
+      let settled = takes_done gives size shared w new.pass cursor number sent.now payload sent.reply back there asked done (told (Some done) sent) is.0 is.1 in
       subst (λ (one : Worker). TakesDone one done) (sym same) (subst (TakesDone (sender w new.pass)) (sym is.2) (fine, tt, settled))
 
   pub resent_none : HasSentIt gives size.views shared w new cursor None → HasStopped gives size shared new cursor true

@@ -25,7 +25,8 @@ use Rattle.drill.specs.Asking.{IsDrillHistory, entries_used_by}
 use Rattle.drill.specs.Doing.{HasBase, HasDone, HasSent, IsHereBy, WasSentBy, loss_interval}
 use Rattle.drill.specs.Drilled.{add_payload, joins_behind, own}
 use Rattle.drill.specs.Sizes.{IsOfSize}
-use Rattle.drill.specs.Turns.{HasPublished, HasSentIt, HasStopped, IsOwed, IsWorkerReady, Owes, LeavesUndone, done_of, left_behind}
+use Rattle.drill.specs.Turns.{HasPublished, HasSentIt, HasStopped, IsOwed, IsWorkerReady, Owes, LeavesUndone, calls_made, left_behind}
+use Rattle.drill.specs.ViewCalls.{AfterTurns, done_of}
 use Rattle.drill.specs.Workers.{HasAsked, IsWorker, KeepsSource}
 use Rattle.drill.specs.Working.{ReplicaWorks}
 use Rattle.drill.proofs.Grown.{HasCalled, base_later, by_later, has_called, works_same}
@@ -129,15 +130,18 @@ module _ (gives : ℕ → Type 0) (size : Size) (shared : SharedState TrustRepla
       short = published.short;
       acknowledged = ap (λ (n : ℕ). n + 1) published.acknowledged;
     };
+    calls = (done, (calls_made w, Send w.view cursor.joined (number + 1) payload now, reply, asked.exchanged, turns, (now, refl, is)));
     few = omega (arith, sent_few);
     works = sent_works;
     connection = published.connection;
     given = given_if w.replica.plain.synced (published_count w.replica.plain) w.replica.plain.given (number + 1) published.works.synced counted;
     rests = rests published.rests;
-    last = record { before = own_calls w.pass; payload = payload; now = now; is = asked.own };
     does = λ whole. owes_if done is whole (comes whole);
   }
     where
+      turns : AfterTurns w.view (number + 1 - 1) cursor (calls_made w)
+      turns = let made : number ≡ number + 1 - 1 = omega arith in subst (λ (made : ℕ). AfterTurns w.view made cursor (calls_made w)) made published.calls
+
       rests : (number ≡ 0) ⊎ (is_at_rest w.replica.plain.world ≡ true) → (number + 1 ≡ 1) ⊎ (is_at_rest w.replica.plain.world ≡ true)
       rests (inl none) = inl (ap (λ (n : ℕ). n + 1) none)
       rests (inr still) = inr still
@@ -175,6 +179,7 @@ module _ (gives : ℕ → Type 0) (size : Size) (shared : SharedState TrustRepla
     connection = published.connection;
     catches = record { program = sent_works.program; follows = sent_works.follows; synced = sent_works.synced; within = sent_works.within };
     stops = λ whole. stops_if is whole (comes whole);
+    calls = λ whole. (number, omega (arith, published.turn), (payload, inl (calls_made w, Send w.view cursor.joined (number + 1) payload now, reply, asked.exchanged, published.calls, (now, refl, is))));
   }
 
 pub one_payload : (outbox : List (List ℕ)) (a b : List ℕ) → outbox ≡ a ∷ [] → outbox ≡ b ∷ [] → a ≡ b

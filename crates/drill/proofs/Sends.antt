@@ -20,7 +20,8 @@ use Rattle.replica_plain.specs.PlainReplica.{PlainReplica}
 use Rattle.replica_plain.specs.Calls as calls
 use Rattle.replica_plain.specs.Calls.{sends_after, unsent}
 use Rattle.replica.specs.View.{ReplicaView, with_plain}
-use Rattle.drill.specs.Turns.{HasSentIt, HasUnsent, done_of}
+use Rattle.drill.specs.Turns.{HasSentIt, HasUnsent}
+use Rattle.drill.specs.ViewCalls.{done_of}
 
 left_unsent : {W O : Type 0} (r : PlainReplica W O) (outbox : List (List ℕ)) (synced : Bool) (given : ℕ) (payload : List ℕ) → outbox ≡ payload ∷ [] → given ≡ r.acknowledged → synced ≡ true
     → cond synced (sends_after given (drop (given - r.acknowledged) outbox)) [] ≡ Send (r.acknowledged + 1) payload ∷ []

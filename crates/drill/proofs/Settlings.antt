@@ -1,5 +1,5 @@
 -- The Done of an event is taken, and the rest of the log.
-use Rattle.std.proofs.Common.{◌≡◌, inr, if◌then◌else◌, ◌==◌, eq-eqb, ℕ, ◌+◌, ◌-◌, ◌%◌, ◌≤◌, Bool, true, false, List, [], ◌∷◌, ◌++◌, Option, refl, sym, ap, ◌∙◌, subst, arith}
+use Rattle.std.proofs.Common.{◌≡◌, inl, inr, if◌then◌else◌, ◌==◌, eq-eqb, ℕ, ◌+◌, ◌-◌, ◌%◌, ◌≤◌, Bool, true, false, List, [], ◌∷◌, ◌++◌, Option, refl, sym, ap, ◌∙◌, subst, arith}
 use Rattle.tea_base.specs.declared.entry.What.{What}
 use Rattle.wire_frames.specs.declared.frame.ServerFrame.TheVariants.{Done}
 use Rattle.reflector_core.specs.PlainSession.{PlainSession}
@@ -10,6 +10,7 @@ use Rattle.replica_plain.specs.PlainReplica.{PlainReplica}
 use Rattle.replica_plain.specs.Worlds.{Worlds}
 use Rattle.replica_plain.specs.Taking.{Taken, acknowledges, faults, out_of_order, take_done, taken, takes, when_synced}
 use Rattle.replica_plain.specs.declared.fault.ReplicaFault.TheVariants as cause
+use Rattle.connection.specs.Exchanges.{exchanges_in}
 use Rattle.replica.specs.View.{ReplicaView, with_plain, worlds_of}
 use Rattle.drill.specs.declared.trust.TrustReplay.{TrustReplay}
 use Rattle.drill.specs.declared.size.Size.{Size}
@@ -19,9 +20,11 @@ use Rattle.drill.specs.Doing.{HasBase, HasDone, IsHereBy, WasSentBy, loss_interv
 use Rattle.drill.specs.Drilled.{drop_interval, own}
 use Rattle.drill.specs.Sizes.{IsOfSize}
 use Rattle.drill.specs.Taking.{HasTaken, IsFine}
-use Rattle.drill.specs.Turns.{IsAtTurn, HasTakenMore, IsOwed, IsWorkerReady, IsSettled, IsSettling, left_behind}
+use Rattle.drill.specs.Turns.{IsAtTurn, HasRead, HasTakenMore, IsOwed, IsWorkerReady, IsSettled, IsSettling, left_behind}
+use Rattle.drill.specs.ViewCalls.{AfterTurns}
 use Rattle.drill.specs.Workers.{IsWorker, KeepsSource}
 use Rattle.drill.specs.Working.{IsCaughtUp}
+use Rattle.drill.proofs.CallLaws.{turn_read}
 use Rattle.drill.proofs.Grown.{base_later, by_later, works_same}
 use Rattle.drill.proofs.Asks.{worker_with}
 use Rattle.drill.proofs.Histories.{done_same, here_same}
@@ -64,13 +67,14 @@ module _ (gives : ℕ → Type 0) (size : Size) (shared : SharedState TrustRepla
       → IsSettled gives size shared (record w { replica = with_plain w.replica (acknowledges w.replica.plain []) }) cursor number
   settles_here w cursor number payload owed keeps = record {
     worker = worker_with gives size shared w w.source (with_plain w.replica (acknowledges w.replica.plain [])) refl refl refl owed.waiting.worker;
+    turn = owed.waiting.turn.0;
+    calls = (payload, inl (keeps, owed.calls));
     few = omega (arith, owed.few);
     works = works_same (play w.pass.seen) w.replica (acknowledges w.replica.plain []) cursor refl refl refl refl owed.works;
     connection = owed.connection;
     outbox = refl;
     acknowledged = owed.waiting.acknowledged;
     given = omega (arith, owed.given, owed.waiting.acknowledged);
-    last = record { before = owed.last.before; payload = owed.last.payload; now = owed.last.now; is = owed.last.is };
     does = λ whole. let owes = owed.does whole in record {
       done = subst (λ (joins : List What). HasDone (play w.pass.seen).log w.view number (joins ++ left_behind size w number) (own size.seed w.view size.events)) (joins_none number keeps) owes.done;
       here = owes.here;
@@ -104,11 +108,12 @@ module _ (gives : ℕ → Type 0) (size : Size) (shared : SharedState TrustRepla
 
   pub caught_up
       : (w new : Worker) (cursor next : Cursor) (number : ℕ) → IsOfSize size → IsSettled gives size shared w cursor number → KeepsSource w new → IsWorker gives size shared new
-      → HasTakenMore gives size.views w new cursor next → IsCaughtUp (play new.pass.seen) new.replica → IsWorkerReady gives size shared new next number
-  caught_up w new cursor next number few settled source worker more caught =
+      → HasTakenMore gives size.views w new cursor next → IsCaughtUp (play new.pass.seen) new.replica → HasRead w.view w.pass new.pass cursor next → IsWorkerReady gives size shared new next number
+  caught_up w new cursor next number few settled source worker more caught read =
       let view : new.view ≡ w.view = ap (λ (one : Worker). one.view) source in
       record {
         worker = worker;
+        calls = subst (λ (view : ℕ). AfterTurns view number next (exchanges_in new.pass.seen view)) (sym view) (turn_read w.view number w.pass new.pass cursor next settled.turn settled.calls read);
         few = omega (arith, more.passed.asked, settled.few);
         works = more.works;
         connection = more.connection.view ∙ settled.connection ∙ sym view;

@@ -31,6 +31,7 @@ use Rattle.system_plain.proofs.Sessions.{Grows}
 use Rattle.drill.specs.Taking.{AreFine, IsFine, after_frame, after_frames}
 use Rattle.drill.specs.Working.{IsCaughtUp, ReplicaWorks}
 use Rattle.drill.specs.Turns.{HasCome}
+use Rattle.drill.specs.ViewCalls.{has_tick}
 use Rattle.drill.proofs.Catching.{takes_entry, tick_time}
 use Rattle.drill.proofs.ViewsKept.{SameView, same_at_entry, same_at_tick, same_first, same_then}
 
@@ -134,10 +135,6 @@ is_batch : (s : PlainSession) (after limit : ℕ) → after ≤ length s.log →
 is_batch s after limit within =
     let there : nat_lt (length s.log) after ≡ false = grind (arith, nat_tests) in
     rw there refl
-
-abbrev pub has_tick : Reply → Bool
-has_tick (Batch entries tick) = is_some tick
-has_tick other = false
 
 not_newer : (last horizon : ℕ) → nat_lt last horizon ≡ false → last < horizon → ⊥
 not_newer last horizon fell later = grind (arith, nat_tests)
@@ -262,19 +259,19 @@ module _ (s : PlainSession) (r : ReplicaView) (cursor : Cursor) (laws : AreWorld
       takes.fine (sym takes.stands.placed ∙ stands.seen)
 
 -- what a pull comes to
-pub record Pulls (s : PlainSession) (r : ReplicaView) (cursor : Cursor) (reply : Reply) : Type 0 where
+pub record TakesPull (s : PlainSession) (r : ReplicaView) (cursor : Cursor) (reply : Reply) : Type 0 where
   pub fine : AreFine r (next_frames cursor reply)
   pub works : ReplicaWorks s (after_frames r (next_frames cursor reply)) (next_cursor cursor reply)
   pub come : HasCome s (after_frames r (next_frames cursor reply)) cursor (next_cursor cursor reply) (has_tick reply)
   pub kept : after_frames r (next_frames cursor reply) ≡ with_plain r (after_frames r (next_frames cursor reply)).plain
   pub same : SameView r.plain (after_frames r (next_frames cursor reply)).plain
 
-pub pulled : (s : PlainSession) (r : ReplicaView) (cursor : Cursor) → AreWorlds (worlds_of r) → IsSoundSession s → ReplicaWorks s r cursor → Pulls s r cursor (pull s cursor.after most_pulled).reply
+pub pulled : (s : PlainSession) (r : ReplicaView) (cursor : Cursor) → AreWorlds (worlds_of r) → IsSoundSession s → ReplicaWorks s r cursor → TakesPull s r cursor (pull s cursor.after most_pulled).reply
 pulled s r cursor laws sound works =
     let taken = takes s r cursor laws sound works in
     let stood = stands s r cursor laws sound works in
     let come = comes s r cursor laws sound works in
-    subst (Pulls s r cursor) (is_batch s cursor.after most_pulled works.sent.within)
+    subst (TakesPull s r cursor) (is_batch s cursor.after most_pulled works.sent.within)
     (record {
       fine = taken.fine;
       works = subst (λ (new : ReplicaView). ReplicaWorks s new (next_cursor cursor (batch s r cursor laws sound works))) (sym taken.kept) (record {

@@ -17,13 +17,13 @@ IsAskedBy gives view (Join own now want) = (own ≡ view) × gives now
 IsAskedBy gives view (Send own joined number payload now) = (own ≡ view) × gives now × (length payload ≤ most_short)
 IsAskedBy gives view (Tick now) = gives now
 IsAskedBy gives view (Leave own joined now) = (own ≡ view) × gives now
-IsAskedBy gives view (Offer own joined time bytes) = Unit {0}
+IsAskedBy gives view (Offer own joined time bytes) = own ≡ view
 IsAskedBy gives view (Pull after limit) = Unit {0}
 
 -- each caller is one of the views, and asks for itself
 abbrev pub IsAskedInDrill : (ℕ → Type 0) → ℕ → Item → Type 0
 IsAskedInDrill gives views (Did caller request) = (1 ≤ caller) × (caller ≤ views) × IsAskedBy gives caller request
-IsAskedInDrill gives views (Void caller) = Unit {0}
+IsAskedInDrill gives views (Void caller) = (1 ≤ caller) × (caller ≤ views)
 
 -- how many entries the items put into a log at most
 abbrev pub entries_used_by : List Item → ℕ

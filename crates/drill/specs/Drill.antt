@@ -1,5 +1,6 @@
 -- What a drill has come to.
 use Rattle.std.specs.Prelude.{◌≡◌, ◌≤◌, ◌<◌, ℕ, ◌+◌, true, false, List, [], ◌∷◌, ◌++◌, length}
+use Rattle.std.specs.List.{AllByRecursion}
 use Rattle.byte_fields.specs.Fields.{text_field}
 use Rattle.sha2.specs.Sha256.{sha256}
 use Rattle.tea_base.specs.Limits.{end_of_time}
@@ -9,15 +10,17 @@ use Rattle.reflector_core.specs.PlainSession.{PlainSession}
 use Rattle.reflector_core.specs.Play.{first_session}
 use Rattle.session_lock.specs.History.{IsSoundThrough, play}
 use Rattle.session_lock.specs.declared.knowledge.Item.{Item}
+use Rattle.connection.specs.Exchanges.{exchanges_in}
 use Rattle.replica.specs.View.{ReplicaView}
 use Rattle.world.specs.Worlds.{replay}
 use Rattle.drill.specs.declared.size.Size.{Size}
 use Rattle.drill.specs.declared.report.DrillReport.{DrillReport}
-use Rattle.drill.specs.Asking.{IsDrillHistory}
+use Rattle.drill.specs.Asking.{IsAskedInDrill}
 use Rattle.drill.specs.Doing.{HasBase, loss_interval}
-use Rattle.drill.specs.Drilled.{Drilled}
+use Rattle.drill.specs.Drilled.{Drilled, IsOfDrill}
 use Rattle.drill.specs.Ending.{root_total}
 use Rattle.drill.specs.Program.{IsDrillProgram, drill_name, drill_text}
+use Rattle.drill.specs.ViewCalls.{AreCallsOf}
 
 -- the id of the session
 abbrev pub drill_id : List ℕ
@@ -43,18 +46,20 @@ abbrev pub AreBased : PlainSession → ℕ → ℕ → List ReplicaView → Type
 AreBased s number view [] = Unit {0}
 AreBased s number view (r ∷ replicas) = HasBase s view number r.plain.base × AreBased s number (view + 1) replicas
 
--- The session is what the calls of one history leave, one after the other, and was sound at each place of it. Nobody called but the views of the drill, each for itself.
-pub record PlaysDrill (gives : ℕ → Type 0) (views : ℕ) (s : PlainSession) : Type 0 where
+-- The session is what one history leaves, and was sound at each place of it. Nobody called but the views of the drill, each for itself. The calls
+-- of each view follow one another as its worker makes them, by the replies that are due at their places.
+pub record PlaysDrill (gives : ℕ → Type 0) (size : Size) (s : PlainSession) : Type 0 where
   pub history : List Item
   pub play : s ≡ play history
   pub sound : IsSoundThrough first_session history
-  pub asked : IsDrillHistory gives views history
+  pub asked : AllByRecursion (IsAskedInDrill gives size.views) history
+  pub calls : (view : ℕ) → IsOfDrill size.views view → AreCallsOf view size.events (exchanges_in history view)
 
 pub record HasDrilled (gives : ℕ → Type 0) (size : Size) (report : DrillReport) : Type 0 where
   pub tree : ProgramTree
   pub is_program : IsDrillProgram tree
-  pub session : PlaysDrill gives size.views report.session.plain
-  pub drilled : Drilled size.seed size.views size.events gives report.session.plain.log report.session.plain.horizon
+  pub session : PlaysDrill gives size report.session.plain
+  pub drilled : Drilled size.seed size.views size.events report.session.plain.log report.session.plain.horizon
   pub replicas : AreReplays report.session.plain tree drill_id 1 report.replicas
   pub number : length report.replicas ≡ size.views
   pub total : report.total ≡ root_total (replay tree drill_id report.session.plain.log report.session.plain.horizon).world

@@ -1,9 +1,8 @@
--- What a drill leaves: the log and the horizon of its session.
-use Rattle.std.specs.Prelude.{if◌then◌else◌, ◌≡◌, ◌≢◌, ◌⊎◌, ◌≤◌, ◌<◌, ℕ, zero, suc, ◌+◌, ◌-◌, ◌*◌, ◌%◌, ◌==◌, pos, List, [], ◌∷◌, ◌++◌, All, filter, map, length, codes}
+-- What each view of a drill has done, by the log and the horizon of its session.
+use Rattle.std.specs.Prelude.{if◌then◌else◌, ◌≡◌, ◌≢◌, ◌⊎◌, ◌≤◌, ◌<◌, ℕ, zero, suc, ◌+◌, ◌-◌, ◌*◌, ◌%◌, ◌==◌, pos, List, [], ◌∷◌, ◌++◌, filter, map, codes}
 use Rattle.tea_base.specs.declared.entry.Entry.{Entry}
 use Rattle.tea_base.specs.declared.entry.What.{What}
 use Rattle.tea_base.specs.declared.entry.What.TheVariants.{Join, Exit, Event}
-use Rattle.tea_base.specs.Legal.{IsLegal}
 use Rattle.tea_base.specs.Limits.{end_of_time}
 use Rattle.model_value.specs.Plain.{int}
 use Rattle.model_value.specs.Payload.{payload_spelling}
@@ -55,13 +54,7 @@ IsCutShort whole done = (done ≡ []) ⊎ ((part : List What) × (rest : List Wh
 abbrev pub IsOfDrill : ℕ → ℕ → Type 0
 IsOfDrill views view = (1 ≤ view) × (view ≤ views)
 
--- `gives` says which values the clock may give
-pub record Drilled (seed views events : ℕ) (gives : ℕ → Type 0) (log : List Entry) (horizon : ℕ) : Type 0 where
-  pub legal : IsLegal log
-  pub named : All (λ entry. IsOfDrill views entry.view) log
-  pub given : ℕ
-  pub is_given : (given ≡ 0) ⊎ gives given
-  pub bounded : horizon ≤ given + length log
+pub record Drilled (seed views events : ℕ) (log : List Entry) (horizon : ℕ) : Type 0 where
   -- below the end of time each view has done all that it does
   pub whole : horizon < end_of_time → (view : ℕ) → IsOfDrill views view → done_by view log ≡ own seed view events
   -- and at the end of time all of it, or less

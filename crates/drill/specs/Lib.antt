@@ -10,6 +10,7 @@ pub mod Reports
 pub mod Sizes
 pub mod Taking
 pub mod Trust
+pub mod ViewCalls
 pub mod Workers
 pub mod Turns
 pub mod Working

@@ -5,18 +5,16 @@ use Rattle.tea_base.specs.declared.entry.What.TheVariants as what
 use Rattle.tea_base.specs.Limits.{end_of_time, most_snapshot}
 use Rattle.wire_frames.specs.declared.start.Base.{Base}
 use Rattle.wire_frames.specs.declared.frame.ServerFrame.{ServerFrame}
-use Rattle.wire_frames.specs.declared.frame.ServerFrame.TheVariants.{Done}
 use Rattle.reflector_core.specs.declared.request.Request.TheVariants.{Join, Send, Offer}
 use Rattle.reflector_core.specs.declared.request.Reply.{Reply}
-use Rattle.reflector_core.specs.declared.request.Reply.TheVariants.{Joined, Stamped, Again}
+use Rattle.reflector_core.specs.declared.request.Reply.TheVariants.{Joined}
 use Rattle.reflector_core.specs.PlainSession.{PlainSession}
 use Rattle.join_sync.specs.declared.cursor.Cursor.{Cursor}
 use Rattle.join_sync.specs.Answers.{first_cursor}
 use Rattle.join_sync.specs.Batches.{most_pulled}
-use Rattle.session_lock.specs.declared.knowledge.Item.{Item}
-use Rattle.session_lock.specs.declared.knowledge.Item.TheVariants.{Did}
 use Rattle.session_lock.specs.History.{play}
-use Rattle.session_lock.specs.Passes.{SharedState, own_calls}
+use Rattle.session_lock.specs.Passes.{PassState, SharedState, own_calls}
+use Rattle.connection.specs.Exchanges.{Exchange, exchanges_in}
 use Rattle.seeded_random.specs.Draw.{word_of, state_after, number_below}
 use Rattle.replica_plain.specs.declared.how.How.{How}
 use Rattle.replica_plain.specs.declared.how.How.TheVariants.{Fresh, Whole, Resume}
@@ -35,6 +33,7 @@ use Rattle.drill.specs.Asking.{IsDrillHistory, entries_used_by, most_asked, most
 use Rattle.drill.specs.Doing.{HasBase, HasDone, HasFinished, HasSent, IsHereBy, KeepsFrom, WasSentBy, loss_interval}
 use Rattle.drill.specs.Drilled.{add_payload, drawn_numbers, joins_behind, own, own_turns}
 use Rattle.drill.specs.Ending.{Catches, IsCountedBy}
+use Rattle.drill.specs.ViewCalls.{AfterDrop, AfterEvent, AfterReading, AfterRefusal, AfterRejoin, AfterSend, AfterTurns, AreCallsOf, IsWanted, Pulls, Then, done_of}
 use Rattle.drill.specs.Workers.{HasAsked, HasPassed, IsWorker}
 use Rattle.drill.specs.Working.{IsCaughtUp, ReplicaWorks}
 
@@ -92,12 +91,6 @@ pub record HasUnsent (r : ReplicaView) : Type 0 where
   pub given : r.plain.given ≡ r.plain.acknowledged
   pub synced : r.plain.synced ≡ true
 
--- the Done that tells of it
-abbrev pub done_of : ℕ → Reply → Option ServerFrame
-done_of number (Stamped seq time) = Some (Done number seq time)
-done_of number (Again seq time) = Some (Done number seq time)
-done_of number other = None
-
 -- it has asked to send it
 pub record HasSentIt (gives : ℕ → Type 0) (views : ℕ) (shared : SharedState TrustReplay) (before after : Worker) (cursor : Cursor) (done : Option ServerFrame) : Type 0 where
   pub now : ℕ
@@ -128,6 +121,14 @@ pub record HasTakenMore (gives : ℕ → Type 0) (views : ℕ) (before after : W
   pub base : after.replica.plain.base ≡ before.replica.plain.base
   pub connection : KeepsConnection old new
 
+-- its pass has made one call, the Pull of the next batch
+abbrev pub HasPulled : ℕ → PassState → PassState → Cursor → Cursor → Bool → Type 0
+HasPulled view before after old new last = Then (λ calls. calls ≡ exchanges_in before.seen view) (Pulls old new last) (exchanges_in after.seen view)
+
+-- its pass has made a Tick, and Pulls up to the end of the log
+abbrev pub HasRead : ℕ → PassState → PassState → Cursor → Cursor → Type 0
+HasRead view before after old new = AfterReading (λ cursor calls. (cursor ≡ old) × (calls ≡ exchanges_in before.seen view)) new (exchanges_in after.seen view)
+
 -- the whole log, or as many entries of it as a Pull asks for
 abbrev pub HasCome : PlainSession → ReplicaView → Cursor → Cursor → Bool → Type 0
 HasCome s r old new true = IsCaughtUp s r
@@ -142,6 +143,10 @@ pub record HasOffered (gives : ℕ → Type 0) (views : ℕ) (shared : SharedSta
 
 -- ---- between the turns
 
+-- what it has asked, and what it was replied
+abbrev pub calls_made : Worker → List Exchange
+calls_made w = exchanges_in w.pass.seen w.view
+
 -- What the view has done, behind so many turns, if nobody but the drill's workers has called. Its last event is not later than its replica's
 -- world.
 pub record IsAtTurn (size : Size) (s : PlainSession) (w : Worker) (cursor : Cursor) (number : ℕ) : Type 0 where
@@ -153,6 +158,7 @@ pub record IsAtTurn (size : Size) (s : PlainSession) (w : Worker) (cursor : Curs
 -- It has made so many turns: each event is acknowledged, and its replica is at rest.
 pub record IsWorkerReady (gives : ℕ → Type 0) (size : Size) (shared : SharedState TrustReplay) (w : Worker) (cursor : Cursor) (number : ℕ) : Type 0 where
   pub worker : IsWorker gives size shared w
+  pub calls : AfterTurns w.view number cursor (calls_made w)
   pub few : entries_used_by (own_calls w.pass) ≤ 1 + 3 * number
   pub works : ReplicaWorks (play w.pass.seen) w.replica cursor
   pub connection : cursor.view ≡ w.view
@@ -185,21 +191,14 @@ pub record Owes (size : Size) (s : PlainSession) (w : Worker) (cursor : Cursor) 
   pub late : (number ≡ 1) ⊎ WasSentBy s.log w.view (number - 1) w.replica.plain.world.time
   pub based : loss_interval ≤ number - 1 → HasBase s w.view (number - 1) w.replica.plain.base
 
--- the last call of its pass is the Send of this event, by this connection
-pub record HasSentLast (w : Worker) (cursor : Cursor) (number : ℕ) : Type 0 where
-  pub before : List Item
-  pub payload : List ℕ
-  pub now : ℕ
-  pub is : own_calls w.pass ≡ before ++ Did w.view (Send w.view cursor.joined number payload now) ∷ []
-
 pub record IsOwed (gives : ℕ → Type 0) (size : Size) (shared : SharedState TrustReplay) (w : Worker) (cursor : Cursor) (number : ℕ) (payload : List ℕ) : Type 0 where
   pub waiting : IsWaiting gives size shared w number payload
+  pub calls : AfterSend w.view number payload (AfterTurns w.view (number - 1)) cursor (calls_made w)
   pub few : entries_used_by (own_calls w.pass) + 1 ≤ 3 * number
   pub works : ReplicaWorks (play w.pass.seen) w.replica cursor
   pub connection : cursor.view ≡ w.view
   pub given : w.replica.plain.given ≡ number
   pub rests : (number ≡ 1) ⊎ (is_at_rest w.replica.plain.world ≡ true)
-  pub last : HasSentLast w cursor number
   pub does : IsDrillHistory gives size.views w.pass.seen → Owes size (play w.pass.seen) w cursor number payload
 
 -- The connection is lost. A snapshot is kept that is not older than the event before, where the world is lost too.
@@ -222,10 +221,12 @@ pub record Loses (size : Size) (s : PlainSession) (w : Worker) (cursor : Cursor)
 
 pub record IsLost (gives : ℕ → Type 0) (size : Size) (shared : SharedState TrustReplay) (w : Worker) (cursor : Cursor) (number : ℕ) (payload : List ℕ) (how : How) : Type 0 where
   pub waiting : IsWaiting gives size shared w number payload
+  pub calls : AfterDrop w.view number payload (AfterTurns w.view (number - 1)) cursor (calls_made w)
   pub few : entries_used_by (own_calls w.pass) + 1 ≤ 3 * number
   pub connection : cursor.view ≡ w.view
   pub may : MayJoinBy (play w.pass.seen) w.replica how
   pub lost : LosesWorld w.replica how
+  pub wants : IsWanted number (join_want (worlds_of w.replica) w.replica.plain how)
   pub does : IsDrillHistory gives size.views w.pass.seen → Loses size (play w.pass.seen) w cursor number payload how
 
 -- it has joined again
@@ -238,6 +239,7 @@ pub record Returns (size : Size) (s : PlainSession) (w : Worker) (cursor : Curso
 
 pub record IsBack (gives : ℕ → Type 0) (size : Size) (shared : SharedState TrustReplay) (w : Worker) (cursor : Cursor) (number : ℕ) (payload : List ℕ) : Type 0 where
   pub waiting : IsWaiting gives size shared w number payload
+  pub calls : AfterRejoin w.view number payload (AfterTurns w.view (number - 1)) cursor (calls_made w)
   pub few : entries_used_by (own_calls w.pass) ≤ 3 * number
   pub works : ReplicaWorks (play w.pass.seen) w.replica cursor
   pub connection : cursor.view ≡ w.view
@@ -253,13 +255,14 @@ pub record IsSettling (size : Size) (s : PlainSession) (w : Worker) (cursor : Cu
 
 pub record IsSettled (gives : ℕ → Type 0) (size : Size) (shared : SharedState TrustReplay) (w : Worker) (cursor : Cursor) (number : ℕ) : Type 0 where
   pub worker : IsWorker gives size shared w
+  pub turn : 1 ≤ number
+  pub calls : AfterEvent w.view number (AfterTurns w.view (number - 1)) cursor (calls_made w)
   pub few : entries_used_by (own_calls w.pass) ≤ 1 + 3 * number
   pub works : ReplicaWorks (play w.pass.seen) w.replica cursor
   pub connection : cursor.view ≡ w.view
   pub outbox : w.replica.plain.outbox ≡ []
   pub acknowledged : w.replica.plain.acknowledged ≡ number
   pub given : w.replica.plain.given ≡ number
-  pub last : HasSentLast w cursor number
   pub does : IsDrillHistory gives size.views w.pass.seen → IsSettling size (play w.pass.seen) w cursor number
 
 -- ---- the end of the turns
@@ -286,6 +289,7 @@ pub record HasStopped (gives : ℕ → Type 0) (size : Size) (shared : SharedSta
   pub connection : cursor.view ≡ w.view
   pub catches : MayCatchUp (play w.pass.seen) w.replica synced
   pub stops : IsDrillHistory gives size.views w.pass.seen → LeavesUndone size (play w.pass.seen) w cursor.joined
+  pub calls : IsDrillHistory gives size.views w.pass.seen → (made : ℕ) × (made < size.events) × AfterRefusal w.view (made + 1) (AfterTurns w.view made) cursor (calls_made w)
 
 -- it has settled its event again, or was refused
 abbrev pub HasResent : (ℕ → Type 0) → Size → SharedState TrustReplay → Worker → Cursor → ℕ → Course → Type 0
@@ -311,5 +315,6 @@ pub record HasEnded (gives : ℕ → Type 0) (size : Size) (shared : SharedState
   pub few : entries_used_by (own_calls one.worker.pass) ≤ most_asked size.events
   pub catches : MayCatchUp (play one.worker.pass.seen) one.worker.replica one.is_synced
   pub ends : IsDrillHistory gives size.views one.worker.pass.seen → Ends size (play one.worker.pass.seen) one.worker
+  pub calls : IsDrillHistory gives size.views one.worker.pass.seen → AreCallsOf one.worker.view size.events (calls_made one.worker)
   -- its newest Join is refused at the end of time alone
   pub late : IsDrillHistory gives size.views one.worker.pass.seen → one.is_synced ≡ false → end_of_time ≤ (play one.worker.pass.seen).horizon

@@ -15,6 +15,7 @@ use Rattle.session_lock.specs.declared.knowledge.Item.TheVariants.{Did}
 use Rattle.session_lock.specs.History.{IsSoundThrough, play}
 use Rattle.session_lock.specs.Passes.{PassState, SharedState, numbers_held, own_calls}
 use Rattle.session_lock.specs.Trusts.{IsTrusted}
+use Rattle.connection.specs.Exchanges.{Answered, exchanges_in}
 use Rattle.drill.specs.declared.trust.TrustReplay.{TrustReplay}
 use Rattle.drill.specs.declared.size.Size.{Size}
 use Rattle.drill.specs.declared.worker.Worker.{Worker}
@@ -59,6 +60,7 @@ pub record HasAsked (gives : ℕ → Type 0) (views : ℕ) (shared : SharedState
   pub session : play after.seen ≡ (answer (play history) request).session
   pub replies : reply ≡ (answer (play history) request).reply
   pub own : own_calls after ≡ own_calls before ++ Did view request ∷ []
+  pub exchanged : exchanges_in after.seen view ≡ exchanges_in before.seen view ++ Answered request reply ∷ []
   pub first : IsDrillHistory gives views after.seen → IsDrillHistory gives views history
 
 -- The view's worker has called, and put nothing into the log.

@@ -3,7 +3,7 @@ ghost use Rattle.std.specs.Prelude.{◌≡◌, ◌<◌, true, IfOk, OnOk};
 ghost use Rattle.replica_plain.specs.PlainReplica.{most_published, published_count};
 ghost use Rattle.session_lock.specs.History.{play};
 ghost use Rattle.replica.specs.RealWorlds.{is_at_rest};
-ghost use Rattle.drill.specs.Turns.{HasCome, HasJoined, HasOffered, HasPublished, HasSentIt, HasTakenMore, HasUnsent, MayJoinBy};
+ghost use Rattle.drill.specs.Turns.{HasCome, HasJoined, HasOffered, HasPublished, HasPulled, HasRead, HasSentIt, HasTakenMore, HasUnsent, MayJoinBy};
 ghost use Rattle.drill.specs.Workers.{IsWorker, KeepsSource};
 ghost use Rattle.drill.specs.Working.{IsCaughtUp, ReplicaWorks};
 
@@ -118,6 +118,7 @@ impl Worker {
         ensures worker { OnOk result (IsWorker (C.gives hall.now.clock.now) hall.now.size hall.now.shared.now self.new) }
         ensures more { OnOk result (HasTakenMore (C.gives hall.now.clock.now) hall.now.size.views self.old self.new cursor.old cursor.new) }
         ensures caught { OnOk result (IsCaughtUp (play self.new.pass.seen) self.new.replica) }
+        ensures read { OnOk result (HasRead self.old.view self.old.pass self.new.pass cursor.old cursor.new) }
     {
         let tick = Request::Tick {
             now: hall.clock.now(),
@@ -143,6 +144,7 @@ impl Worker {
         ensures worker { OnOk result (IsWorker (C.gives hall.now.clock.now) hall.now.size hall.now.shared.now self.new) }
         ensures more { OnOk result (HasTakenMore (C.gives hall.now.clock.now) hall.now.size.views self.old self.new cursor.old cursor.new) }
         ensures come { IfOk result (λ last. HasCome (play self.new.pass.seen) self.new.replica cursor.old cursor.new last) }
+        ensures pulled { IfOk result (λ last. HasPulled self.old.view self.old.pass self.new.pass cursor.old cursor.new last) }
     {
         worlds_stand();
         let pull = Request::Pull {

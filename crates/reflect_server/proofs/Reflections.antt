@@ -1,5 +1,5 @@
 -- What comes of a reflector, from what was accepted, given back and closed.
-use Rattle.std.proofs.Common.{◌≡◌, ℕ, ◌+◌, ◌≤◌, Bool, true, false, ◌&&◌, leb, ltb, if◌then◌else◌, List, [], ◌∷◌, length, vec_len, Option, Some, None, Result, Ok, Err, refl, sym, ap, ◌∙◌, subst, arith}
+use Rattle.std.proofs.Common.{◌≡◌, inl, inr, ℕ, ◌+◌, ◌≤◌, Bool, true, false, ◌&&◌, leb, ltb, if◌then◌else◌, List, [], ◌∷◌, length, vec_len, Option, Some, None, Result, Ok, Err, refl, sym, ap, ◌∙◌, subst, arith}
 use Rattle.std.specs.List.{AllByRecursion}
 use Rattle.std.proofs.lemmas.List.{length-map}
 use Rattle.tea_base.specs.declared.entry.SessionId.{SessionId}
@@ -25,8 +25,8 @@ use Rattle.connection.proofs.TalkLines.{talk_served}
 use Rattle.connection.proofs.Talking.{with_more_none, with_more_twice}
 use Rattle.reflect_server.specs.Connections.{ServedConnection, HasTalk, IsHistoryOf, AreServed, accepted_links, callers_of, returned_links}
 use Rattle.reflect_server.specs.Passes.{Gathers}
-use Rattle.reflect_server.specs.Rounds.{Accepts, GoesRound, TakesAll, AsksAccepts, CountsStop, CountsLinks, links_of, ended_of, served_back, with_links}
-use Rattle.reflect_server.specs.Reflects.{ReturnsLinks, HasReflected, HasWanted, Plays, Reflects, CountsConnections, CountsFailure, accepts_for, answer_for}
+use Rattle.reflect_server.specs.Rounds.{Accepts, GoesRound, TakesAll, AsksAccepts, accepts, accepts_more, CountsStop, CountsLinks, links_of, ended_of, served_back, with_links}
+use Rattle.reflect_server.specs.Reflects.{ReturnsLinks, HasReflected, HasWanted, AsksUntilWant, Plays, Reflects, CountsConnections, CountsFailure, accepts_for, answer_for}
 use Rattle.reflect_server.specs.declared.reflection.Reflected.{Reflected}
 use Rattle.reflect_server.specs.declared.reflection.ServeFault.{ServeFault}
 use Rattle.reflect_server.specs.declared.reflection.ServeFault.TheVariants.{ListenFault}
@@ -219,12 +219,19 @@ module _ (gives : ℕ → Type 0) (id : SessionId) {N L : Type 0} (tells : NetTe
       (subst (CountsFailure (tells.faults before.net) (tells.faults now)) (sym failed) counts.1)
       (subst (CountsConnections (length ends.round.connections) count) (sym failed) number) ended
 
+  wanted_asks : (before now : Option (List NetCall)) (links : List L) → AsksAccepts before now links (Some WantOfMemory) → AsksUntilWant before now [] links
+  wanted_asks before now links (inl all) = inr (inl all)
+  wanted_asks before now links (inr more) = inr (inr more)
+
   -- memory was wanted
-  wanted : (session : PlainSession) → mid.stopped ≡ Some WantOfMemory → Ends session → HasWanted gives id tells links count before.net now
+  wanted : (session : PlainSession) → mid.stopped ≡ Some WantOfMemory → Ends session → HasWanted gives id tells links [] count before.net now
   wanted session stopped ends = record {
     connections = ends.round.connections;
     history = mid.keeper.seen;
     net = net_of session ends;
+    asked =
+        wanted_asks (tells.asked before.net) (tells.asked now) (accepted_links ends.round.connections)
+        (subst (AsksAccepts _ _ (accepted_links ends.round.connections)) stopped (asks_now mid.stopped (accepted_links ends.round.connections) ends.returns.asked ends.round.net.asked));
     number = subst (CountsLinks (length ends.round.connections) count) stopped ends.round.number;
     talks = history_of gives id links before.keeper mid.keeper session count ends.round.connections ends.round.passes ends.closed;
     sound = ends.closed.sound;
@@ -246,6 +253,14 @@ module _ (gives : ℕ → Type 0) (id : SessionId) {N L : Type 0} (tells : NetTe
 
 -- ---- before a link is accepted
 
+-- what a net that was to listen was asked
+pub listen_asks : {L T : Type 0} (address : List ℕ) (before now : Option (List NetCall)) (result : Result T NetFault) → AsksNet before now (Listen address) result
+    → AsksUntilWant {L = L} before now (Listen address ∷ []) []
+listen_asks address before now (Ok value) more = inr (inl more)
+listen_asks address before now (Err Failed) more = inr (inl more)
+listen_asks address before now (Err WantOfMemory) (inl same) = inl (refl, same)
+listen_asks address before now (Err WantOfMemory) (inr more) = inr (inl more)
+
 module _ (gives : ℕ → Type 0) (id : SessionId) {N L : Type 0} (tells : NetTells N L) (links : LinksTell L) where
   -- nothing was called
   nothing_called : IsHistoryOf gives id links [] []
@@ -261,18 +276,32 @@ module _ (gives : ℕ → Type 0) (id : SessionId) {N L : Type 0} (tells : NetTe
     pub cause : NetCause (tells.faults before) (tells.faults now) result
 
   -- memory was wanted before, or while the net was to listen
-  pub wanted_before : (count : ℕ) (before now : N) → 1 ≤ count → tells.coming now ≡ tells.coming before → tells.over now ≡ tells.over before → tells.lent now ≡ tells.lent before
-      → tells.link_counts now ≡ tells.link_counts before → tells.faults before ≤ tells.faults now → HasWanted gives id tells links count before now
-  wanted_before count before now some coming over lent counts faults = record {
+  pub wanted_before : (calls : List NetCall) (count : ℕ) (before now : N) → 1 ≤ count → AsksUntilWant {L = L} (tells.asked before) (tells.asked now) calls [] → tells.coming now ≡ tells.coming before → tells.over now ≡ tells.over before → tells.lent now ≡ tells.lent before
+      → tells.link_counts now ≡ tells.link_counts before → tells.faults before ≤ tells.faults now → HasWanted gives id tells links calls count before now
+  wanted_before calls count before now some asked coming over lent counts faults = record {
     connections = [];
     history = [];
     net = nothing_back tells links before now coming over lent counts;
+    asked = asked;
     number = some;
     talks = nothing_called;
     sound = IsSoundSession-first;
     served = tt;
     faults = faults;
   }
+
+  -- the net listens, and then these calls are made
+  listen_first : (address : List ℕ) (before mid now : Option (List NetCall)) (calls : List NetCall) → mid ≡ with_more before (Listen address ∷ []) → now ≡ with_more mid calls
+      → now ≡ with_more before (Listen address ∷ calls)
+  listen_first address before mid now calls one all =
+      all ∙ (ap (λ (o : Option (List NetCall)). with_more o calls) one ∙ with_more_twice before (Listen address ∷ []) calls)
+
+  wanted_behind : (address : List ℕ) (before mid now : Option (List NetCall)) (accepted : List L) → mid ≡ with_more before (Listen address ∷ []) → AsksUntilWant mid now [] accepted
+      → AsksUntilWant before now (Listen address ∷ []) accepted
+  wanted_behind address before mid now accepted one (inl none) =
+      inr (inl (subst (λ (l : List L). now ≡ with_more before (Listen address ∷ accepts l)) (sym none.0) (none.1 ∙ one)))
+  wanted_behind address before mid now accepted one (inr (inl all)) = inr (inl (listen_first address before mid now (accepts accepted) one all))
+  wanted_behind address before mid now accepted one (inr (inr all)) = inr (inr (listen_first address before mid now (accepts_more accepted) one all))
 
   listened_back : {T : Type 0} (address : List ℕ) (value : T) (before mid now : N) (connections : List (ServedConnection L)) → Listens address (Ok value) before mid
       → ReturnsLinks tells links mid now connections → ReturnsLinks tells links before now connections
@@ -294,10 +323,7 @@ module _ (gives : ℕ → Type 0) (id : SessionId) {N L : Type 0} (tells : NetTe
     connections = told.connections;
     history = told.history;
     net = listened_back address value before mid now told.connections listens told.net;
-    asked =
-        told.asked
-        ∙ (ap (λ (o : Option (List NetCall)). with_more o (accepts_for (accepted_links told.connections) reflected.net_failed)) listens.asked
-        ∙ with_more_twice (tells.asked before) (Listen address ∷ []) (accepts_for (accepted_links told.connections) reflected.net_failed));
+    asked = listen_first address (tells.asked before) (tells.asked mid) (tells.asked now) (accepts_for (accepted_links told.connections) reflected.net_failed) listens.asked told.asked;
     faults = failure_later (tells.faults before) (tells.faults mid) (tells.faults now) reflected.net_failed listens.cause.later told.faults;
     number = told.number;
     ends = told.ends;
@@ -315,6 +341,7 @@ module _ (gives : ℕ → Type 0) (id : SessionId) {N L : Type 0} (tells : NetTe
     connections = told.connections;
     history = told.history;
     net = listened_back address value before mid now told.connections listens told.net;
+    asked = wanted_behind address (tells.asked before) (tells.asked mid) (tells.asked now) (accepted_links told.connections) listens.asked told.asked;
     number = told.number;
     talks = told.talks;
     sound = told.sound;

@@ -1,5 +1,5 @@
 -- Rounds: none that is left, one that is stopped, and one link more.
-use Rattle.std.proofs.Common.{◌≡◌, ℕ, ◌+◌, ◌≤◌, ◌<◌, List, [], ◌∷◌, ◌++◌, length, map, Option, Some, None, Ok, Err, refl, sym, ap, ◌∙◌, subst, arith}
+use Rattle.std.proofs.Common.{◌≡◌, ◌⊎◌, inl, inr, ℕ, ◌+◌, ◌≤◌, ◌<◌, List, [], ◌∷◌, ◌++◌, length, map, Option, Some, None, Ok, Err, refl, sym, ap, ◌∙◌, subst, arith}
 use Rattle.std.proofs.lemmas.List.{reverse-append}
 use Rattle.tea_base.specs.declared.entry.SessionId.{SessionId}
 use Rattle.tea_io.specs.Told.{with_more, TakesFirst}
@@ -20,7 +20,7 @@ use Rattle.reflect_server.specs.declared.accepting.Round.{Round}
 use Rattle.reflect_server.specs.declared.accepting.ServedLink.{ServedLink}
 use Rattle.reflect_server.specs.Connections.{ServedConnection, accepted_links, callers_of}
 use Rattle.reflect_server.specs.Passes.{Gathers, IsFresh, HasNotCalled}
-use Rattle.reflect_server.specs.Rounds.{TakesAll, AsksAccepts, CountsStop, CountsLinks, Accepts, Serves, GoesRound, accepts, served_of}
+use Rattle.reflect_server.specs.Rounds.{TakesAll, AsksAccepts, CountsStop, CountsLinks, Accepts, Serves, GoesRound, accepts, accepts_more, served_of}
 use Rattle.reflect_server.proofs.PassLaws.{called_alone, called_merged, not_behind, not_first, one_caller}
 use Rattle.reflect_server.proofs.TalkLaws.{connection_of, has_some, served_talks, talk_stays, talks_stay, times_first}
 
@@ -42,13 +42,18 @@ takes_more (Some told) mid now first rest one all =
 
 -- ---- calls
 
+-- an accept, and then these calls
+accept_first : (before mid now : Option (List NetCall)) (calls : List NetCall) → mid ≡ with_more before (Accept ∷ []) → now ≡ with_more mid calls
+    → now ≡ with_more before (Accept ∷ calls)
+accept_first before mid now calls one all =
+    all ∙ (ap (λ (o : Option (List NetCall)). with_more o calls) one ∙ with_more_twice before (Accept ∷ []) calls)
+
 asks_more : {L T : Type 0} (before mid now : Option (List NetCall)) (first : L) (rest : List L) (value : T) (stopped : Option NetFault)
     → AsksNet before mid Accept (Ok value) → AsksAccepts mid now rest stopped → AsksAccepts before now (first ∷ rest) stopped
-asks_more before mid now first rest value None one all =
-    all ∙ (ap (λ (o : Option (List NetCall)). with_more o (accepts rest)) one ∙ with_more_twice before (Accept ∷ []) (accepts rest))
-asks_more before mid now first rest value (Some Failed) one all =
-    all ∙ (ap (λ (o : Option (List NetCall)). with_more o (accepts rest ++ Accept ∷ [])) one ∙ with_more_twice before (Accept ∷ []) (accepts rest ++ Accept ∷ []))
-asks_more before mid now first rest value (Some WantOfMemory) one all = tt
+asks_more before mid now first rest value None one all = accept_first before mid now (accepts rest) one all
+asks_more before mid now first rest value (Some Failed) one all = accept_first before mid now (accepts_more rest) one all
+asks_more before mid now first rest value (Some WantOfMemory) one (inl all) = inl (accept_first before mid now (accepts rest) one all)
+asks_more before mid now first rest value (Some WantOfMemory) one (inr all) = inr (accept_first before mid now (accepts_more rest) one all)
 
 counts_more : (before mid now : ℕ) (stopped : Option NetFault) → before ≤ mid → CountsStop mid now stopped → CountsStop before now stopped
 counts_more before mid now None later counts = omega arith
@@ -96,7 +101,8 @@ module _ (gives : ℕ → Type 0) (id : SessionId) {N L : Type 0} (tells : NetTe
 
   stopped_asks : (before now : Option (List NetCall)) (fault : NetFault) → AsksNet {T = L} before now Accept (Err fault) → AsksAccepts {L = L} before now [] (Some fault)
   stopped_asks before now Failed asks = asks
-  stopped_asks before now WantOfMemory asks = tt
+  stopped_asks before now WantOfMemory (inl same) = inl (same ∙ sym (with_more_none before))
+  stopped_asks before now WantOfMemory (inr more) = inr more
 
   stopped_counts : (before now : ℕ) (fault : NetFault) → NetCause {T = L} before now (Err fault) → CountsStop before now (Some fault)
   stopped_counts before now Failed cause = (cause.later, cause.failed refl)

@@ -1,5 +1,5 @@
 -- What a reflector answers, and what it has done to its net by then.
-use Rattle.std.specs.Prelude.{◌≡◌, ℕ, ◌≤◌, ◌<◌, Bool, true, false, List, [], ◌++◌, ◌+◌, length, All, vec_len, vec_capacity, Option, Some, None, Result, Ok, Err}
+use Rattle.std.specs.Prelude.{◌≡◌, ◌⊎◌, ℕ, ◌≤◌, ◌<◌, Bool, true, false, List, [], ◌++◌, ◌+◌, length, All, vec_len, vec_capacity, Option, Some, None, Result, Ok, Err}
 use Rattle.tea_base.specs.declared.entry.SessionId.{SessionId}
 use Rattle.tea_io.specs.Told.{with_more, Rose}
 use Rattle.tea_io.specs.declared.net.NetCall.{NetCall}
@@ -72,11 +72,18 @@ pub record HasNotListened {N L : Type 0} (tells : NetTells N L) (links : LinksTe
   pub asked : tells.asked now ≡ with_more (tells.asked before) calls
   pub faults : Rose (tells.faults before) (tells.faults now)
 
+-- What the net was asked before memory ran out. Either nothing, and no link was accepted; or these calls, an accept for each link, and perhaps
+-- one more.
+abbrev pub AsksUntilWant : {L : Type 0} → Option (List NetCall) → Option (List NetCall) → List NetCall → List L → Type 0
+AsksUntilWant before now calls links =
+    ((links ≡ []) × (now ≡ before)) ⊎ ((now ≡ with_more before (calls ++ accepts links)) ⊎ (now ≡ with_more before (calls ++ accepts_more links)))
+
 -- No memory was found. Those links that were accepted, fewer than there were to be, were served to their ends, and given back.
-pub record HasWanted (gives : ℕ → Type 0) (id : SessionId) {N L : Type 0} (tells : NetTells N L) (links : LinksTell L) (count : ℕ) (before now : N) : Type 0 where
+pub record HasWanted (gives : ℕ → Type 0) (id : SessionId) {N L : Type 0} (tells : NetTells N L) (links : LinksTell L) (calls : List NetCall) (count : ℕ) (before now : N) : Type 0 where
   pub connections : List (ServedConnection L)
   pub history : List Item
   pub net : ReturnsLinks tells links before now connections
+  pub asked : AsksUntilWant (tells.asked before) (tells.asked now) calls (accepted_links connections)
   pub number : length connections < count
   pub talks : IsHistoryOf gives id links connections history
   pub sound : IsSoundThrough first_session history
@@ -87,7 +94,7 @@ abbrev pub Reflects
     : (ℕ → Type 0) → SessionId → {N L : Type 0} → NetTells N L → LinksTell L → List NetCall → ℕ → N → N → Result Reflected ServeFault → Type 0
 Reflects gives id tells links calls count before now (Ok reflected) = HasReflected gives id tells links calls count before now reflected
 Reflects gives id tells links calls count before now (Err ListenFault) = HasNotListened tells links calls before now
-Reflects gives id tells links calls count before now (Err WantOfMemory) = HasWanted gives id tells links count before now
+Reflects gives id tells links calls count before now (Err WantOfMemory) = HasWanted gives id tells links calls count before now
 
 -- what is answered, by what stopped the net
 abbrev pub answer_for : SessionState → List Ended → Option NetFault → Result Reflected ServeFault

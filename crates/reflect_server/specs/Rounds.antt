@@ -1,5 +1,5 @@
 -- What is done to a net: links are accepted, served and given back.
-use Rattle.std.specs.Prelude.{◌≡◌, ℕ, ⊤, ◌+◌, ◌≤◌, ◌<◌, List, [], ◌∷◌, ◌++◌, length, map, reverse, Option, Some, None}
+use Rattle.std.specs.Prelude.{◌≡◌, ◌⊎◌, ℕ, ◌+◌, ◌≤◌, ◌<◌, List, [], ◌∷◌, ◌++◌, length, map, reverse, Option, Some, None}
 use Rattle.tea_base.specs.declared.entry.SessionId.{SessionId}
 use Rattle.tea_io.specs.Told.{with_more, Rose}
 use Rattle.tea_io.specs.Links.{Counts}
@@ -30,15 +30,15 @@ TakesAll (Some told) now taken = (rest : _) × (told ≡ taken ++ rest) × (now 
 abbrev pub accepts : {L : Type 0} → List L → List NetCall
 accepts links = map (λ link. Accept) links
 
--- one more, which failed
+-- and one more, which gave no link
 abbrev pub accepts_more : {L : Type 0} → List L → List NetCall
 accepts_more links = accepts links ++ Accept ∷ []
 
--- the calls that were made; want of memory leaves them open
+-- the calls that were made; one at which memory was wanted may be missing
 abbrev pub AsksAccepts : {L : Type 0} → Option (List NetCall) → Option (List NetCall) → List L → Option NetFault → Type 0
 AsksAccepts before now links None = now ≡ with_more before (accepts links)
 AsksAccepts before now links (Some Failed) = now ≡ with_more before (accepts_more links)
-AsksAccepts before now links (Some WantOfMemory) = ⊤
+AsksAccepts before now links (Some WantOfMemory) = (now ≡ with_more before (accepts links)) ⊎ (now ≡ with_more before (accepts_more links))
 
 -- the count of faults rose where the net failed
 abbrev pub CountsStop : ℕ → ℕ → Option NetFault → Type 0

@@ -1,4 +1,5 @@
 pub mod RealWorlds
 pub mod SessionWorlds
 pub mod View
+pub mod Outbox
 pub mod Parts

@@ -3,6 +3,7 @@
 
 mod laws;
 mod measure;
+mod outbox;
 mod replica;
 mod sending;
 mod session_world;

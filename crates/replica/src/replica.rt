@@ -1,7 +1,7 @@
 //! Replicas.
-ghost use Rattle.std.specs.Prelude.{◌≡◌, ◌↔◌, ◌≤◌, ◌<◌, ◌+◌, false, nat_eq, [], length, map, None, Some, IfOk, OnOk, OnErr, IsTrue};
+ghost use Rattle.std.specs.Prelude.{◌≡◌, ◌↔◌, ◌≤◌, ◌<◌, ◌+◌, false, nat_eq, [], length, map, sum_by, None, Some, IfOk, OnOk, OnErr, IsTrue};
 ghost use Rattle.std.specs.Arc.{arc_value};
-ghost use Rattle.tea_base.specs.Limits.{time_limit};
+ghost use Rattle.tea_base.specs.Limits.{most_payload, time_limit};
 ghost use Rattle.model_value.specs.Payload.{payload_spelling};
 ghost use Rattle.model_value.specs.Plain.{InBounds};
 ghost use Rattle.model_value.specs.View.{plain};
@@ -14,13 +14,12 @@ ghost use Rattle.replica.specs.SessionWorlds.{Snaps};
 ghost use Rattle.replica.specs.View.{IsSoundReplica, KeepsSession, cause_of, founded_replica, with_plain, world_part, worlds_of};
 
 use crate::measure::payload_len;
-use crate::sending::sends;
+use crate::outbox::Outbox;
 use crate::session_world::SessionWorld;
 use model_solved::Checked;
 use model_value::{Value, payload};
 use replica_plain::{How, PublishRefusal, ReplicaFault};
 use std::alloc::Global;
-use std::collections::VecDeque;
 use std::marker::Model;
 use std::sync::Arc;
 use tea_base::{Blob, Entry, List, MOST_PAYLOAD, SessionId, Text, WantOfMemory};
@@ -45,7 +44,7 @@ pub struct Replica {
     view: u32,
     world: SessionWorld,
     seen: u32,
-    outbox: VecDeque<Blob>,
+    outbox: Outbox,
     acknowledged: u32,
     given: u32,
     awaited: Option<How>,
@@ -107,7 +106,7 @@ impl Replica {
             view,
             world,
             seen: 0,
-            outbox: VecDeque::new(alloc),
+            outbox: Outbox::new(alloc),
             acknowledged: 0,
             given: 0,
             awaited: None,
@@ -322,13 +321,13 @@ impl Replica {
         ensures taken { IsTaken result None self.new.plain (take_done self.old.plain self.old.plain.outbox number) }
         ensures session { KeepsSession self.old self.new }
     {
-        if !comes_after(self.acknowledged, number) || self.outbox.is_empty() {
+        if !comes_after(self.acknowledged, number) || self.outbox.len() == 0 {
             return Err(ReplicaFault::OutOfOrder {
                 expected: self.acknowledged + 1,
                 found: number,
             });
         }
-        let _payload = self.outbox.pop_front();
+        self.outbox.pop();
         self.acknowledged = number;
         self.given = self.given.max(number);
         Ok(())
@@ -378,14 +377,12 @@ impl Replica {
     }
 
     fn put(&mut self, payload: Blob) -> Result<(), WantOfMemory>
-        requires { published_count self.old.plain < most_published }
+        requires short { length payload ≤ most_payload }
+        requires few { published_count self.old.plain < most_published }
         ensures ok { OnOk result (self.new ≡ with_plain self.old (publishes self.old.plain payload)) }
         ensures err { OnErr result (self.new ≡ self.old) }
     {
-        if self.outbox.push_back(payload).is_err() {
-            return Err(WantOfMemory);
-        }
-        Ok(())
+        self.outbox.push(payload)
     }
 
     /// How many events it published.
@@ -407,8 +404,7 @@ impl Replica {
             return Ok(List::new(self.alloc));
         }
         let sent = (self.given - self.acknowledged) as usize;
-        let payloads: &[Blob] = self.outbox.make_contiguous();
-        let frames = sends(self.alloc, self.given, &payloads[sent..])?;
+        let frames = self.outbox.sends(self.alloc, sent, self.given)?;
         self.given = self.acknowledged + self.outbox.len() as u32;
         Ok(frames)
     }
@@ -458,13 +454,22 @@ impl Replica {
         self.outbox.len()
     }
 
+    /// How many bytes the payloads of these events have together. Takes no memory.
+    pub fn unacknowledged_bytes(&self) -> u64
+        ensures count { result ≡ sum_by length self.now.plain.outbox }
+        ensures sound { IsSoundReplica self.now }
+    {
+        self.tell();
+        self.outbox.bytes()
+    }
+
     /// Whether each event that it published is acknowledged. Takes no memory.
     pub fn settled(&self) -> bool
         ensures settled { IsTrue result ↔ (self.now.plain.outbox ≡ []) }
         ensures sound { IsSoundReplica self.now }
     {
         self.tell();
-        self.outbox.is_empty()
+        self.outbox.len() == 0
     }
 
     /// The world's time, in microseconds of TeaTime; of a broken replica 0. Takes no memory.

@@ -1,4 +1,9 @@
 pub mod SnapSpellings
+pub mod Lists
+pub mod Offering
 pub mod Stands
 pub mod Walking
 pub mod Meeting
+pub mod Openings
+pub mod Places
+pub mod Keeping

@@ -25,7 +25,6 @@ use Rattle.view_shell.specs.declared.ending.ViewEnd.TheVariants as ending
 use Rattle.view_shell.specs.Phases.{Phase, Aim, Task, ToJoin, ToReach, ToSettle, ToCatchUp, ToSnap, Receives, Begins, TellsText, Leaves, Connecting, Sending, Receiving, Printing, Leaving, PrintingLast, Returning, Over, rested}
 use Rattle.view_shell.specs.ViewText.{view_line}
 use Rattle.view_follows.specs.Links.{BeginsHonestly}
-use Rattle.view_follows.specs.Offers.{IsOfFollower}
 
 abbrev pub RealWorlds : Type 0
 RealWorlds = Worlds WorldRecord PlainOutgoing
@@ -33,13 +32,13 @@ RealWorlds = Worlds WorldRecord PlainOutgoing
 abbrev pub RealReplica : Type 0
 RealReplica = PlainReplica WorldRecord PlainOutgoing
 
--- a SNAP is of a replica that follows the log
-abbrev pub IsOwnFrame : RealWorlds → List Entry → ClientFrame → Type 0
-IsOwnFrame m log (client.Snap time bytes) = IsOfFollower m log time bytes
-IsOwnFrame m log frame = Unit {0}
+-- a SNAP is of this replica, which follows the log
+abbrev pub IsOwnFrame : RealWorlds → List Entry → RealWorlds → RealReplica → ClientFrame → Type 0
+IsOwnFrame m log own r (client.Snap time bytes) = (own ≡ m) × FollowsLog m log r × (time ≡ m.time r.world) × (bytes ≡ m.snapshot r.world)
+IsOwnFrame m log own r frame = Unit {0}
 
-abbrev pub AreOwnFrames : RealWorlds → List Entry → List ClientFrame → Type 0
-AreOwnFrames m log frames = AllByRecursion (IsOwnFrame m log) frames
+abbrev pub AreOwnFrames : RealWorlds → List Entry → RealWorlds → RealReplica → List ClientFrame → Type 0
+AreOwnFrames m log own r frames = AllByRecursion (IsOwnFrame m log own r) frames
 
 -- of this view, in these worlds
 module _ (m : RealWorlds) (log : List Entry) (view : ℕ) where
@@ -103,7 +102,7 @@ module _ (m : RealWorlds) (log : List Entry) (view : ℕ) where
   -- in a phase, where this is still to be heard on the link
   abbrev pub StandsIn : Phase → List (Option ServerFrame) → Type 0
   StandsIn (Connecting v how) heard = KnowsLog v.worlds v.replica
-  StandsIn (Sending v frame frames task) heard = StandsTo task v.worlds v.replica heard × AreOwnFrames m log (frame ∷ frames)
+  StandsIn (Sending v frame frames task) heard = StandsTo task v.worlds v.replica heard × AreOwnFrames m log v.worlds v.replica (frame ∷ frames)
   StandsIn (Receiving v aim) heard = StandsFor aim v.worlds v.replica heard
   StandsIn (Printing v text) heard = ReadsLog v.worlds v.replica heard
   StandsIn (Leaving v text) heard = HasReplay v.replica
@@ -139,28 +138,23 @@ module _ (m : RealWorlds) (log : List Entry) (view : ℕ) where
 
   -- ---- frames
 
-  own_sends : (number : ℕ) (payloads : List (List ℕ)) → AreOwnFrames m log (sends_after number payloads)
-  own_sends number [] = tt
-  own_sends number (payload ∷ rest) = (tt, own_sends (number + 1) rest)
+  own_sends : (own : RealWorlds) (r : RealReplica) (number : ℕ) (payloads : List (List ℕ)) → AreOwnFrames m log own r (sends_after number payloads)
+  own_sends own r number [] = tt
+  own_sends own r number (payload ∷ rest) = (tt, own_sends own r (number + 1) rest)
 
-  own_if : (test : Bool) (frames : List ClientFrame) → AreOwnFrames m log frames → AreOwnFrames m log (if test then frames else [])
-  own_if true frames own = own
-  own_if false frames own = tt
+  own_if : (own : RealWorlds) (r : RealReplica) (test : Bool) (frames : List ClientFrame) → AreOwnFrames m log own r frames → AreOwnFrames m log own r (if test then frames else [])
+  own_if own r true frames are = are
+  own_if own r false frames are = tt
 
-  pub own_unsent : (r : RealReplica) → AreOwnFrames m log (unsent r)
-  own_unsent r = own_if r.synced _ (own_sends r.given (drop (r.given - r.acknowledged) r.outbox))
+  pub own_unsent : (own : RealWorlds) (r other : RealReplica) → AreOwnFrames m log own r (unsent other)
+  own_unsent own r other = own_if own r other.synced _ (own_sends own r other.given (drop (other.given - other.acknowledged) other.outbox))
 
-  pub own_behind : (test : Bool) (frames : List ClientFrame) → AreOwnFrames m log frames → AreOwnFrames m log ((if test then client.Alive ∷ [] else []) ++ frames)
-  own_behind true frames own = (tt, own)
-  own_behind false frames own = own
+  pub own_behind : (own : RealWorlds) (r : RealReplica) (test : Bool) (frames : List ClientFrame) → AreOwnFrames m log own r frames → AreOwnFrames m log own r ((if test then client.Alive ∷ [] else []) ++ frames)
+  own_behind own r true frames are = (tt, are)
+  own_behind own r false frames are = are
 
-  pub own_snap : (own : RealWorlds) (r : RealReplica) (heard : List (Option ServerFrame)) → ReadsLog m log view own r heard → IsOwnFrame m log (snap_frame own r)
-  own_snap own r heard reads = record {
-    replica = r;
-    follows = reads.stands.follows;
-    timed = ap (λ (w : RealWorlds). w.time r.world) reads.same;
-    spelled = ap (λ (w : RealWorlds). w.snapshot r.world) reads.same;
-  }
+  pub own_snap : (own : RealWorlds) (r : RealReplica) (heard : List (Option ServerFrame)) → ReadsLog m log view own r heard → IsOwnFrame m log own r (snap_frame own r)
+  own_snap own r heard reads = (reads.same, reads.stands.follows, ap (λ (w : RealWorlds). w.time r.world) reads.same, ap (λ (w : RealWorlds). w.snapshot r.world) reads.same)
 
   -- ---- rest
 

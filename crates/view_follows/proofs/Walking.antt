@@ -1,5 +1,5 @@
 -- A view stands to the log behind each step as before it.
-use Rattle.std.proofs.Common.{◌≡◌, inl, inr, ◌<◌, ◌^◌, ◌==◌, if◌then◌else◌, ℕ, Bool, true, false, List, [], ◌∷◌, ◌++◌, length, map, Option, Some, None, refl, sym, ap, subst, arith, ◌∙◌}
+use Rattle.std.proofs.Common.{◌≡◌, inl, inr, ◌<◌, ◌==◌, if◌then◌else◌, ℕ, Bool, true, false, List, [], ◌∷◌, ◌++◌, length, map, Option, Some, None, refl, sym, ap, subst, arith, ◌∙◌}
 use Rattle.std.specs.Prelude.{◌⊎◌, nat_le, nat_lt}
 use Rattle.std.specs.List.{AllByRecursion}
 use Rattle.std.proofs.lemmas.Bool.Decides.{nat_tests}
@@ -11,7 +11,7 @@ use Rattle.tea_base.specs.Limits.{time_limit}
 use Rattle.tea_io.specs.declared.link.Heard.{Heard}
 use Rattle.tea_io.specs.declared.link.Heard.TheVariants as said
 use Rattle.tea_io.specs.Links.{most_quiets}
-use Rattle.wire_frames.specs.Frames.{FitsWant}
+use Rattle.wire_frames.specs.Frames.{IsClientFrame}
 use Rattle.wire_frames.specs.Reading.{client_at, server_at}
 use Rattle.wire_frames.specs.Spelling.{client_spelling}
 use Rattle.wire_frames.specs.Served.{BeginsFor, Place, Served, Streams, place_after}
@@ -37,10 +37,11 @@ use Rattle.run_steps.specs.Steps.{Step, Prints, Connects, Returns, Hears, Sends}
 use Rattle.view_script.specs.PlainLine.{PlainLine, Publish, Watch, Wait, Settle, Snap, Cut, Quit}
 use Rattle.view_shell.specs.declared.ending.ViewEnd.{ViewEnd}
 use Rattle.view_shell.specs.declared.ending.ViewEnd.TheVariants as ending
-use Rattle.view_shell.specs.Phases.{Viewer, Phase, Aim, Task, ToJoin, ToReach, ToSettle, ToCatchUp, ToSnap, Receives, Begins, TellsText, Leaves, Connecting, Sending, Receiving, Printing, Leaving, PrintingLast, Returning, Over, Hearing, Moves, Walks, after_frame, after_giving, after_publish, alive, begin_task, enter_session, go_on, heard_frame, heard_quiet, leave_session, most_receives, most_unanswered, phase_behind_frame, quiet, reads, receive, run, send_all, settle_on, with_lines, with_taken}
+use Rattle.view_shell.specs.Phases.{Viewer, Phase, Aim, Task, ToJoin, ToReach, ToSettle, ToCatchUp, ToSnap, Receives, Begins, TellsText, Leaves, Connecting, Sending, Receiving, Printing, Leaving, PrintingLast, Returning, Over, Hearing, IsReadAsWorld, Moves, Walks, after_frame, after_giving, after_publish, alive, begin_task, enter_session, go_on, has_caught_up, heard_frame, heard_quiet, leave_session, most_receives, phase_behind_frame, quiet, reads, receive, run, send_all, settle_on, with_lines, with_taken}
 use Rattle.view_shell.proofs.Keeping.{taken_keeps}
-use Rattle.view_follows.specs.Links.{BeginsHonestly, IsServedBy, LinkTalk, first_sent, heard_in, heard_then, links_in}
+use Rattle.view_follows.specs.Links.{BeginsHonestly, IsServedBy, LinkTalk, heard_in, heard_then, links_in, sent_in}
 use Rattle.view_follows.specs.Offers.{IsOfFollower, OffersFollow}
+use Rattle.view_follows.proofs.Offering.{IsGoodFrame}
 use Rattle.view_follows.proofs.SnapSpellings.{same_bytes, same_time}
 use Rattle.view_follows.proofs.Stands.{AreOwnFrames, AwaitsSync, IsOwnFrame, KnowsLog, ReadsLog, RealReplica, RealWorlds, StandsFor, StandsIn, StandsTo, TellsReplay, knows_read, reads_given, reads_published, reads_told, rested_replays, own_behind, own_snap, own_unsent}
 
@@ -64,7 +65,7 @@ module _ (m : RealWorlds) (laws : AreWorlds m) (log : List Entry) (legal : IsLeg
   receive_stands v (ToJoin how) heard stands = stands
   receive_stands v (ToReach time) heard stands = reach_stands v time heard stands
   receive_stands v ToSettle heard stands = settle_stands v v.replica.outbox heard stands
-  receive_stands v ToCatchUp heard stands = if_phase m log view (nat_le (length v.replica.outbox) most_unanswered) _ _ heard (reads_told m log view v.worlds v.replica heard stands) stands
+  receive_stands v ToCatchUp heard stands = if_phase m log view (has_caught_up v.replica) _ _ heard (reads_told m log view v.worlds v.replica heard stands) stands
   receive_stands v ToSnap heard stands = stands
 
   begin_stands : (v : Viewer) (task : Task) (heard : List (Option ServerFrame)) → StandsTo m log view task v.worlds v.replica heard → StandsIn m log view (begin_task v task) heard
@@ -73,7 +74,7 @@ module _ (m : RealWorlds) (laws : AreWorlds m) (log : List Entry) (legal : IsLeg
   begin_stands v (TellsText text) heard stands = reads_told m log view v.worlds v.replica heard stands
   begin_stands v Leaves heard stands = record { replica = v.replica; has = stands; told = refl }
 
-  send_stands : (v : Viewer) (frames : List ClientFrame) (task : Task) (heard : List (Option ServerFrame)) → StandsTo m log view task v.worlds v.replica heard → AreOwnFrames m log frames → StandsIn m log view (send_all v frames task) heard
+  send_stands : (v : Viewer) (frames : List ClientFrame) (task : Task) (heard : List (Option ServerFrame)) → StandsTo m log view task v.worlds v.replica heard → AreOwnFrames m log v.worlds v.replica frames → StandsIn m log view (send_all v frames task) heard
   send_stands v [] task heard stands own = begin_stands v task heard stands
   send_stands v (frame ∷ frames) task heard stands own = (stands, own)
 
@@ -87,17 +88,17 @@ module _ (m : RealWorlds) (laws : AreWorlds m) (log : List Entry) (legal : IsLeg
       let payload = payload_spelling (record { scope = scope; event = event; value = value }) in
       let w = after_publish (with_lines v rest) payload in
       send_stands (after_giving w) (unsent w.replica) (Receives ToCatchUp) heard
-      (reads_given m log view v.worlds (publishes v.replica payload) heard (reads_published m log view v.worlds v.replica heard payload reads)) (own_unsent m log view w.replica)
+      (reads_given m log view v.worlds (publishes v.replica payload) heard (reads_published m log view v.worlds v.replica heard payload reads)) (own_unsent m log view v.worlds (after_giving w).replica w.replica)
   run_stands v (Watch scope event handling ∷ rest) heard reads = reads_told m log view v.worlds v.replica heard reads
   run_stands v (Wait time ∷ rest) heard reads = reach_stands (with_lines v rest) time heard reads
   run_stands v (Settle ∷ rest) heard reads =
-      send_stands (after_giving (with_lines v rest)) (unsent v.replica) (Receives ToSettle) heard (reads_given m log view v.worlds v.replica heard reads) (own_unsent m log view v.replica)
+      send_stands (after_giving (with_lines v rest)) (unsent v.replica) (Receives ToSettle) heard (reads_given m log view v.worlds v.replica heard reads) (own_unsent m log view v.worlds (after_giving v).replica v.replica)
   run_stands v (Snap ∷ rest) heard reads = (reads, (own_snap m log view v.worlds v.replica heard reads, tt))
   run_stands v (Cut ∷ rest) heard reads = knows_read m log view v.worlds v.replica heard reads
   run_stands v (Quit ∷ rest) heard reads = leave_stands (with_lines v rest) heard reads
 
-  go_on_stands : (v : Viewer) (frames : List ClientFrame) (task : Task) (heard : List (Option ServerFrame)) → StandsTo m log view task v.worlds v.replica heard → AreOwnFrames m log frames → StandsIn m log view (go_on v frames task) heard
-  go_on_stands v frames task heard stands own = send_stands v (alive v ++ frames) task heard stands (own_behind m log view (v.receives == most_receives) frames own)
+  go_on_stands : (v : Viewer) (frames : List ClientFrame) (task : Task) (heard : List (Option ServerFrame)) → StandsTo m log view task v.worlds v.replica heard → AreOwnFrames m log v.worlds v.replica frames → StandsIn m log view (go_on v frames task) heard
+  go_on_stands v frames task heard stands own = send_stands v (alive v ++ frames) task heard stands (own_behind m log view v.worlds v.replica (v.receives == most_receives) frames own)
 
   -- ---- a frame is heard behind the Sync
 
@@ -157,7 +158,7 @@ module _ (m : RealWorlds) (laws : AreWorlds m) (log : List Entry) (legal : IsLeg
   synced_stands : (v : Viewer) (how : How) (joined last from : ℕ) (base : Option Base) (heard : List (Option ServerFrame)) → ReadsLog m log view v.worlds v.replica heard → StandsIn m log view (after_frame v (ToJoin how) (Sync joined last from base)) heard
   synced_stands v Fresh joined last from base heard reads = go_on_stands v [] Begins heard reads tt
   synced_stands v Whole joined last from base heard reads = go_on_stands v [] Begins heard reads tt
-  synced_stands v Resume joined last from base heard reads = go_on_stands (after_giving v) (unsent v.replica) (TellsText _) heard (reads_given m log view v.worlds v.replica heard reads) (own_unsent m log view v.replica)
+  synced_stands v Resume joined last from base heard reads = go_on_stands (after_giving v) (unsent v.replica) (TellsText _) heard (reads_given m log view v.worlds v.replica heard reads) (own_unsent m log view v.worlds (after_giving v).replica v.replica)
 
   may_join : (r : RealReplica) (how : How) → FollowsLog m log r → MayJoin m log r how
   may_join r Fresh follows = tt
@@ -276,159 +277,217 @@ module _ (m : RealWorlds) (laws : AreWorlds m) (log : List Entry) (legal : IsLeg
 
   -- ---- a link is made
 
-  module _ (session : length m.session ≡ 32) (number : view < 2 ^ 32) where
-    fits_want : (r : RealReplica) (how : How) → FollowsLog m log r → FitsWant (join_want m r how)
-    fits_want r Fresh follows = tt
-    fits_want r Whole follows = tt
-    fits_want r Resume follows = laws.valid_time r.world follows.valid
+  -- the first frame of a link that the log serves is the view's JOIN
+  enters : (v : Viewer) (how : How) (bytes : List ℕ) (rest : List (List ℕ)) (heard : List (Option ServerFrame)) → KnowsLog m log view v.worlds v.replica → IsServedBy m log (record { sent = bytes ∷ rest; heard = heard })
+      → bytes ≡ client_spelling (join_frame v.worlds v.replica how) → IsClientFrame (join_frame v.worlds v.replica how) → StandsIn m log view (enter_session v how) heard
+  enters v how bytes rest heard knows serves is fits =
+      let read : whole client_at bytes ≡ Some (join_frame m v.replica how) = ap (whole client_at) is ∙ whole_again client_codec (join_frame v.worlds v.replica how) fits ∙ ap (λ (w : RealWorlds). Some (join_frame w v.replica how)) knows.same in (
+        record {
+          same = knows.same;
+          its = knows.its;
+          follows = record { whole = knows.follows.whole; valid = knows.follows.valid; follows = knows.follows.follows; counted = knows.follows.counted };
+          awaited = refl;
+          given = serves.given;
+          frames = serves.frames;
+          told = serves.heard;
+          served = subst (λ (x : Option ClientFrame). Served log (x ∷ serves.given) serves.frames) read serves.served;
+          honest = serves.honest;
+        },
+        (tt, tt),
+      )
 
-    join_read : (r : RealReplica) (how : How) → r.view ≡ view → FollowsLog m log r → whole client_at (client_spelling (join_frame m r how)) ≡ Some (join_frame m r how)
-    join_read r how its follows =
-        let few : r.view < 2 ^ 32 = rw its number in
-        whole_again client_codec (join_frame m r how) (fits_want r how follows, (session, few))
+  -- what was sent first on it is the view's JOIN, if anything was sent
+  connects_stand : (v : Viewer) (how : How) (steps : List Step) (last : Phase) → KnowsLog m log view v.worlds v.replica → IsServedBy m log (record { sent = sent_in steps; heard = heard_in steps })
+      → Walks (enter_session v how) steps last → StandsIn m log view (enter_session v how) (heard_in steps)
+  connects_stand v how [] last knows serves walks = (
+    record {
+      same = knows.same;
+      its = knows.its;
+      follows = record { whole = knows.follows.whole; valid = knows.follows.valid; follows = knows.follows.follows; counted = knows.follows.counted };
+      awaited = refl;
+      given = [];
+      frames = [];
+      told = refl;
+      served = tt;
+      honest = tt;
+    },
+    (tt, tt),
+  )
+  connects_stand v how (Sends bytes ∷ steps) last knows serves (next, moves, walks) = enters v how bytes (sent_in steps) (heard_in steps) knows serves moves.0 moves.1
+  connects_stand v how (step ∷ steps) last knows serves (next, moves, walks) = absurd moves
 
-    enters : (v : Viewer) (how : How) (link : LinkTalk) → KnowsLog m log view v.worlds v.replica → IsServedBy m log link → link.first ≡ client_spelling (join_frame v.worlds v.replica how)
-        → StandsIn m log view (enter_session v how) link.heard
-    enters v how link knows serves is =
-        let read = ap (whole client_at) (is ∙ ap (λ (w : RealWorlds). client_spelling (join_frame w v.replica how)) knows.same) ∙ join_read v.replica how knows.its knows.follows in (
-          record {
-            same = knows.same;
-            its = knows.its;
-            follows = record { whole = knows.follows.whole; valid = knows.follows.valid; follows = knows.follows.follows; counted = knows.follows.counted };
-            awaited = refl;
-            given = serves.given;
-            frames = serves.frames;
-            told = serves.heard;
-            served = subst (λ (x : Option ClientFrame). Served log (x ∷ serves.given) serves.frames) read serves.served;
-            honest = serves.honest;
-          },
-          (tt, tt),
-        )
+  -- ---- a step
 
-    -- what was sent first on it is the view's JOIN, if anything was sent
-    connects_stand : (v : Viewer) (how : How) (steps : List Step) (last : Phase) → KnowsLog m log view v.worlds v.replica → IsServedBy m log (record { first = first_sent steps; heard = heard_in steps })
-        → Walks (enter_session v how) steps last → StandsIn m log view (enter_session v how) (heard_in steps)
-    connects_stand v how [] last knows serves walks = (
+  at_next : (next to : Phase) (heard : List (Option ServerFrame)) → next ≡ to → StandsIn m log view to heard → StandsIn m log view next heard
+  at_next next to heard is stands = subst (λ (p : Phase). StandsIn m log view p heard) (sym is) stands
+
+  abbrev IsNoLast : Phase → Type 0
+  IsNoLast (PrintingLast text) = ⊥
+  IsNoLast phase = Unit {0}
+
+  -- the log serves the link that the step makes, if it makes one
+  abbrev MakesServed : Step → List Step → Type 0
+  MakesServed (Connects address) steps = IsServedBy m log (record { sent = sent_in steps; heard = heard_in steps })
+  MakesServed step steps = Unit {0}
+
+  move_stands : (from : Phase) (step : Step) (next : Phase) (steps : List Step) (last : Phase) → IsNoLast from → StandsIn m log view from (heard_in (step ∷ steps)) → MakesServed step steps → Moves from step next → Walks next steps last
+      → StandsIn m log view next (heard_in steps)
+  move_stands (Connecting v how) (Connects address) next steps last before stands serves moves walks =
+      at_next next (enter_session v how) (heard_in steps) moves.1
+      (connects_stand v how steps last stands serves (subst (λ (p : Phase). Walks p steps last) moves.1 walks))
+  move_stands (Connecting v how) step next steps last before stands serves moves walks = absurd moves
+  move_stands (Sending v frame frames task) (Sends bytes) next steps last before stands serves moves walks =
+      at_next next _ (heard_in steps) moves.3 (send_stands (record v { receives = 0 }) frames task (heard_in steps) stands.0 stands.1.1)
+  move_stands (Sending v frame frames task) step next steps last before stands serves moves walks = absurd moves
+  move_stands (Receiving v aim) (Hears what) next steps last before stands serves moves walks = hearing_stands v aim what next (heard_in steps) stands moves
+  move_stands (Receiving v aim) step next steps last before stands serves moves walks = absurd moves
+  move_stands (Printing v text) (Prints piece) next steps last before stands serves moves walks = at_next next (run v v.lines) (heard_in steps) moves.1 (run_stands v v.lines (heard_in steps) stands)
+  move_stands (Printing v text) step next steps last before stands serves moves walks = absurd moves
+  move_stands (Leaving v text) (Prints piece) next steps last before stands serves moves walks = at_next next _ (heard_in steps) moves.1 (stands, (tt, tt))
+  move_stands (Leaving v text) step next steps last before stands serves moves walks = absurd moves
+  move_stands (PrintingLast text) step next steps last before stands serves moves walks = absurd before
+  move_stands (Returning v how) Returns next steps last before stands serves moves walks = at_next next (Connecting v how) (heard_in steps) moves stands
+  move_stands (Returning v how) step next steps last before stands serves moves walks = absurd moves
+  move_stands (Over end) step next steps last before stands serves moves walks = absurd moves
+
+  links_behind : (step : Step) (steps : List Step) → AllByRecursion (IsServedBy m log) (links_in (step ∷ steps)) → MakesServed step steps × AllByRecursion (IsServedBy m log) (links_in steps)
+  links_behind (Connects address) steps serves = serves
+  links_behind step steps serves = (tt, serves)
+
+  over_rests : (end : ViewEnd) (steps : List Step) (line : List ℕ) → Walks (Over end) steps (PrintingLast line) → ⊥
+  over_rests end [] line walks = absurd cc
+  over_rests end (step ∷ steps) line (next, moves, walks) = absurd moves
+
+  -- a walk to the last line
+  pub walk_tells : (from : Phase) (steps : List Step) (line : List ℕ) → StandsIn m log view from (heard_in steps) → AllByRecursion (IsServedBy m log) (links_in steps) → Walks from steps (PrintingLast line) → TellsReplay m log view line
+  walk_tells from [] line stands serves walks = subst (λ (p : Phase). StandsIn m log view p []) walks stands
+  walk_tells (PrintingLast text) (Prints piece ∷ steps) line stands serves (next, moves, walks) = absurd (over_rests ending.Done steps line (subst (λ (p : Phase). Walks p steps (PrintingLast line)) moves.1 walks))
+  walk_tells (PrintingLast text) (step ∷ steps) line stands serves (next, moves, walks) = absurd moves
+  walk_tells from (step ∷ steps) line stands serves (next, moves, walks) =
+      let links = links_behind step steps serves in
+      walk_tells next steps line (move_stands from step next steps (PrintingLast line) tt stands links.0 moves walks) links.1 walks
+
+  -- what was printed last
+  pub record EndsWithReplay (steps : List Step) : Type 0 where
+    pub front : List Step
+    pub line : List ℕ
+    pub last : steps ≡ front ++ Prints line ∷ []
+    pub tells : TellsReplay m log view line
+
+  over_is_last : (end : ViewEnd) (steps : List Step) (last : Phase) → Walks (Over end) steps last → steps ≡ []
+  over_is_last end [] last walks = refl
+  over_is_last end (step ∷ steps) last (next, moves, walks) = absurd moves
+
+  one_more : (step : Step) (steps : List Step) → EndsWithReplay steps → EndsWithReplay (step ∷ steps)
+  one_more step steps ends = record { front = step ∷ ends.front; line = ends.line; last = ap (λ (more : List Step). step ∷ more) ends.last; tells = ends.tells }
+
+  not_done : (from : Phase) → StandsIn m log view from [] → from ≡ Over ending.Done → ⊥
+  not_done from stands is = subst (λ (p : Phase). StandsIn m log view p []) is stands
+
+  -- a walk that is done
+  pub walk_ends : (from : Phase) (steps : List Step) → StandsIn m log view from (heard_in steps) → AllByRecursion (IsServedBy m log) (links_in steps) → Walks from steps (Over ending.Done) → EndsWithReplay steps
+  walk_ends from [] stands serves walks = absurd (not_done from stands walks)
+  walk_ends (PrintingLast text) (Prints piece ∷ steps) stands serves (next, moves, walks) =
       record {
-        same = knows.same;
-        its = knows.its;
-        follows = record { whole = knows.follows.whole; valid = knows.follows.valid; follows = knows.follows.follows; counted = knows.follows.counted };
-        awaited = refl;
-        given = [];
-        frames = [];
-        told = refl;
-        served = tt;
-        honest = tt;
-      },
-      (tt, tt),
-    )
-    connects_stand v how (Sends bytes ∷ steps) last knows serves (next, moves, walks) = enters v how (record { first = bytes; heard = heard_in steps }) knows serves moves.0
-    connects_stand v how (step ∷ steps) last knows serves (next, moves, walks) = absurd moves
+        front = [];
+        line = piece;
+        last = ap (λ (more : List Step). Prints piece ∷ more) (over_is_last ending.Done steps (Over ending.Done) (subst (λ (p : Phase). Walks p steps (Over ending.Done)) moves.1 walks));
+        tells = subst (TellsReplay m log view) (sym moves.0) stands;
+      }
+  walk_ends (PrintingLast text) (step ∷ steps) stands serves (next, moves, walks) = absurd moves
+  walk_ends from (step ∷ steps) stands serves (next, moves, walks) =
+      let links = links_behind step steps serves in
+      one_more step steps (walk_ends next steps (move_stands from step next steps (Over ending.Done) tt stands links.0 moves walks) links.1 walks)
 
-    -- ---- a step
+  -- ---- what it offers
 
-    at_next : (next to : Phase) (heard : List (Option ServerFrame)) → next ≡ to → StandsIn m log view to heard → StandsIn m log view next heard
-    at_next next to heard is stands = subst (λ (p : Phase). StandsIn m log view p heard) (sym is) stands
+  follower_of : (v : Viewer) (time : ℕ) (bytes : List ℕ) → IsOwnFrame m log v.worlds v.replica (client.Snap time bytes) → IsReadAsWorld v (client.Snap time bytes) → IsOfFollower m log time bytes
+  follower_of v time bytes own reads = record {
+    replica = v.replica;
+    follows = own.1;
+    timed = own.2;
+    spelled = own.3;
+    again = subst (λ (w : RealWorlds). w.unsnap bytes ≡ Some v.replica.world) own.0 reads;
+  }
 
-    abbrev IsNoLast : Phase → Type 0
-    IsNoLast (PrintingLast text) = ⊥
-    IsNoLast phase = Unit {0}
+  own_is : (v : Viewer) (frame : ClientFrame) (sent : List ℕ) → sent ≡ client_spelling frame → IsClientFrame frame → IsReadAsWorld v frame → IsOwnFrame m log v.worlds v.replica frame
+      → (time : ℕ) (bytes : List ℕ) → time < time_limit → sent ≡ client_spelling (client.Snap time bytes) → IsOfFollower m log time bytes
+  own_is v (client.Snap t b) sent is fits reads own time bytes below same =
+      let spelled = sym is ∙ same in
+      subst (λ (x : ℕ). IsOfFollower m log x bytes) (same_time t time b bytes fits.0.0 below spelled) (subst (λ (x : List ℕ). IsOfFollower m log t x) (same_bytes t time b bytes spelled) (follower_of v t b own reads))
+  own_is v (client.Join session number want) sent is fits reads own time bytes below same = absurd (cc (is, same))
+  own_is v (client.Send number payload) sent is fits reads own time bytes below same = absurd (cc (is, same))
+  own_is v client.Leave sent is fits reads own time bytes below same = absurd (cc (is, same))
+  own_is v client.Alive sent is fits reads own time bytes below same = absurd (cc (is, same))
 
-    move_stands : (from : Phase) (step : Step) (next : Phase) (steps : List Step) (last : Phase) → IsNoLast from → StandsIn m log view from (heard_in (step ∷ steps)) → AllByRecursion (IsServedBy m log) (links_in (step ∷ steps))
-        → Moves from step next → Walks next steps last → StandsIn m log view next (heard_in steps)
-    move_stands (Connecting v how) (Connects address) next steps last before stands serves moves walks =
-        at_next next (enter_session v how) (heard_in steps) moves.1
-        (connects_stand v how steps last stands serves.0 (subst (λ (p : Phase). Walks p steps last) moves.1 walks))
-    move_stands (Connecting v how) step next steps last before stands serves moves walks = absurd moves
-    move_stands (Sending v frame frames task) (Sends bytes) next steps last before stands serves moves walks =
-        at_next next _ (heard_in steps) moves.1 (send_stands (record v { receives = 0 }) frames task (heard_in steps) stands.0 stands.1.1)
-    move_stands (Sending v frame frames task) step next steps last before stands serves moves walks = absurd moves
-    move_stands (Receiving v aim) (Hears what) next steps last before stands serves moves walks = hearing_stands v aim what next (heard_in steps) stands moves
-    move_stands (Receiving v aim) step next steps last before stands serves moves walks = absurd moves
-    move_stands (Printing v text) (Prints piece) next steps last before stands serves moves walks = at_next next (run v v.lines) (heard_in steps) moves.1 (run_stands v v.lines (heard_in steps) stands)
-    move_stands (Printing v text) step next steps last before stands serves moves walks = absurd moves
-    move_stands (Leaving v text) (Prints piece) next steps last before stands serves moves walks = at_next next _ (heard_in steps) moves.1 (stands, (tt, tt))
-    move_stands (Leaving v text) step next steps last before stands serves moves walks = absurd moves
-    move_stands (PrintingLast text) step next steps last before stands serves moves walks = absurd before
-    move_stands (Returning v how) Returns next steps last before stands serves moves walks = at_next next (Connecting v how) (heard_in steps) moves stands
-    move_stands (Returning v how) step next steps last before stands serves moves walks = absurd moves
-    move_stands (Over end) step next steps last before stands serves moves walks = absurd moves
+  step_offers : (from : Phase) (step : Step) (next : Phase) (steps : List Step) → StandsIn m log view from (heard_in (step ∷ steps)) → Moves from step next → OffersFollow m log steps → OffersFollow m log (step ∷ steps)
+  step_offers (Sending v frame frames task) (Sends sent) next steps stands moves more = (own_is v frame sent moves.0 moves.1 moves.2 stands.1.0, more)
+  step_offers from (Sends sent) next steps stands moves more = absurd moves
+  step_offers from step next steps stands moves more = more
 
-    links_behind : (step : Step) (steps : List Step) → AllByRecursion (IsServedBy m log) (links_in (step ∷ steps)) → AllByRecursion (IsServedBy m log) (links_in steps)
-    links_behind (Connects address) steps serves = serves.1
-    links_behind step steps serves = serves
+  -- each SNAP of a walk is of a replica that follows the log
+  pub walk_offers : (from : Phase) (steps : List Step) (last : Phase) → StandsIn m log view from (heard_in steps) → AllByRecursion (IsServedBy m log) (links_in steps) → Walks from steps last → OffersFollow m log steps
+  walk_offers from [] last stands serves walks = tt
+  walk_offers (PrintingLast text) (Prints piece ∷ steps) last stands serves (next, moves, walks) =
+      subst (λ (more : List Step). OffersFollow m log more) (sym (over_is_last ending.Done steps last (subst (λ (p : Phase). Walks p steps last) moves.1 walks))) tt
+  walk_offers (PrintingLast text) (step ∷ steps) last stands serves (next, moves, walks) = absurd moves
+  walk_offers from (step ∷ steps) last stands serves (next, moves, walks) =
+      let links = links_behind step steps serves in
+      step_offers from step next steps stands moves (walk_offers next steps last (move_stands from step next steps last tt stands links.0 moves walks) links.1 walks)
 
-    over_rests : (end : ViewEnd) (steps : List Step) (line : List ℕ) → Walks (Over end) steps (PrintingLast line) → ⊥
-    over_rests end [] line walks = absurd cc
-    over_rests end (step ∷ steps) line (next, moves, walks) = absurd moves
+  -- ---- what it offers on one link
 
-    -- a walk to the last line
-    pub walk_tells : (from : Phase) (steps : List Step) (line : List ℕ) → StandsIn m log view from (heard_in steps) → AllByRecursion (IsServedBy m log) (links_in steps) → Walks from steps (PrintingLast line) → TellsReplay m log view line
-    walk_tells from [] line stands serves walks = subst (λ (p : Phase). StandsIn m log view p []) walks stands
-    walk_tells (PrintingLast text) (Prints piece ∷ steps) line stands serves (next, moves, walks) = absurd (over_rests ending.Done steps line (subst (λ (p : Phase). Walks p steps (PrintingLast line)) moves.1 walks))
-    walk_tells (PrintingLast text) (step ∷ steps) line stands serves (next, moves, walks) = absurd moves
-    walk_tells from (step ∷ steps) line stands serves (next, moves, walks) =
-        walk_tells next steps line (move_stands from step next steps (PrintingLast line) tt stands serves moves walks) (links_behind step steps serves) walks
+  same_frame : (frame other : ClientFrame) → Some frame ≡ Some other → frame ≡ other
+  same_frame frame other is = cc
 
-    -- what was printed last
-    pub record EndsWithReplay (steps : List Step) : Type 0 where
-      pub front : List Step
-      pub line : List ℕ
-      pub last : steps ≡ front ++ Prints line ∷ []
-      pub tells : TellsReplay m log view line
+  is_following : (v : Viewer) (frame : ClientFrame) (sent : List ℕ) → sent ≡ client_spelling frame → IsClientFrame frame → IsReadAsWorld v frame → IsOwnFrame m log v.worlds v.replica frame → IsGoodFrame (IsOfFollower m log) sent
+  is_following v frame sent is fits reads own time bytes read =
+      let it = same_frame frame (client.Snap time bytes) (sym (ap (whole client_at) is ∙ whole_again client_codec frame fits) ∙ read) in
+      follower_of v time bytes (subst (IsOwnFrame m log v.worlds v.replica) it own) (subst (IsReadAsWorld v) it reads)
 
-    over_is_last : (end : ViewEnd) (steps : List Step) (last : Phase) → Walks (Over end) steps last → steps ≡ []
-    over_is_last end [] last walks = refl
-    over_is_last end (step ∷ steps) last (next, moves, walks) = absurd moves
+  -- on the link that is in use
+  sends_follow : (from : Phase) (steps : List Step) (last : Phase) → StandsIn m log view from (heard_in steps) → Walks from steps last → AllByRecursion (IsGoodFrame (IsOfFollower m log)) (sent_in steps)
+  sends_follow from [] last stands walks = tt
+  sends_follow from (Connects address ∷ steps) last stands (next, moves, walks) = tt
+  sends_follow from (Returns ∷ steps) last stands (next, moves, walks) = tt
+  sends_follow (PrintingLast text) (Prints piece ∷ steps) last stands (next, moves, walks) =
+      subst (λ (more : List Step). AllByRecursion (IsGoodFrame (IsOfFollower m log)) (sent_in more)) (sym (over_is_last ending.Done steps last (subst (λ (p : Phase). Walks p steps last) moves.1 walks))) tt
+  sends_follow (PrintingLast text) (step ∷ steps) last stands (next, moves, walks) = absurd moves
+  sends_follow (Sending v frame frames task) (Sends sent ∷ steps) last stands (next, moves, walks) = (
+    is_following v frame sent moves.0 moves.1 moves.2 stands.1.0,
+    sends_follow next steps last (move_stands (Sending v frame frames task) (Sends sent) next steps last tt stands tt moves walks) walks,
+  )
+  sends_follow from (Sends sent ∷ steps) last stands (next, moves, walks) = absurd moves
+  sends_follow from (step ∷ steps) last stands (next, moves, walks) = sends_follow next steps last (move_stands from step next steps last tt stands tt moves walks) walks
 
-    one_more : (step : Step) (steps : List Step) → EndsWithReplay steps → EndsWithReplay (step ∷ steps)
-    one_more step steps ends = record { front = step ∷ ends.front; line = ends.line; last = ap (λ (more : List Step). step ∷ more) ends.last; tells = ends.tells }
+  no_link : (before : List LinkTalk) (link : LinkTalk) (after : List LinkTalk) → [] ≡ before ++ link ∷ after → ⊥
+  no_link [] link after is = absurd cc
+  no_link (first ∷ before) link after is = absurd cc
 
-    not_done : (from : Phase) → StandsIn m log view from [] → from ≡ Over ending.Done → ⊥
-    not_done from stands is = subst (λ (p : Phase). StandsIn m log view p []) is stands
+  first_link : (first link : LinkTalk) (rest after : List LinkTalk) → first ∷ rest ≡ link ∷ after → first ≡ link
+  first_link first link rest after is = cc
 
-    -- a walk that is done
-    pub walk_ends : (from : Phase) (steps : List Step) → StandsIn m log view from (heard_in steps) → AllByRecursion (IsServedBy m log) (links_in steps) → Walks from steps (Over ending.Done) → EndsWithReplay steps
-    walk_ends from [] stands serves walks = absurd (not_done from stands walks)
-    walk_ends (PrintingLast text) (Prints piece ∷ steps) stands serves (next, moves, walks) =
-        record {
-          front = [];
-          line = piece;
-          last = ap (λ (more : List Step). Prints piece ∷ more) (over_is_last ending.Done steps (Over ending.Done) (subst (λ (p : Phase). Walks p steps (Over ending.Done)) moves.1 walks));
-          tells = subst (TellsReplay m log view) (sym moves.0) stands;
-        }
-    walk_ends (PrintingLast text) (step ∷ steps) stands serves (next, moves, walks) = absurd moves
-    walk_ends from (step ∷ steps) stands serves (next, moves, walks) =
-        one_more step steps (walk_ends next steps (move_stands from step next steps (Over ending.Done) tt stands serves moves walks) (links_behind step steps serves) walks)
+  other_links : (first link : LinkTalk) (rest after : List LinkTalk) → first ∷ rest ≡ link ∷ after → rest ≡ after
+  other_links first link rest after is = cc
 
-    -- ---- what it offers
-
-    own_is : (frame : ClientFrame) (sent : List ℕ) → sent ≡ client_spelling frame → IsOwnFrame m log frame → (time : ℕ) (bytes : List ℕ) → time < time_limit → sent ≡ client_spelling (client.Snap time bytes) → IsOfFollower m log time bytes
-    own_is (client.Snap t b) sent is own time bytes below same =
-        let spelled = sym is ∙ same in
-        let valid = laws.valid_time own.replica.world own.follows.valid in
-        let early : t < time_limit = omega (arith, valid, own.timed) in
-        record {
-          replica = own.replica;
-          follows = own.follows;
-          timed = sym (same_time t time b bytes early below spelled) ∙ own.timed;
-          spelled = sym (same_bytes t time b bytes spelled) ∙ own.spelled;
-        }
-    own_is (client.Join session number want) sent is own time bytes below same = absurd (cc (is, same))
-    own_is (client.Send number payload) sent is own time bytes below same = absurd (cc (is, same))
-    own_is client.Leave sent is own time bytes below same = absurd (cc (is, same))
-    own_is client.Alive sent is own time bytes below same = absurd (cc (is, same))
-
-    step_offers : (from : Phase) (step : Step) (next : Phase) (steps : List Step) → StandsIn m log view from (heard_in (step ∷ steps)) → Moves from step next → OffersFollow m log steps → OffersFollow m log (step ∷ steps)
-    step_offers (Sending v frame frames task) (Sends sent) next steps stands moves more = (own_is frame sent moves.0 stands.1.0, more)
-    step_offers from (Sends sent) next steps stands moves more = absurd moves
-    step_offers from step next steps stands moves more = more
-
-    -- each SNAP of a walk is of a replica that follows the log
-    pub walk_offers : (from : Phase) (steps : List Step) (last : Phase) → StandsIn m log view from (heard_in steps) → AllByRecursion (IsServedBy m log) (links_in steps) → Walks from steps last → OffersFollow m log steps
-    walk_offers from [] last stands serves walks = tt
-    walk_offers (PrintingLast text) (Prints piece ∷ steps) last stands serves (next, moves, walks) =
-        subst (λ (more : List Step). OffersFollow m log more) (sym (over_is_last ending.Done steps last (subst (λ (p : Phase). Walks p steps last) moves.1 walks))) tt
-    walk_offers (PrintingLast text) (step ∷ steps) last stands serves (next, moves, walks) = absurd moves
-    walk_offers from (step ∷ steps) last stands serves (next, moves, walks) =
-        step_offers from step next steps stands moves (walk_offers next steps last (move_stands from step next steps last tt stands serves moves walks) (links_behind step steps serves) walks)
+  -- on a link that the log serves, as it serves those before it
+  pub link_follows : (from : Phase) (steps : List Step) (last : Phase) (before : List LinkTalk) (link : LinkTalk) (after : List LinkTalk) → StandsIn m log view from (heard_in steps) → Walks from steps last
+      → links_in steps ≡ before ++ link ∷ after → AllByRecursion (IsServedBy m log) before → IsServedBy m log link → AllByRecursion (IsGoodFrame (IsOfFollower m log)) link.sent
+  link_follows from [] last before link after stands walks is serves served = absurd (no_link before link after is)
+  link_follows (PrintingLast text) (Prints piece ∷ steps) last before link after stands (next, moves, walks) is serves served =
+      let none = over_is_last ending.Done steps last (subst (λ (p : Phase). Walks p steps last) moves.1 walks) in
+      absurd (no_link before link after (subst (λ (more : List Step). links_in more ≡ before ++ link ∷ after) none is))
+  link_follows (PrintingLast text) (step ∷ steps) last before link after stands (next, moves, walks) is serves served = absurd moves
+  link_follows (Connecting v how) (Connects address ∷ steps) last [] link after stands (next, moves, walks) is serves served =
+      let made : LinkTalk = record { sent = sent_in steps; heard = heard_in steps } in
+      let same = first_link made link (links_in steps) after is in
+      subst (λ (l : LinkTalk). AllByRecursion (IsGoodFrame (IsOfFollower m log)) l.sent) same
+      (sends_follow next steps last (move_stands (Connecting v how) (Connects address) next steps last tt stands (subst (IsServedBy m log) (sym same) served) moves walks) walks)
+  link_follows (Connecting v how) (Connects address ∷ steps) last (first ∷ before) link after stands (next, moves, walks) is serves served =
+      let made : LinkTalk = record { sent = sent_in steps; heard = heard_in steps } in
+      let same = first_link made first (links_in steps) (before ++ link ∷ after) is in
+      link_follows next steps last before link after (move_stands (Connecting v how) (Connects address) next steps last tt stands (subst (IsServedBy m log) (sym same) serves.0) moves walks) walks
+      (other_links made first (links_in steps) (before ++ link ∷ after) is) serves.1 served
+  link_follows from (Connects address ∷ steps) last before link after stands (next, moves, walks) is serves served = absurd moves
+  link_follows from (step ∷ steps) last before link after stands (next, moves, walks) is serves served =
+      link_follows next steps last before link after (move_stands from step next steps last tt stands tt moves walks) walks is serves served

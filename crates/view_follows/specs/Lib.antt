@@ -2,3 +2,5 @@ pub mod Links
 pub mod BothEnds
 pub mod Offers
 pub mod ViewsReplay
+pub mod Sessions
+pub mod SessionsReplay

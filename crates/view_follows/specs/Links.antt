@@ -13,9 +13,9 @@ use Rattle.replica_plain.specs.Worlds.{Worlds}
 use Rattle.replica_plain.specs.Following.{IsHonestBase}
 use Rattle.run_steps.specs.Steps.{Step, Connects, Returns, Hears, Sends}
 
--- a link of a view: the bytes that were sent first on it, and what was heard on it, read as frames
+-- a link of a view: the bytes that were sent on it, and what was heard on it, read as frames
 pub record LinkTalk : Type 0 where
-  pub first : List ℕ
+  pub sent : List (List ℕ)
   pub heard : List (Option ServerFrame)
 
 -- what was read, before what is heard behind it
@@ -33,15 +33,23 @@ heard_in (Hears what ∷ rest) = heard_then what (heard_in rest)
 heard_in (Returns ∷ rest) = []
 heard_in (step ∷ rest) = heard_in rest
 
--- the bytes that are sent first on the link that was just made
-abbrev pub first_sent : List Step → List ℕ
-first_sent (Sends bytes ∷ rest) = bytes
-first_sent steps = []
+-- what is sent on it
+abbrev pub sent_in : List Step → List (List ℕ)
+sent_in [] = []
+sent_in (Sends bytes ∷ rest) = bytes ∷ sent_in rest
+sent_in (Returns ∷ rest) = []
+sent_in (Connects address ∷ rest) = []
+sent_in (step ∷ rest) = sent_in rest
+
+-- the bytes that were sent first
+abbrev pub first_of : List (List ℕ) → List ℕ
+first_of [] = []
+first_of (bytes ∷ rest) = bytes
 
 -- the links that steps make, in their order
 abbrev pub links_in : List Step → List LinkTalk
 links_in [] = []
-links_in (Connects address ∷ rest) = record { first = first_sent rest; heard = heard_in rest } ∷ links_in rest
+links_in (Connects address ∷ rest) = record { sent = sent_in rest; heard = heard_in rest } ∷ links_in rest
 links_in (step ∷ rest) = links_in rest
 
 -- the base of a Sync, if it has one, is honest
@@ -54,5 +62,5 @@ pub record IsServedBy {W O : Type 0} (m : Worlds W O) (log : List Entry) (link :
   pub given : List (Option ClientFrame)
   pub frames : List ServerFrame
   pub heard : map Some frames ≡ link.heard
-  pub served : Served log (whole client_at link.first ∷ given) frames
+  pub served : Served log (whole client_at (first_of link.sent) ∷ given) frames
   pub honest : BeginsHonestly m log frames

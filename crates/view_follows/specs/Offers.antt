@@ -1,5 +1,5 @@
 -- Which snapshots a view offers.
-use Rattle.std.specs.Prelude.{◌≡◌, ◌<◌, ℕ, List, [], ◌∷◌}
+use Rattle.std.specs.Prelude.{◌≡◌, ◌<◌, ℕ, List, [], ◌∷◌, Some}
 use Rattle.tea_base.specs.declared.entry.Entry.{Entry}
 use Rattle.tea_base.specs.Limits.{time_limit}
 use Rattle.wire_frames.specs.Spelling.{client_spelling}
@@ -11,12 +11,13 @@ use Rattle.replica_plain.specs.PlainReplica.{PlainReplica}
 use Rattle.replica_plain.specs.Following.{FollowsLog}
 use Rattle.run_steps.specs.Steps.{Step, Sends}
 
--- the snapshot, and the time, of a replica that follows the log
+-- the snapshot, and the time, of a replica that follows the log; it is read again as that replica's world
 pub record IsOfFollower (m : Worlds WorldRecord PlainOutgoing) (log : List Entry) (time : ℕ) (bytes : List ℕ) : Type 0 where
   pub replica : PlainReplica WorldRecord PlainOutgoing
   pub follows : FollowsLog m log replica
   pub timed : time ≡ m.time replica.world
   pub spelled : bytes ≡ m.snapshot replica.world
+  pub again : m.unsnap bytes ≡ Some replica.world
 
 -- each SNAP that was sent is one
 abbrev pub OffersFollow : Worlds WorldRecord PlainOutgoing → List Entry → List Step → Type 0

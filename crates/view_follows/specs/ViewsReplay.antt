@@ -1,5 +1,5 @@
 -- That the last line of a view is the replay of the log that its links told.
-use Rattle.std.specs.Prelude.{◌≡◌, ◌<◌, ◌^◌, ◌++◌, ◌∷◌, [], ℕ, List, length}
+use Rattle.std.specs.Prelude.{◌≡◌, ◌++◌, ◌∷◌, [], ℕ, List}
 use Rattle.std.specs.List.{AllByRecursion}
 use Rattle.tea_base.specs.Legal.{IsLegal}
 use Rattle.tea_base.specs.Readings.{count_until}
@@ -51,8 +51,6 @@ pub record EndsInReplay (tree : ProgramTree) (id : List ℕ) (view : ℕ) (log :
 -- a view, a script, a legal log and steps that lead to this phase, where the log serves each link
 pub record IsServedVisit (tree : ProgramTree) (id : List ℕ) (view : ℕ) (address : List ℕ) (lines : List PlainLine) (log : List Entry) (steps : List Step) (last : Phase) : Type 0 where
   pub program : IsProgram tree
-  pub session : length id ≡ 32
-  pub number : view < 2 ^ 32
   pub legal : IsLegal log
   pub walks : Walks (first_phase tree id view address lines) steps last
   pub serves : AllByRecursion (IsServedBy (worlds tree id) log) (links_in steps)

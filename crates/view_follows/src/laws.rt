@@ -1,8 +1,11 @@
 //! The last line of a view is the replay of the log.
+ghost use Rattle.run_steps.specs.Outside.{links_tell};
 ghost use Rattle.view_follows.specs.BothEnds.{LinksMeet};
+ghost use Rattle.view_follows.specs.SessionsReplay.{EndsViews, KeepsHonest, OfViewSessions, ServesViews};
 ghost use Rattle.view_follows.specs.ViewsReplay.{ViewsReplay, VisitsEndInReplay, VisitsOfferFollowers};
 
 use replica::{worlds_replay, worlds_stand};
+use tea_io::{Clock, Link};
 
 /// A view whose links were served by one legal log, with honest bases, prints as its last line that of a replica that follows the log:
 /// its seq is the number of entries up to its time, and its digest that of the replay of the log to that time. So it is whatever its
@@ -21,3 +24,18 @@ pub fn views_replay()
 pub fn links_meet()
     ensures { LinksMeet }
 {}
+
+/// In a session whose only clients are views each snapshot that was kept is honest, whatever their scripts did, and however often
+/// they were cut. So the log that the reflector wrote serves each of them, and each that is done printed last the line of the replay
+/// of this log.
+///
+/// Each connection of the reflector is that of a link of a view. What came on a link was sent at its other end, in order and without a
+/// gap; the reflector may hear an ALIVE besides. The connections of a view made their first calls in the order of its links.
+pub fn views_of_one_session<C: Clock, L: Link>(clock: &C)
+    ensures honest { OfViewSessions (C.gives clock.now) (links_tell L.coming L.heard L.sent L.counts) KeepsHonest }
+    ensures served { OfViewSessions (C.gives clock.now) (links_tell L.coming L.heard L.sent L.counts) ServesViews }
+    ensures done { OfViewSessions (C.gives clock.now) (links_tell L.coming L.heard L.sent L.counts) EndsViews }
+{
+    worlds_stand();
+    views_replay();
+}

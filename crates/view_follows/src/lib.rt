@@ -1,6 +1,6 @@
-//! What the last line of a view says of the log that its links told.
+//! What the last line of a view says of the log that its links told, and of the log that a reflector wrote.
 #![tactic(auto)]
 
 mod laws;
 
-pub use laws::{links_meet, views_replay};
+pub use laws::{links_meet, views_of_one_session, views_replay};

@@ -1,17 +1,23 @@
 -- Runs that follow one another, and the steps of a link among those of an output and a link.
-use Rattle.std.proofs.Common.{◌≡◌, inl, inr, ℕ, ◌+◌, ◌<◌, ◌==◌, if◌then◌else◌, List, [], ◌∷◌, ◌++◌, length, drop, get_or, Option, Some, None, refl, sym, ap, ◌∙◌, subst}
+use Rattle.std.proofs.Common.{◌≡◌, inl, inr, ℕ, zero, suc, ◌+◌, ◌-◌, ◌<◌, ◌==◌, Bool, true, false, if◌then◌else◌, List, [], ◌∷◌, ◌++◌, length, drop, get_or, Option, Some, None, refl, sym, ap, ◌∙◌, subst, arith}
+use Rattle.std.specs.List.{AllByRecursion}
 use Rattle.std.specs.Prelude.{◌⊎◌}
 use Rattle.std.proofs.lemmas.Option.{none-some}
 use Rattle.std.proofs.lemmas.List.{at_drop_more}
 use Rattle.wire_frames.specs.declared.frame.ClientFrame.{ClientFrame}
 use Rattle.wire_frames.specs.declared.frame.ClientFrame.TheVariants as client
+use Rattle.wire_frames.specs.Frames.{IsClientFrame}
 use Rattle.wire_frames.specs.Spelling.{client_spelling}
+use Rattle.world_plain.specs.Messages.{PlainOutgoing}
+use Rattle.world_plain.specs.World.{WorldRecord}
+use Rattle.replica_plain.specs.PlainReplica.{PlainReplica}
+use Rattle.replica_plain.specs.Calls.{sends_after, unsent}
 use Rattle.run_steps.specs.Steps.{Step, Loads, Puts, Prints, Connects, Returns, Hears, Sends}
 use Rattle.run_steps.specs.Outside.{Outside, OutsideTells, OutputTells, LinksTell, Came, Well, Failed, WantedMemory, Cut, Acts, ActsOn, SendsFrame, window, window_tells}
 use Rattle.run_steps.proofs.Joined.{acts_behind}
 use Rattle.view_shell.specs.declared.ending.ViewEnd.{ViewEnd}
 use Rattle.view_shell.specs.declared.ending.ViewEnd.TheVariants as ending
-use Rattle.view_shell.specs.Phases.{Phase, Viewer, Task, Sending, Over, Walks, go_on, most_receives, send_all}
+use Rattle.view_shell.specs.Phases.{IsReadAsWorld, Phase, Viewer, Task, Sending, Over, Walks, go_on, most_receives, send_all}
 use Rattle.view_shell.specs.ViewRun.{Doing, Goes, Stops, IsCutEnd, ActsOnLink, LinkActs}
 
 -- ---- one after the other
@@ -80,29 +86,29 @@ module _ {L : Type 0} (links : LinksTell L) (v : Viewer) (frame : ClientFrame) (
   abbrev pub after_send : Phase
   after_send = send_all (record v { receives = 0 }) frames task
 
-  pub sent_goes : SendsFrame links Well (client_spelling frame) old new → Goes (LinkActs links) (Sending v frame frames task) after_send old new
-  sent_goes sends = record { steps = Sends (client_spelling frame) ∷ []; walks = (after_send, (refl, refl), refl); acts = inl (new, sends, refl) }
+  pub sent_goes : IsClientFrame frame → IsReadAsWorld v frame → SendsFrame links Well (client_spelling frame) old new → Goes (LinkActs links) (Sending v frame frames task) after_send old new
+  sent_goes fits reads sends = record { steps = Sends (client_spelling frame) ∷ []; walks = (after_send, (refl, fits, reads, refl), refl); acts = inl (new, sends, refl) }
 
-  pub sent_stops : (came : Came) (end : ViewEnd) → IsCutEnd came (Sends (client_spelling frame)) end → (came ≡ Failed) ⊎ (came ≡ WantedMemory) → SendsFrame links came (client_spelling frame) old new
-      → Stops (LinkActs links) (Sending v frame frames task) end old new
-  sent_stops Failed end is which sends = record {
+  pub sent_stops : (came : Came) (end : ViewEnd) → IsCutEnd came (Sends (client_spelling frame)) end → (came ≡ Failed) ⊎ (came ≡ WantedMemory) → IsClientFrame frame → IsReadAsWorld v frame
+      → SendsFrame links came (client_spelling frame) old new → Stops (LinkActs links) (Sending v frame frames task) end old new
+  sent_stops Failed end is which fits reads sends = record {
     steps = Sends (client_spelling frame) ∷ [];
     last = after_send;
     cut = Some (record { step = Sends (client_spelling frame); came = Failed });
-    walks = (after_send, (refl, refl), refl);
+    walks = (after_send, (refl, fits, reads, refl), refl);
     acts = inr (inl (sends, refl));
     ends = is;
   }
-  sent_stops WantedMemory end is which sends = record {
+  sent_stops WantedMemory end is which fits reads sends = record {
     steps = Sends (client_spelling frame) ∷ [];
     last = after_send;
     cut = Some (record { step = Sends (client_spelling frame); came = WantedMemory });
-    walks = (after_send, (refl, refl), refl);
+    walks = (after_send, (refl, fits, reads, refl), refl);
     acts = inr (inr (sends, refl));
     ends = is;
   }
-  sent_stops Well end is (inl never) sends = absurd cc
-  sent_stops Well end is (inr never) sends = absurd cc
+  sent_stops Well end is (inl never) fits reads sends = absurd cc
+  sent_stops Well end is (inr never) fits reads sends = absurd cc
 
 -- ---- a link's steps among those of an output and a link
 
@@ -135,6 +141,24 @@ module _ {W L : Type 0} (out : OutputTells W) (links : LinksTell L) (w : W) wher
 pub frame_at : (v : Viewer) (frames : List ClientFrame) (i : ℕ) (frame : ClientFrame) (task : Task) → i < length frames → frame ≡ get_or frames i frame → send_all v (drop i frames) task ≡ Sending v frame (drop (i + 1) frames) task
 frame_at v frames i frame task within is =
     at_drop_more (λ (left : List ClientFrame). send_all v left task) frames i frame within ∙ ap (λ (one : ClientFrame). send_all v (one ∷ drop (i + 1) frames) task) (sym is)
+
+-- each of the frames is read as the view's world, where it is a snapshot
+pub read_at : (v : Viewer) (frames : List ClientFrame) (i : ℕ) (frame : ClientFrame) → AllByRecursion (IsReadAsWorld v) frames → i < length frames → frame ≡ get_or frames i frame → IsReadAsWorld v frame
+read_at v [] i frame reads within is = absurd (omega (arith, within))
+read_at v (first ∷ frames) zero frame reads within is = subst (IsReadAsWorld v) (sym is) reads.0
+read_at v (first ∷ frames) (suc i) frame reads within is = read_at v frames i frame reads.1 (omega (arith, within)) is
+
+sends_read : (v : Viewer) (number : ℕ) (payloads : List (List ℕ)) → AllByRecursion (IsReadAsWorld v) (sends_after number payloads)
+sends_read v number [] = tt
+sends_read v number (payload ∷ rest) = (tt, sends_read v (number + 1) rest)
+
+read_if : (v : Viewer) (test : Bool) (frames : List ClientFrame) → AllByRecursion (IsReadAsWorld v) frames → AllByRecursion (IsReadAsWorld v) (if test then frames else [])
+read_if v true frames reads = reads
+read_if v false frames reads = tt
+
+-- none of the events that a view sends is one
+pub unsent_read : (v : Viewer) (r : PlainReplica WorldRecord PlainOutgoing) → AllByRecursion (IsReadAsWorld v) (unsent r)
+unsent_read v r = read_if v r.synced _ (sends_read v r.given (drop (r.given - r.acknowledged) r.outbox))
 
 -- a view that is due to say that it is alive
 pub alive_now : (v : Viewer) (frames : List ClientFrame) (task : Task) → v.receives ≡ most_receives → go_on v frames task ≡ Sending v client.Alive frames task

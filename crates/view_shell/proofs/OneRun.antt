@@ -21,7 +21,7 @@ one_hearing v aim what other next later same first second = same_hearing v aim w
 one_move : (from : Phase) (step other : Step) (next later : Phase) → Moves from step next → Moves from other later → AreSteppedAlike step other (next ≡ later)
 one_move (Connecting v how) (Connects address) (Connects also) next later (is, goes) (same, moves) = (ap Connects (is ∙ sym same), goes ∙ sym moves)
 one_move (Connecting v how) (Connects address) other next later first second = absurd second
-one_move (Sending v frame frames task) (Sends bytes) (Sends also) next later (is, goes) (same, moves) = (ap Sends (is ∙ sym same), goes ∙ sym moves)
+one_move (Sending v frame frames task) (Sends bytes) (Sends also) next later (is, fits, reads, goes) (same, suits, tells, moves) = (ap Sends (is ∙ sym same), goes ∙ sym moves)
 one_move (Sending v frame frames task) (Sends bytes) other next later first second = absurd second
 one_move (Printing v text) (Prints piece) (Prints also) next later (is, goes) (same, moves) = (ap Prints (is ∙ sym same), goes ∙ sym moves)
 one_move (Printing v text) (Prints piece) other next later first second = absurd second

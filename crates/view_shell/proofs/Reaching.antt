@@ -5,7 +5,7 @@ use Rattle.std.proofs.lemmas.Bool.Decides.{nat_tests}
 use Rattle.replica_plain.specs.PlainReplica.{published_count}
 use Rattle.view_shell.specs.declared.watcher.Watcher.{Watcher}
 use Rattle.view_shell.specs.ViewText.{time_line, settled_line}
-use Rattle.view_shell.specs.Phases.{Viewer, Phase, ToReach, ToSettle, ToCatchUp, Receiving, finish, most_unanswered, receive, settle_on}
+use Rattle.view_shell.specs.Phases.{Viewer, Phase, ToReach, ToSettle, ToCatchUp, Receiving, finish, has_caught_up, receive, settle_on}
 
 reach_if : (one other : Phase) (test : Bool) → test ≡ true → (if test then one else other) ≡ one
 reach_if one other true is = refl
@@ -38,11 +38,11 @@ unsettled_by v (payload ∷ rest) not = refl
 pub unsettled : (v : Viewer) → (v.replica.outbox ≡ [] → ⊥) → receive v ToSettle ≡ Receiving v ToSettle
 unsettled v not = unsettled_by v v.replica.outbox not
 
-pub caught_up : (v : Viewer) → length v.replica.outbox ≤ most_unanswered → receive v ToCatchUp ≡ finish v []
-caught_up v few = reach_if _ _ (nat_le (length v.replica.outbox) most_unanswered) (grind (arith, nat_tests, few))
+pub caught_up : (v : Viewer) → has_caught_up v.replica ≡ true → receive v ToCatchUp ≡ finish v []
+caught_up v few = reach_if _ _ (has_caught_up v.replica) few
 
-pub not_caught_up : (v : Viewer) → most_unanswered < length v.replica.outbox → receive v ToCatchUp ≡ Receiving v ToCatchUp
-not_caught_up v many = reach_not _ _ (nat_le (length v.replica.outbox) most_unanswered) (grind (arith, nat_tests, many))
+pub not_caught_up : (v : Viewer) → has_caught_up v.replica ≡ false → receive v ToCatchUp ≡ Receiving v ToCatchUp
+not_caught_up v many = reach_not _ _ (has_caught_up v.replica) many
 
 -- what was kept of a view that heard its link goes on being kept
 pub kept_on : (w0 w1 w2 : Watcher) → w1 ≡ record w0 { replica = w1.replica; receives = w1.receives; quiets = w1.quiets } → w2 ≡ record w1 { replica = w2.replica; receives = w2.receives; quiets = w2.quiets }

@@ -1,5 +1,5 @@
 -- The run of a view, phase by phase: where it stands, which step is due, and what the step makes of it.
-use Rattle.std.specs.Prelude.{◌≡◌, ℕ, ◌+◌, ◌==◌, nat_le, if◌then◌else◌, List, [], ◌∷◌, ◌++◌, length, Option, Some, None}
+use Rattle.std.specs.Prelude.{◌≡◌, ℕ, ◌+◌, ◌==◌, nat_le, Bool, ◌&&◌, if◌then◌else◌, sum_by, List, [], ◌∷◌, ◌++◌, length, Option, Some, None}
 use Rattle.byte_fields.specs.Fields.{whole}
 use Rattle.tea_io.specs.declared.link.Heard.{Heard}
 use Rattle.tea_io.specs.declared.link.Heard.TheVariants as heard
@@ -7,6 +7,7 @@ use Rattle.tea_io.specs.Links.{most_quiets}
 use Rattle.model_value.specs.Payload.{payload_spelling}
 use Rattle.world_plain.specs.Messages.{PlainOutgoing}
 use Rattle.world_plain.specs.World.{WorldRecord}
+use Rattle.wire_frames.specs.Frames.{IsClientFrame}
 use Rattle.wire_frames.specs.Reading.{server_at}
 use Rattle.wire_frames.specs.Spelling.{client_spelling}
 use Rattle.wire_frames.specs.declared.frame.ClientFrame.{ClientFrame}
@@ -49,9 +50,16 @@ pub record Viewer : Type 0 where
 abbrev pub most_receives : ℕ
 most_receives = 1000
 
--- a view that has more events that are not acknowledged hears its link before it goes on
+-- a view that has more events that are not acknowledged, or more bytes of their payloads, hears its link before it goes on
 abbrev pub most_unanswered : ℕ
 most_unanswered = 4096
+
+abbrev pub most_unanswered_bytes : ℕ
+most_unanswered_bytes = 65536
+
+-- few enough events are not acknowledged
+abbrev pub has_caught_up : PlainReplica WorldRecord PlainOutgoing → Bool
+has_caught_up r = nat_le (length r.outbox) most_unanswered && nat_le (sum_by length r.outbox) most_unanswered_bytes
 
 -- what a view hears its link for
 pub data Aim : Type 0 where
@@ -116,7 +124,7 @@ settle_on v (payload ∷ rest) = Receiving v ToSettle
 abbrev pub receive : Viewer → Aim → Phase
 receive v (ToReach time) = if nat_le time v.replica.world.time then finish v (time_line v.replica.world.time) else Receiving v (ToReach time)
 receive v ToSettle = settle_on v v.replica.outbox
-receive v ToCatchUp = if nat_le (length v.replica.outbox) most_unanswered then finish v [] else Receiving v ToCatchUp
+receive v ToCatchUp = if has_caught_up v.replica then finish v [] else Receiving v ToCatchUp
 receive v aim = Receiving v aim
 
 -- a tick of its own time is taken, so that nothing is due at that time
@@ -236,9 +244,15 @@ Hearing v aim heard.Quiet next = next ≡ quiet (heard_quiet v) aim
 Hearing v aim heard.End next = next ≡ Over ending.Ended
 Hearing v aim what next = ⊥
 
+-- a snapshot that is sent is read again as the view's world
+abbrev pub IsReadAsWorld : Viewer → ClientFrame → Type 0
+IsReadAsWorld v (client.Snap time bytes) = v.worlds.unsnap bytes ≡ Some v.replica.world
+IsReadAsWorld v frame = Unit {0}
+
 abbrev pub Moves : Phase → Step → Phase → Type 0
 Moves (Connecting v how) (Connects address) next = (address ≡ v.address) × (next ≡ enter_session v how)
-Moves (Sending v frame frames task) (Sends bytes) next = (bytes ≡ client_spelling frame) × (next ≡ send_all (record v { receives = 0 }) frames task)
+Moves (Sending v frame frames task) (Sends bytes) next =
+    (bytes ≡ client_spelling frame) × IsClientFrame frame × IsReadAsWorld v frame × (next ≡ send_all (record v { receives = 0 }) frames task)
 Moves (Receiving v aim) (Hears what) next = Hearing v aim what next
 Moves (Printing v text) (Prints piece) next = (piece ≡ text) × (next ≡ run v v.lines)
 Moves (Leaving v text) (Prints piece) next = (piece ≡ text) × (next ≡ Sending v client.Leave [] Leaves)

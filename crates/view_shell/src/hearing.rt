@@ -6,7 +6,7 @@ ghost use Rattle.run_steps.specs.Outside.{links_tell};
 ghost use Rattle.replica.specs.View.{KeepsSession};
 ghost use Rattle.replica_plain.specs.declared.how.How.{How};
 ghost use Rattle.view_script.specs.PlainLine.{PlainLine};
-ghost use Rattle.view_shell.specs.Phases.{Aim, ToJoin, ToReach, ToSettle, ToCatchUp, ToSnap, Receiving, finish, reads, receive, after_frame};
+ghost use Rattle.view_shell.specs.Phases.{Aim, ToJoin, ToReach, ToSettle, ToCatchUp, ToSnap, Receiving, finish, has_caught_up, reads, receive, after_frame};
 ghost use Rattle.view_shell.specs.ViewText.{settled_line, time_line};
 ghost use Rattle.view_shell.specs.Viewers.{HasHeard, IsReady, KnowsItself, viewer};
 ghost use Rattle.view_shell.specs.ViewRun.{Goes, GoesOrStops, LinkActs};
@@ -15,6 +15,7 @@ ghost use Rattle.view_shell.specs.Hearing.{GoesOnFor, HeardPhase, StopsAt, Stops
 use crate::ending::ViewEnd;
 use crate::sending::stay_alive;
 use crate::watcher::Watcher;
+use replica::Replica;
 use replica_plain::ReplicaFault;
 use std::sync::Wait;
 use tea_base::Blob;
@@ -24,6 +25,9 @@ use wire_frames::{FrameFault, ServerFrame, read_server};
 /// A view that has more events that are not acknowledged hears its link before it goes on. Else what it is sent would fill the buffers of the
 /// system, and both sides would wait for each other.
 const MOST_UNANSWERED: usize = 4096;
+
+/// So does a view whose events that are not acknowledged have more bytes of payloads.
+const MOST_UNANSWERED_BYTES: u64 = 65_536;
 
 /// Why a view does not go on on its link.
 #[derive(Clone, Copy, Debug, PartialEq, Eq)]
@@ -167,6 +171,14 @@ pub fn settle<R: Wait, L: Link>(rt: &R, watcher: &mut Watcher, link: &mut L) -> 
     unreachable!()
 }
 
+/// Whether few enough events are not acknowledged.
+fn has_caught_up(replica: &Replica) -> bool
+    ensures { result ≡ has_caught_up replica.now.plain }
+{
+    replica.unacknowledged() <= MOST_UNANSWERED
+        && replica.unacknowledged_bytes() <= MOST_UNANSWERED_BYTES
+}
+
 /// Hears the link until few enough events are not acknowledged.
 pub fn catch_up<R: Wait, L: Link>(
     rt: &R,
@@ -180,7 +192,7 @@ pub fn catch_up<R: Wait, L: Link>(
         (receive (viewer address watcher.old lines) ToCatchUp) (λ _. finish (viewer address watcher.new lines) []) result link.old link.new }
 {
     for _ in rt.forever() {
-        if watcher.replica.unacknowledged() <= MOST_UNANSWERED {
+        if has_caught_up(&watcher.replica) {
             return Ok(());
         }
         match hear_on(watcher, link) {

@@ -10,7 +10,7 @@ ghost use Rattle.tea_base.specs.Limits.{most_payload};
 ghost use Rattle.view_bridge.specs.Topics.{subscribes};
 ghost use Rattle.view_script.specs.PlainLine.{LineFits, PlainLine, most_publishes, payload_length, plain_line, plain_lines, line_publishes};
 ghost use Rattle.std.specs.List.{AllByRecursion};
-ghost use Rattle.view_shell.specs.Phases.{Over, Viewer, Receives, Sending, TellsText, ToReach, ToSettle, ToCatchUp, ToSnap, finish, after_giving, after_rest, leave_session, receive, rested, run, send_all, shown_text};
+ghost use Rattle.view_shell.specs.Phases.{IsReadAsWorld, Over, Viewer, Receives, Sending, TellsText, ToReach, ToSettle, ToCatchUp, ToSnap, finish, after_giving, after_rest, leave_session, receive, rested, run, send_all, shown_text};
 ghost use Rattle.view_shell.specs.ViewText.{digested_view_line, numbers_line, view_line};
 ghost use Rattle.view_shell.specs.Viewers.{HasRoomBehind, HasRoomFor, IsReady, KnowsItself, viewer};
 ghost use Rattle.view_shell.specs.Flows.{departure_phase, flow_of, flow_phase};
@@ -170,6 +170,7 @@ fn await_settled<R: Wait, L: Link, W: Sink>(
 /// The frame that offers the replica's snapshot.
 fn snap_frame(watcher: &Watcher) -> Result<ClientFrame, ViewEnd>
     ensures frame { IfOk result (λ frame. frame ≡ snap_frame (worlds_of watcher.now.replica) watcher.now.replica.plain) }
+    ensures world { (address : List ℕ) (lines : List PlainLine) → IfOk result (λ frame. IsReadAsWorld (viewer address watcher.now lines) frame) }
     ensures want { IfErr result (λ end. end ≡ ViewEnd.WantOfMemory) }
 {
     match watcher.replica.snap() {

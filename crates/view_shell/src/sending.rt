@@ -1,14 +1,15 @@
 //! Frames that a view sends.
 ghost use Rattle.std.specs.Prelude.{◌≡◌, ℕ, List, [], ◌<◌, ◌^◌, length, IfOk, OnOk, IsTrue};
+ghost use Rattle.std.specs.List.{AllByRecursion};
 ghost use Rattle.wire_frames.specs.declared.frame.ClientFrame.{ClientFrame as Frame};
 ghost use Rattle.wire_frames.specs.declared.frame.ClientFrame.TheVariants.{Alive};
-ghost use Rattle.wire_frames.specs.Frames.{FitsClient};
+ghost use Rattle.wire_frames.specs.Frames.{FitsClient, IsClientFrame};
 ghost use Rattle.wire_frames.specs.Spelling.{client_spelling};
 ghost use Rattle.run_steps.specs.Outside.{links_tell};
 ghost use Rattle.replica_plain.specs.Calls.{gives, unsent};
 ghost use Rattle.replica.specs.View.{with_plain};
 ghost use Rattle.view_script.specs.PlainLine.{PlainLine};
-ghost use Rattle.view_shell.specs.Phases.{Sending, Task, Viewer, go_on, send_all, after_giving};
+ghost use Rattle.view_shell.specs.Phases.{IsReadAsWorld, Sending, Task, Viewer, go_on, send_all, after_giving};
 ghost use Rattle.view_shell.specs.Viewers.{HasHeard, IsReady, viewer};
 ghost use Rattle.view_shell.specs.ViewRun.{GoesOrStops, LinkActs};
 
@@ -18,7 +19,7 @@ use run_steps::{CallFault, send_frame};
 use std::alloc::Global;
 use tea_base::{Blob, TIME_LIMIT, WantOfMemory};
 use tea_io::Link;
-use wire_frames::{ClientFrame, Want, write_client};
+use wire_frames::{ClientFrame, Want, typed_client, write_client};
 
 /// A view that heard its link so often and sent nothing says that it is alive.
 pub const MOST_RECEIVES: u32 = 1000;
@@ -47,15 +48,17 @@ fn fits(frame: &ClientFrame) -> bool
 
 /// The spelling of a frame. A replica makes no frame that does not fit; one that did would count as want of memory.
 fn spelling(alloc: Global, frame: &ClientFrame) -> Result<Blob, WantOfMemory>
-    ensures { IfOk result (λ bytes. bytes ≡ client_spelling frame.now) }
+    ensures spelled { IfOk result (λ bytes. bytes ≡ client_spelling frame.now) }
+    ensures fits { OnOk result (IsClientFrame frame.now) }
 {
     if !fits(frame) {
         return Err(WantOfMemory);
     }
+    typed_client(frame);
     write_client(alloc, frame)
 }
 
-/// Sends a frame.
+/// Sends a frame. A snapshot is one of the view's world.
 pub fn send<L: Link>(
     watcher: &mut Watcher,
     link: &mut L,
@@ -63,7 +66,7 @@ pub fn send<L: Link>(
 ) -> Result<(), ViewEnd>
     ensures kept { watcher.new ≡ record watcher.old { receives = watcher.new.receives } }
     ensures sent { OnOk result (watcher.new.receives ≡ 0) }
-    ensures talk { (v : Viewer) (frames : List Frame) (task : Task) → GoesOrStops (LinkActs (links_tell L.coming L.heard L.sent L.counts))
+    ensures talk { (v : Viewer) (frames : List Frame) (task : Task) → IsReadAsWorld v frame.now → GoesOrStops (LinkActs (links_tell L.coming L.heard L.sent L.counts))
         (Sending v frame.now frames task) (λ _. send_all (record v { receives = 0 }) frames task) result link.old link.new }
 {
     let bytes = match spelling(watcher.alloc, frame) {
@@ -80,7 +83,7 @@ pub fn send<L: Link>(
     }
 }
 
-/// Sends frames in order.
+/// Sends frames in order, each as [`send`] does.
 pub fn send_all<L: Link>(
     watcher: &mut Watcher,
     link: &mut L,
@@ -88,7 +91,7 @@ pub fn send_all<L: Link>(
 ) -> Result<(), ViewEnd>
     ensures kept { watcher.new ≡ record watcher.old { receives = watcher.new.receives } }
     ensures ready { IsReady watcher.old → OnOk result (IsReady watcher.new) }
-    ensures talk { (v : Viewer) (task : Task) → v.receives ≡ watcher.old.receives → GoesOrStops (LinkActs (links_tell L.coming L.heard L.sent L.counts))
+    ensures talk { (v : Viewer) (task : Task) → v.receives ≡ watcher.old.receives → AllByRecursion (IsReadAsWorld v) frames.now → GoesOrStops (LinkActs (links_tell L.coming L.heard L.sent L.counts))
         (send_all v frames.now task) (λ _. send_all (record v { receives = watcher.new.receives }) [] task) result link.old link.new }
 {
     for frame in frames {

@@ -3,6 +3,7 @@ use Rattle.command_words.specs.CommandWords.{command_of}
 use Rattle.commands.specs.Verdict.{Comes}
 use Rattle.commands.specs.Work.{visit_of}
 use Rattle.commands.proofs.NetLaws.{never_on_net}
+use Rattle.croquet.proofs.Completeness.{is_complete}
 use Rattle.croquet.proofs.DrillRuns.{ran_drilling}
 use Rattle.croquet.proofs.ReflectorRuns.{ran_reflecting}
 use Rattle.croquet.proofs.VisitRuns.{ran_beside, ran_visiting}
@@ -26,6 +27,20 @@ pub returns-in-Drills-clause-ran : goal.returns-in-Drills-clause-ran
 returns-in-Drills-clause-ran g c =
     inr (inr (ran_drilling _ _ _ _ _ (Comes (command_of c.args.words.now)) c.in-Drills.request c.drill-answer.result c.args.files.now c.begin.new.files c.tell_drilled-status.new.files c.args.out.now c.begin.new.out c.tell_drilled-status.new.out
     c.args.net c.tell_drilled-status.result c.in-Drills.ensures.turns c.drill-answer.ensures c.tell_drilled-status.ensures))
+
+-- each run is complete
+pub returns-in-Over-clause-complete : goal.returns-in-Over-clause-complete
+returns-in-Over-clause-complete g c = is_complete _ _ _ _ c.one_verdict.ensures _ (command_of c.args.words.now) _ _ c.in-Over.status (returns-in-Over-clause-ran g c)
+
+pub returns-in-Visits-clause-complete : goal.returns-in-Visits-clause-complete
+returns-in-Visits-clause-complete g c = is_complete _ _ _ _ c.one_verdict.ensures _ (command_of c.args.words.now) _ _ c.run_visit-status.result (returns-in-Visits-clause-ran g c)
+
+pub returns-in-Reflects-clause-complete : goal.returns-in-Reflects-clause-complete
+returns-in-Reflects-clause-complete g c =
+    is_complete _ _ _ _ c.one_verdict.ensures _ (command_of c.args.words.now) _ _ c.tell_reflected-status.result (returns-in-Reflects-clause-ran g c)
+
+pub returns-in-Drills-clause-complete : goal.returns-in-Drills-clause-complete
+returns-in-Drills-clause-complete g c = is_complete _ _ _ _ c.one_verdict.ensures _ (command_of c.args.words.now) _ _ c.tell_drilled-status.result (returns-in-Drills-clause-ran g c)
 
 -- a command that goes on with a net is `join` or `reflect`
 pub returns-in-Visits-clause-net : goal.returns-in-Visits-clause-net

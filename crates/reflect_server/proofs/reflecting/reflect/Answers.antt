@@ -1,9 +1,10 @@
-use Rattle.std.proofs.Common.{refl, arith}
-use Rattle.reflect_server.proofs.Reflections.{reflects_behind, wanted_before}
+use Rattle.std.proofs.Common.{inl, inr, [], ◌∷◌, refl, arith}
+use Rattle.tea_io.specs.declared.net.NetCall.TheVariants.{Listen}
+use Rattle.reflect_server.proofs.Reflections.{listen_asks, reflects_behind, wanted_before}
 use Rattle.reflect_server.proofs.reflecting.reflect.Goals as goal
 
 pub returns-in_default : goal.returns-in_default
-returns-in_default g c = wanted_before _ _ _ _ c.args.server.now.connections c.args.net c.args.net c.requires.0 refl refl refl refl (omega arith)
+returns-in_default g c = wanted_before _ _ _ _ (Listen c.args.server.now.address.now ∷ []) c.args.server.now.connections c.args.net c.args.net c.requires.0 (inl (refl, refl)) refl refl refl refl (omega arith)
 
 pub returns-in-Ok-listen : goal.returns-in-Ok-listen
 returns-in-Ok-listen g c =
@@ -13,4 +14,7 @@ returns-in-Ok-listen g c =
     c.serve_all.ensures
 
 pub returns : goal.returns
-returns g c = let told = c.listen.ensures in wanted_before _ _ _ _ c.args.server.now.connections c.args.net c.listen.new.self c.requires.0 told.coming told.over told.lent told.counts told.cause.later
+returns g c =
+    let told = c.listen.ensures in
+    wanted_before _ _ _ _ (Listen c.args.server.now.address.now ∷ []) c.args.server.now.connections c.args.net c.listen.new.self c.requires.0
+    (listen_asks c.args.server.now.address.now _ _ _ told.asked) told.coming told.over told.lent told.counts told.cause.later

@@ -37,7 +37,7 @@ returns c = record {
   line = λ tree id view address lines log steps line visit.
       let m = worlds tree id in
       let laws = c.worlds_stand.ensures tree id visit.program in
-      let told = walk_tells m laws log visit.legal view visit.session visit.number (first_phase tree id view address lines) steps line
+      let told = walk_tells m laws log visit.legal view (first_phase tree id view address lines) steps line
       (record { same = refl; its = refl; follows = first_world_follows m log (new_replica m view) laws visit.legal refl refl refl }) visit.serves visit.walks in (
         replay_line tree id view log line (c.worlds_replay.ensures.replays tree id log) told,
         tells_replay tree id view log line (c.worlds_replay.ensures.replays tree id log) told,
@@ -45,12 +45,12 @@ returns c = record {
   done = λ tree id view address lines log steps visit.
       let m = worlds tree id in
       let laws = c.worlds_stand.ensures tree id visit.program in
-      let ends = walk_ends m laws log visit.legal view visit.session visit.number (first_phase tree id view address lines) steps
+      let ends = walk_ends m laws log visit.legal view (first_phase tree id view address lines) steps
       (record { same = refl; its = refl; follows = first_world_follows m log (new_replica m view) laws visit.legal refl refl refl }) visit.serves visit.walks in
       record { front = ends.front; line = ends.line; last = ends.last; replayed = replay_line tree id view log ends.line (c.worlds_replay.ensures.replays tree id log) ends.tells; tells = tells_replay tree id view log ends.line (c.worlds_replay.ensures.replays tree id log) ends.tells };
   offers = λ tree id view address lines log steps last visit.
       let m = worlds tree id in
       let laws = c.worlds_stand.ensures tree id visit.program in
-      walk_offers m laws log visit.legal view visit.session visit.number (first_phase tree id view address lines) steps last
+      walk_offers m laws log visit.legal view (first_phase tree id view address lines) steps last
       (record { same = refl; its = refl; follows = first_world_follows m log (new_replica m view) laws visit.legal refl refl refl }) visit.serves visit.walks;
 }

@@ -1,5 +1,5 @@
-use Rattle.std.proofs.Common.{◌≤◌, ◌<◌, [], length, refl, arith}
-use Rattle.view_shell.specs.Phases.{ToCatchUp, Receiving, finish, most_unanswered, receive}
+use Rattle.std.proofs.Common.{◌≡◌, true, false, [], refl, sym, ◌∙◌}
+use Rattle.view_shell.specs.Phases.{ToCatchUp, Receiving, finish, has_caught_up, receive}
 use Rattle.view_shell.specs.Viewers.{viewer}
 use Rattle.view_shell.proofs.Going.{goes_and_stops, goes_nowhere, goes_on, goes_to, link_acts_behind}
 use Rattle.view_shell.proofs.Reaching.{caught_up, kept_on, not_caught_up}
@@ -8,10 +8,10 @@ use Rattle.view_shell.proofs.hearing.catch_up.Goals as goal
 pub loop-init : goal.loop-init
 loop-init g c = record { kept = refl; ready = c.requires.ready; talk = λ address lines. goes_nowhere _ (receive (viewer address c.args.watcher.now lines) ToCatchUp) c.args.link.now }
 
-pub returns-then-unacknowledged-le-MOST_UNANSWERED-clause-talk : goal.returns-then-unacknowledged-le-MOST_UNANSWERED-clause-talk
-returns-then-unacknowledged-le-MOST_UNANSWERED-clause-talk g c address lines =
+pub returns-then-has_caught_up-clause-talk : goal.returns-then-has_caught_up-clause-talk
+returns-then-has_caught_up-clause-talk g c address lines =
     let v = viewer address c.loop.watcher lines in
-    let few : length v.replica.outbox ≤ most_unanswered = omega (arith, c.if-unacknowledged-le-MOST_UNANSWERED.true, c.unacknowledged.ensures.count) in
+    let few : has_caught_up v.replica ≡ true = sym c.has_caught_up.ensures ∙ c.if-has_caught_up.true in
     goes_to _ (receive (viewer address c.args.watcher.now lines) ToCatchUp) (receive v ToCatchUp) (finish v []) c.args.link.now c.loop.link
     (caught_up v few) (c.loop.invariant.talk address lines)
 
@@ -21,7 +21,7 @@ loop-preserved g c = record {
   ready = c.in-Ok.ensures.ready;
   talk = λ address lines.
       let v = viewer address c.loop.watcher lines in
-      let many : most_unanswered < length v.replica.outbox = omega (arith, c.if-unacknowledged-le-MOST_UNANSWERED.false, c.unacknowledged.ensures.count) in
+      let many : has_caught_up v.replica ≡ false = sym c.has_caught_up.ensures ∙ c.if-has_caught_up.false in
       let from = receive (viewer address c.args.watcher.now lines) ToCatchUp in
       goes_on _ (link_acts_behind _) from (Receiving v ToCatchUp) (receive (viewer address c.hear_on.new.watcher lines) ToCatchUp) c.args.link.now c.loop.link c.hear_on.new.link
       (goes_to _ from (receive v ToCatchUp) (Receiving v ToCatchUp) c.args.link.now c.loop.link (not_caught_up v many) (c.loop.invariant.talk address lines))
@@ -31,7 +31,7 @@ loop-preserved g c = record {
 pub returns-in-Err-clause-talk : goal.returns-in-Err-clause-talk
 returns-in-Err-clause-talk g c address lines =
     let v = viewer address c.loop.watcher lines in
-    let many : most_unanswered < length v.replica.outbox = omega (arith, c.if-unacknowledged-le-MOST_UNANSWERED.false, c.unacknowledged.ensures.count) in
+    let many : has_caught_up v.replica ≡ false = sym c.has_caught_up.ensures ∙ c.if-has_caught_up.false in
     let from = receive (viewer address c.args.watcher.now lines) ToCatchUp in
     goes_and_stops _ (link_acts_behind _) from (Receiving v ToCatchUp) c.in-Err.end c.args.link.now c.loop.link c.hear_on.new.link
     (goes_to _ from (receive v ToCatchUp) (Receiving v ToCatchUp) c.args.link.now c.loop.link (not_caught_up v many) (c.loop.invariant.talk address lines))

@@ -25,7 +25,7 @@ returns-in-Err-send-clause-talk g c address lines =
     goes_and_stops (Acts (window_tells out links)) (all_acts_behind (window_tells out links)) (leave_session old) (Sending v client.Leave [] Leaves) c.in-Err-send.end
     (window c.args.out.now c.args.link.now) (window c.rest_and_tell.new.out c.args.link.now) (window c.rest_and_tell.new.out c.send.new.link)
     (rested_goes out links c.args.link.now c.args.out.now c.rest_and_tell.new.out old v (viewer_rested address lines c.args.watcher.now c.rest_and_tell.new.watcher c.rest_and_tell.ensures.kept c.in-Ok.ensures.ok) (c.in-Ok.ensures.printed address lines))
-    (stops_in_window out links c.rest_and_tell.new.out (Sending v client.Leave [] Leaves) c.in-Err-send.end c.args.link.now c.send.new.link (c.in-Err-send.ensures.talk v [] Leaves))
+    (stops_in_window out links c.rest_and_tell.new.out (Sending v client.Leave [] Leaves) c.in-Err-send.end c.args.link.now c.send.new.link (c.in-Err-send.ensures.talk v [] Leaves tt))
 
 pub returns-in-Err-last_line-clause-talk : goal.returns-in-Err-last_line-clause-talk
 returns-in-Err-last_line-clause-talk g c address lines =
@@ -36,7 +36,7 @@ returns-in-Err-last_line-clause-talk g c address lines =
     goes_and_stops (Acts (window_tells out links)) (all_acts_behind (window_tells out links)) (leave_session old) (Sending v client.Leave [] Leaves) ending.WantOfMemory
     (window c.args.out.now c.args.link.now) (window c.rest_and_tell.new.out c.args.link.now) (window c.rest_and_tell.new.out c.send.new.link)
     (rested_goes out links c.args.link.now c.args.out.now c.rest_and_tell.new.out old v (viewer_rested address lines c.args.watcher.now c.rest_and_tell.new.watcher c.rest_and_tell.ensures.kept c.in-Ok.ensures.ok) (c.in-Ok.ensures.printed address lines))
-    (wants_behind out links (Sending v client.Leave [] Leaves) c.rest_and_tell.new.out c.rest_and_tell.new.out c.args.link.now c.send.new.link (PrintingLast (view_line v.replica)) ending.WantOfMemory refl (c.in-Ok-send.ensures.talk v [] Leaves) refl)
+    (wants_behind out links (Sending v client.Leave [] Leaves) c.rest_and_tell.new.out c.rest_and_tell.new.out c.args.link.now c.send.new.link (PrintingLast (view_line v.replica)) ending.WantOfMemory refl (c.in-Ok-send.ensures.talk v [] Leaves tt) refl)
 
 pub returns-in-Ok-print-clause-talk : goal.returns-in-Ok-print-clause-talk
 returns-in-Ok-print-clause-talk g c address lines =
@@ -48,7 +48,7 @@ returns-in-Ok-print-clause-talk g c address lines =
     goes_on (Acts (window_tells out links)) (all_acts_behind (window_tells out links)) (leave_session old) (Sending v client.Leave [] Leaves) (Over ending.Done)
     (window c.args.out.now c.args.link.now) (window c.rest_and_tell.new.out c.args.link.now) (window c.print.new.out c.send.new.link)
     (rested_goes out links c.args.link.now c.args.out.now c.rest_and_tell.new.out old v (viewer_rested address lines c.args.watcher.now c.rest_and_tell.new.watcher c.rest_and_tell.ensures.kept c.in-Ok.ensures.ok) (c.in-Ok.ensures.printed address lines))
-    (last_goes out links (Sending v client.Leave [] Leaves) c.rest_and_tell.new.out c.print.new.out c.args.link.now c.send.new.link (view_line v.replica) (c.in-Ok-send.ensures.talk v [] Leaves) (rw text at c.in-Ok-print.ensures.ok))
+    (last_goes out links (Sending v client.Leave [] Leaves) c.rest_and_tell.new.out c.print.new.out c.args.link.now c.send.new.link (view_line v.replica) (c.in-Ok-send.ensures.talk v [] Leaves tt) (rw text at c.in-Ok-print.ensures.ok))
 
 pub returns-clause-talk : goal.returns-clause-talk
 returns-clause-talk g c address lines =
@@ -60,4 +60,4 @@ returns-clause-talk g c address lines =
     goes_and_stops (Acts (window_tells out links)) (all_acts_behind (window_tells out links)) (leave_session old) (Sending v client.Leave [] Leaves) c.in-Err-print.end
     (window c.args.out.now c.args.link.now) (window c.rest_and_tell.new.out c.args.link.now) (window c.print.new.out c.send.new.link)
     (rested_goes out links c.args.link.now c.args.out.now c.rest_and_tell.new.out old v (viewer_rested address lines c.args.watcher.now c.rest_and_tell.new.watcher c.rest_and_tell.ensures.kept c.in-Ok.ensures.ok) (c.in-Ok.ensures.printed address lines))
-    (last_stops out links (Sending v client.Leave [] Leaves) c.rest_and_tell.new.out c.print.new.out c.args.link.now c.send.new.link (view_line v.replica) c.in-Err-print.end (c.in-Ok-send.ensures.talk v [] Leaves) (rw text at c.in-Err-print.ensures.err))
+    (last_stops out links (Sending v client.Leave [] Leaves) c.rest_and_tell.new.out c.print.new.out c.args.link.now c.send.new.link (view_line v.replica) c.in-Err-print.end (c.in-Ok-send.ensures.talk v [] Leaves tt) (rw text at c.in-Err-print.ensures.err))

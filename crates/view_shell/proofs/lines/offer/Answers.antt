@@ -17,7 +17,7 @@ returns-in-Err-send-clause-talk g c address lines =
     let v = viewer address c.args.watcher.now lines in
     let frame = snap_frame (worlds_of c.args.watcher.now.replica) c.args.watcher.now.replica.plain in
     stops_from _ (Sending v frame [] (Receives ToSnap)) (Sending v c.in-Ok.frame [] (Receives ToSnap)) c.in-Err-send.end c.args.link.now c.send.new.link
-    (ap (λ (f : ClientFrame). Sending v f [] (Receives ToSnap)) (sym c.in-Ok.ensures.frame)) (c.in-Err-send.ensures.talk v [] (Receives ToSnap))
+    (ap (λ (f : ClientFrame). Sending v f [] (Receives ToSnap)) (sym c.in-Ok.ensures.frame)) (c.in-Err-send.ensures.talk v [] (Receives ToSnap) (c.in-Ok.ensures.world address lines))
 
 pub returns-in-Ok-await_answer-clause-talk : goal.returns-in-Ok-await_answer-clause-talk
 returns-in-Ok-await_answer-clause-talk g c address lines =
@@ -28,7 +28,7 @@ returns-in-Ok-await_answer-clause-talk g c address lines =
     (goes_from _ (Sending v frame [] (Receives ToSnap)) (Sending v c.in-Ok.frame [] (Receives ToSnap)) (Receiving u ToSnap) c.args.link.now c.send.new.link
     (ap (λ (f : ClientFrame). Sending v f [] (Receives ToSnap)) (sym c.in-Ok.ensures.frame))
     (goes_to _ (Sending v c.in-Ok.frame [] (Receives ToSnap)) (Receiving (record v { receives = 0 }) ToSnap) (Receiving u ToSnap) c.args.link.now c.send.new.link
-    (ap (λ (one : Viewer). Receiving one ToSnap) (viewer_after_send address lines c.args.watcher.now c.send.new.watcher c.send.ensures.kept c.in-Ok-send.ensures.sent)) (c.in-Ok-send.ensures.talk v [] (Receives ToSnap))))
+    (ap (λ (one : Viewer). Receiving one ToSnap) (viewer_after_send address lines c.args.watcher.now c.send.new.watcher c.send.ensures.kept c.in-Ok-send.ensures.sent)) (c.in-Ok-send.ensures.talk v [] (Receives ToSnap) (c.in-Ok.ensures.world address lines))))
     (c.in-Ok-await_answer.ensures.talk address lines)
 
 pub returns-clause-talk : goal.returns-clause-talk
@@ -40,5 +40,5 @@ returns-clause-talk g c address lines =
     (goes_from _ (Sending v frame [] (Receives ToSnap)) (Sending v c.in-Ok.frame [] (Receives ToSnap)) (Receiving u ToSnap) c.args.link.now c.send.new.link
     (ap (λ (f : ClientFrame). Sending v f [] (Receives ToSnap)) (sym c.in-Ok.ensures.frame))
     (goes_to _ (Sending v c.in-Ok.frame [] (Receives ToSnap)) (Receiving (record v { receives = 0 }) ToSnap) (Receiving u ToSnap) c.args.link.now c.send.new.link
-    (ap (λ (one : Viewer). Receiving one ToSnap) (viewer_after_send address lines c.args.watcher.now c.send.new.watcher c.send.ensures.kept c.in-Ok-send.ensures.sent)) (c.in-Ok-send.ensures.talk v [] (Receives ToSnap))))
+    (ap (λ (one : Viewer). Receiving one ToSnap) (viewer_after_send address lines c.args.watcher.now c.send.new.watcher c.send.ensures.kept c.in-Ok-send.ensures.sent)) (c.in-Ok-send.ensures.talk v [] (Receives ToSnap) (c.in-Ok.ensures.world address lines))))
     (c.in-Err-await_answer.ensures.talk address lines)

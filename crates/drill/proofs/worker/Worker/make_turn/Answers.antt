@@ -1,6 +1,7 @@
 use Rattle.std.proofs.Common.{◌≡◌, ◌+◌, ◌-◌, ◌≤◌, ℕ, subst, arith}
 use Rattle.wire_frames.specs.declared.frame.ServerFrame.TheVariants.{Done}
 use Rattle.drill.specs.Turns.{HasResent, HasSentIt, IsOwed}
+use Rattle.drill.proofs.Courses.{made_refused}
 use Rattle.drill.proofs.Publishings.{published}
 use Rattle.drill.proofs.Sendings.{sent_none, sent_some}
 use Rattle.drill.proofs.Settlings.{caught_up}
@@ -33,8 +34,12 @@ settle-requires-clause-done g c =
     c.in_ok-done.ensures.worker c.in-Some.done (subst (HasSentIt _ _ _ _ _ _) c.in-Some.is c.in_ok-done.ensures.sent) in
     (sent.2, sent.3, subst (λ (number : ℕ). c.in-Some.done ≡ Done number sent.2 sent.3) next sent.4)
 
+pub returns-in_default-2-clause-made : goal.returns-in_default-2-clause-made
+returns-in_default-2-clause-made g c =
+    made_refused _ _ _ c.settle.new.self c.settle.new.cursor c.args.turn c.in_ok-refused.refused c.in_ok-refused.ensures.settled c.in_default-2.not-Whole
+
 pub returns-clause-made : goal.returns-clause-made
 returns-clause-made g c =
     let settled = subst (HasResent _ _ _ c.settle.new.self c.settle.new.cursor c.args.turn) c.in-Whole.is c.in_ok-refused.ensures.settled in
     caught_up _ _ _ c.settle.new.self c.catch_up.new.self c.settle.new.cursor c.catch_up.new.cursor c.args.turn c.requires.size settled c.in_ok-catch_up.ensures.source c.in_ok-catch_up.ensures.worker
-    c.in_ok-catch_up.ensures.more c.in_ok-catch_up.ensures.caught
+    c.in_ok-catch_up.ensures.more c.in_ok-catch_up.ensures.caught c.in_ok-catch_up.ensures.read

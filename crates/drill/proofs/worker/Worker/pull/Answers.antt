@@ -6,7 +6,8 @@ use Rattle.drill.proofs.Asks.{worker_with}
 use Rattle.drill.proofs.Pulls.{asked_behind, batch_follows, has_taken_more, pull_comes, pull_fine, pull_keeps, pull_passes, pull_works}
 use Rattle.session_lock.specs.History.{play}
 use Rattle.drill.specs.Turns.{HasCome}
-use Rattle.drill.proofs.Workers.{has_tick}
+use Rattle.drill.specs.ViewCalls.{has_tick}
+use Rattle.drill.proofs.CallLaws.{has_pulled}
 use Rattle.drill.proofs.worker.Worker.pull.Goals as goal
 
 pub next-requires : goal.next-requires
@@ -52,3 +53,9 @@ returns-clause-come g c =
     let comes = pull_comes _ _ _ _ _ _ c.args.self.now.replica c.args.cursor.now c.in_ok-batch.batch asked c.requires.works laws c.take_all.new.replica c.next.new.self _
     (c.as_slice.ensures ∙ c.in_ok-frames.ensures.frames) c.in_ok-frames.ensures.cursor (rw same at c.in_ok-take_all.ensures) in
     subst (λ (last : Bool). HasCome (play c.ask.new.self.pass.seen) c.take_all.new.replica c.args.cursor.now c.next.new.self last) (ap has_tick c.in-Batch.is ∙ sym c.is_some-is_last.ensures) comes
+
+pub returns-clause-pulled : goal.returns-clause-pulled
+returns-clause-pulled g c =
+    let asked = asked_behind _ _ _ _ _ _ c.after.result c.args.cursor.now c.in_ok-batch.batch c.in_ok-batch.ensures.asked c.after.ensures in
+    has_pulled _ _ _ c.args.self.now.view c.args.self.now.pass c.ask.new.self.pass c.args.cursor.now c.next.new.self c.in_ok-batch.batch _ asked c.in_ok-frames.ensures.cursor
+    (ap has_tick c.in-Batch.is ∙ sym c.is_some-is_last.ensures)

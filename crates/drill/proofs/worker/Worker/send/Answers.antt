@@ -4,7 +4,7 @@ use Rattle.session_lock.specs.History.{play}
 use Rattle.join_sync.specs.Answers.{IsReplyTo}
 use Rattle.replica.specs.View.{ReplicaView}
 use Rattle.drill.specs.declared.worker.Worker.{Worker}
-use Rattle.drill.specs.Turns.{done_of}
+use Rattle.drill.specs.ViewCalls.{done_of}
 use Rattle.drill.proofs.Sends.{has_done, has_sent_it, the_frame}
 use Rattle.drill.proofs.worker.Worker.send.Goals as goal
 

@@ -1,0 +1,221 @@
+-- A command whose inputs are right, and no call of which has failed, is done, or runs out of memory.
+use Rattle.std.proofs.Common.{◌≡◌, ◌⊎◌, inl, inr, ℕ, ℤ, ◌≤◌, Bool, true, false, List, [], ◌∷◌, length, replicate, Option, Some, None, Result, Ok, Err, refl, sym, subst}
+use Rattle.tea_base.specs.declared.entry.Entry.{Entry}
+use Rattle.tea_base.specs.declared.want.WantOfMemory.{WantOfMemory}
+use Rattle.tea_io.specs.Told.{Rose}
+use Rattle.run_steps.specs.Steps.{Step, Puts, Prints}
+use Rattle.run_steps.specs.Outside.{Acts, Cut, FilesTell, LinksTell, NetTells, Outside, OutputTells, WantedMemory, outside_tells}
+use Rattle.command_words.specs.declared.words.Command.{Command}
+use Rattle.command_words.specs.declared.words.Command.TheVariants.{Join}
+use Rattle.command_words.specs.declared.words.DrillRequest.{DrillRequest}
+use Rattle.connection.specs.declared.ending.Ended.{Ended}
+use Rattle.session_log.specs.Spelling.{log_spelling}
+use Rattle.snapshot_codec.specs.Spelling.{world_spelling}
+use Rattle.world.specs.Worlds.{replay}
+use Rattle.reflector_core.specs.PlainSession.{PlainSession}
+use Rattle.reflect_server.specs.Reflects.{CountsFailure}
+use Rattle.reflect_server.specs.declared.reflection.Reflected.{Reflected}
+use Rattle.reflect_server.specs.declared.reflection.ServeFault.{ServeFault}
+use Rattle.reflect_server.specs.declared.reflection.ServeFault.TheVariants as serve_fault
+use Rattle.command_reflect.specs.declared.reflection.Reflection.{Reflection}
+use Rattle.command_reflect.specs.ReflectedSteps.{reflected_steps, reflected_text}
+use Rattle.command_drill.specs.DrilledSteps.{drilled_line, drilled_steps, snapshot_puts}
+use Rattle.drill.specs.Drill.{drill_id}
+use Rattle.drill.specs.Ending.{root_total}
+use Rattle.drill.specs.declared.report.DrillReport.{DrillReport}
+use Rattle.commands.specs.Verdict.{AreAlike, ByDrill, ByReflecting, ByVisit, ByWant, Closing, Coming, Comes, Fine, Free, IsFunction, OfWords, Only, PlainVisit, TellsPlace, Verdict, fine, reflected_verdict}
+use Rattle.croquet.specs.declared.status.Status.{Status}
+use Rattle.croquet.specs.Complete.{HasRightInput, IsByPeer, IsComplete, IsDone, IsDueOf, NoLinkFailed, NoneFailed}
+use Rattle.croquet.specs.Drills.{OfDrilled}
+use Rattle.croquet.specs.Run.{Concludes, Ending, EndsWanting, OfReflected, Ran, RanAsDrill, RanAsReflector, RanBySteps, ServesNet, Visits}
+use Rattle.croquet.proofs.Counts.{CountsStay, EndsDone, EndsSaid, counts_on, counts_stay, done_by, net_moves, none_in_steps, none_within, rose_within, run_keeps, said_by, steps_keep}
+use Rattle.croquet.proofs.LinkCounts.{HasFailed, IsCutByWant, cut_by_want, faults, rises, steps_lower_none}
+use Rattle.croquet.proofs.RightSteps.{AreRight, IsGiving, giving_are_right, goes_along}
+use Rattle.croquet.proofs.RightVerdicts.{ClosesByVisit, ClosesWell, ComesRight, giving, words_right}
+use Rattle.croquet.proofs.VisitEnds.{visit_said}
+
+-- ---- what is like a verdict that puts and prints alone
+
+want_alike : (steps : List Step) → AreAlike steps Fine [] ByWant
+want_alike [] = inr (inr (inl refl))
+want_alike (step ∷ steps) = refl
+
+same_alike : (steps : List Step) → IsGiving steps → AreAlike steps Fine steps Fine
+same_alike [] gives = inl refl
+same_alike (Puts name bytes ∷ steps) gives = (refl, same_alike steps gives)
+same_alike (Prints text ∷ steps) gives = (refl, same_alike steps gives)
+same_alike (step ∷ steps) never = absurd never
+
+free_alike : (steps : List Step) (verdict : Verdict) → IsGiving steps → Free (Only (fine steps)) verdict → AreAlike steps Fine verdict.steps verdict.closing
+free_alike steps verdict gives (inl want) = subst (λ (v : Verdict). AreAlike steps Fine v.steps v.closing) (sym want) (want_alike steps)
+free_alike steps verdict gives (inr is) = subst (λ (v : Verdict). AreAlike steps Fine v.steps v.closing) (sym is) (same_alike steps gives)
+
+-- what is put and printed of a session that was reflected, and of a drill
+reflected_gives : (log : List ℕ) (ends : List Ended) (session : PlainSession) → IsGiving (reflected_steps log ends session)
+reflected_gives log ends session = giving (record { name = log; bytes = log_spelling session.log } ∷ []) (reflected_text ends session)
+
+drilled_gives : (request : DrillRequest) (log : List Entry) (snapshots : List (List ℕ)) (total : ℤ) (agree : ℕ) → IsGiving (drilled_steps request log snapshots total agree)
+drilled_gives request log snapshots total agree =
+    giving (record { name = request.log; bytes = log_spelling log } ∷ snapshot_puts request.snapshots 1 snapshots) (drilled_line request (length log) total agree)
+
+module _ {F W N L : Type 0} (files : FilesTell F) (out : OutputTells W) (net : NetTells N L) (links : LinksTell L) where
+  -- ---- by steps
+
+  ends_fine : (cut : Option Cut) (ending : Ending) (mid new : Outside F W N L) → Acts (outside_tells files out net links) [] cut mid new → Concludes Fine [] ending → EndsDone cut ending
+  ends_fine None ending mid new acts ends = inl ends.1
+  ends_fine (Some cut) ending mid new never ends = absurd never
+
+  ends_well
+      : (closing : Closing) (more : List Step) (ending : Ending) (cut : Option Cut) (mid new : Outside F W N L) → ClosesWell closing → Concludes closing more ending → Acts (outside_tells files out net links) more cut mid new
+      → EndsDone cut ending
+  ends_well Fine more ending cut mid new right ends acts =
+      ends_fine cut ending mid new (subst (λ (s : List Step). Acts (outside_tells files out net links) s cut mid new) ends.0 acts) (refl, ends.1)
+  ends_well (ByReflecting reflection) more ending cut mid new right never acts = absurd never
+  ends_well (ByDrill request) more ending cut mid new right never acts = absurd never
+  ends_well closing more ending cut mid new never ends acts = absurd never
+
+  -- the verdict that came is like this one, whose reads give what is held
+  module _ (right : Verdict) (coming : Coming) (old new : Outside F W N L) (result : Status) (ran : RanBySteps (outside_tells files out net links) coming old new result) where
+    abbrev pub IsLikeRight : Type 0
+    IsLikeRight = AreRight (files.held old.files) right.steps × AreAlike right.steps right.closing ran.course.verdict.steps ran.course.verdict.closing
+
+    along
+        : (Ends : Option Cut → Ending → Type 0) → (right.closing ≡ ByWant → ⊥) → (TellsPlace right.closing → ⊥)
+        → ((mid : Outside F W N L) → Concludes right.closing ran.course.more ran.ending → Acts (outside_tells files out net links) ran.course.more ran.does.cut mid ran.does.done → NoneFailed files out net mid ran.does.done → Ends ran.does.cut ran.ending)
+        → (ran.ending ≡ EndsWanting → Ends None ran.ending) → ((step : Step) → Ends (Some (record { step = step; came = WantedMemory })) ran.ending)
+        → IsLikeRight → NoneFailed files out net old new → Ends ran.does.cut ran.ending
+    along Ends not_want not_place closes wants runs_out (reads, alike) none =
+        goes_along files out net links right.closing not_want not_place ran.course.more ran.ending ran.does.cut ran.does.done (Ends ran.does.cut ran.ending)
+        closes
+        (λ uncut is. subst (λ (c : Option Cut). Ends c ran.ending) (sym uncut) (wants is))
+        (λ step is. subst (λ (c : Option Cut). Ends c ran.ending) (sym is) (runs_out step))
+        right.steps ran.course.verdict.steps ran.course.verdict.closing old reads alike ran.course.concludes
+        (subst (λ (s : List Step). Acts (outside_tells files out net links) s ran.does.cut old ran.does.done) ran.course.all ran.does.acts)
+        (none_in_steps files out net links ran.steps ran.ending old new result ran.does none)
+
+    done_along : ClosesWell right.closing → IsLikeRight → NoneFailed files out net old new → IsDone result
+    done_along closing like none =
+        done_by files out net links ran.steps ran.ending old new result ran.does none
+        (along EndsDone (λ want. subst (λ (c : Closing). ClosesWell c) want closing) (λ place. subst (λ (c : Closing). ClosesWell c) place.1 closing)
+        (λ mid ends acts left. ends_well right.closing ran.course.more ran.ending ran.does.cut mid ran.does.done closing ends acts)
+        (λ is. inr is) (λ step. refl) like none)
+
+    -- ---- a visit
+
+    -- no link that was in use has failed
+    no_link_failed : ¬ Rose (faults files out net links old) (faults files out net links new) → ¬ HasFailed links ran.does.done.link
+    no_link_failed calm failed =
+        calm
+        (subst (λ (o : Outside F W N L). Rose (faults files out net links old) (faults files out net links o)) (sym ran.does.told.1)
+        (rises files out net links ran.does.done.link old ran.does.done ran.does.left (steps_lower_none files out net links ran.steps ran.does.cut old ran.does.done ran.does.acts) failed refl ran.does.goes_back))
+
+    ends_visit : (visit : PlainVisit) (cut : Option Cut) → Visits visit ran.course.more ran.ending → IsCutByWant files out net links cut → EndsSaid cut ran.ending
+    ends_visit visit None visits uncut = inr (visits.end, visits.is, visit_said visit ran.course.more ran.ending visits)
+    ends_visit visit (Some cut) visits wanted = wanted
+
+    closes_visit
+        : (closing : Closing) → ClosesByVisit closing → ¬ HasFailed links ran.does.done.link → (mid : Outside F W N L) → Concludes closing ran.course.more ran.ending
+        → Acts (outside_tells files out net links) ran.course.more ran.does.cut mid ran.does.done → NoneFailed files out net mid ran.does.done → EndsSaid ran.does.cut ran.ending
+    closes_visit (ByVisit visit) closing fine mid visits acts none =
+        ends_visit visit ran.does.cut visits (cut_by_want files out net links ran.course.more ran.does.cut mid ran.does.done fine acts none)
+    closes_visit closing never fine mid visits acts none = absurd never
+
+    visit_along : ClosesByVisit right.closing → IsLikeRight → NoneFailed files out net old new → ¬ Rose (faults files out net links old) (faults files out net links new) → IsDone result ⊎ IsByPeer result
+    visit_along closing like none calm =
+        said_by files out net links ran.steps ran.ending old new result ran.does none
+        (along EndsSaid (λ want. subst (λ (c : Closing). ClosesByVisit c) want closing) (λ place. subst (λ (c : Closing). ClosesByVisit c) place.1 closing)
+        (closes_visit right.closing closing (no_link_failed calm)) (λ is. inl is) (λ step. refl) like none)
+
+  -- steps that put and print alone are done
+  done_giving
+      : (steps : List Step) (coming : Coming) (old new : Outside F W N L) (result : Status) (ran : RanBySteps (outside_tells files out net links) coming old new result) → IsGiving steps → Free (Only (fine steps)) ran.course.verdict
+      → NoneFailed files out net old new → IsDone result
+  done_giving steps coming old new result ran gives comes none =
+      done_along (fine steps) coming old new result ran tt (giving_are_right (files.held old.files) steps gives, free_alike steps ran.course.verdict gives comes) none
+
+  -- SCRATCH
+  module _ (function : IsFunction) (command : Option Command) (old new : Outside F W N L) (result : Status) (ran : RanBySteps (outside_tells files out net links) (Comes command) old new result) (none : NoneFailed files out net old new) where
+    like_right : (verdict : Verdict) → OfWords command verdict → AreRight (files.held old.files) verdict.steps → IsLikeRight verdict (Comes command) old new result ran
+    like_right verdict comes reads = (reads, function command verdict ran.course.verdict (inr comes) ran.course.comes)
+
+    own_steps : ComesRight (files.held old.files) ClosesWell (OfWords command) → IsDone result
+    own_steps due = done_along due.verdict (Comes command) old new result ran due.closing (like_right due.verdict due.comes due.reads) none
+
+    visit_steps : ComesRight (files.held old.files) ClosesByVisit (OfWords command) → ¬ Rose (faults files out net links old) (faults files out net links new) → IsDone result ⊎ IsByPeer result
+    visit_steps due calm = visit_along due.verdict (Comes command) old new result ran due.closing (like_right due.verdict due.comes due.reads) none calm
+
+  by_steps
+      : IsFunction → (command : Option Command) (old new : Outside F W N L) (result : Status) → RanBySteps (outside_tells files out net links) (Comes command) old new result
+      → HasRightInput files old.files command → NoneFailed files out net old new → NoLinkFailed net command old.net new.net → IsDueOf command result
+  by_steps function (Some (Join request)) old new result ran right none calm =
+      visit_steps function (Some (Join request)) old new result ran none (words_right files old.files (Some (Join request)) right) calm
+  by_steps function command old new result ran right none fine = own_steps function command old new result ran none (words_right files old.files command right)
+
+  -- ---- as a reflector
+
+  module _ (gives : ℕ → Type 0) (old ready served new : Outside F W N L) (result : Status) (first : CountsStay files out net old ready) (none : NoneFailed files out net old new) where
+    -- the net has not failed
+    net_is_fine : CountsStay files out net served new → Rose (net.faults ready.net) (net.faults served.net) → ⊥
+    net_is_fine last rose = none.of_net (rose_within _ _ _ _ first.of_net last.of_net rose)
+
+    none_behind : net.faults ready.net ≤ net.faults served.net → served ≡ record ready { net = served.net } → NoneFailed files out net served new
+    none_behind later is =
+        none_within files out net links old served new new
+        (counts_on files out net links old ready served first (net_moves files out net links ready served served.net ready.link later is)) (counts_stay files out net links new new refl) none
+
+    told
+        : (log : List ℕ) (ends : List Ended) (session : PlainSession) (failed : Bool) (coming : Coming) → ((v : Verdict) → coming v → Free (Only (reflected_verdict log ends session failed)) v)
+        → CountsFailure (net.faults ready.net) (net.faults served.net) failed → served ≡ record ready { net = served.net }
+        → (ran : RanBySteps (outside_tells files out net links) coming served new result) → CountsStay files out net served new → IsDone result
+    told log ends session true coming leads rose is ran last = absurd (net_is_fine last rose)
+    told log ends session false coming leads later is ran last =
+        done_giving (reflected_steps log ends session) coming served new result ran (reflected_gives log ends session) (leads ran.course.verdict ran.course.comes) (none_behind later is)
+
+    answered
+        : (reflection : Reflection) (answer : Result Reflected ServeFault) → ServesNet gives (outside_tells files out net links) reflection answer ready served
+        → (ran : RanBySteps (outside_tells files out net links) (OfReflected reflection.log answer) served new result) → CountsStay files out net served new → IsDone result
+    answered reflection (Ok reflected) serves ran last =
+        told reflection.log reflected.ends reflected.session.plain reflected.net_failed (OfReflected reflection.log (Ok reflected)) (λ v comes. comes) serves.0.faults serves.1 ran last
+    answered reflection (Err serve_fault.ListenFault) serves ran last = absurd (net_is_fine last serves.0.faults)
+    answered reflection (Err serve_fault.WantOfMemory) serves ran last =
+        done_giving [] (OfReflected reflection.log (Err serve_fault.WantOfMemory)) served new result ran tt (inl ran.course.comes) (none_behind serves.0.faults serves.1)
+
+  as_reflector
+      : (gives : ℕ → Type 0) (coming : Coming) (old new : Outside F W N L) (result : Status) → RanAsReflector gives (outside_tells files out net links) coming old new result → NoneFailed files out net old new → IsDone result
+  as_reflector gives coming old new result ran none =
+      answered gives old ran.ready ran.served new result (steps_keep files out net links ran.reaches.steps None old ran.ready ran.reaches.acts) none
+      ran.reflection ran.answer ran.serves ran.behind
+      (run_keeps files out net links ran.behind.steps ran.behind.ending ran.served new result ran.behind.does)
+
+  -- ---- as a drill
+
+  drilled
+      : (gives : ℕ → Type 0) (request : DrillRequest) (answer : Result DrillReport WantOfMemory) (old new : Outside F W N L) (result : Status) (ran : RanBySteps (outside_tells files out net links) (OfDrilled gives request answer) old new result)
+      → OfDrilled gives request answer ran.course.verdict → NoneFailed files out net old new → IsDone result
+  drilled gives request (Ok report) old new result ran (inl want) none = done_giving [] (OfDrilled gives request (Ok report)) old new result ran tt (inl want) none
+  drilled gives request (Ok report) old new result ran (inr is) none =
+      let log = report.session.plain.log in
+      let w = (replay is.has.tree drill_id log report.session.plain.horizon).world in
+      let snapshots = replicate request.views (world_spelling w) in
+      done_giving (drilled_steps request log snapshots (root_total w) request.views) (OfDrilled gives request (Ok report)) old new result ran
+      (drilled_gives request log snapshots (root_total w) request.views) (inr is.is) none
+  drilled gives request (Err wanting) old new result ran is none = done_giving [] (OfDrilled gives request (Err wanting)) old new result ran tt (inl is) none
+
+  as_drill
+      : (gives : ℕ → Type 0) (coming : Coming) (old new : Outside F W N L) (result : Status) → RanAsDrill gives (outside_tells files out net links) coming old new result → NoneFailed files out net old new → IsDone result
+  as_drill gives coming old new result ran none =
+      drilled gives ran.request ran.answer ran.ready new result ran.behind ran.behind.course.comes
+      (none_within files out net links old ran.ready new new (steps_keep files out net links ran.reaches.steps None old ran.ready ran.reaches.acts) (counts_stay files out net links new new refl) none)
+
+  -- ---- every run
+
+  due_by : (command : Option Command) (result : Status) → IsDone result → IsDueOf command result
+  due_by (Some (Join request)) result done = inl done
+  due_by command result done = done
+
+  pub is_complete
+      : IsFunction → (gives : ℕ → Type 0) (command : Option Command) (old new : Outside F W N L) (result : Status) → Ran gives (outside_tells files out net links) (Comes command) old new result
+      → IsComplete files out net command old new result
+  is_complete function gives command old new result (inl ran) = record { due = by_steps function command old new result ran }
+  is_complete function gives command old new result (inr (inl ran)) = record { due = λ right none fine. due_by command result (as_reflector gives (Comes command) old new result ran none) }
+  is_complete function gives command old new result (inr (inr ran)) = record { due = λ right none fine. due_by command result (as_drill gives (Comes command) old new result ran none) }

@@ -1,0 +1,168 @@
+-- The verdict that is due where the inputs of a command are right.
+use Rattle.std.proofs.Common.{◌≡◌, inl, inr, ℕ, Bool, true, List, [], ◌∷◌, encode_utf8_all, Option, Some, None, refl, sym, subst}
+use Rattle.tea_base.specs.Legal.{IsLegal}
+use Rattle.tea_base.specs.declared.entry.Entry.{Entry}
+use Rattle.session_log.specs.Spelling.{log_spelling}
+use Rattle.reflector_core.specs.declared.request.Request.{Request}
+use Rattle.reflector_core.specs.Play.{after_all, first_session, replies_from}
+use Rattle.model_tree.specs.Tree.{ProgramTree}
+use Rattle.world_plain.specs.World.{WorldRecord}
+use Rattle.world.specs.Worlds.{field_counts, replay, replay_on}
+use Rattle.snapshot_codec.specs.Spelling.{world_spelling}
+use Rattle.tea_io.specs.Files.{Content}
+use Rattle.view_script.specs.PlainLine.{PlainLine}
+use Rattle.view_script.specs.ViewScript.{view_script_of}
+use Rattle.run_steps.specs.Steps.{Ask, Loads}
+use Rattle.run_steps.specs.Outside.{FilesTell}
+use Rattle.command_outcome.specs.declared.outcome.Input.{Input}
+use Rattle.command_outcome.specs.declared.outcome.Input.TheVariants as input
+use Rattle.command_outcome.specs.declared.outcome.Put.{Put}
+use Rattle.command_outcome.specs.Outcome.{optional_put, steps_of}
+use Rattle.command_outcome.specs.ProgramEnd.{IsFaultless}
+use Rattle.command_outcome.specs.ProgramText.{counts_line}
+use Rattle.command_stamp.specs.ReplyText.{text_of}
+use Rattle.command_stamp.specs.Script.{script_of}
+use Rattle.command_replay.specs.WorldText.{world_line}
+use Rattle.command_words.specs.Address.{is_address}
+use Rattle.command_words.specs.declared.words.ReplayRequest.{ReplayRequest}
+use Rattle.command_words.specs.declared.words.JoinRequest.{JoinRequest}
+use Rattle.command_words.specs.declared.words.ReflectRequest.{ReflectRequest}
+use Rattle.command_words.specs.declared.words.Command.{Command}
+use Rattle.command_words.specs.declared.words.Command.TheVariants.{Stamp, Check, Replay, Join, Reflect, Drill}
+use Rattle.commands.specs.Verdict.{ByDrill, ByReflecting, ByVisit, Closing, Coming, Fine, OfAddress, OfFile, OfJoin, OfLog, OfProgram, OfReflect, OfScript, OfSnapshot, OfTree, OfView, OfViewScript, OfWords, Only, Starts, Verdict, ask_log, ask_program, ask_script, ask_snapshot, at_once, before, count_verdict, fine, most_script, reflection_of, session_of, stamp_verdict, visit_to}
+use Rattle.commands.proofs.Agreement.{late_verdict}
+use Rattle.croquet.specs.Complete.{HasRightInput, HoldsFile, HoldsProgram, HoldsRecording, HoldsStart, IsLogText, IsScriptText, IsSnapshotUntil, IsProgramText, IsViewScriptText, NamesAddress}
+use Rattle.croquet.proofs.RightSteps.{AreRight, GivesHeld, IsGiving, giving_are_right}
+
+-- what is put and printed is put and printed alone
+pub giving : (puts : List Put) (text : List ℕ) → IsGiving (steps_of puts text)
+giving [] text = tt
+giving (put ∷ puts) text = giving puts text
+
+-- all is done by then, or the run goes on as a reflector's or as a drill
+abbrev pub ClosesWell : Closing → Type 0
+ClosesWell Fine = Unit {0}
+ClosesWell (ByReflecting reflection) = Unit {0}
+ClosesWell (ByDrill request) = Unit {0}
+ClosesWell closing = ⊥
+
+-- the run goes on as a view's
+abbrev pub ClosesByVisit : Closing → Type 0
+ClosesByVisit (ByVisit visit) = Unit {0}
+ClosesByVisit closing = ⊥
+
+-- so is a command closed whose inputs are right: `join` by a visit
+abbrev pub ClosesRight : Option Command → Closing → Type 0
+ClosesRight (Some (Join request)) closing = ClosesByVisit closing
+ClosesRight command closing = ClosesWell closing
+
+-- some verdict comes whose steps read what is held, and which is closed so
+pub record ComesRight (held : List ℕ → Content) (Closes : Closing → Type 0) (coming : Coming) : Type 0 where
+  pub verdict : Verdict
+  pub comes : coming verdict
+  pub reads : AreRight held verdict.steps
+  pub closing : Closes verdict.closing
+
+module _ (held : List ℕ → Content) where
+  fine_right : (puts : List Put) (text : List ℕ) (coming : Coming) → coming (fine (steps_of puts text)) → ComesRight held ClosesWell coming
+  fine_right puts text coming comes = record { verdict = fine (steps_of puts text); comes = comes; reads = giving_are_right held (steps_of puts text) (giving puts text); closing = tt }
+
+  closed_right : (Closes : Closing → Type 0) (closing : Closing) (coming : Coming) → Closes closing → coming (at_once closing) → ComesRight held Closes coming
+  closed_right Closes closing coming right comes = record { verdict = at_once closing; comes = comes; reads = tt; closing = right }
+
+  file_right : (Closes : Closing → Type 0) (at : Input) (ask : Ask) (next : List ℕ → Coming) (bytes : List ℕ) → GivesHeld held ask (Some bytes) → ComesRight held Closes (next bytes) → ComesRight held Closes (OfFile at ask next)
+  file_right Closes at ask next bytes gives right = record {
+    verdict = before (Loads ask (Some bytes)) right.verdict;
+    comes = (Some bytes, (right.verdict, refl, inr right.comes));
+    reads = (gives, right.reads);
+    closing = right.closing;
+  }
+
+  script_right : (log : Option (List ℕ)) (script : Option (List Request)) (requests : List Request) → script ≡ Some requests → ComesRight held ClosesWell (OfScript log script)
+  script_right log script requests is =
+      fine_right (optional_put log (log_spelling (after_all first_session requests).log)) (text_of (replies_from first_session requests)) (OfScript log script)
+      (subst (λ (s : Option (List Request)). OfScript log s (stamp_verdict log requests)) (sym is) refl)
+
+  program_right : (Closes : Closing → Type 0) (next : ProgramTree → Coming) (bytes : List ℕ) (tree : ProgramTree) → IsFaultless bytes tree → ComesRight held Closes (next tree) → ComesRight held Closes (OfProgram next bytes)
+  program_right Closes next bytes tree faultless right =
+      record { verdict = right.verdict; comes = inl (tree, faultless, right.comes); reads = right.reads; closing = right.closing }
+
+  log_right : (Closes : Closing → Type 0) (next : List Entry → Coming) (bytes : List ℕ) (log : List Entry) → IsLegal log → bytes ≡ log_spelling log → ComesRight held Closes (next log) → ComesRight held Closes (OfLog next bytes)
+  log_right Closes next bytes log legal spelled right =
+      record { verdict = right.verdict; comes = inl (log, legal, spelled, right.comes); reads = right.reads; closing = right.closing }
+
+  address_right : (Closes : Closing → Type 0) (is : Bool) (next : Coming) → is ≡ true → ComesRight held Closes next → ComesRight held Closes (OfAddress is next)
+  address_right Closes is next so right = subst (λ (b : Bool). ComesRight held Closes (OfAddress b next)) (sym so) right
+
+-- ---- what the files hold
+
+module _ {F : Type 0} (files : FilesTell F) (old : F) where
+  -- a file is read that is such an input
+  read_right : (Closes : Closing → Type 0) (at : Input) (ask : Ask) (next : List ℕ → Coming) (IsInput : List ℕ → Type 0) (holds : HoldsFile files old ask.name ask.limit IsInput)
+      → ComesRight (files.held old) Closes (next holds.bytes) → ComesRight (files.held old) Closes (OfFile at ask next)
+  read_right Closes at ask next IsInput holds right =
+      file_right (files.held old) Closes at ask next holds.bytes (record { bytes = holds.bytes; is = refl; present = holds.present; within = holds.within }) right
+
+  read_program : (Closes : Closing → Type 0) (name : List ℕ) (program : HoldsProgram files old name) (next : List ℕ → ProgramTree → Coming) → ComesRight (files.held old) Closes (next program.bytes program.right.0)
+      → ComesRight (files.held old) Closes (OfFile input.Program (ask_program name) (λ bytes. OfProgram (next bytes) bytes))
+  read_program Closes name program next right =
+      read_right Closes input.Program (ask_program name) (λ bytes. OfProgram (next bytes) bytes) IsProgramText program
+      (program_right (files.held old) Closes (next program.bytes) program.bytes program.right.0 program.right.1 right)
+
+  snapshot_right : (request : ReplayRequest) (tree : ProgramTree) (id : List ℕ) (log : List Entry) (bytes : List ℕ) → IsSnapshotUntil request.time (field_counts tree) id bytes → ComesRight (files.held old) ClosesWell (OfSnapshot request tree id log bytes)
+  snapshot_right request tree id log bytes (start, is, early) =
+      let w = (replay_on tree start log request.time).world in
+      fine_right (files.held old) (optional_put request.snapshot (world_spelling w)) (world_line w) (OfSnapshot request tree id log bytes) (inl (start, is, sym (late_verdict request tree log start early)))
+
+  start_right : (from : Option (List ℕ)) (request : ReplayRequest) (tree : ProgramTree) (id : List ℕ) (log : List Entry) → HoldsStart files old from (IsSnapshotUntil request.time (field_counts tree) id)
+      → ComesRight (files.held old) ClosesWell (Starts from request tree id log)
+  start_right None request tree id log start =
+      let w = (replay tree id log request.time).world in
+      fine_right (files.held old) (optional_put request.snapshot (world_spelling w)) (world_line w) (Starts None request tree id log) refl
+  start_right (Some name) request tree id log start =
+      read_right ClosesWell input.Snapshot (ask_snapshot name) (OfSnapshot request tree id log) (IsSnapshotUntil request.time (field_counts tree) id) start
+      (snapshot_right request tree id log start.bytes start.right)
+
+  recording_right : (request : ReplayRequest) → HoldsRecording files old request → ComesRight (files.held old) ClosesWell (OfWords (Some (Replay request)))
+  recording_right request recording =
+      let program = recording.program in
+      let tree = program.right.0 in
+      let id = session_of request.name program.bytes in
+      read_program ClosesWell request.program program (λ bytes tree. OfTree request (session_of request.name bytes) tree)
+      (read_right ClosesWell input.Log (ask_log request.log) (OfLog (Starts request.from request tree id)) IsLogText recording.log
+      (log_right (files.held old) ClosesWell (Starts request.from request tree id) recording.log.bytes recording.log.right.0 recording.log.right.1 recording.log.right.2
+      (start_right request.from request tree id recording.log.right.0 recording.start)))
+
+  reflect_right : (request : ReflectRequest) → HoldsProgram files old request.program → NamesAddress request.address → ComesRight (files.held old) ClosesWell (OfWords (Some (Reflect request)))
+  reflect_right request program address =
+      let reflection = reflection_of request (session_of request.name program.bytes) in
+      read_program ClosesWell request.program program (λ bytes tree. OfReflect request (session_of request.name bytes))
+      (address_right (files.held old) ClosesWell (is_address (encode_utf8_all request.address)) (Only (at_once (ByReflecting reflection))) address
+      (closed_right (files.held old) ClosesWell (ByReflecting reflection) (Only (at_once (ByReflecting reflection))) tt refl))
+
+  view_script_right : (request : JoinRequest) (id : List ℕ) (tree : ProgramTree) (script : Option (List PlainLine)) (lines : List PlainLine) → script ≡ Some lines → ComesRight (files.held old) ClosesByVisit (OfViewScript request id tree script)
+  view_script_right request id tree script lines is =
+      closed_right (files.held old) ClosesByVisit (ByVisit (visit_to request id tree lines)) (OfViewScript request id tree script) tt
+      (subst (λ (s : Option (List PlainLine)). OfViewScript request id tree s (at_once (ByVisit (visit_to request id tree lines)))) (sym is) refl)
+
+  join_right : (request : JoinRequest) → HoldsProgram files old request.program → NamesAddress request.address → HoldsFile files old request.script most_script IsViewScriptText → ComesRight (files.held old) ClosesByVisit (OfWords (Some (Join request)))
+  join_right request program address script =
+      let id = session_of request.name program.bytes in
+      let tree = program.right.0 in
+      read_program ClosesByVisit request.program program (λ bytes tree. OfJoin request (session_of request.name bytes) tree)
+      (address_right (files.held old) ClosesByVisit (is_address (encode_utf8_all request.address)) (OfView request id tree) address
+      (read_right ClosesByVisit input.Script (ask_script request.script) (λ bytes. OfViewScript request id tree (view_script_of bytes)) IsViewScriptText script
+      (view_script_right request id tree (view_script_of script.bytes) script.right.0 script.right.1)))
+
+  -- what comes of a command whose inputs are right
+  pub words_right : (command : Option Command) → HasRightInput files old command → ComesRight (files.held old) (ClosesRight command) (OfWords command)
+  words_right None never = absurd never
+  words_right (Some (Stamp script log)) right =
+      read_right ClosesWell input.Script (ask_script script) (λ bytes. OfScript log (script_of bytes)) IsScriptText right
+      (script_right (files.held old) log (script_of right.bytes) right.right.0 right.right.1)
+  words_right (Some (Check program)) right =
+      read_program ClosesWell program right (λ bytes tree. Only (count_verdict tree)) (fine_right (files.held old) [] (counts_line right.right.0) (Only (count_verdict right.right.0)) refl)
+  words_right (Some (Replay request)) right = recording_right request right
+  words_right (Some (Reflect request)) right = reflect_right request right.0 right.1
+  words_right (Some (Drill request)) right = closed_right (files.held old) ClosesWell (ByDrill request) (OfWords (Some (Drill request))) tt refl
+  words_right (Some (Join request)) right = join_right request right.0 right.1 right.2

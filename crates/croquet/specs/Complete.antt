@@ -1,0 +1,113 @@
+-- A command whose inputs are right, and no call of which has failed, is done, or runs out of memory.
+use Rattle.std.specs.Prelude.{◌≡◌, ◌⊎◌, ℕ, ⊤, ◌≤◌, true, List, length, encode_utf8_all, Option, Some, None}
+use Rattle.tea_base.specs.Legal.{IsLegal}
+use Rattle.tea_base.specs.Limits.{most_snapshot}
+use Rattle.tea_base.specs.declared.entry.Entry.{Entry}
+use Rattle.session_log.specs.Spelling.{log_spelling}
+use Rattle.reflector_core.specs.declared.request.Request.{Request}
+use Rattle.model_tree.specs.Bounds.{most_program_bytes}
+use Rattle.model_tree.specs.Tree.{ProgramTree}
+use Rattle.world_plain.specs.World.{WorldRecord}
+use Rattle.world.specs.Worlds.{field_counts}
+use Rattle.snapshot_codec.specs.Answer.{IsSnapshot}
+use Rattle.tea_io.specs.Files.{Present}
+use Rattle.tea_io.specs.Told.{Rose}
+use Rattle.view_script.specs.PlainLine.{PlainLine}
+use Rattle.view_script.specs.ViewScript.{view_script_of}
+use Rattle.run_steps.specs.Outside.{FilesTell, NetTells, Outside, OutputTells}
+use Rattle.command_words.specs.Address.{is_address}
+use Rattle.command_words.specs.declared.words.ReplayRequest.{ReplayRequest}
+use Rattle.command_words.specs.declared.words.Command.{Command}
+use Rattle.command_words.specs.declared.words.Command.TheVariants.{Stamp, Check, Replay, Join, Reflect, Drill}
+use Rattle.command_stamp.specs.Script.{script_of}
+use Rattle.command_outcome.specs.ProgramEnd.{IsFaultless}
+use Rattle.commands.specs.Verdict.{most_log, most_script, session_of}
+use Rattle.croquet.specs.declared.status.Status.{Status}
+use Rattle.croquet.specs.declared.status.Status.TheVariants as status
+
+-- ---- the inputs of a command, which stand in its files
+
+-- under this name the files hold bytes that are such an input, at most so many
+pub record HoldsFile {F : Type 0} (files : FilesTell F) (old : F) (name : List ℕ) (most : ℕ) (IsInput : List ℕ → Type 0) : Type 0 where
+  pub bytes : List ℕ
+  pub present : files.held old name ≡ Present bytes
+  pub within : length bytes ≤ most
+  pub right : IsInput bytes
+
+abbrev pub IsScriptText : List ℕ → Type 0
+IsScriptText bytes = (requests : List Request) × (script_of bytes ≡ Some requests)
+
+abbrev pub IsViewScriptText : List ℕ → Type 0
+IsViewScriptText bytes = (lines : List PlainLine) × (view_script_of bytes ≡ Some lines)
+
+-- a program without faults
+abbrev pub IsProgramText : List ℕ → Type 0
+IsProgramText bytes = (tree : ProgramTree) × IsFaultless bytes tree
+
+abbrev pub IsLogText : List ℕ → Type 0
+IsLogText bytes = (log : List Entry) × IsLegal log × (bytes ≡ log_spelling log)
+
+-- the snapshot of a world that is valid for a program with so many fields in each class, is of the session of this id, and has at most this time
+abbrev pub IsSnapshotUntil : ℕ → List ℕ → List ℕ → List ℕ → Type 0
+IsSnapshotUntil time counts id bytes = (w : WorldRecord) × IsSnapshot counts id bytes w × (w.time ≤ time)
+
+abbrev pub HoldsProgram : {F : Type 0} → FilesTell F → F → List ℕ → Type 0
+HoldsProgram files old name = HoldsFile files old name most_program_bytes IsProgramText
+
+-- what a replay begins with: such a snapshot, if a name for it is given
+abbrev pub HoldsStart : {F : Type 0} → FilesTell F → F → Option (List ℕ) → (List ℕ → Type 0) → Type 0
+HoldsStart files old None IsInput = ⊤
+HoldsStart files old (Some name) IsInput = HoldsFile files old name most_snapshot IsInput
+
+-- the files of a replay
+pub record HoldsRecording {F : Type 0} (files : FilesTell F) (old : F) (request : ReplayRequest) : Type 0 where
+  pub program : HoldsProgram files old request.program
+  pub log : HoldsFile files old request.log most_log IsLogText
+  pub start : HoldsStart files old request.from (IsSnapshotUntil request.time (field_counts program.right.0) (session_of request.name program.bytes))
+
+-- a word is the address of a net
+abbrev pub NamesAddress : List ℕ → Type 0
+NamesAddress word = is_address (encode_utf8_all word) ≡ true
+
+-- the inputs of a command are right: a row for each; words that are refused have none
+abbrev pub HasRightInput : {F : Type 0} → FilesTell F → F → Option Command → Type 0
+HasRightInput files old None = ⊥
+HasRightInput files old (Some (Stamp script log)) = HoldsFile files old script most_script IsScriptText
+HasRightInput files old (Some (Check program)) = HoldsProgram files old program
+HasRightInput files old (Some (Replay request)) = HoldsRecording files old request
+HasRightInput files old (Some (Join request)) =
+    HoldsProgram files old request.program × NamesAddress request.address × HoldsFile files old request.script most_script IsViewScriptText
+HasRightInput files old (Some (Reflect request)) = HoldsProgram files old request.program × NamesAddress request.address
+-- a drill reads no file
+HasRightInput files old (Some (Drill request)) = ⊤
+
+-- ---- how it ends
+
+-- No call of the files, of the output or of the net has failed: their counts of faults have not risen. One that stands at the last value
+-- of its type counts as risen.
+pub record NoneFailed {F W N L : Type 0} (files : FilesTell F) (out : OutputTells W) (net : NetTells N L) (old new : Outside F W N L) : Type 0 where
+  pub of_files : ¬ Rose (files.faults old.files) (files.faults new.files)
+  pub of_output : ¬ Rose (out.faults old.out) (out.faults new.out)
+  pub of_net : ¬ Rose (net.faults old.net) (net.faults new.net)
+
+-- of a join no link has failed either; of a reflector a link may
+abbrev pub NoLinkFailed : {N L : Type 0} → NetTells N L → Option Command → N → N → Type 0
+NoLinkFailed net (Some (Join request)) old new = ¬ Rose (net.link_counts old).faults (net.link_counts new).faults
+NoLinkFailed net command old new = ⊤
+
+-- all went well, or memory ran out
+abbrev pub IsDone : Status → Type 0
+IsDone result = (result ≡ status.Ok) ⊎ (result ≡ status.WantOfMemory)
+
+-- the reflector refused a frame, ended the connection or was quiet too long, or broke the rules
+abbrev pub IsByPeer : Status → Type 0
+IsByPeer result = (result ≡ status.Refused) ⊎ ((result ≡ status.Ended) ⊎ (result ≡ status.Peer))
+
+-- what a command comes to: of a join its links have a say too
+abbrev pub IsDueOf : Option Command → Status → Type 0
+IsDueOf (Some (Join request)) result = IsDone result ⊎ IsByPeer result
+IsDueOf command result = IsDone result
+
+-- a command whose inputs are right comes to what is due, where no call has failed
+pub record IsComplete {F W N L : Type 0} (files : FilesTell F) (out : OutputTells W) (net : NetTells N L) (command : Option Command) (old new : Outside F W N L) (result : Status) : Type 0 where
+  pub due : HasRightInput files old.files command → NoneFailed files out net old new → NoLinkFailed net command old.net new.net → IsDueOf command result

@@ -1,0 +1,88 @@
+-- Where callers stand in a history.
+use Rattle.std.proofs.Common.{◌≡◌, ℕ, ◌+◌, ◌≤◌, Bool, true, false, eqb, ◌||◌, List, [], ◌∷◌, ◌++◌, if◌then◌else◌, length, refl, sym, ap, subst, ◌∙◌, arith, eq-eqb}
+use Rattle.std.proofs.lemmas.Bool.{eqb-true}
+use Rattle.std.specs.List.{AllByRecursion}
+use Rattle.reflector_core.specs.Answer.{answer}
+use Rattle.reflector_core.specs.Play.{first_session}
+use Rattle.reflector_core.specs.declared.request.Request.{Request}
+use Rattle.session_lock.specs.declared.knowledge.Item.{Item}
+use Rattle.session_lock.specs.declared.knowledge.Item.TheVariants.{Did}
+use Rattle.session_lock.specs.History.{calls_of, caller_of, has, play}
+use Rattle.session_lock.proofs.Histories.{has_own, none_behind}
+use Rattle.connection.specs.Exchanges.{Exchange, Answered, exchanges_from, exchanges_in}
+use Rattle.connection.proofs.Callers.{exchanges_both}
+use Rattle.reflect_server.specs.Connections.{ServedConnection, callers_of}
+use Rattle.view_follows.proofs.Lists.{all_back}
+
+-- ---- who called
+
+kept_has : (callers : List ℕ) (x : Item) (rest : List Item) (own : Bool) → has (caller_of x) callers ≡ own → AllByRecursion (λ (y : Item). has (caller_of y) callers ≡ true) rest
+    → AllByRecursion (λ (y : Item). has (caller_of y) callers ≡ true) (if own then x ∷ rest else rest)
+kept_has callers x rest true is all = (is, all)
+kept_has callers x rest false is all = all
+
+called_by : (callers : List ℕ) (history : List Item) → AllByRecursion (λ (y : Item). has (caller_of y) callers ≡ true) (calls_of callers history)
+called_by callers [] = tt
+called_by callers (x ∷ xs) = kept_has callers x (calls_of callers xs) (has (caller_of x) callers) refl (called_by callers xs)
+
+-- where nobody else called, each item is one of theirs
+pub is_called : (callers : List ℕ) (history front back : List Item) (x : Item) → calls_of callers history ≡ history → front ++ x ∷ back ≡ history → has (caller_of x) callers ≡ true
+is_called callers history front back x whole is =
+    let P = λ (y : Item). has (caller_of y) callers ≡ true in
+    let all = subst (AllByRecursion P) whole (called_by callers history) in
+    (all_back P front (x ∷ back) (subst (AllByRecursion P) (sym is) all)).0
+
+-- the connection of a caller
+find_by : {L : Type 0} (P : ServedConnection L → Type 0) (one : ServedConnection L) (rest : List (ServedConnection L)) (caller : ℕ) (own : Bool) → eqb caller one.caller ≡ own → (own || has caller (callers_of rest)) ≡ true → P one
+    → (has caller (callers_of rest) ≡ true → (found : ServedConnection L) × (caller ≡ found.caller) × P found) → (found : ServedConnection L) × (caller ≡ found.caller) × P found
+find_by P one rest caller true is among holds later = (one, eqb-true caller one.caller is, holds)
+find_by P one rest caller false is among holds later = later among
+
+pub find_caller : {L : Type 0} (P : ServedConnection L → Type 0) (connections : List (ServedConnection L)) (caller : ℕ) → has caller (callers_of connections) ≡ true → AllByRecursion P connections
+    → (found : ServedConnection L) × (caller ≡ found.caller) × P found
+find_caller P [] caller among all = absurd (cc (among))
+find_caller P (one ∷ rest) caller among all = find_by P one rest caller (eqb caller one.caller) refl among all.0 (λ later. find_caller P rest caller later all.1)
+
+-- ---- what stands first
+
+own_item : (caller : ℕ) (asked : Request) (front : List Item) → calls_of (caller ∷ []) (Did caller asked ∷ front) ≡ [] → ⊥
+own_item caller asked front none =
+    let first : Did caller asked ∷ calls_of (caller ∷ []) front ≡ [] = sym (ap (λ (b : Bool). if b then Did caller asked ∷ calls_of (caller ∷ []) front else calls_of (caller ∷ []) front) (has_own caller [])) ∙ none in
+    absurd (cc (first))
+
+same_item : (x y : Item) (xs ys : List Item) → x ∷ xs ≡ y ∷ ys → x ≡ y
+same_item x y xs ys is = cc
+
+same_items : (x y : Item) (xs ys : List Item) → x ∷ xs ≡ y ∷ ys → xs ≡ ys
+same_items x y xs ys is = cc
+
+-- where a caller has made no call yet, none of its calls has been reached
+pub is_earlier : (caller : ℕ) (asked : Request) (front back before behind : List Item) → front ++ back ≡ before ++ Did caller asked ∷ behind → calls_of (caller ∷ []) front ≡ [] → length front ≤ length before
+is_earlier caller asked [] back before behind is none = omega (arith)
+is_earlier caller asked (x ∷ front) back [] behind is none =
+    absurd (own_item caller asked front (subst (λ (y : Item). calls_of (caller ∷ []) (y ∷ front) ≡ []) (same_item x (Did caller asked) (front ++ back) behind is) none))
+is_earlier caller asked (x ∷ front) back (y ∷ before) behind is none =
+    let rest = is_earlier caller asked front back before behind (same_items x y (front ++ back) (before ++ Did caller asked ∷ behind) is) (none_behind (has (caller_of x) (caller ∷ [])) x (calls_of (caller ∷ []) front) none) in
+    omega (arith, rest)
+
+-- two beginnings of one list that are as long are the same
+pub same_front : (front back other behind : List Item) → front ++ back ≡ other ++ behind → length front ≡ length other → front ≡ other
+same_front [] back [] behind is long = refl
+same_front [] back (y ∷ other) behind is long = absurd (omega (arith, long))
+same_front (x ∷ front) back [] behind is long = absurd (omega (arith, long))
+same_front (x ∷ front) back (y ∷ other) behind is long =
+    let heads = same_item x y (front ++ back) (other ++ behind) is in
+    let rest = same_front front back other behind (same_items x y (front ++ back) (other ++ behind) is) (omega (arith, long)) in
+    ap (λ (z : Item). z ∷ front) heads ∙ ap (λ (l : List Item). y ∷ l) rest
+
+-- ---- an item as an exchange
+
+pub item_holds : (P : Exchange → Type 0) (history before behind : List Item) (caller : ℕ) (asked : Request) → before ++ Did caller asked ∷ behind ≡ history → AllByRecursion P (exchanges_in history caller)
+    → P (Answered asked (answer (play before) asked).reply)
+item_holds P history before behind caller asked is all =
+    let replied = (answer (play before) asked).reply in
+    let later = exchanges_from (answer (play before) asked).session caller behind in
+    let own : exchanges_from (play before) caller (Did caller asked ∷ behind) ≡ Answered asked replied ∷ later = ap (λ (b : Bool). (if b then Answered asked replied ∷ [] else []) ++ later) (eq-eqb caller caller refl) in
+    let whole = subst (λ (h : List Item). AllByRecursion P (exchanges_in h caller)) (sym is) all in
+    let parts = subst (AllByRecursion P) (exchanges_both first_session caller before (Did caller asked ∷ behind)) whole in
+    (subst (AllByRecursion P) own (all_back P (exchanges_in before caller) (exchanges_from (play before) caller (Did caller asked ∷ behind)) parts)).0
