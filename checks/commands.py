@@ -63,15 +63,18 @@ class Recorded:
     """A case of a replay, and the log that its script makes by the program itself."""
 
     def __init__(self, program, case, times):
-        head, self.source = case.split(b" | ", 1)
+        head, self.source, *self.json = case.split(b" | ", 2)
         self.name, *self.times, script = head.split(b" ", times + 1)
         self.program = program
         self.stamped = stamp(program, b"" if script == b"-" else script)
 
-    def replay(self, time, snapshot=None):
-        """A run to this time, which writes the snapshot into the file `f`."""
+    def replay(self, time, snapshot=None, option="--snapshot"):
+        """A run to this time, which writes what the option asks for into the file `f`."""
         files = {"p": self.source, "l": self.stamped.files["l"]}
-        words = ["replay", "p", self.name, "l", time, "--snapshot", "f"]
+        words = ["replay", "p", self.name, "l", time, option, "f"]
+        if self.json:
+            words += ["--persisted", "j"]
+            files["j"] = self.json[0]
         if snapshot is None:
             return self.program.run(words, files)
         return self.program.run([*words, "--from", "s"], {**files, "s": snapshot})
@@ -94,6 +97,29 @@ def check_snapshot(program, case, wanted):
     expect(wanted, run.files["f"].hex() if run.status == 0 else run.told())
 
 
+def check_saved(program, case, wanted):
+    recorded = Recorded(program, case, 1)
+    run = recorded.replay(recorded.times[0], option="--saved")
+    expect(wanted, run.files["f"].decode("utf-8", "replace") if run.status == 0 else run.told())
+    return expect(["f"] if run.status == 0 else [], list(run.files))
+
+
+KEEPING = b"class Root{field v;init(o,p){this.v=p;persist(p);}}"
+
+
+def check_json(program, case, wanted):
+    """A session is founded with this text, or it is refused."""
+    files = {"p": KEEPING, "l": croquet.Session().encoded(), "j": case}
+    run = program.run(["replay", "p", "a", "l", "0", "--persisted", "j", "--snapshot", "f", "--saved", "g"], files)
+    if wanted == "bad":
+        expect("input persisted [3]", run.told())
+        return expect({}, run.files)
+    value = croquet.from_json(case)
+    world = croquet.World.first(croquet.read_program(KEEPING), croquet.session_id(b"a", KEEPING, value), value)
+    expect(croquet.world_line(world), run.told())
+    expect((world.snapshot(), case if wanted == "same" else wanted.encode()), (run.files.get("f"), run.files.get("g")))
+
+
 def check_resumed(program, case, wanted):
     recorded = Recorded(program, case, 2)
     if recorded.stamped.status != 0:
@@ -109,6 +135,61 @@ def check_resumed(program, case, wanted):
     whole = recorded.replay(time)
     same = "same" if whole.files == run.files else "differs"
     return expect(wanted, f"{run.told()} {same}")
+
+
+# ---------------------------------------------------------------- spoiled snapshots
+
+COUNTING = b"class Root{field n;init(o,p){if(p==nil){this.n=0;}else{this.n=at(p,0);}persist([this.n+1]);}}"
+
+
+def counted_world():
+    """A world that has saved a value."""
+    return croquet.World.first(croquet.read_program(COUNTING), croquet.session_id(b"n", COUNTING))
+
+
+def fronts(content):
+    """The bytes up to each place, but for all of them."""
+    return [(f"the first {size} bytes", content[:size]) for size in range(len(content))]
+
+
+def turned(content):
+    """The bytes with each bit turned."""
+    number = int.from_bytes(content, "big")
+    return [(f"bit {place} from the end turned", (number ^ 1 << place).to_bytes(len(content), "big"))
+            for place in range(8 * len(content))]
+
+
+def taken_up(snapshot):
+    """What a replay from these bytes to time 0 prints, and the files that it writes."""
+    world = counted_world()
+    try:
+        world = croquet.read_snapshot(world.program, world.id, snapshot)
+    except croquet.Bad:
+        return "input snapshot [3]", {}
+    if world.time > 0:
+        return "input time [3]", {}
+    world = croquet.replayed(world, [], 0)
+    return croquet.world_line(world), {"f": snapshot, "g": croquet.to_json(world.saved)}
+
+
+def check_spoiled(program, snapshot):
+    files = {"p": COUNTING, "l": croquet.Session().encoded(), "s": snapshot}
+    run = program.run(["replay", "p", "n", "l", "0", "--from", "s", "--snapshot", "f", "--saved", "g"], files)
+    expect(taken_up(snapshot), (run.told(), run.files))
+
+
+def spoiled_cases():
+    """Each front of the snapshot of a world that has saved a value, and each bit of it and of the one without that value."""
+    world = counted_world()
+    saving = world.snapshot()
+    world.persist(None)
+    empty = world.snapshot()
+    kinds = {"a saved value": fronts(saving) + turned(saving), "no saved value": turned(empty)}
+
+    def case_of(kind, how, snapshot):
+        return Case(f"{kind}, {how}", lambda program: check_spoiled(program, snapshot))
+
+    return [case_of(kind, *pair) for kind, pairs in kinds.items() for pair in pairs]
 
 
 # ---------------------------------------------------------------- commands
@@ -152,7 +233,7 @@ def named_files(words):
     named = set()
     for option, word in zip(words, words[1:]):
         name = word.decode("utf-8")
-        if option in (b"--log", b"--snapshot"):
+        if option in (b"--log", b"--snapshot", b"--saved"):
             named.add(name)
         if option == b"--snapshots":
             named |= {f"{name}{view}" for view in range(1, 9)}
@@ -199,5 +280,8 @@ PARTS = {
     + each("worlds", "whiteboard", check_world),
     "snapshots": lambda: each("snapshots", "snapshots", check_snapshot),
     "resumed": lambda: each("resumed", "resumed", check_resumed),
+    "saved": lambda: each("saved", "saved", check_saved),
+    "jsons": lambda: each("data", "jsons", check_json),
+    "spoiled": spoiled_cases,
     "commands": command_cases,
 }

@@ -107,7 +107,33 @@ def an_address_that_is_taken_is_a_fault(program):
         leave_all(view)
         served_log(reflector.end(), [view])
 
+FOUNDED = b"""class Root{field n;
+init(o,p){this.n=at(p,0);subscribe("s","add","add");}
+add(v,sender){this.n=this.n+v;persist([this.n,sender]);}}"""
+ADDING = b'publish "s" "add" 3\nsettle\n'
+
+
+def views_are_of_a_session_with_their_value(program):
+    """A session is founded with a value. A view that has another one, or none, is of another session."""
+    def run_join(view, *more):
+        words = ["join", "p", "a", f"localhost:{reflector.port}", view, "s", *more]
+        return program.run(words, {"p": FOUNDED, "s": ADDING, "j": b"[5]", "k": b"[6]", "m": b" [ 5 ]"})
+
+    with reflecting(program, 5, FOUNDED, b"[5]") as reflector:
+        watcher = reflector.view(9)
+        watcher.until_tick(0)
+        expect("refused 12 0 [7]", run_join("7", "--persisted", "k").told())
+        expect("refused 12 0 [7]", run_join("7").told())
+        told = [run_join(view, "--persisted", name).told() for view, name in ("7j", "8m")]
+        leave_all(watcher)
+        run = reflector.end()
+    for lines in told:
+        expect_that(lines.startswith("settled 1 / view "), "settled 1", lines)
+    files = {"p": FOUNDED, "l": run.files["f"], "j": b"[5]"}
+    saved = program.run(["replay", "p", "a", "l", "600000000", "--persisted", "j", "--saved", "f"], files)
+    expect(b"[11,8]", saved.files.get("f"))
+
 
 CHECKS = [views_come_to_the_worlds_of_the_replay, a_reflector_that_is_killed_ends_its_views,
-          an_address_that_is_taken_is_a_fault]
+          an_address_that_is_taken_is_a_fault, views_are_of_a_session_with_their_value]
 PARTS = {"live": lambda: [Case(check.__name__.replace("_", " "), check) for check in CHECKS]}

@@ -41,14 +41,16 @@ def snap_frame(time_, snapshot):
 class Reflector:
     """A run of `reflect` of a session named `a`."""
 
-    def __init__(self, program, connections, source=EMPTY, port=None):
-        self.ident = croquet.session_id(b"a", source)
+    def __init__(self, program, connections, source=EMPTY, port=None, json=None):
+        persisted = None if json is None else croquet.from_json(json)
+        options, files = ([], {}) if json is None else (["--persisted", "j"], {"j": json})
+        self.ident = croquet.session_id(b"a", source, persisted)
         self.holder = None if port else hold_port()
         self.port = port or self.holder.getsockname()[1]
         self.begun, self.address = time.monotonic(), f"127.0.0.1:{self.port}"
         self.run = program.start(
-            ["reflect", "p", "a", self.address, "--connections", str(connections), "--log", "f"],
-            {"p": source}, f"listening at {self.address}, session {self.ident.hex()}\n".encode())
+            ["reflect", "p", "a", self.address, "--connections", str(connections), "--log", "f", *options],
+            {"p": source, **files}, f"listening at {self.address}, session {self.ident.hex()}\n".encode())
         self.wires = []
 
     def connect(self, receive_buffer=None):
@@ -81,9 +83,9 @@ class Reflector:
 
 
 @contextlib.contextmanager
-def reflecting(program, connections, source=EMPTY):
+def reflecting(program, connections, source=EMPTY, json=None):
     """A reflector that is killed where the check does not come to its end."""
-    reflector = Reflector(program, connections, source)
+    reflector = Reflector(program, connections, source, json=json)
     try:
         yield reflector
     finally:

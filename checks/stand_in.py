@@ -12,11 +12,12 @@ from reference import croquet
 from stand_in_links import Failed, LinkEnd
 
 COMMANDS = {"stamp": (1, {"--log"}, set()), "check": (1, set(), set()),
-            "replay": (4, {"--from", "--snapshot"}, set()), "join": (5, set(), set()),
-            "reflect": (3, {"--connections", "--log"}, {"--connections", "--log"}),
+            "replay": (4, {"--persisted", "--from", "--snapshot", "--saved"}, set()),
+            "join": (5, {"--persisted"}, set()),
+            "reflect": (3, {"--persisted", "--connections", "--log"}, {"--connections", "--log"}),
             "drill": (3, {"--log", "--snapshots"}, {"--log", "--snapshots"})}
 LIMITS = {"script": croquet.SCRIPT_BYTES, "program": croquet.PROGRAM_BYTES, "log": 2**27,
-          "snapshot": croquet.MOST_SNAPSHOT}
+          "snapshot": croquet.MOST_SNAPSHOT, "persisted": croquet.MOST_JSON}
 DRILL = (b'class Root{field total;field n;init(o){this.total=0;this.n=0;subscribe("drill","add","add")'
          b';}add(v){this.total=this.total+v;this.n=this.n+1;if(this.n%16==0){this.future(1).mark();}}'
          b'mark(){publish("drill","mark",this.total);}}')
@@ -162,21 +163,32 @@ def read_or(kind, read, *words):
         raise croquet.Ended(f"input {kind}", 3) from None
 
 
+def read_persisted(options):
+    """The value that a session is founded with, nil where the option is not given."""
+    if "--persisted" not in options:
+        return None
+    return croquet.read_persisted(read_file(options["--persisted"], "persisted"))
+
+
 def replay(plain, options):
     name, time = check_name(plain[1]), number(plain[3], 0, croquet.TIME_LIMIT)
     source = read_file(plain[0], "program")
-    program, ident = croquet.read_program(source), croquet.session_id(name, source)
+    program = croquet.read_program(source)
     entries = read_or("log", croquet.read_log, read_file(plain[2], "log"))
+    persisted = read_persisted(options)
+    ident = croquet.session_id(name, source, persisted)
     if "--from" in options:
         snapshot = read_file(options["--from"], "snapshot")
         world = read_or("snapshot", croquet.read_snapshot, program, ident, snapshot)
         if time < world.time:
             raise croquet.Ended("input time", 3)
     else:
-        world = croquet.World.first(program, ident)
+        world = croquet.World.first(program, ident, persisted)
     world = croquet.replayed(world, entries, time)
     if "--snapshot" in options:
         write_file(options["--snapshot"], world.snapshot())
+    if "--saved" in options:
+        write_file(options["--saved"], croquet.to_json(world.saved))
     say(croquet.world_line(world))
 
 
@@ -250,13 +262,14 @@ class ViewLink:
             raise croquet.Failed() from None
 
 
-def join(plain, _):
+def join(plain, options):
     name, view = check_name(plain[1]), number(plain[3], 1, 2**32)
     source = read_file(plain[0], "program")
     program = croquet.read_program(source)
     croquet.check_address(plain[2])
     script = croquet.read_view_script(read_file(plain[4], "script"))
-    replica = croquet.Replica(program, croquet.session_id(name, source), view)
+    persisted = read_persisted(options)
+    replica = croquet.Replica(program, croquet.session_id(name, source, persisted), view, persisted)
     croquet.ViewRun(replica, Net(links.socket_address(plain[2])), Output).run(script)
 
 
@@ -427,7 +440,8 @@ def reflect(plain, options):
     source = read_file(plain[0], "program")
     croquet.read_program(source)
     croquet.check_address(plain[2])
-    shared, accepted, words = Reflecting(croquet.session_id(name, source)), [], {}
+    shared = Reflecting(croquet.session_id(name, source, read_persisted(options)))
+    accepted, words = [], {}
     try:
         listener = links.listen(links.socket_address(plain[2]))
     except OSError:

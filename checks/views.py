@@ -83,17 +83,19 @@ def say_all(wire, content):
 
 
 def read_view(case):
-    """The words before the address, the files, the host, and the frames of each link."""
+    """The words before the address, the files, the host, the words after the script, and the frames of each link."""
     head, source, *parts = case.split(b" | ")
     name, view, script = head.split(b" ", 2)
     files = {"p": source, "s": b"" if script == b"-" else script.replace(b" / ", b"\n")}
-    address, links = "localhost:8080", []
+    address, options, links = "localhost:8080", [], []
     for part in (part.decode("utf-8") for part in parts):
         if part.startswith("address "):
             address = part.removeprefix("address ")
+        elif part.startswith("persisted "):
+            options, files["j"] = ["--persisted", "j"], part.removeprefix("persisted ").encode()
         else:
             links.append([] if part == "-" else [frame_of(word) for word in part.split(" ")])
-    return name, view, files, address, links
+    return name, view, files, address, options, links
 
 
 def frame_of(word):
@@ -109,12 +111,12 @@ def wanted_parts(wanted):
 
 
 def check_view(program, case, wanted):
-    name, view, files, address, links = read_view(case)
+    name, view, files, address, options, links = read_view(case)
     told, frames, back = wanted_parts(wanted)
     peer = Peer(links)
     address = address.replace(":8080", f":{peer.port}")
     try:
-        run = program.run(["join", "p", name, address, view, "s"], files)
+        run = program.run(["join", "p", name, address, view, "s", *options], files)
     finally:
         peer.end()
     expect(told, run.told())

@@ -8,11 +8,12 @@ is proved of it.
     python3 croquet_reference.py KIND FILE
 
 prints each line of FILE with what it comes to. The kinds are evaluate, run,
-canonical, decode, payload (language) and scripts, logs, programs, worlds,
-snapshots, resumed, views (commands).
+canonical, decode, payload, data (language) and scripts, logs, programs, worlds,
+saved, snapshots, resumed, views (commands).
 """
 import hashlib
 import heapq
+import json
 import re
 import sys
 import threading
@@ -39,6 +40,7 @@ MOST_LIST_DEPTH = 32
 MOST_VIEWS = 1_024
 MOST_PAYLOAD = 4_096
 MOST_SNAPSHOT = 4_194_304
+MOST_JSON = 1_048_576
 MOST_ENTRIES = 2**20
 MOST_LOG_BYTES = 2**26
 TIME_LIMIT = 2**53
@@ -738,7 +740,7 @@ def level(e):
 
 COUNTS = {"now": 0, "random": 1, "viewCount": 0, "views": 0, "sessionId": 0, "known": 1,
           "beKnown": 1, "exists": 1, "destroy": 1, "publish": 3, "subscribe": 3,
-          "unsubscribe": 3, "cancel": 1, "length": 1, "at": 2, "put": 3, "push": 2, "slice": 3,
+          "unsubscribe": 3, "cancel": 1, "persist": 1, "length": 1, "at": 2, "put": 3, "push": 2, "slice": 3,
           "concat": 2, "text": 1, "number": 1, "compare": 2}
 
 
@@ -902,6 +904,15 @@ def in_bounds(v):
     return weight(v) <= MOST_WEIGHT and depth(v) <= MOST_LIST_DEPTH
 
 
+def holds_ref(v):
+    return any(holds_ref(item) for item in v.items) if type(v) is List else type(v) is Ref
+
+
+def saved_weight(v):
+    """What a saved value weighs in its world."""
+    return 0 if v is None else weight(v)
+
+
 def same(a, b):
     if type(a) is not type(b):
         return False
@@ -1010,6 +1021,117 @@ def decode(source):
     return v
 
 
+# ---------------------------------------------------------------- values as JSON
+
+BLANKS = re.compile(r"[ \t\n\r]*")
+JSON_WORDS = {"null": None, "true": True, "false": False}
+JSON_WORD = re.compile("null|true|false")
+JSON_INT = re.compile(r"-?(?:0|[1-9][0-9]*)(?![0-9.eE])", re.ASCII)
+JSON_PART = re.compile(r'[^"\\\x00-\x1f]+|\\["\\/bfnrt]|\\u[0-9a-fA-F]{4}', re.ASCII)
+HALVES = re.compile("[\ud800-\udbff][\udc00-\udfff]")
+JSON_ESCAPES = dict(zip('"\\/bfnrt', '"\\/\b\f\n\r\t'))
+
+
+class JsonReader:
+    """The JSON texts that are values: no object, and no number but an Int, as it is written in decimal."""
+
+    def __init__(self, text):
+        self.text = text
+        self.at = 0
+
+    def match(self, pattern):
+        found = pattern.match(self.text, self.at)
+        self.at = found.end() if found else self.at
+        return found
+
+    def sees(self, sign):
+        """Whether this is the next character; it is taken then."""
+        if not self.text.startswith(sign, self.at):
+            return False
+        self.at += len(sign)
+        return True
+
+    def value(self, deep=0):
+        self.match(BLANKS)
+        v = self.part(deep)
+        self.match(BLANKS)
+        return v
+
+    def part(self, deep):
+        if found := self.match(JSON_WORD):
+            return JSON_WORDS[found.group()]
+        if found := self.match(JSON_INT):
+            v = int(found.group()) if len(found.group()) <= 20 else 2**63
+            need(found.group() != "-0" and LEAST_INT <= v <= GREATEST_INT)
+            return v
+        if self.sees('"'):
+            return self.characters()
+        need(self.sees("[") and deep < MOST_LIST_DEPTH)
+        return self.items(deep + 1)
+
+    def items(self, deep):
+        self.match(BLANKS)
+        if self.sees("]"):
+            return List([])
+        items = [self.value(deep)]
+        while self.sees(","):
+            items.append(self.value(deep))
+        need(self.sees("]"))
+        return List(items)
+
+    def characters(self):
+        units = []
+        while not self.sees('"'):
+            found = self.match(JSON_PART)
+            need(found)
+            part = found.group()
+            if part.startswith("\\u"):
+                units.append(chr(int(part[2:], 16)))
+            else:
+                units.append(JSON_ESCAPES[part[1]] if part.startswith("\\") else part)
+        return self.paired("".join(units))
+
+    @staticmethod
+    def paired(text):
+        """The text whose halves of a character are put together."""
+        def one(pair):
+            high, low = map(ord, pair.group())
+            return chr(0x10000 + (high - 0xD800) * 0x400 + low - 0xDC00)
+
+        whole = HALVES.sub(one, text)
+        need(not any(0xD800 <= ord(c) < 0xE000 for c in whole))
+        return whole
+
+
+def from_json(source):
+    """The value of a JSON text."""
+    try:
+        reader = JsonReader(source.decode("utf-8"))
+    except UnicodeDecodeError:
+        raise Bad() from None
+    v = reader.value()
+    need(reader.at == len(reader.text) and in_bounds(v))
+    return v
+
+
+def to_json(v):
+    """The compact JSON text of a value without a Ref."""
+    def plain(v):
+        return [plain(item) for item in v.items] if type(v) is List else v
+
+    return json.dumps(plain(v), ensure_ascii=False, separators=(",", ":")).encode()
+
+
+def read_persisted(source):
+    """What the commands do with the file of a persisted value."""
+    if len(source) > MOST_JSON:
+        raise Ended("input persisted", 3)
+    try:
+        return from_json(source)
+    except Bad:
+        raise Ended("input persisted", 3) from None
+
+
 def payload(scope, event, value):
     return text_field(scope) + text_field(event) + encode(value)
 
@@ -1062,6 +1184,7 @@ class World:
         self.topics = {}  # (scope, event) to (object, method), in order
         self.pending = {}  # by number
         self.queue = []  # heap of (time, number); some may be pending no more
+        self.saved = None
         self.weight = 0
         self.published = []
 
@@ -1069,6 +1192,13 @@ class World:
 
     def fits(self, more):
         return self.weight + more <= MOST_WORLD_WEIGHT
+
+    def persist(self, v):
+        more = saved_weight(v) - saved_weight(self.saved)
+        if not self.fits(more):
+            raise Fault("Full")
+        self.saved = v
+        self.weight += more
 
     def add_object(self, class_):
         fields = len(self.program.classes[class_].fields)
@@ -1183,15 +1313,18 @@ class World:
         self.faults[place] = min(self.faults[place] + 1, 2**64 - 1)
 
     @staticmethod
-    def first(program, session_id):
+    def first(program, session_id, persisted=None):
         world = World(program, session_id)
+        world.persist(persisted)
 
         def make_root(evaluation):
             root = program.numbers["Root"]
             id_ = world.add_object(root)
             world.be_known("modelRoot", id_)
-            if "init" in program.methods[root]:
-                evaluation.start(id_, "init", [None])
+            init = program.methods[root].get("init")
+            if init is not None:
+                takes_two = len(init.params) == 2
+                evaluation.start(id_, "init", [None, persisted] if takes_two else [None])
 
         world.message(make_root)
         return world
@@ -1229,18 +1362,18 @@ class World:
             if len(self.views) >= MOST_VIEWS:
                 raise Fault("Full")
             self.views.add(entry.view)
-            evaluation.call_handlers(scope, "view-join", entry.view)
+            evaluation.call_handlers(scope, "view-join", entry.view, entry.view)
         elif entry.kind == "exit":
             if entry.view not in self.views:
                 return
             self.views.remove(entry.view)
-            evaluation.call_handlers(scope, "view-exit", entry.view)
+            evaluation.call_handlers(scope, "view-exit", entry.view, entry.view)
         else:
             try:
                 event = read_payload(entry.payload)
             except Bad:
                 raise Fault("BadEvent") from None
-            evaluation.call_handlers(*event)
+            evaluation.call_handlers(*event, entry.view)
 
     # -- readings
 
@@ -1252,7 +1385,8 @@ class World:
         total = sum(2 + sum(weight(v) for v in o.fields) for o in self.objects.values())
         total += sum(m.weight() for m in self.pending.values())
         total += sum(subscription_weight(s, e, m) for s, e, _, m in self.subscriptions)
-        return total + sum(1 + weight(name) for name in self.known)
+        total += sum(1 + weight(name) for name in self.known)
+        return total + saved_weight(self.saved)
 
     def snapshot(self):
         assert self.weight == self.whole_weight()
@@ -1274,6 +1408,8 @@ class World:
         for m in self.pending_in_order():
             out += [number(m.time, 8), number(m.number, 8), number(m.object, 4),
                     text_field(m.method), number(len(m.args), 1)] + [encode(v) for v in m.args]
+        if self.saved is not None:
+            out.append(encode(self.saved))
         return b"".join(out)
 
 
@@ -1305,6 +1441,7 @@ def read_snapshot(program, session_id, source):
         need(all(weight(t) <= MOST_WEIGHT for t in (scope, event, method)))
         world.put_subscription(scope, event, id_, method)
     read_pending(world, reader)
+    read_saved(world, reader)
     reader.end()
     need(len(world.subscriptions) <= MOST_SUBSCRIPTIONS and world.weight <= MOST_WORLD_WEIGHT)
     return world
@@ -1362,6 +1499,15 @@ def read_pending(world, reader):
     need(rising(order))
 
 
+def read_saved(world, reader):
+    """A nil saved value is spelled by nothing."""
+    if reader.at < len(reader.source):
+        v = reader.value_in_bounds()
+        need(v is not None and not holds_ref(v))
+        world.saved = v
+        world.weight += saved_weight(v)
+
+
 # ---------------------------------------------------------------- evaluation
 
 @dataclass
@@ -1409,11 +1555,14 @@ class Evaluation:
         done = self.block(method.body, Frame(id_, dict(zip(method.params, args))))
         return None if done is None else done.value
 
-    def call_handlers(self, scope, event, value):
+    def call_handlers(self, scope, event, value, sender):
+        """A handler with two parameters has the sender as its second one."""
         for id_, method in list(self.world.topics.get((scope, event), ())):
             if id_ in self.world.objects:
                 self.spend(1)
-                self.start(id_, method, [value])
+                found = self.world.program.methods[self.world.objects[id_].class_].get(method)
+                takes_two = found is not None and len(found.params) == 2
+                self.start(id_, method, [value, sender] if takes_two else [value])
 
     def block(self, statements, frame):
         for s in statements:
@@ -1574,7 +1723,11 @@ class Evaluation:
     def publish(self, frame, scope, event, v):
         want(is_text(scope) and is_text(event))
         self.world.published.append((self.world.time, scope, event, v))
-        self.call_handlers(scope, event, v)
+        self.call_handlers(scope, event, v, None)
+
+    def persist(self, frame, v):
+        want(not holds_ref(v))
+        self.world.persist(v)
 
     def subscribe(self, frame, scope, event, method):
         want(is_text(scope) and is_text(event) and is_text(method))
@@ -1676,7 +1829,7 @@ ACTIONS = {
     "random": Evaluation.random, "known": Evaluation.known, "beKnown": Evaluation.be_known,
     "exists": Evaluation.exists, "destroy": Evaluation.destroy, "publish": Evaluation.publish,
     "subscribe": Evaluation.subscribe, "unsubscribe": Evaluation.unsubscribe,
-    "cancel": Evaluation.cancel}
+    "cancel": Evaluation.cancel, "persist": Evaluation.persist}
 EVALUATE = {Literal: Evaluation.literal, This: Evaluation.this, Local: Evaluation.local,
             Field: Evaluation.field, ListOf: Evaluation.list_of, Unary: Evaluation.unary,
             Binary: Evaluation.binary, Call: Evaluation.call, Future: Evaluation.future,
@@ -1922,8 +2075,9 @@ def stamped(source):
 
 # ---------------------------------------------------------------- replay
 
-def session_id(name, source):
-    return hashlib.sha256(number(len(name), 4) + name + source).digest()
+def session_id(name, source, persisted=None):
+    founding = b"" if persisted is None else b"\x00" + encode(persisted)
+    return hashlib.sha256(number(len(name), 4) + name + source + founding).digest()
 
 
 def replayed(world, entries, time):
@@ -1942,25 +2096,30 @@ def world_line(world):
 
 @dataclass
 class Replaying:
-    """A case of a replay, read: its name, times, log and program."""
+    """A case of a replay, read: its name, times, log, program and persisted value."""
     id: bytes
     times: list
     entries: list
     program: Program
+    persisted: object
+
+    def first_world(self):
+        return World.first(self.program, self.id, self.persisted)
 
 
 def read_replaying(case, times):
-    head, source = case.split(b" | ", 1)
+    head, source, *given = case.split(b" | ", 2)
     words = head.split(b" ", times + 1)
     script = b"" if words[-1] == b"-" else lines_of(words[-1])
     session, _ = stamped(script)
     program = read_program(source)
-    return Replaying(session_id(words[0], source), [int(w) for w in words[1:-1]],
-                     session.log, program)
+    persisted = read_persisted(given[0]) if given else None
+    return Replaying(session_id(words[0], source, persisted), [int(w) for w in words[1:-1]],
+                     session.log, program, persisted)
 
 
 def whole_replay(case):
-    return replayed(World.first(case.program, case.id), case.entries, case.times[-1])
+    return replayed(case.first_world(), case.entries, case.times[-1])
 
 
 # ---------------------------------------------------------------- frames
@@ -2034,9 +2193,9 @@ def peer(condition):
 
 
 class Replica:
-    def __init__(self, program, id_, view):
-        self.program, self.id, self.view = program, id_, view
-        self.world = World.first(program, id_)
+    def __init__(self, program, id_, view, persisted=None):
+        self.program, self.id, self.view, self.persisted = program, id_, view, persisted
+        self.world = World.first(program, id_, persisted)
         self.seen = 0
         self.payloads = []  # of all events that were published
         self.bytes = 0  # of the payloads that are not acknowledged
@@ -2094,7 +2253,7 @@ class Replica:
             peer(self.wanted == "fresh")
             self.world = self.world_of(base)
         elif self.wanted != "resume":
-            self.world = World.first(self.program, self.id)
+            self.world = World.first(self.program, self.id, self.persisted)
         self.seen, self.wanted, self.synced = from_, None, True
 
     def world_of(self, base):
@@ -2487,6 +2646,7 @@ class Joining:
     address: str
     source: bytes
     script: bytes
+    json: bytes  # or None
     failing_files: list
     net: Net
     out: Output
@@ -2495,7 +2655,7 @@ class Joining:
         """The file of this place among those that are read."""
         if place in self.failing_files:
             raise Ended("read-fault", 4)
-        return [self.source, self.script][place - 1]
+        return [self.source, self.script, self.json][place - 1]
 
     def run(self):
         check_join_words(self.name, self.address, self.view)
@@ -2503,7 +2663,8 @@ class Joining:
         program = read_program(source)
         check_address(self.address)
         script = read_view_script(self.read(2))
-        replica = Replica(program, session_id(self.name, source), int(self.view))
+        persisted = None if self.json is None else read_persisted(self.read(3))
+        replica = Replica(program, session_id(self.name, source, persisted), int(self.view), persisted)
         ViewRun(replica, self.net, self.out).run(script)
 
 
@@ -2589,6 +2750,8 @@ def run_case(case):
     for m in world.pending_in_order():
         parts.append(f"pending {m.number} at {m.time} #{m.object}.{m.method} "
                      f"{value_text(List(m.args))}")
+    if world.saved is not None:
+        parts.append(f"saved {value_text(world.saved)}")
     for time, scope, event, v in world.published:
         parts.append(f"published at {time} {value_text(scope)} {value_text(event)} {value_text(v)}")
     return "; ".join(parts)
@@ -2640,6 +2803,19 @@ def worlds_case(case):
     return world_line(whole_replay(read_replaying(case, 1)))
 
 
+def saved_case(case):
+    """The saved value at the end, as JSON."""
+    return to_json(whole_replay(read_replaying(case, 1)).saved).decode()
+
+
+def data_case(case):
+    """The compact text of the value of a JSON text, or that it is this one."""
+    v = from_json(case)
+    text = to_json(v)
+    assert same(from_json(text), v)
+    return "same" if text == case else text.decode()
+
+
 def snapshots_case(case):
     return whole_replay(read_replaying(case, 1)).snapshot().hex()
 
@@ -2647,7 +2823,7 @@ def snapshots_case(case):
 def resumed_case(line):
     case = read_replaying(line, 2)
     first, time = case.times
-    put_away = replayed(World.first(case.program, case.id), case.entries, first).snapshot()
+    put_away = replayed(case.first_world(), case.entries, first).snapshot()
     world = read_snapshot(case.program, case.id, put_away)
     if time < world.time:
         raise Ended("input time", 3)
@@ -2681,16 +2857,19 @@ def read_joining(case):
     head, source, *rest = case.split(b" | ")
     name, view, script = head.split(b" ", 2)
     address, links, faults = "localhost:8080", [], {option: [] for option in JOIN_OPTIONS}
+    json_text = None
     for part in (part.decode() for part in rest):
         option = next((option for option in JOIN_OPTIONS if part.startswith(option)), None)
         if option is not None:
             faults[option].append(int(part.removeprefix(option)))
         elif part.startswith("address "):
             address = part.removeprefix("address ")
+        elif part.startswith("persisted "):
+            json_text = part.removeprefix("persisted ").encode()
         else:
             links.append(read_link(part))
     script = b"" if script == b"-" else script.replace(b" / ", b"\n")
-    return Joining(name, view.decode(), address, source, script, faults["fail file "],
+    return Joining(name, view.decode(), address, source, script, json_text, faults["fail file "],
                    Net(links, faults["fail net "]),
                    Output(faults["fail output "], next(iter(faults["want output "]), 0)))
 
@@ -2710,10 +2889,10 @@ def views_case(case):
 
 
 KINDS = {"evaluate": evaluate_case, "run": run_case, "canonical": canonical_case,
-         "decode": decode_case, "payload": payload_case, "scripts": scripts_case,
-         "logs": logs_case, "programs": programs_case, "worlds": worlds_case,
+         "decode": decode_case, "payload": payload_case, "data": data_case, "scripts": scripts_case,
+         "logs": logs_case, "programs": programs_case, "worlds": worlds_case, "saved": saved_case,
          "snapshots": snapshots_case, "resumed": resumed_case, "views": views_case}
-WITH_STATUS = {"scripts", "logs", "programs", "worlds", "snapshots", "resumed"}
+WITH_STATUS = {"scripts", "logs", "programs", "worlds", "saved", "snapshots", "resumed"}
 
 
 def outcome_of(kind, case):

@@ -2,10 +2,9 @@
 use Rattle.std.specs.Prelude.{◌≡◌, ◌≢◌, ℕ, ◌≤◌, ⊤, List, length, Option, Some, None, Result, Ok, Err}
 use Rattle.model_tree.specs.Program.{IsRead, Reading, a_program, no_program, too_large, IsReading}
 use Rattle.model_tree.specs.Tree.{ProgramTree}
-use Rattle.model_tree.specs.TreeView.{program_tree}
+use Rattle.model_solved.specs.Founding.{CheckedView, checked_tree}
 use Rattle.model_lang.specs.declared.fault.LangFault.{LangFault}
 use Rattle.model_lang.specs.declared.fault.LangFault.TheVariants as lang
-use Rattle.model_tree.specs.declared.tree.Class.{Class}
 use Rattle.model_solved.specs.Faults.{first_fault}
 use Rattle.model_solved.specs.declared.fault.CheckFault.{CheckFault}
 use Rattle.model_solved.specs.declared.fault.CheckFault.TheVariants as check
@@ -46,7 +45,7 @@ abbrev pub IsUnsound : CheckFault → ProgramFault → Type 0
 IsUnsound fault told = (fault ≢ check.WantOfMemory) × (told ≡ Refused (check_line fault))
 
 -- how the reading of a program ends
-abbrev pub ProgramEnd : Result (List Class) ProgramFault → List ℕ → Type 0
-ProgramEnd (Ok program) bytes = IsFaultless bytes (program_tree program)
+abbrev pub ProgramEnd : Result CheckedView ProgramFault → List ℕ → Type 0
+ProgramEnd (Ok program) bytes = IsFaultless bytes (checked_tree program)
 ProgramEnd (Err (Refused line)) bytes = IsRefused bytes line
 ProgramEnd (Err WantOfMemory) bytes = ⊤

@@ -2,6 +2,7 @@
 ghost use Rattle.std.specs.Prelude.{◌≡◌, IfOk, string_bytes};
 ghost use Rattle.model_tree.specs.Bounds.{ProgramFits};
 ghost use Rattle.model_tree.specs.TreeView.{program_tree};
+ghost use Rattle.model_solved.specs.Founding.{checked_tree};
 ghost use Rattle.command_outcome.specs.ProgramText.{counts_line, method_count};
 
 use model_solved::Checked;
@@ -24,7 +25,7 @@ fn method_count(classes: &[Class]) -> u64
 
 /// The line of a program without faults: the numbers of its classes and of its methods.
 pub fn counts_line(alloc: Global, program: &Checked) -> Result<String, WantOfMemory>
-    ensures { IfOk result (λ line. string_bytes line ≡ counts_line (program_tree program.now)) }
+    ensures { IfOk result (λ line. string_bytes line ≡ counts_line (checked_tree program.now)) }
 {
     let classes = program.program().classes();
     let mut line = spell_numbers(alloc, "classes", &[classes.len() as u64])?;

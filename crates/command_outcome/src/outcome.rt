@@ -12,6 +12,8 @@ pub enum Input {
     Program,
     Log,
     Snapshot,
+    /// The JSON of a persisted value.
+    Persisted,
     /// The time that a replay is asked for, below that of its snapshot.
     Time,
     /// The address to which a view connects.

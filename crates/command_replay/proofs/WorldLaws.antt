@@ -9,8 +9,7 @@ use Rattle.tea_base.specs.Legal.{IsLegal, TimesRiseAfter}
 use Rattle.tea_base.specs.Readings.{count_until}
 use Rattle.tea_base.proofs.LogLaws.{TimesRise-legal}
 use Rattle.tea_base.specs.declared.entry.Entry.{Entry}
-use Rattle.model_tree.specs.declared.tree.Class.{Class}
-use Rattle.model_tree.specs.TreeView.{program_tree}
+use Rattle.model_solved.specs.Founding.{CheckedView, checked_tree, founding_of}
 use Rattle.world_plain.specs.World.{WorldRecord}
 use Rattle.world.specs.View.{WorldView}
 use Rattle.world.specs.Worlds.{Scene, entries_behind, external, first_scene, replay_from}
@@ -43,29 +42,29 @@ pub time_there : (entries : List Entry) (i t : ℕ) (entry : Entry) → slice_ge
 time_there entries i t entry got at = same_time t entry (ap (option_map (λ (e : Entry). e.time)) (sym got) ∙ at)
 
 -- where a world goes on over the entries from a place: the next is behind its time, and they lead to this scene
-pub record GoesOn (classes : List Class) (time : ℕ) (entries : List Entry) (i : ℕ) (last : Scene) (w : WorldView) : Type 0 where
+pub record GoesOn (classes : CheckedView) (time : ℕ) (entries : List Entry) (i : ℕ) (last : Scene) (w : WorldView) : Type 0 where
   pub program : w.program ≡ classes
   pub whole : w.broken ≡ false
   pub early : w.scene.world.time ≤ time
   pub rises : TimesRiseAfter w.scene.world.time (drop i entries)
-  pub led : replay_from (program_tree classes) time (drop i entries) w.scene ≡ last
+  pub led : replay_from (checked_tree classes) time (drop i entries) w.scene ≡ last
 
 from_higher : (low high : ℕ) (es : List Entry) → low ≤ high → TimesRiseAfter high es → TimesRiseAfter low es
 from_higher low high [] le rise = tt
 from_higher low high (e ∷ es) le rise = (omega (arith, le, rise.0), rise.1)
 
 -- the entry there and those behind it
-module _ (classes : List Class) (time : ℕ) (entries : List Entry) (i : ℕ) (last : Scene) (w : WorldView) (entry : Entry) (got : slice_get entries (i + 1 - 1) ≡ Some entry) (on : GoesOn classes time entries i last w) where
+module _ (classes : CheckedView) (time : ℕ) (entries : List Entry) (i : ℕ) (last : Scene) (w : WorldView) (entry : Entry) (got : slice_get entries (i + 1 - 1) ≡ Some entry) (on : GoesOn classes time entries i last w) where
   nearer : TimesRiseAfter w.scene.world.time (entry ∷ drop (i + 1) entries)
   nearer = subst (TimesRiseAfter w.scene.world.time) (drop_entry entries i entry got) on.rises
 
   pub next_later : w.scene.world.time < entry.time
   next_later = nearer.0
 
-  led_with : (b : Bool) → nat_le entry.time time ≡ b → replay_from (program_tree classes) time (drop (i + 1) entries) (if b then external (program_tree classes) entry w.scene else w.scene) ≡ last
+  led_with : (b : Bool) → nat_le entry.time time ≡ b → replay_from (checked_tree classes) time (drop (i + 1) entries) (if b then external (checked_tree classes) entry w.scene else w.scene) ≡ last
   led_with b is =
-      subst (λ (c : Bool). replay_from (program_tree classes) time (drop (i + 1) entries) (if c then external (program_tree classes) entry w.scene else w.scene) ≡ last) is
-      (ap (λ (rest : List Entry). replay_from (program_tree classes) time rest w.scene) (sym (drop_entry entries i entry got)) ∙ on.led)
+      subst (λ (c : Bool). replay_from (checked_tree classes) time (drop (i + 1) entries) (if c then external (checked_tree classes) entry w.scene else w.scene) ≡ last) is
+      (ap (λ (rest : List Entry). replay_from (checked_tree classes) time rest w.scene) (sym (drop_entry entries i entry got)) ∙ on.led)
 
   -- it lies above the time
   pub passes : time < entry.time → GoesOn classes time entries (i + 1) last w
@@ -78,14 +77,14 @@ module _ (classes : List Class) (time : ℕ) (entries : List Entry) (i : ℕ) (l
   }
 
   -- it is handled
-  pub handles : (after : WorldView) → entry.time ≤ time → after ≡ record w { scene = external (program_tree w.program) entry w.scene } → after.scene.world.time ≡ entry.time → GoesOn classes time entries (i + 1) last after
+  pub handles : (after : WorldView) → entry.time ≤ time → after ≡ record w { scene = external (checked_tree w.program) entry w.scene } → after.scene.world.time ≡ entry.time → GoesOn classes time entries (i + 1) last after
   handles after le is at = record {
     program = ap (λ (v : WorldView). v.program) is ∙ on.program;
     whole = ap (λ (v : WorldView). v.broken) is ∙ on.whole;
     early = omega (arith, at, le);
     rises = subst (λ (t : ℕ). TimesRiseAfter t (drop (i + 1) entries)) (sym at) nearer.1;
     led =
-        ap (replay_from (program_tree classes) time (drop (i + 1) entries)) (ap (λ (v : WorldView). v.scene) is ∙ ap (λ (p : List Class). external (program_tree p) entry w.scene) on.program)
+        ap (replay_from (checked_tree classes) time (drop (i + 1) entries)) (ap (λ (v : WorldView). v.scene) is ∙ ap (λ (p : CheckedView). external (checked_tree p) entry w.scene) on.program)
         ∙ led_with true (le-leb entry.time time le);
   }
 
@@ -127,7 +126,7 @@ skipped-is t low (e ∷ es) rise = skipped-by t e es (nat_le e.time t) refl rise
 
 -- a world goes on over the entries behind its time
 pub starts_on : (time : ℕ) (entries : List Entry) (n : ℕ) (w : WorldView) → n ≡ count_until entries w.scene.world.time → IsLegal entries → w.broken ≡ false → w.scene.world.time ≤ time
-    → GoesOn w.program time entries n (replay_from (program_tree w.program) time (entries_behind w.scene.world.time entries) w.scene) w
+    → GoesOn w.program time entries n (replay_from (checked_tree w.program) time (entries_behind w.scene.world.time entries) w.scene) w
 starts_on time entries n w is legal whole early =
     let rise = TimesRise-legal entries legal in
     let from : drop n entries ≡ entries_behind w.scene.world.time entries = ap (λ (k : ℕ). drop k entries) is ∙ skipped-is w.scene.world.time 0 entries rise in
@@ -136,22 +135,22 @@ starts_on time entries n w is legal whole early =
       whole = whole;
       early = early;
       rises = subst (TimesRiseAfter w.scene.world.time) (sym from) (rises w.scene.world.time 0 entries rise);
-      led = ap (λ (rest : List Entry). replay_from (program_tree w.program) time rest w.scene) from;
+      led = ap (λ (rest : List Entry). replay_from (checked_tree w.program) time rest w.scene) from;
     }
 
 -- a world that was opened and went on is that of the replay
 begun_at : (recording : Recording) (start : Option WorldRecord) (time : ℕ) → IsLegal recording.log.entries
-    → (replay_from (program_tree recording.program) time (entries_behind (start_time start) recording.log.entries) (start_scene (program_tree recording.program) recording.id.0 start)).world ≡ world_at recording time start
+    → (replay_from (checked_tree recording.program) time (entries_behind (start_time start) recording.log.entries) (start_scene (founding_of recording.program) recording.id.0 start)).world ≡ world_at recording time start
 begun_at recording None time legal =
-    let tree = program_tree recording.program in
-    ap (λ (es : List Entry). (replay_from tree time es (first_scene tree recording.id.0)).world) (all_later 0 0 recording.log.entries (omega arith) (TimesRise-legal recording.log.entries legal)).1
+    let tree = checked_tree recording.program in
+    ap (λ (es : List Entry). (replay_from tree time es (first_scene (founding_of recording.program) recording.id.0)).world) (all_later 0 0 recording.log.entries (omega arith) (TimesRise-legal recording.log.entries legal)).1
 begun_at recording (Some w) time legal = refl
 
-pub gone_on : (world after : WorldView) (recording : Recording) (start : Option WorldRecord) (time : ℕ) → Opens world recording.program recording.id.0 start → IsLegal recording.log.entries → after ≡ record world { scene = replay_from (program_tree world.program) time (entries_behind world.scene.world.time recording.log.entries) world.scene }
+pub gone_on : (world after : WorldView) (recording : Recording) (start : Option WorldRecord) (time : ℕ) → Opens world recording.program recording.id.0 start → IsLegal recording.log.entries → after ≡ record world { scene = replay_from (checked_tree world.program) time (entries_behind world.scene.world.time recording.log.entries) world.scene }
     → after.scene.world ≡ world_at recording time start
 gone_on world after recording start time opens legal is =
     let log = recording.log.entries in
     ap (λ (w : WorldView). w.scene.world) is
-    ∙ ap (λ (t : ℕ). (replay_from (program_tree world.program) time (entries_behind t log) world.scene).world) opens.time
-    ∙ ap (λ (w : WorldView). (replay_from (program_tree w.program) time (entries_behind (start_time start) log) w.scene).world) opens.opened
+    ∙ ap (λ (t : ℕ). (replay_from (checked_tree world.program) time (entries_behind t log) world.scene).world) opens.time
+    ∙ ap (λ (w : WorldView). (replay_from (checked_tree w.program) time (entries_behind (start_time start) log) w.scene).world) opens.opened
     ∙ begun_at recording start time legal

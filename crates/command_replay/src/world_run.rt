@@ -6,7 +6,7 @@ ghost use Rattle.model_solved.specs.Methods.{field_counts};
 ghost use Rattle.world_plain.specs.Valid.{Valid};
 ghost use Rattle.tea_base.specs.Limits.{time_limit};
 ghost use Rattle.world_plain.specs.World.{world_record};
-ghost use Rattle.model_tree.specs.TreeView.{program_tree};
+ghost use Rattle.model_solved.specs.Founding.{checked_tree};
 ghost use Rattle.snapshot_codec.specs.Conditions.{IsValid};
 ghost use Rattle.world.specs.Worlds.{advance as advanced, entries_behind, external as entered_by, replay_from};
 ghost use Rattle.command_replay.specs.Replays.{Opens, TellsWorld, world_at};
@@ -14,6 +14,7 @@ ghost use Rattle.command_replay.specs.Replays.{Opens, TellsWorld, world_at};
 use crate::recording::Recording;
 use crate::world_text::world_line;
 use model_solved::Checked;
+use persist_json::to_json;
 use session_log::{GetRefusal, Log};
 use snapshot_codec::{digest, snapshot};
 use std::alloc::Global;
@@ -22,11 +23,12 @@ use tea_base::{Blob, Entry, SessionId, WantOfMemory};
 use world::{World, WorldFault};
 use world_plain::PlainWorld;
 
-/// What is told of a world: its line, and its snapshot.
+/// What is told of a world: its line, its snapshot, and the JSON of its saved value.
 #[derive(Drop)]
 pub struct Told {
     pub line: String,
     pub snapshot: Blob,
+    pub saved: Blob,
 }
 
 /// The entry with a seq, in memory of its own.
@@ -48,7 +50,7 @@ fn handle(world: &mut World, entry: &Entry) -> Result<(), WantOfMemory>
     requires later { world.old.scene.world.time < entry.now.time }
     requires bound { entry.now.time < time_limit }
     ensures handled { OnOk result (world.new ≡ record (world.old) {
-      scene = entered_by (program_tree world.old.program) entry.now world.old.scene;
+      scene = entered_by (checked_tree world.old.program) entry.now world.old.scene;
     }) }
     ensures arrives { OnOk result (world.new.scene.world.time ≡ entry.now.time) }
 {
@@ -66,7 +68,7 @@ fn advance(world: &mut World, time: u64) -> Result<(), WantOfMemory>
     requires early { world.old.scene.world.time ≤ time }
     requires bound { time < time_limit }
     ensures { OnOk result (world.new ≡ record (world.old) {
-      scene = advanced (program_tree world.old.program) time world.old.scene;
+      scene = advanced (checked_tree world.old.program) time world.old.scene;
     }) }
 {
     match world.advance(time) {
@@ -84,7 +86,7 @@ fn go_on(world: &mut World, log: &Log, time: u64) -> Result<(), WantOfMemory>
     requires bound { time < time_limit }
     ensures goes { OnOk result (world.new ≡ record (world.old) {
       scene =
-          replay_from (program_tree world.old.program) time (entries_behind world.old.scene.world.time log.now.entries) world.old.scene;
+          replay_from (checked_tree world.old.program) time (entries_behind world.old.scene.world.time log.now.entries) world.old.scene;
     }) }
     ensures legal { OnOk result (IsLegal log.now.entries) }
 {
@@ -105,7 +107,7 @@ fn open(
     id: SessionId,
     start: &Option<PlainWorld>,
 ) -> Result<World, WantOfMemory>
-    requires { IfSome start.now (λ world. Valid (field_counts (program_tree program)) (world_record world)) }
+    requires { IfSome start.now (λ world. Valid (field_counts (checked_tree program)) (world_record world)) }
     ensures { IfOk result (λ world. Opens world program id.0 (option_map world_record start.now)) }
 {
     let program = Arc::new(alloc, program)?;
@@ -119,7 +121,7 @@ fn open(
 fn plain_of(world: &World) -> Result<PlainWorld, WantOfMemory>
     requires { world.now.broken ≡ false }
     ensures copy { IfOk result (λ plain. world_record plain ≡ world.now.scene.world) }
-    ensures valid { IfOk result (λ plain. Valid (field_counts (program_tree world.now.program)) (world_record plain)) }
+    ensures valid { IfOk result (λ plain. Valid (field_counts (checked_tree world.now.program)) (world_record plain)) }
 {
     match world.to_plain() {
         Ok(plain) => Ok(plain),
@@ -137,7 +139,7 @@ fn arrive(
     time: u64,
 ) -> Result<PlainWorld, WantOfMemory>
     requires time { time < time_limit }
-    requires valid { IfSome start (λ world. Valid (field_counts (program_tree recording.program)) (world_record world)) }
+    requires valid { IfSome start (λ world. Valid (field_counts (checked_tree recording.program)) (world_record world)) }
     requires early { IfSome start (λ world. world.time ≤ time) }
     ensures world { IfOk result (λ plain. world_record plain ≡ world_at recording time (option_map world_record start)) }
     ensures valid { IfOk result (λ plain. IsValid (world_record plain)) }
@@ -155,7 +157,12 @@ fn tell_world(alloc: Global, world: &PlainWorld) -> Result<Told, WantOfMemory>
 {
     let snapshot = snapshot(alloc, world)?;
     let line = world_line(alloc, world, &digest(snapshot.bytes()))?;
-    Ok(Told { line, snapshot })
+    let saved = to_json(alloc, &world.saved)?;
+    Ok(Told {
+        line,
+        snapshot,
+        saved,
+    })
 }
 
 /// What is told of the world of a session at a time, from its beginning or from a world that is taken up.
@@ -166,7 +173,7 @@ pub fn tell_replay(
     time: u64,
 ) -> Result<Told, WantOfMemory>
     requires time { time < time_limit }
-    requires valid { IfSome start (λ world. Valid (field_counts (program_tree recording.program)) (world_record world)) }
+    requires valid { IfSome start (λ world. Valid (field_counts (checked_tree recording.program)) (world_record world)) }
     requires early { IfSome start (λ world. world.time ≤ time) }
     ensures { IfOk result (λ told. TellsWorld told (world_at recording time (option_map world_record start))) }
 {

@@ -13,7 +13,7 @@ use Rattle.reflector_core.specs.declared.request.Request.TheVariants.{Join, Send
 use Rattle.reflector_core.specs.Play.{TellsItsEvents, first_session, after_all, replies_from}
 use Rattle.reflector_core.proofs.PlayLaws.{TellsItsEvents-all}
 use Rattle.reflector_core.proofs.SoundLaws.{AreBounded, IsBounded, IsSoundSession-after_all, IsSoundSession-first}
-use Rattle.command_stamp.specs.Script.{hex_of, join_of, join_with, large_of, leave_of, leave_with, offer_of, offer_with, pull_of, pull_with, request_of, requests_of, script_of, send_of, send_with, small_of, then_request, tick_of, want_of}
+use Rattle.command_stamp.specs.Script.{hex_of, join_of, join_with, large_of, leave_of, leave_with, offer_of, offer_with, pull_of, pull_with, request_of, requests_of, script_of, send_of, send_with, small_of, tick_of, want_of}
 
 -- ---- numbers of 32 bits
 
@@ -140,7 +140,8 @@ request_of-bounded (name ∷ fields) =
 abbrev AreScripts : Option (List Request) → Type 0
 AreScripts found = (requests : List Request) → found ≡ Some requests → AreBounded requests
 
-line-bounded : (b : Bool) (found : Option Request) (more : Option (List Request)) → AreRequests found → AreScripts more → AreScripts (if b then more else then_request found more)
+line-bounded : (b : Bool) (found : Option Request) (more : Option (List Request)) → AreRequests found → AreScripts more
+    → AreScripts (if b then more else option_and_then (λ request. option_map (λ rest. request ∷ rest) more) found)
 line-bounded true found more bounded others requests is = others requests is
 line-bounded false None more bounded others requests is = absurd cc
 line-bounded false (Some request) None bounded others requests is = absurd cc

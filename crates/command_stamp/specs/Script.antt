@@ -1,5 +1,5 @@
 -- The grammar of a session script, over plain lists: lines, words and numbers. Texts are seen as their UTF-8.
-use Rattle.std.specs.Prelude.{ℕ, if◌then◌else◌, List, [], ◌∷◌, ◌++◌, Option, Some, None, codes}
+use Rattle.std.specs.Prelude.{ℕ, if◌then◌else◌, List, [], ◌∷◌, Option, Some, None, option_and_then, codes}
 use Rattle.std.specs.Option.{option_map}
 use Rattle.std.specs.Result.{result_ok}
 use Rattle.std.specs.Str.{bytes_eq, is_utf8}
@@ -103,21 +103,12 @@ request_of (name ∷ fields) =
     else if bytes_eq name (codes "pull") then pull_of fields
     else None
 
--- these requests, and then those
-abbrev pub then_requests : List Request → Option (List Request) → Option (List Request)
-then_requests front None = None
-then_requests front (Some rest) = Some (front ++ rest)
-
-abbrev pub then_request : Option Request → Option (List Request) → Option (List Request)
-then_request None rest = None
-then_request (Some request) rest = then_requests (request ∷ []) rest
-
 -- the requests of these lines, where each that is not skipped is one
 abbrev pub requests_of : List (List ℕ) → Option (List Request)
 requests_of [] = Some []
 requests_of (line ∷ more) =
     if is_skipped line then requests_of more
-    else then_request (request_of (words_of line)) (requests_of more)
+    else option_and_then (λ request. option_map (λ rest. request ∷ rest) (requests_of more)) (request_of (words_of line))
 
 -- the requests of a script: UTF-8, in lines
 abbrev pub script_of : List ℕ → Option (List Request)

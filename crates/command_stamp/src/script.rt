@@ -2,7 +2,8 @@
 ghost use Rattle.std.specs.Prelude.{◌≡◌, ℕ, List, ◌∷◌, None, map, IfOk, MatchBool};
 ghost use Rattle.std.specs.Str.Lines.{lines};
 ghost use Rattle.text_lines.specs.Lines.{words_of};
-ghost use Rattle.command_stamp.specs.Script.{small_of, large_of, plain_want_of, want_after_of, want_of, join_of, send_of, tick_of, leave_of, offer_of, pull_of, hex_of, request_of, requests_of, then_requests, script_of};
+ghost use Rattle.command_stamp.specs.Script.{small_of, large_of, plain_want_of, want_after_of, want_of, join_of, send_of, tick_of, leave_of, offer_of, pull_of, hex_of, request_of, requests_of, script_of};
+ghost use Rattle.command_stamp.specs.ScriptRead.{then_requests};
 
 use hex::FromHexError;
 use reflector_core::{Request, Requests, Want};

@@ -1,3 +1,5 @@
 pub mod Parts
 pub mod CommandWords
 pub mod Address
+pub mod Bounds
+pub mod PartsRead

@@ -1,5 +1,5 @@
 -- The words after the name of a command: its positionals in order, and its settings. A word is seen as its characters.
-use Rattle.std.specs.Prelude.{◌≡◌, ℕ, ◌<◌, Bool, false, ◌==◌, ◌&&◌, ◌||◌, if◌then◌else◌, length, drop, slice_get, slice_index_or, remove, List, [], ◌∷◌, ◌++◌, Option, Some, None}
+use Rattle.std.specs.Prelude.{Bool, false, ◌==◌, ◌&&◌, ◌||◌, if◌then◌else◌, length, drop, slice_get, List, [], ◌∷◌, ◌++◌, Option, Some, None}
 use Rattle.std.specs.Str.{bytes_eq}
 use Rattle.text_lines.specs.Lines.{LineWord, is_empty}
 use Rattle.command_words.specs.declared.parts.Setting.{Setting}
@@ -76,20 +76,3 @@ without_option option parts = record parts { settings = without option parts.set
 -- none is left
 abbrev pub are_all_taken : Parts → Bool
 are_all_taken parts = (length parts.positionals == 0) && (length parts.settings == 0)
-
--- ---- how they are read
-
--- what is made of these words behind those that were read, after an option that waits for its value, or none that does
-abbrev pub read_on : Parts → Option LineWord → List LineWord → Option Parts
-read_on parts awaiting words = with_parts parts (parts_after_option awaiting words)
-
--- the first setting of an option stands at this place
-pub record IsFirstOf (option : LineWord) (settings : List Setting) (place : ℕ) : Type 0 where
-  pub within : place < length settings
-  pub value : (default : Setting) → setting_value option settings ≡ Some (slice_index_or settings place default).value
-  pub others : without option settings ≡ remove settings place
-
--- there is no setting of an option
-pub record HasNone (option : LineWord) (settings : List Setting) : Type 0 where
-  pub value : setting_value option settings ≡ None
-  pub others : without option settings ≡ settings

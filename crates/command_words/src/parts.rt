@@ -3,7 +3,8 @@ ghost use Rattle.std.specs.Prelude.{◌≡◌, ◌∷◌, true, None, IfOk, IfSo
 ghost use Rattle.std.specs.List.{list_all};
 ghost use Rattle.std.specs.Str.{bytes_eq};
 ghost use Rattle.text_lines.specs.Lines.{is_empty};
-ghost use Rattle.command_words.specs.Parts.{all_parts, is_option, setting_value, without, IsFirstOf, HasNone};
+ghost use Rattle.command_words.specs.Parts.{all_parts, is_option, setting_value, without};
+ghost use Rattle.command_words.specs.PartsRead.{IsFirstOf, HasNone};
 
 use std::alloc::Global;
 use std::collections::VecDeque;
@@ -97,7 +98,7 @@ struct Reader {
 impl Reader {
     ghost use Rattle.std.specs.Prelude.{List};
     ghost use Rattle.text_lines.specs.Lines.{LineWord};
-    ghost use Rattle.command_words.specs.Parts.{read_on};
+    ghost use Rattle.command_words.specs.PartsRead.{read_on};
 
     /// Reads one word more, or says that it breaks the rules.
     fn take(&mut self, word: &Text) -> Result<bool, WantOfMemory>

@@ -3,7 +3,8 @@ ghost use Rattle.std.specs.Prelude.{◌≡◌, ◌≤◌, ◌<◌, IfOk, IfSome,
 ghost use Rattle.std.specs.Option.{option_and_then};
 ghost use Rattle.tea_base.specs.Limits.{time_limit};
 ghost use Rattle.command_words.specs.Parts.{behind_first, first_positional};
-ghost use Rattle.command_words.specs.CommandWords.{a_name, a_number, a_time, asks, check_row, command_of, drill_row, join_row, most_name, read_by, reflect_row, replay_row, rows, stamp_row, IsWithinBounds};
+ghost use Rattle.command_words.specs.CommandWords.{a_name, a_number, a_time, asks, check_row, command_of, drill_row, join_row, join_options, most_name, read_by, reflect_options, reflect_row, replay_options, replay_puts, replay_row, rows, stamp_row};
+ghost use Rattle.command_words.specs.Bounds.{IsBounded, IsBoundedJoin, IsWithinBounds};
 
 use crate::parts::{Parts, is_word, read_parts};
 use run_steps::{MOST_CONNECTIONS, MOST_DRILL_EVENTS, MOST_DRILL_VIEWS};
@@ -21,11 +22,11 @@ pub enum Command {
     Stamp { script: Text, log: Option<Text> },
     /// `check PROGRAM`
     Check { program: Text },
-    /// `replay PROGRAM NAME LOG TIME [--from SNAP] [--snapshot FILE]`
+    /// `replay PROGRAM NAME LOG TIME [--persisted JSON] [--from SNAP] [--snapshot FILE] [--saved FILE]`
     Replay(ReplayRequest),
-    /// `join PROGRAM NAME ADDRESS VIEW SCRIPT`
+    /// `join PROGRAM NAME ADDRESS VIEW SCRIPT [--persisted JSON]`
     Join(JoinRequest),
-    /// `reflect PROGRAM NAME ADDRESS --connections N --log FILE`
+    /// `reflect PROGRAM NAME ADDRESS [--persisted JSON] --connections N --log FILE`
     Reflect(ReflectRequest),
     /// `drill SEED VIEWS EVENTS --log FILE --snapshots PREFIX`
     Drill(DrillRequest),
@@ -40,10 +41,14 @@ pub struct ReplayRequest {
     pub log: Text,
     /// Microseconds of TeaTime, below 2^53.
     pub time: u64,
+    /// The JSON of the persisted value.
+    pub persisted: Option<Text>,
     /// The snapshot from which it begins.
     pub from: Option<Text>,
     /// Where the snapshot of the world is put.
     pub snapshot: Option<Text>,
+    /// Where the saved value of the world is put, as JSON.
+    pub saved: Option<Text>,
 }
 
 /// What a view is asked for.
@@ -56,6 +61,8 @@ pub struct JoinRequest {
     /// The number of the view, from 1.
     pub view: u32,
     pub script: Text,
+    /// The JSON of the persisted value.
+    pub persisted: Option<Text>,
 }
 
 /// What a reflector is asked for.
@@ -65,6 +72,8 @@ pub struct ReflectRequest {
     /// The name of the session, of at most 255 bytes.
     pub name: Text,
     pub address: Text,
+    /// The JSON of the persisted value.
+    pub persisted: Option<Text>,
     /// How many links it accepts, from 1 to 64.
     pub connections: u32,
     /// Where the log of the session is put.
@@ -151,7 +160,7 @@ fn ask(command: Command, parts: &Parts) -> Option<Command>
 
 /// `stamp SCRIPT [--log FILE]`
 fn stamp(mut parts: Parts) -> Option<Command>
-    ensures read { result ≡ stamp_row.reads parts }
+    ensures read { result ≡ stamp_row.1 parts }
     ensures bounds { IfSome result IsWithinBounds }
 {
     let script = parts.positional()?;
@@ -161,38 +170,77 @@ fn stamp(mut parts: Parts) -> Option<Command>
 
 /// `check PROGRAM`
 fn check(mut parts: Parts) -> Option<Command>
-    ensures read { result ≡ check_row.reads parts }
+    ensures read { result ≡ check_row.1 parts }
     ensures bounds { IfSome result IsWithinBounds }
 {
     let program = parts.positional()?;
     ask(Command::Check { program }, &parts)
 }
 
-/// `replay PROGRAM NAME LOG TIME [--from SNAP] [--snapshot FILE]`
+/// The last options of `replay`: `[--snapshot FILE] [--saved FILE]`
+fn replay_puts(mut parts: Parts, mut request: ReplayRequest) -> Option<Command>
+    requires { IsBounded request }
+    ensures read { result ≡ replay_puts request parts }
+    ensures bounds { IfSome result IsWithinBounds }
+{
+    request.snapshot = parts.option("--snapshot");
+    request.saved = parts.option("--saved");
+    ask(Command::Replay(request), &parts)
+}
+
+/// The options of `replay`: `[--persisted JSON] [--from SNAP]`, and where it puts what
+fn replay_options(
+    mut parts: Parts,
+    program: Text,
+    name: Text,
+    log: Text,
+    time: u64,
+) -> Option<Command>
+    requires named { length (encode_utf8_all name) ≤ most_name }
+    requires timed { time < time_limit }
+    ensures read { result ≡ replay_options program name log time parts }
+    ensures bounds { IfSome result IsWithinBounds }
+{
+    let persisted = parts.option("--persisted");
+    let from = parts.option("--from");
+    let request = ReplayRequest {
+        program,
+        name,
+        log,
+        time,
+        persisted,
+        from,
+        snapshot: None,
+        saved: None,
+    };
+    replay_puts(parts, request)
+}
+
+/// `replay PROGRAM NAME LOG TIME`, and its options
 fn replay(mut parts: Parts) -> Option<Command>
-    ensures read { result ≡ replay_row.reads parts }
+    ensures read { result ≡ replay_row.1 parts }
     ensures bounds { IfSome result IsWithinBounds }
 {
     let program = parts.positional()?;
     let name = next_name(&mut parts)?;
     let log = parts.positional()?;
     let time = next_time(&mut parts)?;
-    let from = parts.option("--from");
-    let snapshot = parts.option("--snapshot");
-    let request = ReplayRequest {
-        program,
-        name,
-        log,
-        time,
-        from,
-        snapshot,
-    };
-    ask(Command::Replay(request), &parts)
+    replay_options(parts, program, name, log, time)
 }
 
-/// `join PROGRAM NAME ADDRESS VIEW SCRIPT`
+/// The option of `join`: `[--persisted JSON]`
+fn join_options(mut parts: Parts, mut request: JoinRequest) -> Option<Command>
+    requires { IsBoundedJoin request }
+    ensures read { result ≡ join_options request parts }
+    ensures bounds { IfSome result IsWithinBounds }
+{
+    request.persisted = parts.option("--persisted");
+    ask(Command::Join(request), &parts)
+}
+
+/// `join PROGRAM NAME ADDRESS VIEW SCRIPT`, and its option
 fn join(mut parts: Parts) -> Option<Command>
-    ensures read { result ≡ join_row.reads parts }
+    ensures read { result ≡ join_row.1 parts }
     ensures bounds { IfSome result IsWithinBounds }
 {
     let program = parts.positional()?;
@@ -206,33 +254,45 @@ fn join(mut parts: Parts) -> Option<Command>
         address,
         view,
         script,
+        persisted: None,
     };
-    ask(Command::Join(request), &parts)
+    join_options(parts, request)
 }
 
-/// `reflect PROGRAM NAME ADDRESS --connections N --log FILE`
-fn reflect(mut parts: Parts) -> Option<Command>
-    ensures read { result ≡ reflect_row.reads parts }
+/// The options of `reflect`: `[--persisted JSON] --connections N --log FILE`
+fn reflect_options(mut parts: Parts, program: Text, name: Text, address: Text) -> Option<Command>
+    requires { length (encode_utf8_all name) ≤ most_name }
+    ensures read { result ≡ reflect_options program name address parts }
     ensures bounds { IfSome result IsWithinBounds }
 {
-    let program = parts.positional()?;
-    let name = next_name(&mut parts)?;
-    let address = parts.positional()?;
+    let persisted = parts.option("--persisted");
     let connections = number_within(&parts.option("--connections")?, 1, MOST_CONNECTIONS)?;
     let log = parts.option("--log")?;
     let request = ReflectRequest {
         program,
         name,
         address,
+        persisted,
         connections,
         log,
     };
     ask(Command::Reflect(request), &parts)
 }
 
+/// `reflect PROGRAM NAME ADDRESS`, and its options
+fn reflect(mut parts: Parts) -> Option<Command>
+    ensures read { result ≡ reflect_row.1 parts }
+    ensures bounds { IfSome result IsWithinBounds }
+{
+    let program = parts.positional()?;
+    let name = next_name(&mut parts)?;
+    let address = parts.positional()?;
+    reflect_options(parts, program, name, address)
+}
+
 /// `drill SEED VIEWS EVENTS --log FILE --snapshots PREFIX`
 fn drill(mut parts: Parts) -> Option<Command>
-    ensures read { result ≡ drill_row.reads parts }
+    ensures read { result ≡ drill_row.1 parts }
     ensures bounds { IfSome result IsWithinBounds }
 {
     let seed = next_number(&mut parts, 0, u32::MAX)?;

@@ -4,6 +4,8 @@ use Rattle.std.specs.Prelude.{⊤}
 use Rattle.tea_base.specs.declared.entry.Entry.{Entry}
 use Rattle.reflector_core.specs.declared.request.Request.{Request}
 use Rattle.model_tree.specs.Tree.{ProgramTree}
+use Rattle.model_solved.specs.Founding.{Founding}
+use Rattle.model_value.specs.Plain.{PlainValue, nil}
 use Rattle.run_steps.specs.Steps.{Ask, Step}
 use Rattle.command_outcome.specs.declared.outcome.Input.{Input}
 use Rattle.command_outcome.specs.declared.outcome.Input.TheVariants as input
@@ -12,9 +14,13 @@ use Rattle.command_outcome.specs.declared.outcome.CommandRefusal.TheVariants as 
 use Rattle.command_words.specs.declared.words.ReplayRequest.{ReplayRequest}
 use Rattle.command_words.specs.declared.words.Command.{Command}
 use Rattle.command_words.specs.declared.words.Command.TheVariants.{Stamp, Check, Replay, Join, Reflect, Drill}
-use Rattle.command_words.specs.CommandWords.{UsesNet}
+use Rattle.command_words.specs.Bounds.{UsesNet}
 use Rattle.command_stamp.specs.Script.{script_of}
-use Rattle.commands.specs.Verdict.{ByDrill, ByNetFault, ByRefusal, ByReflecting, ByVisit, ByWant, Closing, Coming, Comes, Fine, Free, Only, OfFile, OfGiven, OfLog, OfProgram, OfScript, OfSnapshot, OfTree, OfWords, RunsOn, Starts, Verdict, ask_log, ask_program, ask_script, ask_snapshot, at_once, count_verdict, fine, session_of, stamp_verdict}
+use Rattle.model_tree.specs.Bounds.{most_program_bytes}
+use Rattle.persist_json.specs.JsonOf.{most_json}
+use Rattle.tea_base.specs.Limits.{most_snapshot}
+use Rattle.commands.specs.Work.{RunsOn}
+use Rattle.commands.specs.Verdict.{ByDrill, ByNetFault, ByRefusal, ByReflecting, ByVisit, ByWant, Closing, Coming, Comes, Fine, Free, Only, OfFile, OfFounded, OfGiven, OfJson, OfLog, OfPersisted, OfProgram, OfRecorded, OfScript, OfSnapshot, OfTree, OfWords, Starts, Verdict, ask_file, at_once, count_verdict, fine, founded, session_of, stamp_verdict, most_script, most_log}
 
 -- the run goes on
 abbrev pub IsGoingOn : Closing → Type 0
@@ -70,29 +76,41 @@ snapshot_never request tree id log bytes verdict (inl (w, is, comes)) on =
     resumed_never (nat_lt request.time w.time) (refusal.Input input.Time) _ verdict comes on
 snapshot_never request tree id log bytes verdict (inr (none, comes)) on = refused_never (refusal.Input input.Snapshot) verdict comes on
 
-starts_never : (from : Option (List ℕ)) (request : ReplayRequest) (tree : ProgramTree) (id : List ℕ) (log : List Entry) → NeverGoesOn (Starts from request tree id log)
-starts_never None request tree id log = fine_never _
-starts_never (Some from) request tree id log = file_never input.Snapshot (ask_snapshot from) (OfSnapshot request tree id log) (snapshot_never request tree id log)
+starts_never : (from : Option (List ℕ)) (request : ReplayRequest) (founding : Founding) (id : List ℕ) (log : List Entry) → NeverGoesOn (Starts from request founding id log)
+starts_never None request founding id log = fine_never _
+starts_never (Some from) request founding id log = file_never input.Snapshot (ask_file from most_snapshot) (OfSnapshot request founding.tree id log) (snapshot_never request founding.tree id log)
+
+json_never : (next : PlainValue → Coming) (bytes : List ℕ) → ((v : PlainValue) → NeverGoesOn (next v)) → NeverGoesOn (OfJson next bytes)
+json_never next bytes each verdict (inl (v, is, comes)) on = each v verdict comes on
+json_never next bytes each verdict (inr (none, comes)) on = refused_never (refusal.Input input.Persisted) verdict comes on
+
+persisted_never : (name : Option (List ℕ)) (next : PlainValue → Coming) → ((v : PlainValue) → NeverGoesOn (next v)) → NeverGoesOn (OfPersisted name next)
+persisted_never None next each = each nil
+persisted_never (Some name) next each = file_never input.Persisted (ask_file name most_json) (OfJson next) (λ bytes. json_never next bytes each)
 
 log_never : (next : List Entry → Coming) (bytes : List ℕ) → ((log : List Entry) → NeverGoesOn (next log)) → NeverGoesOn (OfLog next bytes)
 log_never next bytes each verdict (inl (log, legal, is, comes)) on = each log verdict comes on
 log_never next bytes each verdict (inr (none, comes)) on = refused_never (refusal.Input input.Log) verdict comes on
 
-tree_never : (request : ReplayRequest) (id : List ℕ) (tree : ProgramTree) → NeverGoesOn (OfTree request id tree)
-tree_never request id tree =
-    file_never input.Log (ask_log request.log) (OfLog (Starts request.from request tree id))
-    (λ bytes. log_never (Starts request.from request tree id) bytes (starts_never request.from request tree id))
+recorded_never : (request : ReplayRequest) (text : List ℕ) (tree : ProgramTree) (log : List Entry) → NeverGoesOn (OfRecorded request text tree log)
+recorded_never request text tree log =
+    persisted_never request.persisted (λ v. OfFounded request text log (founded tree v)) (λ v. starts_never request.from request (founded tree v) (session_of request.name text v) log)
+
+tree_never : (request : ReplayRequest) (text : List ℕ) (tree : ProgramTree) → NeverGoesOn (OfTree request text tree)
+tree_never request text tree =
+    file_never input.Log (ask_file request.log most_log) (OfLog (OfRecorded request text tree))
+    (λ bytes. log_never (OfRecorded request text tree) bytes (recorded_never request text tree))
 
 words_never : (command : Option Command) → ¬ RunsOn command → NeverGoesOn (OfWords command)
 words_never None other = refused_never refusal.Usage
 words_never (Some (Stamp script log)) other =
-    file_never input.Script (ask_script script) (λ bytes. OfScript log (script_of bytes)) (λ bytes. script_never log (script_of bytes))
+    file_never input.Script (ask_file script most_script) (λ bytes. OfScript log (script_of bytes)) (λ bytes. script_never log (script_of bytes))
 words_never (Some (Check program)) other =
-    file_never input.Program (ask_program program) (OfProgram (λ tree. Only (count_verdict tree)))
+    file_never input.Program (ask_file program most_program_bytes) (OfProgram (λ tree. Only (count_verdict tree)))
     (λ bytes. program_never (λ tree. Only (count_verdict tree)) bytes (λ tree. fine_never (count_verdict tree).steps))
 words_never (Some (Replay request)) other =
-    file_never input.Program (ask_program request.program) (λ bytes. OfProgram (OfTree request (session_of request.name bytes)) bytes)
-    (λ bytes. program_never (OfTree request (session_of request.name bytes)) bytes (tree_never request (session_of request.name bytes)))
+    file_never input.Program (ask_file request.program most_program_bytes) (λ bytes. OfProgram (OfTree request bytes) bytes)
+    (λ bytes. program_never (OfTree request bytes) bytes (tree_never request bytes))
 words_never (Some (Join request)) other = absurd (other tt)
 words_never (Some (Reflect request)) other = absurd (other tt)
 words_never (Some (Drill request)) other = absurd (other tt)

@@ -11,14 +11,18 @@ use Rattle.session_log.proofs.LogCodec.{log_codec}
 use Rattle.reflector_core.specs.declared.request.Request.{Request}
 use Rattle.model_tree.specs.Program.{Reading, a_program, no_program, too_large, IsReading}
 use Rattle.model_tree.specs.Tree.{ProgramTree}
+use Rattle.model_solved.specs.Founding.{Founding}
 use Rattle.model_solved.specs.declared.fault.CheckFault.{CheckFault}
 use Rattle.model_solved.specs.Faults.{first_fault}
 use Rattle.model_solved.specs.Methods.{field_counts}
+use Rattle.model_value.specs.Plain.{PlainValue, nil}
+use Rattle.persist_json.specs.JsonOf.{data_of, IsJsonOf, most_json}
+use Rattle.persist_json.proofs.Readings.{same_value}
 use Rattle.world_plain.specs.World.{WorldRecord}
 use Rattle.snapshot_codec.specs.Answer.{IsSnapshot}
-use Rattle.snapshot_codec.specs.Reading.{world_record_at}
+use Rattle.snapshot_codec.specs.Reading.{world_in}
 use Rattle.snapshot_codec.proofs.Fitting.{world-fits}
-use Rattle.snapshot_codec.proofs.WorldCodec.{world_codec}
+use Rattle.snapshot_codec.proofs.WorldCodec.{world-again}
 use Rattle.run_steps.specs.Steps.{Ask, Step, Loads, Puts, Prints, Connects, Returns, Hears, Sends}
 use Rattle.command_outcome.specs.declared.outcome.Input.{Input}
 use Rattle.command_outcome.specs.declared.outcome.Input.TheVariants as input
@@ -34,7 +38,10 @@ use Rattle.command_words.specs.declared.words.Command.TheVariants.{Stamp, Check,
 use Rattle.command_outcome.specs.ProgramText.{syntax_line}
 use Rattle.command_stamp.specs.Script.{script_of}
 use Rattle.command_outcome.specs.ProgramEnd.{IsLineOf, IsRefused, IsRefusedBy}
-use Rattle.commands.specs.Verdict.{Closing, ByDrill, ByRefusal, ByReflecting, ByVisit, ByWant, Verdict, AreAlike, AreDoneAlike, Coming, Free, IsOneVerdict, IsFunction, OfAddress, OfFile, OfGiven, OfJoin, OfLog, OfProgram, OfReflect, OfScript, OfSnapshot, OfTree, OfView, OfViewScript, OfWords, Only, Starts, ask_log, ask_program, ask_script, ask_snapshot, before, at_once, count_verdict, reflection_of, resumed_verdict, session_of, stamp_verdict, visit_to}
+use Rattle.model_tree.specs.Bounds.{most_program_bytes}
+use Rattle.tea_base.specs.Limits.{most_snapshot}
+use Rattle.commands.specs.Laws.{AreAlike, AreDoneAlike, IsOneVerdict, IsFunction}
+use Rattle.commands.specs.Verdict.{Closing, ByDrill, ByRefusal, ByReflecting, ByVisit, ByWant, Verdict, Coming, Free, OfAddress, OfFile, OfFounded, OfGiven, OfJoin, OfJson, OfLog, OfPersisted, OfProgram, OfRecorded, OfReflect, OfScript, OfSnapshot, OfTree, OfView, OfViewScript, OfWords, Only, Starts, before, ask_file, at_once, count_verdict, founded, reflection_of, resumed_verdict, session_of, stamp_verdict, visit_to, most_script, most_log}
 
 -- what `model_lang::one_reading` says
 abbrev pub IsOneReading : Type 0
@@ -145,6 +152,22 @@ one_program one next each bytes verdict other (inr (line, refused, a)) (inl (tre
 one_program one next each bytes verdict other (inr (line, refused, a)) (inr (line', refused', b)) =
     alike_by verdict other (refused_as line) (refused_as line') a b (told_alike line line' (refused_alike one bytes line line' refused refused'))
 
+-- ---- persisted values
+
+same_json : (bytes : List ℕ) (v w : PlainValue) → IsJsonOf bytes v → IsJsonOf bytes w → w ≡ v
+same_json bytes v w of_v of_w = same_value w v of_w.is of_v.is of_w.fit.1 of_v.fit.1 (same_Some (data_of w) (data_of v) (sym of_w.reads ∙ of_v.reads))
+
+one_json : (next : PlainValue → Coming) → ((v : PlainValue) → IsOneVerdict (next v)) → (bytes : List ℕ) → IsOneVerdict (OfJson next bytes)
+one_json next each bytes verdict other (inl (v, is, a)) (inl (w, is', b)) =
+    each v verdict other a (subst (λ (u : PlainValue). next u other) (same_json bytes v w is is') b)
+one_json next each bytes verdict other (inl (v, is, a)) (inr (none, b)) = absurd (none v is)
+one_json next each bytes verdict other (inr (none, a)) (inl (w, is, b)) = absurd (none w is)
+one_json next each bytes verdict other (inr (none, a)) (inr (none', b)) = one_only (at_once (ByRefusal (refusal.Input input.Persisted))) verdict other a b
+
+one_persisted : (name : Option (List ℕ)) (next : PlainValue → Coming) → ((v : PlainValue) → IsOneVerdict (next v)) → IsOneVerdict (OfPersisted name next)
+one_persisted None next each = each nil
+one_persisted (Some name) next each = one_file input.Persisted (ask_file name most_json) (OfJson next) (one_json next each)
+
 -- ---- replay
 
 same_log : (bytes : List ℕ) (log other : List Entry) → IsLegal log → bytes ≡ log_spelling log → IsLegal other → bytes ≡ log_spelling other → other ≡ log
@@ -161,8 +184,8 @@ one_log next each bytes verdict other (inr (none, a)) (inr (none', b)) = one_onl
 same_world : (counts id bytes : List ℕ) (w v : WorldRecord) → IsSnapshot counts id bytes w → IsSnapshot counts id bytes v → v ≡ w
 same_world counts id bytes w v is is' =
     same_Some v w
-    (sym (whole_again (world_codec counts) v (world-fits counts v is'.world is'.valid)) ∙ ap (whole (world_record_at counts)) (sym is'.spelled ∙ is.spelled)
-    ∙ whole_again (world_codec counts) w (world-fits counts w is.world is.valid))
+    (sym (world-again counts v (world-fits counts v is'.world is'.valid)) ∙ ap (world_in counts) (sym is'.spelled ∙ is.spelled)
+    ∙ world-again counts w (world-fits counts w is.world is.valid))
 
 one_snapshot : (request : ReplayRequest) (tree : ProgramTree) (id : List ℕ) (log : List Entry) (bytes : List ℕ) → IsOneVerdict (OfSnapshot request tree id log bytes)
 one_snapshot request tree id log bytes verdict other (inl (w, is, a)) (inl (v, is', b)) =
@@ -172,53 +195,58 @@ one_snapshot request tree id log bytes verdict other (inl (w, is, a)) (inr (none
 one_snapshot request tree id log bytes verdict other (inr (none, a)) (inl (w, is, b)) = absurd (none w is)
 one_snapshot request tree id log bytes verdict other (inr (none, a)) (inr (none', b)) = one_only (at_once (ByRefusal (refusal.Input input.Snapshot))) verdict other a b
 
-one_start : (from : Option (List ℕ)) (request : ReplayRequest) (tree : ProgramTree) (id : List ℕ) (log : List Entry) → IsOneVerdict (Starts from request tree id log)
-one_start None request tree id log = one_only _
-one_start (Some from) request tree id log = one_file input.Snapshot (ask_snapshot from) (OfSnapshot request tree id log) (one_snapshot request tree id log)
+one_start : (from : Option (List ℕ)) (request : ReplayRequest) (founding : Founding) (id : List ℕ) (log : List Entry) → IsOneVerdict (Starts from request founding id log)
+one_start None request founding id log = one_only _
+one_start (Some from) request founding id log = one_file input.Snapshot (ask_file from most_snapshot) (OfSnapshot request founding.tree id log) (one_snapshot request founding.tree id log)
 
-one_tree : (request : ReplayRequest) (id : List ℕ) (tree : ProgramTree) → IsOneVerdict (OfTree request id tree)
-one_tree request id tree =
-    one_file input.Log (ask_log request.log) (OfLog (Starts request.from request tree id)) (one_log (Starts request.from request tree id) (one_start request.from request tree id))
+one_recorded : (request : ReplayRequest) (text : List ℕ) (tree : ProgramTree) (log : List Entry) → IsOneVerdict (OfRecorded request text tree log)
+one_recorded request text tree log =
+    one_persisted request.persisted (λ v. OfFounded request text log (founded tree v)) (λ v. one_start request.from request (founded tree v) (session_of request.name text v) log)
+
+one_tree : (request : ReplayRequest) (text : List ℕ) (tree : ProgramTree) → IsOneVerdict (OfTree request text tree)
+one_tree request text tree = one_file input.Log (ask_file request.log most_log) (OfLog (OfRecorded request text tree)) (one_log (OfRecorded request text tree) (one_recorded request text tree))
 
 -- ---- join
 
-one_view_script : (request : JoinRequest) (id : List ℕ) (tree : ProgramTree) (script : Option (List PlainLine)) → IsOneVerdict (OfViewScript request id tree script)
-one_view_script request id tree None = one_only (at_once (ByRefusal (refusal.Input input.Script)))
-one_view_script request id tree (Some lines) = one_only (at_once (ByVisit (visit_to request id tree lines)))
+one_view_script : (request : JoinRequest) (text : List ℕ) (tree : ProgramTree) (script : Option (List PlainLine)) → IsOneVerdict (OfViewScript request text tree script)
+one_view_script request text tree None = one_only (at_once (ByRefusal (refusal.Input input.Script)))
+one_view_script request text tree (Some lines) =
+    one_persisted request.persisted (λ v. Only (at_once (ByVisit (visit_to request text lines (founded tree v))))) (λ v. one_only (at_once (ByVisit (visit_to request text lines (founded tree v)))))
 
 one_address : (is : Bool) (next : Coming) → IsOneVerdict next → IsOneVerdict (OfAddress is next)
 one_address true next one = one
 one_address false next one = one_only (at_once (ByRefusal (refusal.Input input.Address)))
 
-one_view : (request : JoinRequest) (id : List ℕ) (tree : ProgramTree) → IsOneVerdict (OfView request id tree)
-one_view request id tree =
-    one_file input.Script (ask_script request.script) (λ bytes. OfViewScript request id tree (view_script_of bytes)) (λ bytes. one_view_script request id tree (view_script_of bytes))
+one_view : (request : JoinRequest) (text : List ℕ) (tree : ProgramTree) → IsOneVerdict (OfView request text tree)
+one_view request text tree =
+    one_file input.Script (ask_file request.script most_script) (λ bytes. OfViewScript request text tree (view_script_of bytes)) (λ bytes. one_view_script request text tree (view_script_of bytes))
 
-one_join : (request : JoinRequest) (id : List ℕ) (tree : ProgramTree) → IsOneVerdict (OfJoin request id tree)
-one_join request id tree = one_address (is_address (encode_utf8_all request.address)) (OfView request id tree) (one_view request id tree)
+one_join : (request : JoinRequest) (text : List ℕ) (tree : ProgramTree) → IsOneVerdict (OfJoin request text tree)
+one_join request text tree = one_address (is_address (encode_utf8_all request.address)) (OfView request text tree) (one_view request text tree)
 
 -- ---- reflect
 
-one_reflect : (request : ReflectRequest) (id : List ℕ) → IsOneVerdict (OfReflect request id)
-one_reflect request id =
-    one_address (is_address (encode_utf8_all request.address)) (Only (at_once (ByReflecting (reflection_of request id)))) (one_only (at_once (ByReflecting (reflection_of request id))))
+one_reflect : (request : ReflectRequest) (text : List ℕ) → IsOneVerdict (OfReflect request text)
+one_reflect request text =
+    one_address (is_address (encode_utf8_all request.address)) (OfPersisted request.persisted (λ v. Only (at_once (ByReflecting (reflection_of request text v)))))
+    (one_persisted request.persisted (λ v. Only (at_once (ByReflecting (reflection_of request text v)))) (λ v. one_only (at_once (ByReflecting (reflection_of request text v)))))
 
 -- ---- the commands
 
 one_words : IsOneReading → (command : Option Command) → IsOneVerdict (OfWords command)
 one_words one None = one_only (at_once (ByRefusal refusal.Usage))
-one_words one (Some (Stamp script log)) = one_file input.Script (ask_script script) (λ bytes. OfScript log (script_of bytes)) (λ bytes. one_script log (script_of bytes))
+one_words one (Some (Stamp script log)) = one_file input.Script (ask_file script most_script) (λ bytes. OfScript log (script_of bytes)) (λ bytes. one_script log (script_of bytes))
 one_words one (Some (Check program)) =
-    one_file input.Program (ask_program program) (OfProgram (λ tree. Only (count_verdict tree))) (one_program one (λ tree. Only (count_verdict tree)) (λ tree. one_only (count_verdict tree)))
+    one_file input.Program (ask_file program most_program_bytes) (OfProgram (λ tree. Only (count_verdict tree))) (one_program one (λ tree. Only (count_verdict tree)) (λ tree. one_only (count_verdict tree)))
 one_words one (Some (Replay request)) =
-    one_file input.Program (ask_program request.program) (λ bytes. OfProgram (OfTree request (session_of request.name bytes)) bytes)
-    (λ bytes. one_program one (OfTree request (session_of request.name bytes)) (one_tree request (session_of request.name bytes)) bytes)
+    one_file input.Program (ask_file request.program most_program_bytes) (λ bytes. OfProgram (OfTree request bytes) bytes)
+    (λ bytes. one_program one (OfTree request bytes) (one_tree request bytes) bytes)
 one_words one (Some (Join request)) =
-    one_file input.Program (ask_program request.program) (λ bytes. OfProgram (OfJoin request (session_of request.name bytes)) bytes)
-    (λ bytes. one_program one (OfJoin request (session_of request.name bytes)) (one_join request (session_of request.name bytes)) bytes)
+    one_file input.Program (ask_file request.program most_program_bytes) (λ bytes. OfProgram (OfJoin request bytes) bytes)
+    (λ bytes. one_program one (OfJoin request bytes) (one_join request bytes) bytes)
 one_words one (Some (Reflect request)) =
-    one_file input.Program (ask_program request.program) (λ bytes. OfProgram (λ tree. OfReflect request (session_of request.name bytes)) bytes)
-    (λ bytes. one_program one (λ tree. OfReflect request (session_of request.name bytes)) (λ tree. one_reflect request (session_of request.name bytes)) bytes)
+    one_file input.Program (ask_file request.program most_program_bytes) (λ bytes. OfProgram (λ tree. OfReflect request bytes) bytes)
+    (λ bytes. one_program one (λ tree. OfReflect request bytes) (λ tree. one_reflect request bytes) bytes)
 one_words one (Some (Drill request)) = one_only (at_once (ByDrill request))
 
 pub is_function : IsOneReading → IsFunction

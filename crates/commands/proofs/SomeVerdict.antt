@@ -4,8 +4,10 @@ use Rattle.tea_base.specs.declared.entry.Entry.{Entry}
 use Rattle.reflector_core.specs.declared.request.Request.{Request}
 use Rattle.model_tree.specs.Program.{Reading, a_program, no_program, too_large, IsReading, IsRead}
 use Rattle.model_tree.specs.Tree.{ProgramTree}
+use Rattle.model_solved.specs.Founding.{Founding}
 use Rattle.model_solved.specs.declared.fault.CheckFault.{CheckFault}
 use Rattle.model_solved.specs.Faults.{first_fault}
+use Rattle.model_value.specs.Plain.{PlainValue, nil}
 use Rattle.run_steps.specs.Steps.{Ask, Loads}
 use Rattle.command_outcome.specs.declared.outcome.Input.{Input}
 use Rattle.command_outcome.specs.declared.outcome.Input.TheVariants as input
@@ -26,7 +28,11 @@ use Rattle.command_outcome.specs.ProgramText.{check_line, counts_line, syntax_li
 use Rattle.command_stamp.specs.Script.{script_of}
 use Rattle.command_outcome.specs.Outcome.{steps_of}
 use Rattle.command_outcome.specs.ProgramEnd.{IsLineOf}
-use Rattle.commands.specs.Verdict.{PlainVisit, Fine, ByDrill, ByRefusal, ByReflecting, ByVisit, ByWant, AreGiven, Coming, IsOnlyWant, OfAddress, OfCommand, OfFile, OfGiven, OfJoin, OfLog, OfProgram, OfReflect, OfScript, OfSnapshot, OfTree, OfView, OfViewScript, SomeVerdictComes, Starts, ask_log, ask_program, ask_script, ask_snapshot, at_once, before, count_verdict, fine, reflection_of, session_of, visit_to}
+use Rattle.model_tree.specs.Bounds.{most_program_bytes}
+use Rattle.persist_json.specs.JsonOf.{most_json}
+use Rattle.tea_base.specs.Limits.{most_snapshot}
+use Rattle.commands.specs.Laws.{AreGiven, IsOnlyWant, SomeVerdictComes}
+use Rattle.commands.specs.Verdict.{PlainVisit, Fine, ByDrill, ByRefusal, ByReflecting, ByVisit, ByWant, Coming, OfAddress, OfCommand, OfFile, OfFounded, OfGiven, OfJoin, OfJson, OfLog, OfPersisted, OfProgram, OfRecorded, OfReflect, OfScript, OfSnapshot, OfTree, OfView, OfViewScript, Only, Starts, ask_file, at_once, before, count_verdict, fine, founded, reflection_of, session_of, visit_to, most_script, most_log}
 
 abbrev pub Told : Type 0
 Told = Ask → Option (List ℕ)
@@ -95,6 +101,18 @@ reading_not_want told next bytes (too_large what count) is each =
 program_not_want : IsSomeReading → (told : Told) (next : ProgramTree → Coming) (bytes : List ℕ) → ((tree : ProgramTree) → ¬ IsOnlyWant told (next tree)) → ¬ IsOnlyWant told (OfProgram next bytes)
 program_not_want some told next bytes each only = some bytes (λ reading is. reading_not_want told next bytes reading is each only)
 
+-- ---- persisted values
+
+json_not_want : (told : Told) (next : PlainValue → Coming) (bytes : List ℕ) → ((v : PlainValue) → ¬ IsOnlyWant told (next v)) → ¬ IsOnlyWant told (OfJson next bytes)
+json_not_want told next bytes each only =
+    refused_not_want told (OfJson next bytes) (refusal.Input input.Persisted)
+    (inr (λ v is. each v (λ verdict comes given. only verdict (inl (v, is, comes)) given), refl))
+    only
+
+persisted_not_want : (told : Told) (name : Option (List ℕ)) (next : PlainValue → Coming) → ((v : PlainValue) → ¬ IsOnlyWant told (next v)) → ¬ IsOnlyWant told (OfPersisted name next)
+persisted_not_want told None next each = each nil
+persisted_not_want told (Some name) next each = file_not_want told input.Persisted (ask_file name most_json) (OfJson next) (λ bytes. json_not_want told next bytes each)
+
 -- ---- replay
 
 resumed_if : (told : Told) (coming : Coming) (early : Bool) (puts : List Put) (text : List ℕ) (why : CommandRefusal) → coming (cond early (at_once (ByRefusal why)) (fine (steps_of puts text))) → ¬ IsOnlyWant told coming
@@ -107,9 +125,10 @@ snapshot_not_want told request tree id log bytes only =
     (inr (λ w is. resumed_if told (OfSnapshot request tree id log bytes) (nat_lt request.time w.time) _ _ (refusal.Input input.Time) (inl (w, is, refl)) only, refl))
     only
 
-starts_not_want : (told : Told) (from : Option (List ℕ)) (request : ReplayRequest) (tree : ProgramTree) (id : List ℕ) (log : List Entry) → ¬ IsOnlyWant told (Starts from request tree id log)
-starts_not_want told None request tree id log = fine_not_want told (Starts None request tree id log) _ _ refl
-starts_not_want told (Some from) request tree id log = file_not_want told input.Snapshot (ask_snapshot from) (OfSnapshot request tree id log) (snapshot_not_want told request tree id log)
+starts_not_want : (told : Told) (from : Option (List ℕ)) (request : ReplayRequest) (founding : Founding) (id : List ℕ) (log : List Entry) → ¬ IsOnlyWant told (Starts from request founding id log)
+starts_not_want told None request founding id log = fine_not_want told (Starts None request founding id log) _ _ refl
+starts_not_want told (Some from) request founding id log =
+    file_not_want told input.Snapshot (ask_file from most_snapshot) (OfSnapshot request founding.tree id log) (snapshot_not_want told request founding.tree id log)
 
 log_not_want : (told : Told) (next : List Entry → Coming) (bytes : List ℕ) → ((log : List Entry) → ¬ IsOnlyWant told (next log)) → ¬ IsOnlyWant told (OfLog next bytes)
 log_not_want told next bytes each only =
@@ -117,49 +136,57 @@ log_not_want told next bytes each only =
     (inr (λ log legal is. each log (λ verdict comes given. only verdict (inl (log, legal, is, comes)) given), refl))
     only
 
-tree_not_want : (told : Told) (request : ReplayRequest) (id : List ℕ) (tree : ProgramTree) → ¬ IsOnlyWant told (OfTree request id tree)
-tree_not_want told request id tree =
-    file_not_want told input.Log (ask_log request.log) (OfLog (Starts request.from request tree id))
-    (λ bytes. log_not_want told (Starts request.from request tree id) bytes (starts_not_want told request.from request tree id))
+recorded_not_want : (told : Told) (request : ReplayRequest) (text : List ℕ) (tree : ProgramTree) (log : List Entry) → ¬ IsOnlyWant told (OfRecorded request text tree log)
+recorded_not_want told request text tree log =
+    persisted_not_want told request.persisted (λ v. OfFounded request text log (founded tree v)) (λ v. starts_not_want told request.from request (founded tree v) (session_of request.name text v) log)
+
+tree_not_want : (told : Told) (request : ReplayRequest) (text : List ℕ) (tree : ProgramTree) → ¬ IsOnlyWant told (OfTree request text tree)
+tree_not_want told request text tree =
+    file_not_want told input.Log (ask_file request.log most_log) (OfLog (OfRecorded request text tree))
+    (λ bytes. log_not_want told (OfRecorded request text tree) bytes (recorded_not_want told request text tree))
 
 -- ---- join
 
-view_script_not_want : (told : Told) (request : JoinRequest) (id : List ℕ) (tree : ProgramTree) (script : Option (List PlainLine)) → ¬ IsOnlyWant told (OfViewScript request id tree script)
-view_script_not_want told request id tree None = refused_not_want told (OfViewScript request id tree None) (refusal.Input input.Script) refl
-view_script_not_want told request id tree (Some lines) = visit_not_want told (OfViewScript request id tree (Some lines)) (visit_to request id tree lines) refl
+view_script_not_want : (told : Told) (request : JoinRequest) (text : List ℕ) (tree : ProgramTree) (script : Option (List PlainLine)) → ¬ IsOnlyWant told (OfViewScript request text tree script)
+view_script_not_want told request text tree None = refused_not_want told (OfViewScript request text tree None) (refusal.Input input.Script) refl
+view_script_not_want told request text tree (Some lines) =
+    let visits : PlainValue → Coming = λ v. Only (at_once (ByVisit (visit_to request text lines (founded tree v)))) in
+    persisted_not_want told request.persisted visits (λ v. visit_not_want told (visits v) (visit_to request text lines (founded tree v)) refl)
 
 address_not_want : (told : Told) (is : Bool) (next : Coming) → ¬ IsOnlyWant told next → ¬ IsOnlyWant told (OfAddress is next)
 address_not_want told true next each = each
 address_not_want told false next each = refused_not_want told (OfAddress false next) (refusal.Input input.Address) refl
 
-join_not_want : (told : Told) (request : JoinRequest) (id : List ℕ) (tree : ProgramTree) → ¬ IsOnlyWant told (OfJoin request id tree)
-join_not_want told request id tree =
-    address_not_want told (is_address (encode_utf8_all request.address)) (OfView request id tree)
-    (file_not_want told input.Script (ask_script request.script) (λ bytes. OfViewScript request id tree (view_script_of bytes))
-    (λ bytes. view_script_not_want told request id tree (view_script_of bytes)))
+join_not_want : (told : Told) (request : JoinRequest) (text : List ℕ) (tree : ProgramTree) → ¬ IsOnlyWant told (OfJoin request text tree)
+join_not_want told request text tree =
+    address_not_want told (is_address (encode_utf8_all request.address)) (OfView request text tree)
+    (file_not_want told input.Script (ask_file request.script most_script) (λ bytes. OfViewScript request text tree (view_script_of bytes))
+    (λ bytes. view_script_not_want told request text tree (view_script_of bytes)))
 
 -- ---- reflect
 
-reflect_not_want : (told : Told) (request : ReflectRequest) (id : List ℕ) → ¬ IsOnlyWant told (OfReflect request id)
-reflect_not_want told request id =
-    address_not_want told (is_address (encode_utf8_all request.address)) _ (reflection_not_want told (λ came. came ≡ at_once (ByReflecting (reflection_of request id))) (reflection_of request id) refl)
+reflect_not_want : (told : Told) (request : ReflectRequest) (text : List ℕ) → ¬ IsOnlyWant told (OfReflect request text)
+reflect_not_want told request text =
+    let reflects : PlainValue → Coming = λ v. Only (at_once (ByReflecting (reflection_of request text v))) in
+    address_not_want told (is_address (encode_utf8_all request.address)) (OfPersisted request.persisted reflects)
+    (persisted_not_want told request.persisted reflects (λ v. reflection_not_want told (reflects v) (reflection_of request text v) refl))
 
 -- ---- the commands
 
 command_not_want : IsSomeReading → (told : Told) (command : Command) → ¬ IsOnlyWant told (OfCommand command)
 command_not_want some told (Stamp script log) =
-    file_not_want told input.Script (ask_script script) (λ bytes. OfScript log (script_of bytes)) (λ bytes. script_not_want told log (script_of bytes))
+    file_not_want told input.Script (ask_file script most_script) (λ bytes. OfScript log (script_of bytes)) (λ bytes. script_not_want told log (script_of bytes))
 command_not_want some told (Check program) =
-    file_not_want told input.Program (ask_program program) _ (λ bytes. program_not_want some told _ bytes (λ tree. fine_not_want told (λ came. came ≡ count_verdict tree) [] (counts_line tree) refl))
+    file_not_want told input.Program (ask_file program most_program_bytes) _ (λ bytes. program_not_want some told _ bytes (λ tree. fine_not_want told (λ came. came ≡ count_verdict tree) [] (counts_line tree) refl))
 command_not_want some told (Replay request) =
-    file_not_want told input.Program (ask_program request.program) (λ bytes. OfProgram (OfTree request (session_of request.name bytes)) bytes)
-    (λ bytes. program_not_want some told (OfTree request (session_of request.name bytes)) bytes (tree_not_want told request (session_of request.name bytes)))
+    file_not_want told input.Program (ask_file request.program most_program_bytes) (λ bytes. OfProgram (OfTree request bytes) bytes)
+    (λ bytes. program_not_want some told (OfTree request bytes) bytes (tree_not_want told request bytes))
 command_not_want some told (Join request) =
-    file_not_want told input.Program (ask_program request.program) (λ bytes. OfProgram (OfJoin request (session_of request.name bytes)) bytes)
-    (λ bytes. program_not_want some told (OfJoin request (session_of request.name bytes)) bytes (join_not_want told request (session_of request.name bytes)))
+    file_not_want told input.Program (ask_file request.program most_program_bytes) (λ bytes. OfProgram (OfJoin request bytes) bytes)
+    (λ bytes. program_not_want some told (OfJoin request bytes) bytes (join_not_want told request bytes))
 command_not_want some told (Reflect request) =
-    file_not_want told input.Program (ask_program request.program) (λ bytes. OfProgram (λ tree. OfReflect request (session_of request.name bytes)) bytes)
-    (λ bytes. program_not_want some told (λ tree. OfReflect request (session_of request.name bytes)) bytes (λ tree. reflect_not_want told request (session_of request.name bytes)))
+    file_not_want told input.Program (ask_file request.program most_program_bytes) (λ bytes. OfProgram (λ tree. OfReflect request bytes) bytes)
+    (λ bytes. program_not_want some told (λ tree. OfReflect request bytes) bytes (λ tree. reflect_not_want told request bytes))
 command_not_want some told (Drill request) = drill_not_want told (OfCommand (Drill request)) request refl
 
 pub some_verdict_comes : IsSomeReading → SomeVerdictComes

@@ -1,78 +1,129 @@
 -- What the parts of a command's work make of what comes.
-use Rattle.std.specs.Prelude.{◌≤◌, ℕ, ⊤}
-use Rattle.model_tree.specs.TreeView.{program_tree}
+use Rattle.std.specs.Prelude.{◌≤◌, ℕ, ⊤, List, Option, Some}
+use Rattle.tea_base.specs.Limits.{most_snapshot}
+use Rattle.model_tree.specs.Bounds.{most_program_bytes}
+use Rattle.persist_json.specs.JsonOf.{most_json}
+use Rattle.model_solved.specs.Founding.{checked_tree, founding_of}
 use Rattle.run_steps.specs.Steps.{Ask}
 use Rattle.command_outcome.specs.declared.outcome.Input.{Input}
 use Rattle.command_outcome.specs.declared.outcome.Input.TheVariants as input
-use Rattle.command_words.specs.declared.words.Command.TheVariants.{Stamp, Check, Replay, Join, Reflect}
+use Rattle.command_words.specs.declared.words.Command.{Command}
+use Rattle.command_words.specs.declared.words.Command.TheVariants.{Join, Reflect, Drill}
 use Rattle.commands.specs.declared.visit.VisitRequest.{VisitRequest}
 use Rattle.commands.specs.declared.work.Waiting.{Waiting}
 use Rattle.commands.specs.declared.work.Waiting.TheVariants as waiting
+use Rattle.commands.specs.declared.recording.ReplayWait.TheVariants as replay_wait
+use Rattle.commands.specs.declared.visit.JoinWait.TheVariants as join_wait
+use Rattle.commands.specs.declared.reflection.ReflectWait.TheVariants as reflect_wait
+use Rattle.command_stamp.specs.Script.{script_of}
+use Rattle.view_script.specs.ViewScript.{view_script_of}
 use Rattle.commands.specs.declared.work.Next.{Next}
 use Rattle.commands.specs.declared.work.Next.TheVariants as next
 use Rattle.view_script.specs.PlainLine.{plain_lines}
-use Rattle.command_words.specs.CommandWords.{AreConnections, IsBounded, IsBoundedDrill, IsBoundedJoin, IsBoundedReflect}
+use Rattle.command_words.specs.Bounds.{AreConnections, IsBounded, IsBoundedDrill, IsBoundedJoin, IsBoundedReflect}
 use Rattle.command_outcome.specs.Outcome.{steps_of}
-use Rattle.commands.specs.Verdict.{Verdict, PlainVisit, ByDrill, ByRefusal, ByReflecting, ByVisit, ByWant, Coming, Only, OfFile, OfCommand, OfSnapshot, OfTree, OfView, at_once, fine, ask_log, ask_program, ask_script, ask_snapshot}
+use Rattle.commands.specs.Verdict.{Verdict, PlainVisit, ByDrill, ByRefusal, ByReflecting, ByVisit, ByWant, Coming, Only, OfFile, OfFounded, OfJoin, OfJson, OfLog, OfProgram, OfRecorded, OfReflect, OfScript, OfSnapshot, OfTree, OfViewScript, ask_file, at_once, count_verdict, fine, founded, most_log, most_script, reflection_of, visit_to}
 
 -- ---- a command that waits for a file
 
--- the file that is waited for
-abbrev pub ask_of : Waiting → Ask
-ask_of (waiting.Stamp script log) = ask_script script
-ask_of (waiting.Check program) = ask_program program
-ask_of (waiting.Replay request) = ask_program request.program
-ask_of (waiting.Join request) = ask_program request.program
-ask_of (waiting.Reflect request) = ask_program request.program
-ask_of (waiting.Log wait) = ask_log wait.request.log
-ask_of (waiting.Snapshot wait) = ask_snapshot wait.from
-ask_of (waiting.Script wait) = ask_script wait.request.script
-
--- which of the inputs it is
+-- which of the inputs is waited for
 abbrev pub input_of : Waiting → Input
 input_of (waiting.Stamp script log) = input.Script
 input_of (waiting.Check program) = input.Program
-input_of (waiting.Replay request) = input.Program
-input_of (waiting.Join request) = input.Program
-input_of (waiting.Reflect request) = input.Program
-input_of (waiting.Log wait) = input.Log
-input_of (waiting.Snapshot wait) = input.Snapshot
-input_of (waiting.Script wait) = input.Script
+input_of (waiting.Replay (replay_wait.Program request)) = input.Program
+input_of (waiting.Replay (replay_wait.Log wait)) = input.Log
+input_of (waiting.Replay (replay_wait.Value wait)) = input.Persisted
+input_of (waiting.Replay (replay_wait.Snapshot wait)) = input.Snapshot
+input_of (waiting.Join (join_wait.Program request)) = input.Program
+input_of (waiting.Join (join_wait.Script wait)) = input.Script
+input_of (waiting.Join (join_wait.Value wait)) = input.Persisted
+input_of (waiting.Reflect (reflect_wait.Program request)) = input.Program
+input_of (waiting.Reflect (reflect_wait.Value wait)) = input.Persisted
+
+-- the name of its file
+abbrev pub file_of : Waiting → List ℕ
+file_of (waiting.Stamp script log) = script
+file_of (waiting.Check program) = program
+file_of (waiting.Replay (replay_wait.Program request)) = request.program
+file_of (waiting.Replay (replay_wait.Log wait)) = wait.request.log
+file_of (waiting.Replay (replay_wait.Value wait)) = wait.persisted
+file_of (waiting.Replay (replay_wait.Snapshot wait)) = wait.from
+file_of (waiting.Join (join_wait.Program request)) = request.program
+file_of (waiting.Join (join_wait.Script wait)) = wait.request.script
+file_of (waiting.Join (join_wait.Value wait)) = wait.persisted
+file_of (waiting.Reflect (reflect_wait.Program request)) = request.program
+file_of (waiting.Reflect (reflect_wait.Value wait)) = wait.persisted
+
+-- the most bytes of an input
+abbrev pub most_bytes : Input → ℕ
+most_bytes input.Script = most_script
+most_bytes input.Program = most_program_bytes
+most_bytes input.Log = most_log
+most_bytes input.Snapshot = most_snapshot
+most_bytes input.Persisted = most_json
+-- these are no files
+most_bytes input.Time = 0
+most_bytes input.Address = 0
+
+-- the file that is waited for
+abbrev pub ask_of : Waiting → Ask
+ask_of wait = ask_file (file_of wait) (most_bytes (input_of wait))
+
+-- what comes of its bytes
+abbrev pub next_of : Waiting → List ℕ → Coming
+next_of (waiting.Stamp script log) bytes = OfScript log (script_of bytes)
+next_of (waiting.Check program) bytes = OfProgram (λ tree. Only (count_verdict tree)) bytes
+next_of (waiting.Replay (replay_wait.Program request)) bytes = OfProgram (OfTree request bytes) bytes
+next_of (waiting.Replay (replay_wait.Log wait)) bytes = OfLog (OfRecorded wait.request wait.text (checked_tree wait.program)) bytes
+next_of (waiting.Replay (replay_wait.Value wait)) bytes =
+    let read = wait.read in
+    OfJson (λ v. OfFounded read.request read.text read.log.entries (founded (checked_tree read.program) v)) bytes
+next_of (waiting.Replay (replay_wait.Snapshot wait)) bytes =
+    OfSnapshot wait.request (checked_tree wait.recording.program) wait.recording.id.0 wait.recording.log.entries bytes
+next_of (waiting.Join (join_wait.Program request)) bytes = OfProgram (OfJoin request bytes) bytes
+next_of (waiting.Join (join_wait.Script wait)) bytes = OfViewScript wait.request wait.text (checked_tree wait.program) (view_script_of bytes)
+next_of (waiting.Join (join_wait.Value wait)) bytes =
+    let read = wait.read in
+    OfJson (λ v. Only (at_once (ByVisit (visit_to read.request read.text (plain_lines wait.script) (founded (checked_tree read.program) v))))) bytes
+next_of (waiting.Reflect (reflect_wait.Program request)) bytes = OfProgram (λ tree. OfReflect request bytes) bytes
+next_of (waiting.Reflect (reflect_wait.Value wait)) bytes = OfJson (λ v. Only (at_once (ByReflecting (reflection_of wait.request wait.text v)))) bytes
 
 -- what comes of the files that are read from here on
 abbrev pub Remains : Waiting → Coming
-Remains (waiting.Stamp script log) = OfCommand (Stamp script log)
-Remains (waiting.Check program) = OfCommand (Check program)
-Remains (waiting.Replay request) = OfCommand (Replay request)
-Remains (waiting.Join request) = OfCommand (Join request)
-Remains (waiting.Reflect request) = OfCommand (Reflect request)
-Remains (waiting.Log wait) = OfTree wait.request wait.id.0 (program_tree wait.program)
-Remains (waiting.Snapshot wait) =
-    OfFile input.Snapshot (ask_snapshot wait.from) (OfSnapshot wait.request (program_tree wait.recording.program) wait.recording.id.0 wait.recording.log.entries)
-Remains (waiting.Script wait) = OfView wait.request wait.id.0 (program_tree wait.program)
+Remains wait = OfFile (input_of wait) (ask_of wait) (next_of wait)
 
 -- so many files are still read at most
 abbrev pub files_left : Waiting → ℕ
-files_left (waiting.Log wait) = 2
-files_left (waiting.Snapshot wait) = 1
-files_left (waiting.Script wait) = 1
-files_left first = 3
+files_left (waiting.Stamp script log) = 1
+files_left (waiting.Check program) = 1
+files_left (waiting.Replay (replay_wait.Program request)) = 4
+files_left (waiting.Replay (replay_wait.Log wait)) = 3
+files_left (waiting.Replay (replay_wait.Value wait)) = 2
+files_left (waiting.Replay (replay_wait.Snapshot wait)) = 1
+files_left (waiting.Join (join_wait.Program request)) = 3
+files_left (waiting.Join (join_wait.Script wait)) = 2
+files_left (waiting.Join (join_wait.Value wait)) = 1
+files_left (waiting.Reflect (reflect_wait.Program request)) = 2
+files_left (waiting.Reflect (reflect_wait.Value wait)) = 1
 
 -- its words are within their bounds
 abbrev pub IsBoundedWait : Waiting → Type 0
 IsBoundedWait (waiting.Stamp script log) = ⊤
 IsBoundedWait (waiting.Check program) = ⊤
-IsBoundedWait (waiting.Replay request) = IsBounded request
-IsBoundedWait (waiting.Join request) = IsBoundedJoin request
-IsBoundedWait (waiting.Reflect request) = IsBoundedReflect request
-IsBoundedWait (waiting.Log wait) = IsBounded wait.request
-IsBoundedWait (waiting.Snapshot wait) = IsBounded wait.request
-IsBoundedWait (waiting.Script wait) = IsBoundedJoin wait.request
+IsBoundedWait (waiting.Replay (replay_wait.Program request)) = IsBounded request
+IsBoundedWait (waiting.Replay (replay_wait.Log wait)) = IsBounded wait.request
+IsBoundedWait (waiting.Replay (replay_wait.Value wait)) = IsBounded wait.read.request
+IsBoundedWait (waiting.Replay (replay_wait.Snapshot wait)) = IsBounded wait.request
+IsBoundedWait (waiting.Join (join_wait.Program request)) = IsBoundedJoin request
+IsBoundedWait (waiting.Join (join_wait.Script wait)) = IsBoundedJoin wait.request
+IsBoundedWait (waiting.Join (join_wait.Value wait)) = IsBoundedJoin wait.read.request
+IsBoundedWait (waiting.Reflect (reflect_wait.Program request)) = IsBoundedReflect request
+IsBoundedWait (waiting.Reflect (reflect_wait.Value wait)) = IsBoundedReflect wait.request
 
 -- the visit that is asked for
 abbrev pub visit_of : VisitRequest → PlainVisit
 visit_of request = record {
-  tree = program_tree request.program;
+  founding = founding_of request.program;
   id = request.id.0;
   view = request.view;
   address = request.address;
@@ -103,3 +154,10 @@ reads_left other = 0
 -- what is done next leads to what comes here
 abbrev pub Leads : Next → Coming → Type 0
 Leads step coming = (verdict : Verdict) → ComesNext step verdict → coming verdict
+
+-- the words ask for a command that goes on as the run of a view or of a reflector, or as a drill, and may wait then
+abbrev pub RunsOn : Option Command → Type 0
+RunsOn (Some (Join request)) = ⊤
+RunsOn (Some (Reflect request)) = ⊤
+RunsOn (Some (Drill request)) = ⊤
+RunsOn command = ⊥

@@ -1,5 +1,5 @@
 //! Laws of what comes of a command.
-ghost use Rattle.commands.specs.Verdict.{IsFunction, LogsTellTheirEvents, SnapshotsAgree, SomeVerdictComes};
+ghost use Rattle.commands.specs.Laws.{IsFunction, LogsTellTheirEvents, SnapshotsAgree, SomeVerdictComes};
 
 use model_lang::one_reading;
 use world::resumed_follows;

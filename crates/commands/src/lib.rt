@@ -17,6 +17,7 @@ mod visit;
 mod work;
 
 pub use laws::{logs_tell_their_events, one_verdict, snapshots_agree, some_verdict};
-pub use recording::{LogWait, SnapshotWait};
-pub use visit::{ScriptWait, VisitRequest};
+pub use recording::{LogWait, ReadReplay, ReplayValueWait, ReplayWait, SnapshotWait};
+pub use reflection::{ReflectValueWait, ReflectWait};
+pub use visit::{JoinValueWait, JoinWait, ScriptWait, VisitRequest};
 pub use work::{Next, Waiting};

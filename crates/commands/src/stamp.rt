@@ -15,7 +15,7 @@ use tea_base::{Blob, Text, WantOfMemory};
 fn answer_script(alloc: Global, log: Option<Text>, script: &[u8]) -> Result<Next, WantOfMemory>
     ensures leads { IfOk result (λ step. Leads step (OfScript log (script_of script.now))) }
     ensures bounded { IfOk result IsBoundedNext }
-    ensures fewer { IfOk result (λ step. reads_left step < 3) }
+    ensures fewer { IfOk result (λ step. reads_left step < 1) }
 {
     let Some(requests) = read_script(alloc, script)? else {
         return Ok(Next::Refuses(CommandRefusal::Input(Input::Script)));
@@ -33,7 +33,7 @@ fn answer_script(alloc: Global, log: Option<Text>, script: &[u8]) -> Result<Next
 pub(crate) fn stamp(alloc: Global, log: Option<Text>, script: &[u8]) -> Next
     ensures leads { Leads result (Free (OfScript log (script_of script.now))) }
     ensures bounded { IsBoundedNext result }
-    ensures fewer { reads_left result < 3 }
+    ensures fewer { reads_left result < 1 }
 {
     match answer_script(alloc, log, script) {
         Ok(next) => next,

@@ -1,20 +1,23 @@
 //! A command at work: it waits for a file, or it has come to its end.
 ghost use Rattle.std.specs.Prelude.{◌≡◌, ◌<◌};
 ghost use Rattle.std.specs.Option.{IfSome};
-ghost use Rattle.command_words.specs.CommandWords.{IsWithinBounds};
+ghost use Rattle.command_words.specs.Bounds.{IsWithinBounds};
 ghost use Rattle.run_steps.specs.Steps.{Loads};
-ghost use Rattle.commands.specs.Verdict.{OfWords, Verdict, before};
-ghost use Rattle.commands.specs.Work.{ComesNext, IsBoundedNext, IsBoundedWait, Leads, Remains, ask_of, files_left, input_of, reads_left};
+ghost use Rattle.commands.specs.Verdict.{Free, OfWords, Verdict, before};
+ghost use Rattle.commands.specs.Work.{ComesNext, IsBoundedNext, IsBoundedWait, Leads, Remains, ask_of, files_left, input_of, next_of, reads_left};
+ghost use Rattle.command_outcome.specs.declared.outcome.CommandRefusal.TheVariants as refusal;
+ghost use Rattle.commands.specs.declared.work.Next.TheVariants as next;
 
 use crate::check::check;
-use crate::recording::{LogWait, SnapshotWait, take_log, take_program, take_snapshot};
-use crate::reflection::take_reflector_program;
+use crate::recording::ReplayWait;
+use crate::reflection::ReflectWait;
 use crate::stamp::stamp;
-use crate::visit::{ScriptWait, VisitRequest, take_view_program, take_view_script};
+use crate::visit::{JoinWait, VisitRequest};
 use command_outcome::{CommandRefusal, Input, Outcome};
 use command_reflect::Reflection;
-use command_words::{Command, DrillRequest, JoinRequest, ReflectRequest, ReplayRequest};
+use command_words::{Command, DrillRequest};
 use model_lang::MOST_PROGRAM_BYTES;
+use persist_json::MOST_JSON;
 use std::alloc::Global;
 use tea_base::{Blob, MOST_SNAPSHOT, Text};
 
@@ -25,18 +28,9 @@ pub enum Waiting {
     Stamp { script: Text, log: Option<Text> },
     /// A check that has read nothing yet.
     Check { program: Text },
-    /// A replay that has read nothing yet.
-    Replay(ReplayRequest),
-    /// A view that has read nothing yet.
-    Join(JoinRequest),
-    /// A reflector that has read nothing yet.
-    Reflect(ReflectRequest),
-    /// A replay that has read its program.
-    Log(LogWait),
-    /// A replay that has read its program and its log.
-    Snapshot(SnapshotWait),
-    /// A view that has read its program.
-    Script(ScriptWait),
+    Replay(ReplayWait),
+    Join(JoinWait),
+    Reflect(ReflectWait),
 }
 
 /// What a command does next.
@@ -73,9 +67,13 @@ impl Next {
         match command {
             Some(Command::Stamp { script, log }) => Next::Reads(Waiting::Stamp { script, log }),
             Some(Command::Check { program }) => Next::Reads(Waiting::Check { program }),
-            Some(Command::Replay(request)) => Next::Reads(Waiting::Replay(request)),
-            Some(Command::Join(request)) => Next::Reads(Waiting::Join(request)),
-            Some(Command::Reflect(request)) => Next::Reads(Waiting::Reflect(request)),
+            Some(Command::Replay(request)) => {
+                Next::Reads(Waiting::Replay(ReplayWait::Program(request)))
+            }
+            Some(Command::Join(request)) => Next::Reads(Waiting::Join(JoinWait::Program(request))),
+            Some(Command::Reflect(request)) => {
+                Next::Reads(Waiting::Reflect(ReflectWait::Program(request)))
+            }
             Some(Command::Drill(request)) => Next::Drills(request),
             None => Next::Refuses(CommandRefusal::Usage),
         }
@@ -90,12 +88,9 @@ impl Waiting {
         match self {
             Waiting::Stamp { script, .. } => script,
             Waiting::Check { program } => program,
-            Waiting::Replay(request) => &request.program,
-            Waiting::Join(request) => &request.program,
-            Waiting::Reflect(request) => &request.program,
-            Waiting::Log(wait) => &wait.request.log,
-            Waiting::Snapshot(wait) => &wait.from,
-            Waiting::Script(wait) => &wait.request.script,
+            Waiting::Replay(wait) => wait.name(),
+            Waiting::Join(wait) => wait.name(),
+            Waiting::Reflect(wait) => wait.name(),
         }
     }
 
@@ -106,12 +101,9 @@ impl Waiting {
         match self {
             Waiting::Stamp { .. } => Input::Script,
             Waiting::Check { .. } => Input::Program,
-            Waiting::Replay(_) => Input::Program,
-            Waiting::Join(_) => Input::Program,
-            Waiting::Reflect(_) => Input::Program,
-            Waiting::Log(_) => Input::Log,
-            Waiting::Snapshot(_) => Input::Snapshot,
-            Waiting::Script(_) => Input::Script,
+            Waiting::Replay(wait) => wait.input(),
+            Waiting::Join(wait) => wait.input(),
+            Waiting::Reflect(wait) => wait.input(),
         }
     }
 
@@ -124,9 +116,38 @@ impl Waiting {
             Input::Program => MOST_PROGRAM_BYTES as u64,
             Input::Log => MOST_LOG,
             Input::Snapshot => MOST_SNAPSHOT as u64,
+            Input::Persisted => MOST_JSON as u64,
             Input::Time => 0,
             Input::Address => 0,
         }
+    }
+
+    /// What comes of the bytes of its file.
+    fn take(self, alloc: Global, bytes: Blob) -> Next
+        requires { IsBoundedWait self }
+        ensures leads { Leads result (Free (next_of self bytes)) }
+        ensures bounded { IsBoundedNext result }
+        ensures fewer { reads_left result < files_left self }
+    {
+        match self {
+            Waiting::Stamp {
+                script: _script,
+                log,
+            } => stamp(alloc, log, bytes.bytes()),
+            Waiting::Check { program: _program } => check(alloc, bytes.bytes()),
+            Waiting::Replay(wait) => wait.take(alloc, bytes),
+            Waiting::Join(wait) => wait.take(alloc, bytes),
+            Waiting::Reflect(wait) => wait.take(alloc, bytes),
+        }
+    }
+
+    /// What comes of a file that is above its limit.
+    fn refuse(self) -> Next
+        ensures { result ≡ next.Refuses (refusal.Input (input_of self)) }
+    {
+        let input = self.input();
+        drop(self);
+        Next::Refuses(CommandRefusal::Input(input))
     }
 
     /// Goes on with the file's bytes, or with none where it is above its limit.
@@ -137,21 +158,9 @@ impl Waiting {
         ensures bounded { IsBoundedNext result }
         ensures fewer { reads_left result < files_left self }
     {
-        let Some(bytes) = given else {
-            return Next::Refuses(CommandRefusal::Input(self.input()));
-        };
-        match self {
-            Waiting::Stamp {
-                script: _script,
-                log,
-            } => stamp(alloc, log, bytes.bytes()),
-            Waiting::Check { program: _program } => check(alloc, bytes.bytes()),
-            Waiting::Replay(request) => take_program(alloc, request, bytes.bytes()),
-            Waiting::Join(request) => take_view_program(alloc, request, bytes.bytes()),
-            Waiting::Reflect(request) => take_reflector_program(alloc, request, bytes.bytes()),
-            Waiting::Log(wait) => take_log(alloc, wait, bytes.bytes()),
-            Waiting::Snapshot(wait) => take_snapshot(alloc, wait, bytes.bytes()),
-            Waiting::Script(wait) => take_view_script(alloc, wait, bytes.bytes()),
+        match given {
+            Some(bytes) => self.take(alloc, bytes),
+            None => self.refuse(),
         }
     }
 }

@@ -23,11 +23,14 @@ use Rattle.command_drill.specs.DrilledSteps.{drilled_line, drilled_steps, snapsh
 use Rattle.drill.specs.Drill.{drill_id}
 use Rattle.drill.specs.Ending.{root_total}
 use Rattle.drill.specs.declared.report.DrillReport.{DrillReport}
-use Rattle.commands.specs.Verdict.{AreAlike, ByDrill, ByReflecting, ByVisit, ByWant, Closing, Coming, Comes, Fine, Free, IsFunction, OfWords, Only, PlainVisit, TellsPlace, Verdict, fine, reflected_verdict}
+use Rattle.commands.specs.Laws.{AreAlike, IsFunction, TellsPlace}
+use Rattle.commands.specs.Verdict.{ByDrill, ByReflecting, ByVisit, ByWant, Closing, Coming, Comes, Fine, Free, OfWords, Only, PlainVisit, Verdict, fine, reflected_verdict}
 use Rattle.croquet.specs.declared.status.Status.{Status}
 use Rattle.croquet.specs.Complete.{HasRightInput, IsByPeer, IsComplete, IsDone, IsDueOf, NoLinkFailed, NoneFailed}
 use Rattle.croquet.specs.Drills.{OfDrilled}
-use Rattle.croquet.specs.Run.{Concludes, Ending, EndsWanting, OfReflected, Ran, RanAsDrill, RanAsReflector, RanBySteps, ServesNet, Visits}
+use Rattle.croquet.specs.Run.{Concludes, Ending, OutOfMemory, OfReflected, Ran, RanAsDrill, RanAsReflector, RanBySteps, ServesNet, Visits}
+use Rattle.view_follows.specs.Answered.{AnsweredVisitsHaveNoFault, VisitsEndByRefusals, VisitsEndWithLinks}
+use Rattle.croquet.proofs.Causes.{is_caused}
 use Rattle.croquet.proofs.Counts.{CountsStay, EndsDone, EndsSaid, counts_on, counts_stay, done_by, net_moves, none_in_steps, none_within, rose_within, run_keeps, said_by, steps_keep}
 use Rattle.croquet.proofs.LinkCounts.{HasFailed, IsCutByWant, cut_by_want, faults, rises, steps_lower_none}
 use Rattle.croquet.proofs.RightSteps.{AreRight, IsGiving, giving_are_right, goes_along}
@@ -82,7 +85,7 @@ module _ {F W N L : Type 0} (files : FilesTell F) (out : OutputTells W) (net : N
     along
         : (Ends : Option Cut → Ending → Type 0) → (right.closing ≡ ByWant → ⊥) → (TellsPlace right.closing → ⊥)
         → ((mid : Outside F W N L) → Concludes right.closing ran.course.more ran.ending → Acts (outside_tells files out net links) ran.course.more ran.does.cut mid ran.does.done → NoneFailed files out net mid ran.does.done → Ends ran.does.cut ran.ending)
-        → (ran.ending ≡ EndsWanting → Ends None ran.ending) → ((step : Step) → Ends (Some (record { step = step; came = WantedMemory })) ran.ending)
+        → (ran.ending ≡ OutOfMemory → Ends None ran.ending) → ((step : Step) → Ends (Some (record { step = step; came = WantedMemory })) ran.ending)
         → IsLikeRight → NoneFailed files out net old new → Ends ran.does.cut ran.ending
     along Ends not_want not_place closes wants runs_out (reads, alike) none =
         goes_along files out net links right.closing not_want not_place ran.course.more ran.ending ran.does.cut ran.does.done (Ends ran.does.cut ran.ending)
@@ -133,7 +136,7 @@ module _ {F W N L : Type 0} (files : FilesTell F) (out : OutputTells W) (net : N
   done_giving steps coming old new result ran gives comes none =
       done_along (fine steps) coming old new result ran tt (giving_are_right (files.held old.files) steps gives, free_alike steps ran.course.verdict gives comes) none
 
-  -- SCRATCH
+  -- ---- as the words ask
   module _ (function : IsFunction) (command : Option Command) (old new : Outside F W N L) (result : Status) (ran : RanBySteps (outside_tells files out net links) (Comes command) old new result) (none : NoneFailed files out net old new) where
     like_right : (verdict : Verdict) → OfWords command verdict → AreRight (files.held old.files) verdict.steps → IsLikeRight verdict (Comes command) old new result ran
     like_right verdict comes reads = (reads, function command verdict ran.course.verdict (inr comes) ran.course.comes)
@@ -195,7 +198,7 @@ module _ {F W N L : Type 0} (files : FilesTell F) (out : OutputTells W) (net : N
   drilled gives request (Ok report) old new result ran (inl want) none = done_giving [] (OfDrilled gives request (Ok report)) old new result ran tt (inl want) none
   drilled gives request (Ok report) old new result ran (inr is) none =
       let log = report.session.plain.log in
-      let w = (replay is.has.tree drill_id log report.session.plain.horizon).world in
+      let w = (replay is.has.founding drill_id log report.session.plain.horizon).world in
       let snapshots = replicate request.views (world_spelling w) in
       done_giving (drilled_steps request log snapshots (root_total w) request.views) (OfDrilled gives request (Ok report)) old new result ran
       (drilled_gives request log snapshots (root_total w) request.views) (inr is.is) none
@@ -213,9 +216,15 @@ module _ {F W N L : Type 0} (files : FilesTell F) (out : OutputTells W) (net : N
   due_by (Some (Join request)) result done = inl done
   due_by command result done = done
 
-  pub is_complete
+  comes_due
       : IsFunction → (gives : ℕ → Type 0) (command : Option Command) (old new : Outside F W N L) (result : Status) → Ran gives (outside_tells files out net links) (Comes command) old new result
-      → IsComplete files out net command old new result
-  is_complete function gives command old new result (inl ran) = record { due = by_steps function command old new result ran }
-  is_complete function gives command old new result (inr (inl ran)) = record { due = λ right none fine. due_by command result (as_reflector gives (Comes command) old new result ran none) }
-  is_complete function gives command old new result (inr (inr ran)) = record { due = λ right none fine. due_by command result (as_drill gives (Comes command) old new result ran none) }
+      → HasRightInput files old.files command → NoneFailed files out net old new → NoLinkFailed net command old.net new.net → IsDueOf command result
+  comes_due function gives command old new result (inl ran) right none fine = by_steps function command old new result ran right none fine
+  comes_due function gives command old new result (inr (inl ran)) right none fine = due_by command result (as_reflector gives (Comes command) old new result ran none)
+  comes_due function gives command old new result (inr (inr ran)) right none fine = due_by command result (as_drill gives (Comes command) old new result ran none)
+
+  pub is_complete
+      : IsFunction → AnsweredVisitsHaveNoFault → VisitsEndWithLinks → VisitsEndByRefusals → (gives : ℕ → Type 0) (command : Option Command) (old new : Outside F W N L) (result : Status)
+      → Ran gives (outside_tells files out net links) (Comes command) old new result → IsComplete files out net links command old new result
+  is_complete function peer ended refused gives command old new result ran =
+      record { due = comes_due function gives command old new result ran; caused = is_caused peer ended refused files out net links (Comes command) old new result }

@@ -8,7 +8,7 @@ use Rattle.view_shell.specs.declared.ending.ViewEnd.TheVariants as view_end
 use Rattle.croquet.specs.declared.status.Status.{Status}
 use Rattle.croquet.specs.declared.status.Status.TheVariants as status
 use Rattle.croquet.specs.Complete.{IsByPeer, IsDone, NoneFailed}
-use Rattle.croquet.specs.Run.{Does, Ending, EndsOnNetFault, EndsRefused, EndsView, EndsWanting, EndsWell, Tells, TellsCut, TellsEnd, TellsEnding, TellsLast, TellsMemory, ending_told, fault_told, refused_line}
+use Rattle.croquet.specs.Run.{Does, Ending, OutOfMemory, Says, Silent, Tells, TellsCut, TellsEnd, TellsEnding, TellsMemory, failed_ending, refused_line, view_ending}
 
 -- a count that rose in a part of a run rose in the whole
 pub rose_within : (a b c d : ℕ) → a ≤ b → c ≤ d → Rose b c → Rose a d
@@ -41,32 +41,14 @@ line_keeps out line given w w' result (inr (inr (mid, prints, told))) =
     let last = memory_keeps out mid w' result told in
     omega (arith, first, last)
 
-last_keeps : {W : Type 0} (out : OutputTells W) (line : Option (List ℕ)) (given : Status) (w w' : W) (result : Status) → TellsLast out line given w w' result → out.faults w ≤ out.faults w'
-last_keeps out None given w w' result told = stays out.faults w w' told.0
-last_keeps out (Some line) given w w' result told = line_keeps out line given w w' result told
-
-said_keeps : {W : Type 0} (out : OutputTells W) (ending : Ending) (w w' : W) (result : Status) → TellsLast out (ending_told ending).0 (ending_told ending).1 w w' result → out.faults w ≤ out.faults w'
-said_keeps out ending w w' result told = last_keeps out (ending_told ending).0 (ending_told ending).1 w w' result told
-
-view_keeps : {W : Type 0} (out : OutputTells W) (end : ViewEnd) (w w' : W) (result : Status) → TellsEnding out (EndsView end) w w' result → out.faults w ≤ out.faults w'
-view_keeps out view_end.WantOfMemory w w' result told = memory_keeps out w w' result told
-view_keeps out view_end.Done w w' result told = said_keeps out (EndsView view_end.Done) w w' result told
-view_keeps out (view_end.Refused code kept) w w' result told = said_keeps out (EndsView (view_end.Refused code kept)) w w' result told
-view_keeps out view_end.NetFault w w' result told = said_keeps out (EndsView view_end.NetFault) w w' result told
-view_keeps out view_end.Ended w w' result told = said_keeps out (EndsView view_end.Ended) w w' result told
-view_keeps out view_end.Peer w w' result told = said_keeps out (EndsView view_end.Peer) w w' result told
-view_keeps out view_end.WriteFault w w' result told = said_keeps out (EndsView view_end.WriteFault) w w' result told
-
 ending_keeps : {W : Type 0} (out : OutputTells W) (ending : Ending) (w w' : W) (result : Status) → TellsEnding out ending w w' result → out.faults w ≤ out.faults w'
-ending_keeps out EndsWanting w w' result told = memory_keeps out w w' result told
-ending_keeps out (EndsView end) w w' result told = view_keeps out end w w' result told
-ending_keeps out EndsWell w w' result told = said_keeps out EndsWell w w' result told
-ending_keeps out (EndsRefused why) w w' result told = said_keeps out (EndsRefused why) w w' result told
-ending_keeps out EndsOnNetFault w w' result told = said_keeps out EndsOnNetFault w w' result told
+ending_keeps out (Silent given) w w' result told = stays out.faults w w' told.0
+ending_keeps out (Says line given) w w' result told = line_keeps out line given w w' result told
+ending_keeps out OutOfMemory w w' result told = memory_keeps out w w' result told
 
 cut_keeps : {W : Type 0} (out : OutputTells W) (came : Came) (step : Step) (w w' : W) (result : Status) → TellsCut out came step w w' result → out.faults w ≤ out.faults w'
 cut_keeps out Well step w w' result never = absurd never
-cut_keeps out Failed step w w' result told = last_keeps out (fault_told step).0 (fault_told step).1 w w' result told
+cut_keeps out Failed step w w' result told = ending_keeps out (failed_ending step) w w' result told
 cut_keeps out WantedMemory step w w' result told = memory_keeps out w w' result told
 
 end_keeps : {W : Type 0} (out : OutputTells W) (cut : Option Cut) (ending : Ending) (w w' : W) (result : Status) → TellsEnd out cut ending w w' result → out.faults w ≤ out.faults w'
@@ -77,7 +59,7 @@ end_keeps out (Some cut) ending w w' result told = cut_keeps out cut.came cut.st
 
 -- all was done, or memory ran out
 abbrev pub EndsDone : Option Cut → Ending → Type 0
-EndsDone None ending = (ending ≡ EndsWell) ⊎ (ending ≡ EndsWanting)
+EndsDone None ending = (ending ≡ Silent status.Ok) ⊎ (ending ≡ OutOfMemory)
 EndsDone (Some cut) ending = cut.came ≡ WantedMemory
 
 memory_told : {W : Type 0} (out : OutputTells W) (w w' : W) (result : Status) → ¬ Rose (out.faults w) (out.faults w') → TellsMemory out w w' result → result ≡ status.WantOfMemory
@@ -107,7 +89,7 @@ by_peer : (result given : Status) → IsByPeer given → (result ≡ given) ⊎ 
 by_peer result given by (inl is) = inr (subst (λ (s : Status). IsByPeer s) (sym is) by)
 by_peer result given by (inr wants) = inl (inr wants)
 
-view_told : {W : Type 0} (out : OutputTells W) (end : ViewEnd) (w w' : W) (result : Status) → ¬ Rose (out.faults w) (out.faults w') → IsSaidEnd end → TellsEnding out (EndsView end) w w' result → IsDone result ⊎ IsByPeer result
+view_told : {W : Type 0} (out : OutputTells W) (end : ViewEnd) (w w' : W) (result : Status) → ¬ Rose (out.faults w) (out.faults w') → IsSaidEnd end → TellsEnding out (view_ending end) w w' result → IsDone result ⊎ IsByPeer result
 view_told out view_end.Done w w' result calm said told = inl (inl told.1)
 view_told out (view_end.Refused code kept) w w' result calm said told = by_peer result status.Refused (inl refl) (line_told out (refused_line code kept) status.Refused w w' result calm told)
 view_told out view_end.NetFault w w' result calm never told = absurd never
@@ -118,7 +100,7 @@ view_told out view_end.WantOfMemory w w' result calm said told = inl (inr (memor
 
 -- it is the end of a view, or memory ran out
 abbrev pub EndsSaid : Option Cut → Ending → Type 0
-EndsSaid None ending = (ending ≡ EndsWanting) ⊎ ((end : ViewEnd) × (ending ≡ EndsView end) × IsSaidEnd end)
+EndsSaid None ending = (ending ≡ OutOfMemory) ⊎ ((end : ViewEnd) × (ending ≡ view_ending end) × IsSaidEnd end)
 EndsSaid (Some cut) ending = cut.came ≡ WantedMemory
 
 said_told : {W : Type 0} (out : OutputTells W) (cut : Option Cut) (ending : Ending) (w w' : W) (result : Status) → ¬ Rose (out.faults w) (out.faults w') → EndsSaid cut ending → TellsEnd out cut ending w w' result → IsDone result ⊎ IsByPeer result

@@ -1,7 +1,7 @@
 -- What is told of a drill, and a command that goes on as one.
 use Rattle.std.proofs.Common.{◌≡◌, inl, inr, ℕ, ◌+◌, List, [], ◌∷◌, length, map, replicate, None, Result, Ok, Err, IfOk, refl, ap, ◌∙◌}
 use Rattle.tea_base.specs.declared.want.WantOfMemory.{WantOfMemory}
-use Rattle.model_tree.specs.Tree.{ProgramTree}
+use Rattle.model_solved.specs.Founding.{Founding}
 use Rattle.reflector_core.specs.PlainSession.{PlainSession}
 use Rattle.snapshot_codec.specs.Spelling.{world_spelling}
 use Rattle.world.specs.Worlds.{replay}
@@ -17,7 +17,8 @@ use Rattle.commands.specs.Verdict.{ByDrill, Coming, Only, Verdict, drilled_verdi
 use Rattle.croquet.specs.declared.status.Status.{Status}
 use Rattle.croquet.specs.Calls.{OfReport, snapshot_of}
 use Rattle.croquet.specs.Drills.{OfDrilled, agreed_verdict, drill_size}
-use Rattle.croquet.specs.Run.{EndsWell, RanAsDrill, Reaches}
+use Rattle.croquet.specs.declared.status.Status.TheVariants as status
+use Rattle.croquet.specs.Run.{Silent, RanAsDrill, Reaches}
 use Rattle.croquet.proofs.Acts.{DoesAll}
 use Rattle.croquet.proofs.Runs.{RanSo, ran_done, ran_leading}
 use Rattle.croquet.proofs.VisitRuns.{ran_beside}
@@ -26,25 +27,25 @@ use Rattle.croquet.proofs.VisitRuns.{ran_beside}
 pub ran_drilled
     : {F W : Type 0} (files : FilesTell F) (out : OutputTells W) (request : DrillRequest) (report : DrillReport) (steps : List Step) (f f' : F) (w w' : W) (result : Status)
     → steps ≡ drilled_steps request report.session.plain.log (map snapshot_of report.replicas) report.total report.agree
-    → DoesAll files out steps EndsWell f w f' w' result → RanSo files out (OfReport request (Ok report)) f w f' w' result
+    → DoesAll files out steps (Silent status.Ok) f w f' w' result → RanSo files out (OfReport request (Ok report)) f w f' w' result
 ran_drilled files out request report steps f f' w w' result same does =
     ran_leading files out (Only (fine steps)) (OfReport request (Ok report)) f f' w w' result (λ verdict is. inr (is ∙ ap fine same)) (ran_done files out steps f f' w w' result does)
 
 -- replicas that have one replay have one snapshot
 snapshots_agree
-    : (s : PlainSession) (tree : ProgramTree) (id : List ℕ) (view : ℕ) (replicas : List ReplicaView) → AreReplays s tree id view replicas
-    → map snapshot_of replicas ≡ replicate (length replicas) (world_spelling (replay tree id s.log s.horizon).world)
-snapshots_agree s tree id view [] are = refl
-snapshots_agree s tree id view (r ∷ replicas) are =
+    : (s : PlainSession) (founding : Founding) (id : List ℕ) (view : ℕ) (replicas : List ReplicaView) → AreReplays s founding id view replicas
+    → map snapshot_of replicas ≡ replicate (length replicas) (world_spelling (replay founding id s.log s.horizon).world)
+snapshots_agree s founding id view [] are = refl
+snapshots_agree s founding id view (r ∷ replicas) are =
     ap (λ (bytes : List ℕ). bytes ∷ map snapshot_of replicas) (ap world_spelling are.0.world)
-    ∙ ap (λ (all : List (List ℕ)). world_spelling (replay tree id s.log s.horizon).world ∷ all) (snapshots_agree s tree id (view + 1) replicas are.1)
+    ∙ ap (λ (all : List (List ℕ)). world_spelling (replay founding id s.log s.horizon).world ∷ all) (snapshots_agree s founding id (view + 1) replicas are.1)
 
 -- so what comes of a report comes of the replay
 agreed : (gives : ℕ → Type 0) (request : DrillRequest) (report : DrillReport) (has : HasDrilled gives (drill_size request) report)
     → drilled_verdict request report.session.plain.log (map snapshot_of report.replicas) report.total report.agree
-    ≡ agreed_verdict request report.session.plain.log (replay has.tree drill_id report.session.plain.log report.session.plain.horizon).world
+    ≡ agreed_verdict request report.session.plain.log (replay has.founding drill_id report.session.plain.log report.session.plain.horizon).world
 agreed gives request report has =
-    rw (snapshots_agree report.session.plain has.tree drill_id 1 report.replicas has.replicas, has.number, has.total, has.agree) refl
+    rw (snapshots_agree report.session.plain has.founding drill_id 1 report.replicas has.replicas, has.number, has.total, has.agree) refl
 
 report_leads
     : (gives : ℕ → Type 0) (request : DrillRequest) (answer : Result DrillReport WantOfMemory) → IfOk answer (HasDrilled gives (drill_size request))

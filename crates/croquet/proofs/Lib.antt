@@ -9,4 +9,5 @@ pub mod LinkCounts
 pub mod RightSteps
 pub mod RightVerdicts
 pub mod VisitEnds
+pub mod Causes
 pub mod Completeness

@@ -2,7 +2,8 @@
 use Rattle.std.proofs.Common.{Option}
 use Rattle.run_steps.specs.Outside.{Outside, OutsideTells}
 use Rattle.command_words.specs.declared.words.Command.{Command}
-use Rattle.commands.specs.Verdict.{Comes, RunsOn}
+use Rattle.commands.specs.Work.{RunsOn}
+use Rattle.commands.specs.Verdict.{Comes}
 use Rattle.commands.proofs.NetLaws.{never_goes_on}
 use Rattle.croquet.specs.declared.top.Turn.{Turn}
 use Rattle.croquet.specs.declared.top.Turn.TheVariants as turn

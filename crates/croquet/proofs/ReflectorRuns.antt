@@ -1,5 +1,5 @@
 -- The run of a reflector, and what is told behind it.
-use Rattle.std.proofs.Common.{◌≡◌, inr, ℕ, Bool, true, false, List, [], ◌∷◌, None, Result, Err, refl, sym, subst}
+use Rattle.std.proofs.Common.{◌≡◌, inr, if◌then◌else◌, ℕ, Bool, true, false, List, [], ◌∷◌, None, Result, Err, refl, sym, subst}
 use Rattle.std.proofs.lemmas.List.{append-nil}
 use Rattle.tea_io.specs.declared.net.NetCall.TheVariants.{Listen}
 use Rattle.connection.specs.declared.ending.Ended.{Ended}
@@ -13,15 +13,15 @@ use Rattle.run_steps.specs.Outside.{Acts, FilesTell, OutputTells, NetTells, Link
 use Rattle.run_steps.proofs.Beside.{all_beside_net}
 use Rattle.command_reflect.specs.declared.reflection.Reflection.{Reflection}
 use Rattle.command_reflect.specs.ReflectedSteps.{reflected_steps}
-use Rattle.commands.specs.Verdict.{ByNetFault, ByReflecting, ByWant, Coming, Free, Only, reflected_closing, reflected_verdict}
+use Rattle.commands.specs.Verdict.{ByNetFault, ByReflecting, ByWant, Coming, Fine, Free, Only, reflected_verdict}
 use Rattle.croquet.specs.declared.status.Status.{Status}
 use Rattle.croquet.specs.Calls.{fault_ending, reflected_ending}
-use Rattle.croquet.specs.Run.{Concludes, Ending, EndsOnNetFault, EndsWanting, OfReflected, RanAsReflector, Reaches, TellsEnding}
+use Rattle.croquet.specs.Run.{Concludes, Ending, on_net_fault, OutOfMemory, OfReflected, RanAsReflector, Reaches, TellsEnding}
 use Rattle.croquet.proofs.Acts.{DoesAll, does_so}
 use Rattle.croquet.proofs.Runs.{RanSo, ran_closed}
 use Rattle.croquet.proofs.VisitRuns.{ran_beside}
 
-concludes : (net_failed : Bool) → Concludes (reflected_closing net_failed) [] (reflected_ending net_failed)
+concludes : (net_failed : Bool) → Concludes (if net_failed then ByNetFault else Fine) [] (reflected_ending net_failed)
 concludes true = (refl, refl)
 concludes false = (refl, refl)
 
@@ -58,8 +58,8 @@ module _ {F W : Type 0} (files : FilesTell F) (out : OutputTells W) (log : List 
 pub ran_failed
     : {F W : Type 0} (files : FilesTell F) (out : OutputTells W) (log : List ℕ) (fault : ServeFault) (f : F) (w w' : W) (result : Status)
     → TellsEnding out (fault_ending fault) w w' result → RanSo files out (OfReflected log (Err fault)) f w f w' result
-ran_failed files out log ListenFault f w w' result told = ran_closed files out ByNetFault EndsOnNetFault f w w' result (refl, refl) told
-ran_failed files out log WantOfMemory f w w' result told = ran_closed files out ByWant EndsWanting f w w' result (refl, refl) told
+ran_failed files out log ListenFault f w w' result told = ran_closed files out ByNetFault on_net_fault f w w' result (refl, refl) told
+ran_failed files out log WantOfMemory f w w' result told = ran_closed files out ByWant OutOfMemory f w w' result (refl, refl) told
 
 -- a command that goes on as a reflector's run
 pub ran_reflecting

@@ -3,9 +3,10 @@ use Rattle.std.proofs.Common.{◌≡◌, inl, inr, ℕ, ◌≤◌, List, [], ◌
 use Rattle.tea_io.specs.Files.{Content, MayBe, Present}
 use Rattle.run_steps.specs.Steps.{Ask, Step, Loads, Puts, Prints, Connects, Returns, Hears, Sends}
 use Rattle.run_steps.specs.Outside.{Acts, ActsOn, AreKept, Cut, Failed, FilesTell, IsLonger, LinksTell, MayGive, NetTells, Outside, OutputTells, WantedMemory, Well, outside_tells}
-use Rattle.commands.specs.Verdict.{AreAlike, AreClosedAlike, AreDoneAlike, ByWant, Closing, TellsPlace}
+use Rattle.commands.specs.Laws.{AreAlike, AreClosedAlike, AreDoneAlike, TellsPlace}
+use Rattle.commands.specs.Verdict.{ByWant, Closing}
 use Rattle.croquet.specs.Complete.{NoneFailed}
-use Rattle.croquet.specs.Run.{Concludes, Ending, EndsWanting}
+use Rattle.croquet.specs.Run.{Concludes, Ending, OutOfMemory}
 use Rattle.croquet.proofs.Counts.{counts_stay, none_within, step_keeps}
 
 -- ---- right steps
@@ -92,7 +93,7 @@ module _ {F W N L : Type 0} (files : FilesTell F) (out : OutputTells W) (net : N
   module _
       (due : Closing) (not_want : due ≡ ByWant → ⊥) (not_place : TellsPlace due → ⊥) (more : List Step) (ending : Ending) (cut : Option Cut) (new : Outside F W N L) (Shown : Type 0)
       (closes : (mid : Outside F W N L) → Concludes due more ending → Acts (outside_tells files out net links) more cut mid new → NoneFailed files out net mid new → Shown)
-      (wants : cut ≡ None → ending ≡ EndsWanting → Shown)
+      (wants : cut ≡ None → ending ≡ OutOfMemory → Shown)
       (runs_out : (step : Step) → cut ≡ Some (record { step = step; came = WantedMemory }) → Shown)
     where
       one_step

@@ -6,9 +6,10 @@ use Rattle.session_log.specs.Spelling.{log_spelling}
 use Rattle.reflector_core.specs.declared.request.Request.{Request}
 use Rattle.reflector_core.specs.Play.{after_all, first_session, replies_from}
 use Rattle.model_tree.specs.Tree.{ProgramTree}
-use Rattle.world_plain.specs.World.{WorldRecord}
 use Rattle.world.specs.Worlds.{field_counts, replay, replay_on}
-use Rattle.snapshot_codec.specs.Spelling.{world_spelling}
+use Rattle.model_value.specs.Plain.{PlainValue}
+use Rattle.model_solved.specs.Founding.{Founding}
+use Rattle.persist_json.specs.JsonOf.{IsJsonOf, most_json}
 use Rattle.tea_io.specs.Files.{Content}
 use Rattle.view_script.specs.PlainLine.{PlainLine}
 use Rattle.view_script.specs.ViewScript.{view_script_of}
@@ -29,9 +30,11 @@ use Rattle.command_words.specs.declared.words.JoinRequest.{JoinRequest}
 use Rattle.command_words.specs.declared.words.ReflectRequest.{ReflectRequest}
 use Rattle.command_words.specs.declared.words.Command.{Command}
 use Rattle.command_words.specs.declared.words.Command.TheVariants.{Stamp, Check, Replay, Join, Reflect, Drill}
-use Rattle.commands.specs.Verdict.{ByDrill, ByReflecting, ByVisit, Closing, Coming, Fine, OfAddress, OfFile, OfJoin, OfLog, OfProgram, OfReflect, OfScript, OfSnapshot, OfTree, OfView, OfViewScript, OfWords, Only, Starts, Verdict, ask_log, ask_program, ask_script, ask_snapshot, at_once, before, count_verdict, fine, most_script, reflection_of, session_of, stamp_verdict, visit_to}
+use Rattle.model_tree.specs.Bounds.{most_program_bytes}
+use Rattle.tea_base.specs.Limits.{most_snapshot}
+use Rattle.commands.specs.Verdict.{ByDrill, ByReflecting, ByVisit, Closing, Coming, Fine, OfAddress, OfFile, OfJoin, OfLog, OfProgram, OfReflect, OfScript, OfSnapshot, OfTree, OfView, OfViewScript, OfWords, Only, Starts, Verdict, OfFounded, OfJson, OfPersisted, OfRecorded, ask_file, at_once, before, count_verdict, fine, founded, most_script, reflection_of, session_of, stamp_verdict, visit_to, world_puts, most_log}
 use Rattle.commands.proofs.Agreement.{late_verdict}
-use Rattle.croquet.specs.Complete.{HasRightInput, HoldsFile, HoldsProgram, HoldsRecording, HoldsStart, IsLogText, IsScriptText, IsSnapshotUntil, IsProgramText, IsViewScriptText, NamesAddress}
+use Rattle.croquet.specs.Complete.{HasRightInput, HoldsFile, HoldsPersisted, HoldsProgram, HoldsRecording, HoldsStart, IsJsonText, IsLogText, IsScriptText, IsSnapshotUntil, IsProgramText, IsViewScriptText, NamesAddress, persisted_in}
 use Rattle.croquet.proofs.RightSteps.{AreRight, GivesHeld, IsGiving, giving_are_right}
 
 -- what is put and printed is put and printed alone
@@ -91,6 +94,10 @@ module _ (held : List ℕ → Content) where
   log_right Closes next bytes log legal spelled right =
       record { verdict = right.verdict; comes = inl (log, legal, spelled, right.comes); reads = right.reads; closing = right.closing }
 
+  json_right : (Closes : Closing → Type 0) (next : PlainValue → Coming) (bytes : List ℕ) (v : PlainValue) → IsJsonOf bytes v → ComesRight held Closes (next v) → ComesRight held Closes (OfJson next bytes)
+  json_right Closes next bytes v is right =
+      record { verdict = right.verdict; comes = inl (v, is, right.comes); reads = right.reads; closing = right.closing }
+
   address_right : (Closes : Closing → Type 0) (is : Bool) (next : Coming) → is ≡ true → ComesRight held Closes next → ComesRight held Closes (OfAddress is next)
   address_right Closes is next so right = subst (λ (b : Bool). ComesRight held Closes (OfAddress b next)) (sym so) right
 
@@ -104,65 +111,80 @@ module _ {F : Type 0} (files : FilesTell F) (old : F) where
       file_right (files.held old) Closes at ask next holds.bytes (record { bytes = holds.bytes; is = refl; present = holds.present; within = holds.within }) right
 
   read_program : (Closes : Closing → Type 0) (name : List ℕ) (program : HoldsProgram files old name) (next : List ℕ → ProgramTree → Coming) → ComesRight (files.held old) Closes (next program.bytes program.right.0)
-      → ComesRight (files.held old) Closes (OfFile input.Program (ask_program name) (λ bytes. OfProgram (next bytes) bytes))
+      → ComesRight (files.held old) Closes (OfFile input.Program (ask_file name most_program_bytes) (λ bytes. OfProgram (next bytes) bytes))
   read_program Closes name program next right =
-      read_right Closes input.Program (ask_program name) (λ bytes. OfProgram (next bytes) bytes) IsProgramText program
+      read_right Closes input.Program (ask_file name most_program_bytes) (λ bytes. OfProgram (next bytes) bytes) IsProgramText program
       (program_right (files.held old) Closes (next program.bytes) program.bytes program.right.0 program.right.1 right)
+
+  persisted_right : (Closes : Closing → Type 0) (name : Option (List ℕ)) (holds : HoldsPersisted files old name) (next : PlainValue → Coming)
+      → ComesRight (files.held old) Closes (next (persisted_in files old name holds)) → ComesRight (files.held old) Closes (OfPersisted name next)
+  persisted_right Closes None holds next right = right
+  persisted_right Closes (Some name) holds next right =
+      read_right Closes input.Persisted (ask_file name most_json) (OfJson next) IsJsonText holds (json_right (files.held old) Closes next holds.bytes holds.right.0 holds.right.1 right)
 
   snapshot_right : (request : ReplayRequest) (tree : ProgramTree) (id : List ℕ) (log : List Entry) (bytes : List ℕ) → IsSnapshotUntil request.time (field_counts tree) id bytes → ComesRight (files.held old) ClosesWell (OfSnapshot request tree id log bytes)
   snapshot_right request tree id log bytes (start, is, early) =
       let w = (replay_on tree start log request.time).world in
-      fine_right (files.held old) (optional_put request.snapshot (world_spelling w)) (world_line w) (OfSnapshot request tree id log bytes) (inl (start, is, sym (late_verdict request tree log start early)))
+      fine_right (files.held old) (world_puts request w) (world_line w) (OfSnapshot request tree id log bytes) (inl (start, is, sym (late_verdict request tree log start early)))
 
-  start_right : (from : Option (List ℕ)) (request : ReplayRequest) (tree : ProgramTree) (id : List ℕ) (log : List Entry) → HoldsStart files old from (IsSnapshotUntil request.time (field_counts tree) id)
-      → ComesRight (files.held old) ClosesWell (Starts from request tree id log)
-  start_right None request tree id log start =
-      let w = (replay tree id log request.time).world in
-      fine_right (files.held old) (optional_put request.snapshot (world_spelling w)) (world_line w) (Starts None request tree id log) refl
-  start_right (Some name) request tree id log start =
-      read_right ClosesWell input.Snapshot (ask_snapshot name) (OfSnapshot request tree id log) (IsSnapshotUntil request.time (field_counts tree) id) start
-      (snapshot_right request tree id log start.bytes start.right)
+  start_right : (from : Option (List ℕ)) (request : ReplayRequest) (founding : Founding) (id : List ℕ) (log : List Entry) → HoldsStart files old from (IsSnapshotUntil request.time (field_counts founding.tree) id)
+      → ComesRight (files.held old) ClosesWell (Starts from request founding id log)
+  start_right None request founding id log start =
+      let w = (replay founding id log request.time).world in
+      fine_right (files.held old) (world_puts request w) (world_line w) (Starts None request founding id log) refl
+  start_right (Some name) request founding id log start =
+      read_right ClosesWell input.Snapshot (ask_file name most_snapshot) (OfSnapshot request founding.tree id log) (IsSnapshotUntil request.time (field_counts founding.tree) id) start
+      (snapshot_right request founding.tree id log start.bytes start.right)
 
   recording_right : (request : ReplayRequest) → HoldsRecording files old request → ComesRight (files.held old) ClosesWell (OfWords (Some (Replay request)))
   recording_right request recording =
       let program = recording.program in
       let tree = program.right.0 in
-      let id = session_of request.name program.bytes in
-      read_program ClosesWell request.program program (λ bytes tree. OfTree request (session_of request.name bytes) tree)
-      (read_right ClosesWell input.Log (ask_log request.log) (OfLog (Starts request.from request tree id)) IsLogText recording.log
-      (log_right (files.held old) ClosesWell (Starts request.from request tree id) recording.log.bytes recording.log.right.0 recording.log.right.1 recording.log.right.2
-      (start_right request.from request tree id recording.log.right.0 recording.start)))
+      let log = recording.log.right.0 in
+      let v = persisted_in files old request.persisted recording.persisted in
+      read_program ClosesWell request.program program (λ bytes tree. OfTree request bytes tree)
+      (read_right ClosesWell input.Log (ask_file request.log most_log) (OfLog (OfRecorded request program.bytes tree)) IsLogText recording.log
+      (log_right (files.held old) ClosesWell (OfRecorded request program.bytes tree) recording.log.bytes log recording.log.right.1 recording.log.right.2
+      (persisted_right ClosesWell request.persisted recording.persisted (λ v. OfFounded request program.bytes log (founded tree v))
+      (start_right request.from request (founded tree v) (session_of request.name program.bytes v) log recording.start))))
 
-  reflect_right : (request : ReflectRequest) → HoldsProgram files old request.program → NamesAddress request.address → ComesRight (files.held old) ClosesWell (OfWords (Some (Reflect request)))
-  reflect_right request program address =
-      let reflection = reflection_of request (session_of request.name program.bytes) in
-      read_program ClosesWell request.program program (λ bytes tree. OfReflect request (session_of request.name bytes))
-      (address_right (files.held old) ClosesWell (is_address (encode_utf8_all request.address)) (Only (at_once (ByReflecting reflection))) address
-      (closed_right (files.held old) ClosesWell (ByReflecting reflection) (Only (at_once (ByReflecting reflection))) tt refl))
+  reflect_right : (request : ReflectRequest) → HoldsProgram files old request.program → NamesAddress request.address → HoldsPersisted files old request.persisted → ComesRight (files.held old) ClosesWell (OfWords (Some (Reflect request)))
+  reflect_right request program address persisted =
+      let reflection = reflection_of request program.bytes (persisted_in files old request.persisted persisted) in
+      let next : PlainValue → Coming = λ v. Only (at_once (ByReflecting (reflection_of request program.bytes v))) in
+      read_program ClosesWell request.program program (λ bytes tree. OfReflect request bytes)
+      (address_right (files.held old) ClosesWell (is_address (encode_utf8_all request.address)) (OfPersisted request.persisted next) address
+      (persisted_right ClosesWell request.persisted persisted next
+      (closed_right (files.held old) ClosesWell (ByReflecting reflection) (Only (at_once (ByReflecting reflection))) tt refl)))
 
-  view_script_right : (request : JoinRequest) (id : List ℕ) (tree : ProgramTree) (script : Option (List PlainLine)) (lines : List PlainLine) → script ≡ Some lines → ComesRight (files.held old) ClosesByVisit (OfViewScript request id tree script)
-  view_script_right request id tree script lines is =
-      closed_right (files.held old) ClosesByVisit (ByVisit (visit_to request id tree lines)) (OfViewScript request id tree script) tt
-      (subst (λ (s : Option (List PlainLine)). OfViewScript request id tree s (at_once (ByVisit (visit_to request id tree lines)))) (sym is) refl)
+  view_script_right : (request : JoinRequest) (text : List ℕ) (tree : ProgramTree) (script : Option (List PlainLine)) (lines : List PlainLine) → script ≡ Some lines → HoldsPersisted files old request.persisted
+      → ComesRight (files.held old) ClosesByVisit (OfViewScript request text tree script)
+  view_script_right request text tree script lines is persisted =
+      let next : PlainValue → Coming = λ v. Only (at_once (ByVisit (visit_to request text lines (founded tree v)))) in
+      let visit = visit_to request text lines (founded tree (persisted_in files old request.persisted persisted)) in
+      subst (λ (s : Option (List PlainLine)). ComesRight (files.held old) ClosesByVisit (OfViewScript request text tree s)) (sym is)
+      (persisted_right ClosesByVisit request.persisted persisted next
+      (closed_right (files.held old) ClosesByVisit (ByVisit visit) (Only (at_once (ByVisit visit))) tt refl))
 
-  join_right : (request : JoinRequest) → HoldsProgram files old request.program → NamesAddress request.address → HoldsFile files old request.script most_script IsViewScriptText → ComesRight (files.held old) ClosesByVisit (OfWords (Some (Join request)))
-  join_right request program address script =
-      let id = session_of request.name program.bytes in
+  join_right : (request : JoinRequest) → HoldsProgram files old request.program → NamesAddress request.address → HoldsFile files old request.script most_script IsViewScriptText → HoldsPersisted files old request.persisted
+      → ComesRight (files.held old) ClosesByVisit (OfWords (Some (Join request)))
+  join_right request program address script persisted =
+      let text = program.bytes in
       let tree = program.right.0 in
-      read_program ClosesByVisit request.program program (λ bytes tree. OfJoin request (session_of request.name bytes) tree)
-      (address_right (files.held old) ClosesByVisit (is_address (encode_utf8_all request.address)) (OfView request id tree) address
-      (read_right ClosesByVisit input.Script (ask_script request.script) (λ bytes. OfViewScript request id tree (view_script_of bytes)) IsViewScriptText script
-      (view_script_right request id tree (view_script_of script.bytes) script.right.0 script.right.1)))
+      read_program ClosesByVisit request.program program (λ bytes tree. OfJoin request bytes tree)
+      (address_right (files.held old) ClosesByVisit (is_address (encode_utf8_all request.address)) (OfView request text tree) address
+      (read_right ClosesByVisit input.Script (ask_file request.script most_script) (λ bytes. OfViewScript request text tree (view_script_of bytes)) IsViewScriptText script
+      (view_script_right request text tree (view_script_of script.bytes) script.right.0 script.right.1 persisted)))
 
   -- what comes of a command whose inputs are right
   pub words_right : (command : Option Command) → HasRightInput files old command → ComesRight (files.held old) (ClosesRight command) (OfWords command)
   words_right None never = absurd never
   words_right (Some (Stamp script log)) right =
-      read_right ClosesWell input.Script (ask_script script) (λ bytes. OfScript log (script_of bytes)) IsScriptText right
+      read_right ClosesWell input.Script (ask_file script most_script) (λ bytes. OfScript log (script_of bytes)) IsScriptText right
       (script_right (files.held old) log (script_of right.bytes) right.right.0 right.right.1)
   words_right (Some (Check program)) right =
       read_program ClosesWell program right (λ bytes tree. Only (count_verdict tree)) (fine_right (files.held old) [] (counts_line right.right.0) (Only (count_verdict right.right.0)) refl)
   words_right (Some (Replay request)) right = recording_right request right
-  words_right (Some (Reflect request)) right = reflect_right request right.0 right.1
+  words_right (Some (Reflect request)) right = reflect_right request right.0 right.1 right.2
   words_right (Some (Drill request)) right = closed_right (files.held old) ClosesWell (ByDrill request) (OfWords (Some (Drill request))) tt refl
-  words_right (Some (Join request)) right = join_right request right.0 right.1 right.2
+  words_right (Some (Join request)) right = join_right request right.0 right.1 right.2 right.3

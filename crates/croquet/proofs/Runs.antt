@@ -14,7 +14,7 @@ use Rattle.croquet.specs.declared.status.Status.TheVariants as status
 use Rattle.croquet.specs.declared.top.Turn.{Turn}
 use Rattle.croquet.specs.declared.top.Turn.TheVariants as turn
 use Rattle.croquet.specs.Calls.{Turns}
-use Rattle.croquet.specs.Run.{Concludes, Course, Does, Ending, EndsRefused, EndsWanting, EndsWell, RanBySteps, Reaches, Tells, TellsCut, TellsEnding, TellsMemory}
+use Rattle.croquet.specs.Run.{Concludes, Course, Does, Ending, refusal_ending, OutOfMemory, Silent, RanBySteps, Reaches, Tells, TellsCut, TellsEnding, TellsMemory}
 
 -- a run over files and an output alone
 abbrev pub RanSo : {F W : Type 0} → FilesTell F → OutputTells W → Coming → F → W → F → W → Status → Type 0
@@ -70,7 +70,7 @@ turns_on files out wait given next (turn.Reflects reflection) f mid f' w w' read
 turns_on files out wait given next (turn.Drills request) f mid f' w w' read leads reached = reaches_on files out wait given next _ f mid f' w w' read leads reached
 
 -- where a file is not read, what comes of one above its limit stands for what would have come
-unread : (wait : Waiting) → Course (Remains wait) (Loads (ask_of wait) None ∷ []) (EndsRefused (refusal.Input (input_of wait)))
+unread : (wait : Waiting) → Course (Remains wait) (Loads (ask_of wait) None ∷ []) (refusal_ending (refusal.Input (input_of wait)))
 unread wait = record {
   verdict = before (Loads (ask_of wait) None) (at_once (ByRefusal (refusal.Input (input_of wait))));
   comes = above_limit wait;
@@ -86,7 +86,7 @@ cut_at_read
     → TellsCut out came (Loads (ask_of wait) None) w w' result → RanSo files out (Remains wait) f w f' w' result
 cut_at_read files out wait f f' w w' result came acts told = record {
   steps = Loads (ask_of wait) None ∷ [];
-  ending = EndsRefused (refusal.Input (input_of wait));
+  ending = refusal_ending (refusal.Input (input_of wait));
   course = unread wait;
   does = record {
     cut = Some (record { step = Loads (ask_of wait) None; came = came });
@@ -135,10 +135,10 @@ ran_closed files out closing ending f w w' result concludes told = record {
 -- steps were done
 pub ran_done
     : {F W : Type 0} (files : FilesTell F) (out : OutputTells W) (steps : List Step) (f f' : F) (w w' : W) (result : Status)
-    → Does (desk_tells files out) steps EndsWell (desk f w) (desk f' w') result → RanSo files out (Only (fine steps)) f w f' w' result
+    → Does (desk_tells files out) steps (Silent status.Ok) (desk f w) (desk f' w') result → RanSo files out (Only (fine steps)) f w f' w' result
 ran_done files out steps f f' w w' result does = record {
   steps = steps;
-  ending = EndsWell;
+  ending = Silent status.Ok;
   course = record { verdict = fine steps; comes = refl; more = []; concludes = (refl, refl); all = sym (append-nil steps) };
   does = does;
 }
@@ -149,9 +149,9 @@ pub ran_wanting
     → TellsMemory out w w' result → RanSo files out (Free coming) f w f w' result
 ran_wanting files out coming f w w' result told = record {
   steps = [];
-  ending = EndsWanting;
+  ending = OutOfMemory;
   course = record { verdict = at_once ByWant; comes = inl refl; more = []; concludes = (refl, refl); all = refl };
-  does = told_at_once files out EndsWanting f w w' result told;
+  does = told_at_once files out OutOfMemory f w w' result told;
 }
 
 -- what comes of one coming may come of another

@@ -13,7 +13,7 @@ use Rattle.view_shell.specs.ViewRun.{EndsBy, IsCutEnd, ViewRan}
 use Rattle.commands.specs.Verdict.{ByVisit, Coming, PlainVisit}
 use Rattle.croquet.specs.declared.status.Status.{Status}
 use Rattle.croquet.specs.Calls.{TellsViewEnd, VisitRan}
-use Rattle.croquet.specs.Run.{EndsView, RanBySteps, Reaches, TellsCut, TellsEnd, TellsEnding, TellsMemory}
+use Rattle.croquet.specs.Run.{view_ending, RanBySteps, Reaches, TellsCut, TellsEnd, TellsEnding, TellsMemory}
 
 -- ---- the end of a view's run
 
@@ -31,7 +31,7 @@ tells_cut out Failed (Sends frame) end w w' result is told = rw is at told
 
 -- how the end of a run was told: so, or as want of memory
 abbrev pub ToldSo : {W : Type 0} → OutputTells W → ViewEnd → W → W → Status → Type 0
-ToldSo out end w w' result = TellsEnding out (EndsView end) w w' result ⊎ TellsMemory out w w' result
+ToldSo out end w w' result = TellsEnding out (view_ending end) w w' result ⊎ TellsMemory out w w' result
 
 told_so : {W : Type 0} (out : OutputTells W) (end : ViewEnd) (w w' : W) (result : Status) → TellsViewEnd out end w w' result → ToldSo out end w w' result
 told_so out view_end.Done w w' result told = inl told
@@ -45,14 +45,14 @@ told_so out view_end.WantOfMemory w w' result told = inl told
 -- a view's run was done, and its end told
 module _ {W N L : Type 0} (out : OutputTells W) (net : NetTells N L) (links : LinksTell L) (visit : PlainVisit) (w next w' : W) (n n' : N) where
   abbrev pub from : Phase
-  from = first_phase visit.tree visit.id visit.view visit.address visit.lines
+  from = first_phase visit.founding visit.id visit.view visit.address visit.lines
 
   ends : (end : ViewEnd) (result : Status) (ran : ViewRan (booth_tells out net links) from end (booth w n None) (booth next n' None))
-      → (tells : ViewEnd) → EndsBy ran.stops.last None tells → TellsEnd out ran.stops.cut (EndsView tells) next w' result
+      → (tells : ViewEnd) → EndsBy ran.stops.last None tells → TellsEnd out ran.stops.cut (view_ending tells) next w' result
       → VisitRan (booth_tells out net links) visit (booth w n None) (booth w' n' None) result
   ends end result ran tells by told = record {
     steps = ran.stops.steps;
-    ending = EndsView tells;
+    ending = view_ending tells;
     visits = record { last = ran.stops.last; end = tells; walks = ran.stops.walks; ends = by; is = refl };
     does = record {
       cut = ran.stops.cut;
@@ -83,8 +83,8 @@ pub visit_wanting
     → VisitRan (booth_tells out net links) visit (booth w n None) (booth w' n None) result
 visit_wanting out net links visit w w' n result told = record {
   steps = [];
-  ending = EndsView view_end.WantOfMemory;
-  visits = record { last = first_phase visit.tree visit.id visit.view visit.address visit.lines; end = view_end.WantOfMemory; walks = refl; ends = inr refl; is = refl };
+  ending = view_ending view_end.WantOfMemory;
+  visits = record { last = first_phase visit.founding visit.id visit.view visit.address visit.lines; end = view_end.WantOfMemory; walks = refl; ends = inr refl; is = refl };
   does = record { cut = None; done = booth w n None; acts = refl; left = booth w n None; goes_back = refl; told = (told, refl) };
 }
 

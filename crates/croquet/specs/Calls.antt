@@ -12,14 +12,14 @@ use Rattle.view_shell.specs.declared.ending.ViewEnd.{ViewEnd}
 use Rattle.view_shell.specs.declared.ending.ViewEnd.TheVariants as view_end
 use Rattle.command_outcome.specs.declared.outcome.Put.{Put}
 use Rattle.command_words.specs.declared.words.DrillRequest.{DrillRequest}
-use Rattle.command_words.specs.CommandWords.{AreConnections, IsBoundedDrill}
+use Rattle.command_words.specs.Bounds.{AreConnections, IsBoundedDrill}
 use Rattle.commands.specs.Verdict.{ByDrill, ByReflecting, ByVisit, ByWant, Coming, Free, Only, PlainVisit, at_once, drilled_verdict}
 use Rattle.commands.specs.Work.{visit_of}
 use Rattle.croquet.specs.declared.status.Status.{Status}
 use Rattle.croquet.specs.declared.status.Status.TheVariants as status
 use Rattle.croquet.specs.declared.top.Turn.{Turn}
 use Rattle.croquet.specs.declared.top.Turn.TheVariants as turn
-use Rattle.croquet.specs.Run.{Does, Ending, EndsOnNetFault, EndsView, EndsWanting, EndsWell, RanBySteps, Reaches, Tells, TellsEnding, TellsMemory, Visits}
+use Rattle.croquet.specs.Run.{Does, Ending, on_net_fault, view_ending, OutOfMemory, Silent, RanBySteps, Reaches, Tells, TellsEnding, TellsMemory, Visits}
 
 -- a file was not put, and this was told
 abbrev pub TellsUnput : {F W : Type 0} → FilesTell F → OutputTells W → Put → F → W → F → W → Status → Type 0
@@ -30,23 +30,27 @@ TellsUnput files out put f w f' w' result =
 -- The end of a view's run is told. Memory may be wanted for the line of a refusal.
 abbrev pub TellsViewEnd : {W : Type 0} → OutputTells W → ViewEnd → W → W → Status → Type 0
 TellsViewEnd out (view_end.Refused code kept) old new result =
-    TellsEnding out (EndsView (view_end.Refused code kept)) old new result ⊎ TellsMemory out old new result
-TellsViewEnd out end old new result = TellsEnding out (EndsView end) old new result
+    TellsEnding out (view_ending (view_end.Refused code kept)) old new result ⊎ TellsMemory out old new result
+TellsViewEnd out end old new result = TellsEnding out (view_ending end) old new result
 
 -- steps are all done; or they are cut, and this is told, whatever was to come behind them
 abbrev pub Completes : {F W N L : Type 0} → OutsideTells F W N L → List Step → Result ⊤ Status → Outside F W N L → Outside F W N L → Type 0
 Completes tells steps (Ok done) old new = Acts tells steps None old new
 Completes tells steps (Err result) old new = (ending : Ending) → Does tells steps ending old new result
 
+-- nothing more is told, and the status is 0
+abbrev pub all_well : Ending
+all_well = Silent status.Ok
+
 -- how the run of a reflector ends behind all its steps
 abbrev pub reflected_ending : Bool → Ending
-reflected_ending true = EndsOnNetFault
-reflected_ending false = EndsWell
+reflected_ending true = on_net_fault
+reflected_ending false = all_well
 
 -- and the run of one that has no session to tell of
 abbrev pub fault_ending : ServeFault → Ending
-fault_ending serve_fault.ListenFault = EndsOnNetFault
-fault_ending serve_fault.WantOfMemory = EndsWanting
+fault_ending serve_fault.ListenFault = on_net_fault
+fault_ending serve_fault.WantOfMemory = OutOfMemory
 
 -- the snapshot of a replica's world
 abbrev pub snapshot_of : ReplicaView → List ℕ

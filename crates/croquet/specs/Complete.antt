@@ -1,5 +1,5 @@
 -- A command whose inputs are right, and no call of which has failed, is done, or runs out of memory.
-use Rattle.std.specs.Prelude.{◌≡◌, ◌⊎◌, ℕ, ⊤, ◌≤◌, true, List, length, encode_utf8_all, Option, Some, None}
+use Rattle.std.specs.Prelude.{◌≡◌, ◌≢◌, ◌⊎◌, ℕ, ⊤, ◌≤◌, true, List, length, encode_utf8_all, Option, Some, None}
 use Rattle.tea_base.specs.Legal.{IsLegal}
 use Rattle.tea_base.specs.Limits.{most_snapshot}
 use Rattle.tea_base.specs.declared.entry.Entry.{Entry}
@@ -7,6 +7,8 @@ use Rattle.session_log.specs.Spelling.{log_spelling}
 use Rattle.reflector_core.specs.declared.request.Request.{Request}
 use Rattle.model_tree.specs.Bounds.{most_program_bytes}
 use Rattle.model_tree.specs.Tree.{ProgramTree}
+use Rattle.model_value.specs.Plain.{PlainValue, nil}
+use Rattle.persist_json.specs.JsonOf.{IsJsonOf, most_json}
 use Rattle.world_plain.specs.World.{WorldRecord}
 use Rattle.world.specs.Worlds.{field_counts}
 use Rattle.snapshot_codec.specs.Answer.{IsSnapshot}
@@ -14,14 +16,17 @@ use Rattle.tea_io.specs.Files.{Present}
 use Rattle.tea_io.specs.Told.{Rose}
 use Rattle.view_script.specs.PlainLine.{PlainLine}
 use Rattle.view_script.specs.ViewScript.{view_script_of}
-use Rattle.run_steps.specs.Outside.{FilesTell, NetTells, Outside, OutputTells}
+use Rattle.run_steps.specs.Steps.{Step}
+use Rattle.run_steps.specs.Outside.{FilesTell, LinksTell, NetTells, Outside, OutputTells, outside_tells}
+use Rattle.view_follows.specs.Answered.{GoOn, IsAnsweredVisit, RefuseNoOther}
 use Rattle.command_words.specs.Address.{is_address}
 use Rattle.command_words.specs.declared.words.ReplayRequest.{ReplayRequest}
 use Rattle.command_words.specs.declared.words.Command.{Command}
 use Rattle.command_words.specs.declared.words.Command.TheVariants.{Stamp, Check, Replay, Join, Reflect, Drill}
 use Rattle.command_stamp.specs.Script.{script_of}
 use Rattle.command_outcome.specs.ProgramEnd.{IsFaultless}
-use Rattle.commands.specs.Verdict.{most_log, most_script, session_of}
+use Rattle.commands.specs.Verdict.{ByVisit, Closing, Comes, PlainVisit, most_log, most_script, session_of}
+use Rattle.croquet.specs.Run.{RanBySteps}
 use Rattle.croquet.specs.declared.status.Status.{Status}
 use Rattle.croquet.specs.declared.status.Status.TheVariants as status
 
@@ -59,11 +64,26 @@ abbrev pub HoldsStart : {F : Type 0} → FilesTell F → F → Option (List ℕ)
 HoldsStart files old None IsInput = ⊤
 HoldsStart files old (Some name) IsInput = HoldsFile files old name most_snapshot IsInput
 
+-- the JSON of a value that can be saved
+abbrev pub IsJsonText : List ℕ → Type 0
+IsJsonText bytes = (v : PlainValue) × IsJsonOf bytes v
+
+-- the JSON of the persisted value, if a name for it is given
+abbrev pub HoldsPersisted : {F : Type 0} → FilesTell F → F → Option (List ℕ) → Type 0
+HoldsPersisted files old None = ⊤
+HoldsPersisted files old (Some name) = HoldsFile files old name most_json IsJsonText
+
+-- the persisted value: nil where none is named
+abbrev pub persisted_in : {F : Type 0} (files : FilesTell F) (old : F) (name : Option (List ℕ)) → HoldsPersisted files old name → PlainValue
+persisted_in files old None holds = nil
+persisted_in files old (Some name) holds = holds.right.0
+
 -- the files of a replay
 pub record HoldsRecording {F : Type 0} (files : FilesTell F) (old : F) (request : ReplayRequest) : Type 0 where
   pub program : HoldsProgram files old request.program
   pub log : HoldsFile files old request.log most_log IsLogText
-  pub start : HoldsStart files old request.from (IsSnapshotUntil request.time (field_counts program.right.0) (session_of request.name program.bytes))
+  pub persisted : HoldsPersisted files old request.persisted
+  pub start : HoldsStart files old request.from (IsSnapshotUntil request.time (field_counts program.right.0) (session_of request.name program.bytes (persisted_in files old request.persisted persisted)))
 
 -- a word is the address of a net
 abbrev pub NamesAddress : List ℕ → Type 0
@@ -76,10 +96,24 @@ HasRightInput files old (Some (Stamp script log)) = HoldsFile files old script m
 HasRightInput files old (Some (Check program)) = HoldsProgram files old program
 HasRightInput files old (Some (Replay request)) = HoldsRecording files old request
 HasRightInput files old (Some (Join request)) =
-    HoldsProgram files old request.program × NamesAddress request.address × HoldsFile files old request.script most_script IsViewScriptText
-HasRightInput files old (Some (Reflect request)) = HoldsProgram files old request.program × NamesAddress request.address
+    HoldsProgram files old request.program × NamesAddress request.address × HoldsFile files old request.script most_script IsViewScriptText × HoldsPersisted files old request.persisted
+HasRightInput files old (Some (Reflect request)) = HoldsProgram files old request.program × NamesAddress request.address × HoldsPersisted files old request.persisted
 -- a drill reads no file
 HasRightInput files old (Some (Drill request)) = ⊤
+
+-- ---- what keeps a view's links from having a say
+
+-- Of a view that took these steps: which of them lead to which end. Where its links went on it does not end with them, where nothing was refused
+-- but a snapshot it does not end refused, and where one legal log answered its links, with honest bases, it finds no fault in its peer.
+pub record OnlyByLinks (visit : PlainVisit) (steps : List Step) (result : Status) : Type 0 where
+  pub ended : GoOn 0 steps → result ≢ status.Ended
+  pub refused : RefuseNoOther steps → result ≢ status.Refused
+  pub peer : (log : List Entry) → IsAnsweredVisit visit.founding visit.id visit.view visit.address visit.lines log steps → result ≢ status.Peer
+
+-- so where the run goes on as a view's
+abbrev pub IsCausedBy : Closing → List Step → Status → Type 0
+IsCausedBy (ByVisit visit) steps result = OnlyByLinks visit steps result
+IsCausedBy closing steps result = ⊤
 
 -- ---- how it ends
 
@@ -108,6 +142,8 @@ abbrev pub IsDueOf : Option Command → Status → Type 0
 IsDueOf (Some (Join request)) result = IsDone result ⊎ IsByPeer result
 IsDueOf command result = IsDone result
 
--- a command whose inputs are right comes to what is due, where no call has failed
-pub record IsComplete {F W N L : Type 0} (files : FilesTell F) (out : OutputTells W) (net : NetTells N L) (command : Option Command) (old new : Outside F W N L) (result : Status) : Type 0 where
+-- A command whose inputs are right comes to what is due, where no call has failed. A join comes to an end of its links only where they caused it.
+pub record IsComplete {F W N L : Type 0} (files : FilesTell F) (out : OutputTells W) (net : NetTells N L) (links : LinksTell L) (command : Option Command) (old new : Outside F W N L) (result : Status)
+    : Type 0 where
   pub due : HasRightInput files old.files command → NoneFailed files out net old new → NoLinkFailed net command old.net new.net → IsDueOf command result
+  pub caused : (ran : RanBySteps (outside_tells files out net links) (Comes command) old new result) → IsCausedBy ran.course.verdict.closing ran.course.more result

@@ -22,7 +22,7 @@ agreed_verdict request log w = drilled_verdict request log (replicate request.vi
 -- the views of a drill have all come to the replay of its log to the horizon
 pub record IsDrilled (gives : ℕ → Type 0) (request : DrillRequest) (report : DrillReport) (verdict : Verdict) : Type 0 where
   pub has : HasDrilled gives (drill_size request) report
-  pub is : verdict ≡ agreed_verdict request report.session.plain.log (replay has.tree drill_id report.session.plain.log report.session.plain.horizon).world
+  pub is : verdict ≡ agreed_verdict request report.session.plain.log (replay has.founding drill_id report.session.plain.log report.session.plain.horizon).world
 
 -- what comes of the answer
 abbrev pub OfDrilled : (ℕ → Type 0) → DrillRequest → Result DrillReport WantOfMemory → Coming

@@ -29,33 +29,72 @@ use Rattle.croquet.specs.declared.status.Status.TheVariants as status
 
 -- ---- how a run ends
 
--- how a run ends once all its steps are done
+-- what is told once all steps are done or one has failed, and with which status
 pub data Ending : Type 0 where
-  -- all went well
-  EndsWell : Ending
-  -- its command is refused
-  EndsRefused : CommandRefusal → Ending
-  -- memory is wanted
-  EndsWanting : Ending
-  -- its net has failed
-  EndsOnNetFault : Ending
-  -- it went on as a view's run, which ends so
-  EndsView : ViewEnd → Ending
+  -- nothing more
+  Silent : Status → Ending
+  -- a last line
+  Says : List ℕ → Status → Ending
+  -- that memory ran out
+  OutOfMemory : Ending
+
+-- the net or its link has failed
+abbrev pub on_net_fault : Ending
+on_net_fault = Says (codes "net-fault\n") status.NetFault
+
+abbrev pub name_of : Input → List ℕ
+name_of input.Script = codes "script"
+name_of input.Program = codes "program"
+name_of input.Log = codes "log"
+name_of input.Snapshot = codes "snapshot"
+name_of input.Persisted = codes "persisted"
+name_of input.Time = codes "time"
+name_of input.Address = codes "address"
+
+-- its command is refused
+abbrev pub refusal_ending : CommandRefusal → Ending
+refusal_ending refusal.Usage = Says (codes "usage\n") status.Usage
+refusal_ending (refusal.Program line) = Says line status.Program
+refusal_ending (refusal.Input at) = Says (codes "input " ++ name_of at ++ codes "\n") status.Input
+
+-- the reflector refused a frame, with this code and the value that comes with it
+abbrev pub refused_line : ℕ → ℕ → List ℕ
+refused_line code kept = spell_numbers (codes "refused") (code ∷ kept ∷ []) ++ 10 ∷ []
+
+-- it went on as a view's run, which ends so; an output that failed takes no line
+abbrev pub view_ending : ViewEnd → Ending
+view_ending view_end.Done = Silent status.Ok
+view_ending (view_end.Refused code kept) = Says (refused_line code kept) status.Refused
+view_ending view_end.NetFault = on_net_fault
+view_ending view_end.Ended = Says (codes "ended\n") status.Ended
+view_ending view_end.Peer = Says (codes "peer\n") status.Peer
+view_ending view_end.WriteFault = Silent status.WriteFault
+view_ending view_end.WantOfMemory = OutOfMemory
+
+-- a step has failed; an output that failed takes no line
+abbrev pub failed_ending : Step → Ending
+failed_ending (Loads ask given) = Says (codes "read-fault\n") status.ReadFault
+failed_ending (Puts name bytes) = Says (codes "write-fault\n") status.WriteFault
+failed_ending (Prints text) = Silent status.WriteFault
+-- all others are of the net and its link
+failed_ending other = on_net_fault
+
+-- ---- what a command comes to
 
 -- These steps are a view's run, and so does it end: as the phase says to which they lead, or for want of memory in any phase.
 pub record Visits (visit : PlainVisit) (steps : List Step) (ending : Ending) : Type 0 where
   pub last : Phase
   pub end : ViewEnd
-  pub walks : Walks (first_phase visit.tree visit.id visit.view visit.address visit.lines) steps last
+  pub walks : Walks (first_phase visit.founding visit.id visit.view visit.address visit.lines) steps last
   pub ends : EndsBy last None end
-  pub is : ending ≡ EndsView end
+  pub is : ending ≡ view_ending end
 
 -- what a closing comes to: the steps that are still done, and how the run ends behind them; a row for each
 abbrev pub Concludes : Closing → List Step → Ending → Type 0
-Concludes Fine steps ending = (steps ≡ []) × (ending ≡ EndsWell)
-Concludes (ByRefusal refusal) steps ending = (steps ≡ []) × (ending ≡ EndsRefused refusal)
-Concludes ByWant steps ending = (steps ≡ []) × (ending ≡ EndsWanting)
-Concludes ByNetFault steps ending = (steps ≡ []) × (ending ≡ EndsOnNetFault)
+Concludes Fine steps ending = (steps ≡ []) × (ending ≡ Silent status.Ok)
+Concludes (ByRefusal refusal) steps ending = (steps ≡ []) × (ending ≡ refusal_ending refusal)
+Concludes ByWant steps ending = (steps ≡ []) × (ending ≡ OutOfMemory)
+Concludes ByNetFault steps ending = (steps ≡ []) × (ending ≡ on_net_fault)
 Concludes (ByVisit visit) steps ending = Visits visit steps ending
 -- No run by steps alone ends so: a reflector serves many links at once. `RanAsReflector` says how it does.
 Concludes (ByReflecting reflection) steps ending = ⊥
@@ -70,55 +109,7 @@ pub record Course (coming : Coming) (steps : List Step) (ending : Ending) : Type
   pub concludes : Concludes verdict.closing more ending
   pub all : steps ≡ verdict.steps ++ more
 
--- ---- the last line
-
-abbrev pub name_of : Input → List ℕ
-name_of input.Script = codes "script"
-name_of input.Program = codes "program"
-name_of input.Log = codes "log"
-name_of input.Snapshot = codes "snapshot"
-name_of input.Time = codes "time"
-name_of input.Address = codes "address"
-
--- the last line of a run, if it has one, and its status
-abbrev pub LastLine : Type 0
-LastLine = Option (List ℕ) × Status
-
--- those of a refusal
-abbrev pub refusal_told : CommandRefusal → LastLine
-refusal_told refusal.Usage = (Some (codes "usage\n"), status.Usage)
-refusal_told (refusal.Program line) = (Some line, status.Program)
-refusal_told (refusal.Input at) = (Some (codes "input " ++ name_of at ++ codes "\n"), status.Input)
-
--- the reflector refused a frame, with this code and the value that comes with it
-abbrev pub refused_line : ℕ → ℕ → List ℕ
-refused_line code kept = spell_numbers (codes "refused") (code ∷ kept ∷ []) ++ 10 ∷ []
-
--- those of a view's end: an output that failed takes no line
-abbrev pub view_told : ViewEnd → LastLine
-view_told view_end.Done = (None, status.Ok)
-view_told (view_end.Refused code kept) = (Some (refused_line code kept), status.Refused)
-view_told view_end.NetFault = (Some (codes "net-fault\n"), status.NetFault)
-view_told view_end.Ended = (Some (codes "ended\n"), status.Ended)
-view_told view_end.Peer = (Some (codes "peer\n"), status.Peer)
-view_told view_end.WriteFault = (None, status.WriteFault)
-view_told view_end.WantOfMemory = (Some (codes "memory\n"), status.WantOfMemory)
-
--- those of an end: a row for each
-abbrev pub ending_told : Ending → LastLine
-ending_told EndsWell = (None, status.Ok)
-ending_told (EndsRefused refusal) = refusal_told refusal
-ending_told EndsWanting = (Some (codes "memory\n"), status.WantOfMemory)
-ending_told EndsOnNetFault = (Some (codes "net-fault\n"), status.NetFault)
-ending_told (EndsView end) = view_told end
-
--- and those of a step that failed: an output that failed takes no line
-abbrev pub fault_told : Step → LastLine
-fault_told (Loads ask given) = (Some (codes "read-fault\n"), status.ReadFault)
-fault_told (Puts name bytes) = (Some (codes "write-fault\n"), status.WriteFault)
-fault_told (Prints text) = (None, status.WriteFault)
--- all others are of the net and its link
-fault_told other = (Some (codes "net-fault\n"), status.NetFault)
+-- ---- what is told last
 
 -- The line `memory` is written. A sink that fails at it decides the status.
 abbrev pub TellsMemory : {W : Type 0} → OutputTells W → W → W → Status → Type 0
@@ -134,21 +125,16 @@ Tells {W = W} out line given old new result =
     ⊎ ((PrintsText out Failed line old new × (result ≡ status.WriteFault))
     ⊎ ((mid : W) × PrintsText out WantedMemory line old mid × TellsMemory out mid new result))
 
--- the line is told, if there is one
-abbrev pub TellsLast : {W : Type 0} → OutputTells W → Option (List ℕ) → Status → W → W → Status → Type 0
-TellsLast out None given old new result = (new ≡ old) × (result ≡ given)
-TellsLast out (Some line) given old new result = Tells out line given old new result
-
--- An end is told. Memory that is wanted at the line `memory` is not told again.
+-- an end is told
 abbrev pub TellsEnding : {W : Type 0} → OutputTells W → Ending → W → W → Status → Type 0
-TellsEnding out EndsWanting old new result = TellsMemory out old new result
-TellsEnding out (EndsView view_end.WantOfMemory) old new result = TellsMemory out old new result
-TellsEnding out ending old new result = TellsLast out (ending_told ending).0 (ending_told ending).1 old new result
+TellsEnding out (Silent given) old new result = (new ≡ old) × (result ≡ given)
+TellsEnding out (Says line given) old new result = Tells out line given old new result
+TellsEnding out OutOfMemory old new result = TellsMemory out old new result
 
 -- A step that failed, or at which memory was wanted, is told.
 abbrev pub TellsCut : {W : Type 0} → OutputTells W → Came → Step → W → W → Status → Type 0
 TellsCut out Well step old new result = ⊥
-TellsCut out Failed step old new result = TellsLast out (fault_told step).0 (fault_told step).1 old new result
+TellsCut out Failed step old new result = TellsEnding out (failed_ending step) old new result
 TellsCut out WantedMemory step old new result = TellsMemory out old new result
 
 -- The end of a run is told: where its steps were cut, by the step at which they were.

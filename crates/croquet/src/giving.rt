@@ -2,8 +2,8 @@
 ghost use Rattle.std.specs.Prelude.{◌≡◌, IfErr, OnOk};
 ghost use Rattle.run_steps.specs.Outside.{PutsFile, Well, desk, desk_tells, files_tell, output_tells};
 ghost use Rattle.command_outcome.specs.Outcome.{steps_of};
-ghost use Rattle.croquet.specs.Calls.{Completes, TellsUnput};
-ghost use Rattle.croquet.specs.Run.{Does, EndsWell};
+ghost use Rattle.croquet.specs.Calls.{Completes, TellsUnput, all_well};
+ghost use Rattle.croquet.specs.Run.{Does};
 
 use crate::status::Status;
 use crate::telling::{tell, tell_want_of_memory};
@@ -50,7 +50,7 @@ pub(crate) fn give<F: Files, W: Sink>(
 /// Puts the files of a command and prints its text, which is all that it does.
 pub(crate) fn finish<F: Files, W: Sink>(outcome: &Outcome, files: &mut F, out: &mut W) -> Status
     ensures { Does (desk_tells (files_tell F.held F.asked F.faults F.wants) (output_tells W.written W.faults W.wants))
-        (steps_of outcome.now.files outcome.now.text) EndsWell (desk files.old out.old) (desk files.new out.new) result }
+        (steps_of outcome.now.files outcome.now.text) all_well (desk files.old out.old) (desk files.new out.new) result }
 {
     match give(outcome, files, out) {
         Ok(()) => Status::Ok,

@@ -3,7 +3,7 @@ ghost use Rattle.std.specs.Prelude.{◌≡◌, ◌++◌, IfOk, string_bytes, cod
 ghost use Rattle.run_steps.specs.Outside.{output_tells};
 ghost use Rattle.view_shell.specs.declared.ending.ViewEnd.TheVariants as view_end;
 ghost use Rattle.croquet.specs.Calls.{TellsViewEnd};
-ghost use Rattle.croquet.specs.Run.{EndsRefused, Tells, TellsEnding, TellsMemory, name_of, refused_line};
+ghost use Rattle.croquet.specs.Run.{refusal_ending, Tells, TellsEnding, TellsMemory, name_of, refused_line};
 
 use crate::status::Status;
 use command_outcome::{CommandRefusal, Input};
@@ -52,6 +52,7 @@ fn input_line(input: Input) -> &'static str
         Input::Program => "input program\n",
         Input::Log => "input log\n",
         Input::Snapshot => "input snapshot\n",
+        Input::Persisted => "input persisted\n",
         Input::Time => "input time\n",
         Input::Address => "input address\n",
     }
@@ -59,7 +60,7 @@ fn input_line(input: Input) -> &'static str
 
 /// Tells a refusal.
 pub(crate) fn tell_refusal<W: Sink>(out: &mut W, refusal: &CommandRefusal) -> Status
-    ensures { TellsEnding (output_tells W.written W.faults W.wants) (EndsRefused refusal.now) out.old out.new result }
+    ensures { TellsEnding (output_tells W.written W.faults W.wants) (refusal_ending refusal.now) out.old out.new result }
 {
     match refusal {
         CommandRefusal::Usage => tell(out, "usage\n", Status::Usage),

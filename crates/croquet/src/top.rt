@@ -2,9 +2,11 @@
 ghost use Rattle.std.specs.Prelude.{◌≡◌, None};
 ghost use Rattle.run_steps.specs.Calls.{came_of, given_of};
 ghost use Rattle.run_steps.specs.Outside.{ReadsFile, desk, desk_tells, files_tell, links_tell, net_tells, output_tells, outside, outside_tells};
-ghost use Rattle.command_words.specs.CommandWords.{UsesNet, command_of};
-ghost use Rattle.commands.specs.Verdict.{Comes, IsFunction, LogsTellTheirEvents, RunsOn, SnapshotsAgree, SomeVerdictComes};
-ghost use Rattle.commands.specs.Work.{ComesNext, IsBoundedNext, ask_of};
+ghost use Rattle.command_words.specs.CommandWords.{command_of};
+ghost use Rattle.command_words.specs.Bounds.{UsesNet};
+ghost use Rattle.commands.specs.Laws.{IsFunction, LogsTellTheirEvents, SnapshotsAgree, SomeVerdictComes};
+ghost use Rattle.commands.specs.Verdict.{Comes};
+ghost use Rattle.commands.specs.Work.{ComesNext, IsBoundedNext, ask_of, RunsOn};
 ghost use Rattle.view_follows.specs.SessionsReplay.{EndsViews, OfViewSessions};
 ghost use Rattle.view_follows.specs.ViewsReplay.{VisitsEndInReplay};
 ghost use Rattle.view_shell.specs.OneRun.{IsOneRun};
@@ -31,7 +33,7 @@ use std::sync::Wait;
 use std::thread::Threads;
 use tea_base::{Blob, WantOfMemory, Words};
 use tea_io::{Clock, Files, Gate, Net, Sink};
-use view_follows::{views_of_one_session, views_replay};
+use view_follows::{ends_are_caused, views_of_one_session, views_replay};
 use view_shell::one_run;
 
 /// A command is over, or the run goes on as a view's, a reflector's, or a drill.
@@ -64,8 +66,14 @@ fn go_on<F: Files, W: Sink>(alloc: Global, next: Next, files: &mut F, out: &mut 
     match next {
         Next::Reads(waiting) => match read_asked(files, &waiting) {
             Ok(given) => go_on(alloc, waiting.hand(alloc, given), files, out),
-            Err(CallFault::Failed) => Turn::Over(tell(out, "read-fault\n", Status::ReadFault)),
-            Err(CallFault::WantOfMemory) => Turn::Over(tell_want_of_memory(out)),
+            Err(CallFault::Failed) => {
+                drop(waiting);
+                Turn::Over(tell(out, "read-fault\n", Status::ReadFault))
+            }
+            Err(CallFault::WantOfMemory) => {
+                drop(waiting);
+                Turn::Over(tell_want_of_memory(out))
+            }
         },
         Next::Refuses(refusal) => Turn::Over(tell_refusal(out, &refusal)),
         Next::Gives(outcome) => Turn::Over(finish(&outcome, files, out)),
@@ -119,9 +127,11 @@ pub fn croquet<
         (net_tells N.coming N.over N.asked N.faults N.lent N.link_counts)
         (links_tell N.Conn.coming N.Conn.heard N.Conn.sent N.Conn.counts))
         (Comes (command_of words.now)) (outside files.old out.old net None) (outside files.new out.new result.0 None) result.1 }
-    // Where the inputs of a command are right and no call has failed, it is done, unless memory runs out. Of `join` its links have a say too.
+    // Where the inputs of a command are right and no call has failed, it is done, unless memory runs out. Of `join` its links have a say too:
+    // none, where they went on, refused nothing but a snapshot, and were answered by one legal log with honest bases.
     ensures complete { IsComplete (files_tell F.held F.asked F.faults F.wants) (output_tells W.written W.faults W.wants)
         (net_tells N.coming N.over N.asked N.faults N.lent N.link_counts)
+        (links_tell N.Conn.coming N.Conn.heard N.Conn.sent N.Conn.counts)
         (command_of words.now) (outside files.old out.old net None) (outside files.new out.new result.0 None) result.1 }
     // One verdict comes of a command and of the bytes that it reads, but for want of memory and for the place of a syntax fault.
     ensures function { IsFunction }
@@ -142,6 +152,7 @@ pub fn croquet<
 {
     one_verdict();
     one_run();
+    ends_are_caused();
     views_replay();
     views_of_one_session::<C, N::Conn>(clock);
     some_verdict();

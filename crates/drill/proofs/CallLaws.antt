@@ -9,22 +9,22 @@ use Rattle.session_lock.specs.Passes.{PassState, SharedState}
 use Rattle.connection.specs.Exchanges.{Exchange, exchanges_in}
 use Rattle.drill.specs.declared.trust.TrustReplay.{TrustReplay}
 use Rattle.drill.specs.Turns.{HasPulled, HasRead}
-use Rattle.drill.specs.ViewCalls.{AfterEvent, AfterPulls, AfterReading, AfterTurns, Progress, Pulls, Then, Ticks, has_tick}
+use Rattle.drill.specs.ViewCalls.{AfterEvent, AfterPulls, AfterReading, AfterTurns, Progress, AsksPull, FollowedBy, AsksTick, has_tick}
 use Rattle.drill.specs.Workers.{HasAsked}
 
 -- what is so of the calls before stays so
-then_from : (P Q : List Exchange → Type 0) (Last : Request → Reply → Type 0) → ((calls : List Exchange) → P calls → Q calls) → (calls : List Exchange) → Then P Last calls → Then Q Last calls
+then_from : (P Q : List Exchange → Type 0) (Last : Request → Reply → Type 0) → ((calls : List Exchange) → P calls → Q calls) → (calls : List Exchange) → FollowedBy P Last calls → FollowedBy Q Last calls
 then_from P Q Last so calls after = (after.0, after.1, after.2, after.3, so after.0 after.4, after.5)
 
 module _ (P Q : Progress) (so : (cursor : Cursor) (calls : List Exchange) → P cursor calls → Q cursor calls) where
   pulls_from : (count : ℕ) (cursor : Cursor) (calls : List Exchange) → AfterPulls count P cursor calls → AfterPulls count Q cursor calls
-  pulls_from zero cursor calls after = then_from (P cursor) (Q cursor) Ticks (so cursor) calls after
+  pulls_from zero cursor calls after = then_from (P cursor) (Q cursor) AsksTick (so cursor) calls after
   pulls_from (suc count) cursor calls after =
-      (after.0, then_from (AfterPulls count P after.0) (AfterPulls count Q after.0) (Pulls after.0 cursor false) (pulls_from count after.0) calls after.1)
+      (after.0, then_from (AfterPulls count P after.0) (AfterPulls count Q after.0) (AsksPull after.0 cursor false) (pulls_from count after.0) calls after.1)
 
   reading_from : (cursor : Cursor) (calls : List Exchange) → AfterReading P cursor calls → AfterReading Q cursor calls
   reading_from cursor calls after =
-      (after.0, after.1, then_from (AfterPulls after.0 P after.1) (AfterPulls after.0 Q after.1) (Pulls after.1 cursor true) (pulls_from after.0 after.1) calls after.2)
+      (after.0, after.1, then_from (AfterPulls after.0 P after.1) (AfterPulls after.0 Q after.1) (AsksPull after.1 cursor true) (pulls_from after.0 after.1) calls after.2)
 
 -- ---- a turn
 
@@ -59,9 +59,9 @@ PullsSince view before after old new count = AfterPulls count (λ cursor calls. 
 
 module _ (view count : ℕ) (before mid after : PassState) (old cursor next : Cursor) (since : PullsSince view before mid old cursor count) where
   one_pull : (last : Bool) → HasPulled view mid after cursor next last
-      → Then (AfterPulls count (λ at calls. (at ≡ old) × (calls ≡ exchanges_in before.seen view)) cursor) (Pulls cursor next last) (exchanges_in after.seen view)
+      → FollowedBy (AfterPulls count (λ at calls. (at ≡ old) × (calls ≡ exchanges_in before.seen view)) cursor) (AsksPull cursor next last) (exchanges_in after.seen view)
   one_pull last pulled =
-      then_from (λ calls. calls ≡ exchanges_in mid.seen view) (AfterPulls count (λ at calls. (at ≡ old) × (calls ≡ exchanges_in before.seen view)) cursor) (Pulls cursor next last)
+      then_from (λ calls. calls ≡ exchanges_in mid.seen view) (AfterPulls count (λ at calls. (at ≡ old) × (calls ≡ exchanges_in before.seen view)) cursor) (AsksPull cursor next last)
       (λ calls is. subst (AfterPulls count (λ at calls. (at ≡ old) × (calls ≡ exchanges_in before.seen view)) cursor) (sym is) since) (exchanges_in after.seen view) pulled
 
   pub pulls_on : HasPulled view mid after cursor next false → PullsSince view before after old next (count + 1)

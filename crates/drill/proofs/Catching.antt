@@ -8,9 +8,7 @@ use Rattle.tea_base.proofs.LogLaws.{TimesRise-legal}
 use Rattle.wire_frames.specs.declared.frame.ServerFrame.TheVariants.{Recv, Tick}
 use Rattle.wire_frames.proofs.Times.{all_until, count_until-at, count_until-cons, early_as_last, later_than_counted}
 use Rattle.reflector_core.specs.PlainSession.{PlainSession, IsSoundSession}
-use Rattle.model_tree.specs.Tree.{ProgramTree}
-use Rattle.model_tree.specs.Program.{IsProgram}
-use Rattle.model_tree.specs.TreeView.{program_tree}
+use Rattle.model_solved.specs.Founding.{Founding, founding_of, IsFounding}
 use Rattle.world.specs.Worlds.{replay}
 use Rattle.replica_plain.specs.Worlds.{Worlds, AreWorlds, replay_world}
 use Rattle.replica_plain.specs.PlainReplica.{PlainReplica}
@@ -87,7 +85,7 @@ pub record TakesHorizon (s : PlainSession) (r : ReplicaView) : Type 0 where
   pub replays : HasReplay s (with_plain r (taken (worlds_of r) r.plain (Tick s.horizon)).replica)
 
 pub takes_horizon
-    : (s : PlainSession) (r : ReplicaView) → AreWorlds (worlds_of r) → (replay (program_tree r.program) r.id s.log s.horizon).world ≡ replay_world (worlds_of r) s.log s.horizon
+    : (s : PlainSession) (r : ReplicaView) → AreWorlds (worlds_of r) → (replay (founding_of r.program) r.id s.log s.horizon).world ≡ replay_world (worlds_of r) s.log s.horizon
     → IsSoundSession s → Catches s r → r.plain.seen ≡ length s.log → TakesHorizon s r
 takes_horizon s r laws same sound catches all =
     let m = worlds_of r in
@@ -119,10 +117,10 @@ pub record AtPlace (s : PlainSession) (entries : List Entry) (place : ℕ) (r : 
   pub sound : IsSoundSession s
 
 abbrev pub WorldsStand : Type 0
-WorldsStand = (program : ProgramTree) (id : List ℕ) → IsProgram program → AreWorlds (worlds program id)
+WorldsStand = (founding : Founding) (id : List ℕ) → IsFounding founding → AreWorlds (worlds founding id)
 
 abbrev pub ReplaysFold : Type 0
-ReplaysFold = (program : ProgramTree) (id : List ℕ) (log : List Entry) (t : ℕ) → (replay program id log t).world ≡ replay_world (worlds program id) log t
+ReplaysFold = (founding : Founding) (id : List ℕ) (log : List Entry) (t : ℕ) → (replay founding id log t).world ≡ replay_world (worlds founding id) log t
 
 entry_at_place : (s : PlainSession) (entries : List Entry) (place : ℕ) (r : ReplicaView) (entry : Entry) → AtPlace s entries place r → slice_get entries place ≡ Some entry → slice_get s.log r.plain.seen ≡ Some entry
 entry_at_place s entries place r entry at is = subst (λ (log : List Entry). slice_get log r.plain.seen ≡ Some entry) at.whole (subst (λ (k : ℕ). slice_get entries k ≡ Some entry) at.placed is)
@@ -138,7 +136,7 @@ timely_entry s entries place r entry at is =
 
 pub takes_at : (s : PlainSession) (entries : List Entry) (place : ℕ) (r : ReplicaView) (entry : Entry) → WorldsStand → AtPlace s entries place r → slice_get entries place ≡ Some entry → TakesEntry s r entry
 takes_at s entries place r entry stand at is =
-    takes_entry s r entry (stand (program_tree r.program) r.id at.catches.program) at.sound at.catches (entry_at_place s entries place r entry at is) (early_entry s entries place r entry at is)
+    takes_entry s r entry (stand (founding_of r.program) r.id at.catches.program) at.sound at.catches (entry_at_place s entries place r entry at is) (early_entry s entries place r entry at is)
 
 pub at_next
     : (s : PlainSession) (entries : List Entry) (place : ℕ) (r new : ReplicaView) (entry : Entry) → WorldsStand → AtPlace s entries place r → slice_get entries place ≡ Some entry
@@ -155,7 +153,7 @@ has_replay s r new takes same = subst (HasReplay s) (sym same.is) takes.replays
 takes_behind
     : (s : PlainSession) (entries : List Entry) (place : ℕ) (r : ReplicaView) → WorldsStand → ReplaysFold → AtPlace s entries place r → place ≡ length entries → TakesHorizon s r
 takes_behind s entries place r stand same at all =
-    takes_horizon s r (stand (program_tree r.program) r.id at.catches.program) (same (program_tree r.program) r.id s.log s.horizon) at.sound at.catches (sym at.placed ∙ all ∙ ap (λ (log : List Entry). length log) at.whole)
+    takes_horizon s r (stand (founding_of r.program) r.id at.catches.program) (same (founding_of r.program) r.id s.log s.horizon) at.sound at.catches (sym at.placed ∙ all ∙ ap (λ (log : List Entry). length log) at.whole)
 
 few_seen : (s : PlainSession) (entries : List Entry) (place : ℕ) (r : ReplicaView) → AtPlace s entries place r → place ≤ length entries
 few_seen s entries place r at =

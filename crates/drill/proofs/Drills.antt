@@ -23,7 +23,7 @@ use Rattle.drill.specs.declared.size.Size.{Size}
 use Rattle.drill.specs.Drilled.{Drilled, IsCutShort, IsOfDrill, done_by, own}
 use Rattle.drill.specs.Asking.{IsAskedBy, IsAskedInDrill}
 use Rattle.drill.specs.Doing.{HasFinished}
-use Rattle.drill.specs.Drill.{PlaysDrill}
+use Rattle.drill.specs.Drill.{HasDrillEntries, PlaysDrill}
 
 -- what is so of the session as it was, and of the one with one more entry, is so after a Join, a Leave and a Pull
 join_along : (P : PlainSession → Type 0) (s : PlainSession) (view now : ℕ) (want : Want) → P s → P (append_entry s (stamp s.horizon now) view what.Join) → P (join s view now want).session
@@ -34,13 +34,6 @@ leave_along P s view joined now same more = grind arith
 
 pull_along : (P : PlainSession → Type 0) (s : PlainSession) (after limit : ℕ) → P s → P (pull s after limit).session
 pull_along P s after limit same = grind arith
-
--- each entry is of a view of the drill, and the horizon is not far beyond a value of the clock
-pub record HasDrillEntries (gives : ℕ → Type 0) (views : ℕ) (s : PlainSession) : Type 0 where
-  pub named : All (λ (entry : Entry). IsOfDrill views entry.view) s.log
-  pub given : ℕ
-  pub is_given : (given ≡ 0) ⊎ gives given
-  pub bounded : s.horizon ≤ given + length s.log
 
 first_within : (gives : ℕ → Type 0) (views : ℕ) → HasDrillEntries gives views first_session
 first_within gives views = record { named = All-nil (λ (entry : Entry). IsOfDrill views entry.view); given = 0; is_given = inl refl; bounded = omega arith }

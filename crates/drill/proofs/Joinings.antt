@@ -20,8 +20,7 @@ use Rattle.join_sync.specs.declared.cursor.Cursor.{Cursor}
 use Rattle.join_sync.specs.Answers.{first_cursor}
 use Rattle.connection.specs.Exchanges.{exchanges_in}
 use Rattle.connection.proofs.Callers.{exchanges_none}
-use Rattle.model_tree.specs.Program.{IsProgram}
-use Rattle.model_tree.specs.TreeView.{program_tree}
+use Rattle.model_solved.specs.Founding.{founding_of, IsFounding}
 use Rattle.replica_plain.specs.declared.how.How.{How}
 use Rattle.replica_plain.specs.declared.how.How.TheVariants.{Fresh}
 use Rattle.replica_plain.specs.Calls.{join_want}
@@ -34,7 +33,7 @@ use Rattle.drill.specs.Doing.{HasDone, HasFinished, IsHereBy}
 use Rattle.drill.specs.Drilled.{drawn_numbers, entries_by, own, own_turns, sources_per_seed}
 use Rattle.drill.specs.Sizes.{IsOfSize}
 use Rattle.drill.specs.Turns.{IsAtTurn, Ends, HasEnded, HasJoined, IsWorkerReady}
-use Rattle.drill.specs.ViewCalls.{AfterTurns, AreCallsOf, Joins, Then}
+use Rattle.drill.specs.ViewCalls.{AfterTurns, AreCallsOf, AsksJoin, FollowedBy}
 use Rattle.drill.specs.Workers.{IsFirst, IsWorker, KeepsSource}
 use Rattle.drill.proofs.Grown.{HasCalled, has_called}
 use Rattle.drill.proofs.Histories.{apart, nothing_done}
@@ -86,7 +85,7 @@ module _ (gives : ℕ → Type 0) (size : Size) (shared : SharedState TrustRepla
       exchanges_none first_session w.view w.pass.seen (subst (λ (callers : List ℕ). calls_of callers w.pass.seen ≡ []) first.worker.callers first.calls)
 
   -- it has made one call
-  asks_first : (opened : Option Cursor) → HasJoined gives size.views shared w new Fresh opened → Then (λ calls. calls ≡ []) (Joins w.view 0 opened) (exchanges_in new.pass.seen w.view)
+  asks_first : (opened : Option Cursor) → HasJoined gives size.views shared w new Fresh opened → FollowedBy (λ calls. calls ≡ []) (AsksJoin w.view 0 opened) (exchanges_in new.pass.seen w.view)
   asks_first opened has =
       (exchanges_in w.pass.seen w.view, Join w.view has.now want.Fresh, has.reply, has.asked.exchanged, no_calls, (has.now, want.Fresh, inl (omega arith, refl), refl, has.opened))
 
@@ -167,7 +166,7 @@ module _ (gives : ℕ → Type 0) (size : Size) (shared : SharedState TrustRepla
       (record {
         finished = subst (λ (view : ℕ). HasFinished s view (own size.seed view size.events)) (sym view_kept) (inr (ended.0, inl (ap (map (λ (entry : Entry). entry.what)) none)));
         counted = record {
-          program = subst (λ classes. IsProgram (program_tree classes)) (sym worker.program) worker.tree;
+          program = subst (λ classes. IsFounding (founding_of classes)) (sym worker.program) worker.tree;
           least = omega (arith, acknowledged);
           most = omega (arith, number);
         };

@@ -23,8 +23,7 @@ use Rattle.join_sync.specs.declared.cursor.Cursor.{Cursor}
 use Rattle.join_sync.specs.Answers.{first_cursor}
 use Rattle.join_sync.specs.Standing as at
 use Rattle.join_sync.proofs.Openings.{joined_stands}
-use Rattle.model_tree.specs.Program.{IsProgram}
-use Rattle.model_tree.specs.TreeView.{program_tree}
+use Rattle.model_solved.specs.Founding.{founding_of, IsFounding}
 use Rattle.world.specs.Worlds.{replay}
 use Rattle.session_lock.specs.Passes.{SharedState}
 use Rattle.replica_plain.specs.declared.how.How.{How}
@@ -96,15 +95,15 @@ joins_with s view now want seq time last from base sound is = subst (SaysOfJoin 
 -- ---- what is kept is honest
 
 module _ (shared : SharedState TrustReplay) (r : ReplicaView) (laws : AreWorlds (worlds_of r)) (program : r.program ≡ arc_value shared.trust.program) (id : r.id ≡ shared.id.0) where
-  allows_here : (s : PlainSession) (time : ℕ) (bytes : List ℕ) → AllowsReplay (program_tree (arc_value shared.trust.program)) shared.id.0 s.log s.horizon time bytes → AllowsReplay (program_tree r.program) r.id s.log s.horizon time bytes
+  allows_here : (s : PlainSession) (time : ℕ) (bytes : List ℕ) → AllowsReplay (founding_of (arc_value shared.trust.program)) shared.id.0 s.log s.horizon time bytes → AllowsReplay (founding_of r.program) r.id s.log s.horizon time bytes
   allows_here s time bytes allows = rw (program, id) allows
 
 -- the bytes of a replay are an honest base
 honest_replay
-    : (r : ReplicaView) (s : PlainSession) (base : Base) → AreWorlds (worlds_of r) → (replay (program_tree r.program) r.id s.log base.time).world ≡ replay_world (worlds_of r) s.log base.time
-    → AllowsReplay (program_tree r.program) r.id s.log s.horizon base.time base.bytes → IsHonest (worlds_of r) s.log base.time base.bytes
+    : (r : ReplicaView) (s : PlainSession) (base : Base) → AreWorlds (worlds_of r) → (replay (founding_of r.program) r.id s.log base.time).world ≡ replay_world (worlds_of r) s.log base.time
+    → AllowsReplay (founding_of r.program) r.id s.log s.horizon base.time base.bytes → IsHonest (worlds_of r) s.log base.time base.bytes
 honest_replay r s base laws same allows =
-    let w = (replay (program_tree r.program) r.id s.log base.time).world in
+    let w = (replay (founding_of r.program) r.id s.log base.time).world in
     let stays : (worlds_of r).advance w w.time ≡ w = laws.at_rest_stays w (laws.unsnap_valid base.bytes w allows.replays) allows.rests in
     record {
       world = w;
@@ -115,15 +114,15 @@ honest_replay r s base laws same allows =
 
 honest_if
     : (shared : SharedState TrustReplay) (r : ReplicaView) (s : PlainSession) (base : Option Base) → r.program ≡ arc_value shared.trust.program → r.id ≡ shared.id.0 → AreWorlds (worlds_of r)
-    → ((t : ℕ) → (replay (program_tree r.program) r.id s.log t).world ≡ replay_world (worlds_of r) s.log t)
-    → IfSome base (λ base. AllowsReplay (program_tree (arc_value shared.trust.program)) shared.id.0 s.log s.horizon base.time base.bytes) → IsHonestBase (worlds_of r) s.log base
+    → ((t : ℕ) → (replay (founding_of r.program) r.id s.log t).world ≡ replay_world (worlds_of r) s.log t)
+    → IfSome base (λ base. AllowsReplay (founding_of (arc_value shared.trust.program)) shared.id.0 s.log s.horizon base.time base.bytes) → IsHonestBase (worlds_of r) s.log base
 honest_if shared r s None program id laws same trusted = tt
 honest_if shared r s (Some base) program id laws same trusted = honest_replay r s base laws (same base.time) (allows_here shared r laws program id s base.time base.bytes trusted)
 
 -- what a Join is given is honest
 pub honest_base
     : (shared : SharedState TrustReplay) (r : ReplicaView) (s : PlainSession) (base : Option Base) → r.program ≡ arc_value shared.trust.program → r.id ≡ shared.id.0 → AreWorlds (worlds_of r)
-    → ((t : ℕ) → (replay (program_tree r.program) r.id s.log t).world ≡ replay_world (worlds_of r) s.log t)
+    → ((t : ℕ) → (replay (founding_of r.program) r.id s.log t).world ≡ replay_world (worlds_of r) s.log t)
     → IsTrustedReplay shared s → (base ≡ s.kept) ⊎ (base ≡ None) → IsHonestBase (worlds_of r) s.log base
 honest_base shared r s base program id laws same trusted (inl kept) = subst (IsHonestBase (worlds_of r) s.log) (sym kept) (honest_if shared r s s.kept program id laws same trusted)
 honest_base shared r s base program id laws same trusted (inr none) = subst (IsHonestBase (worlds_of r) s.log) (sym none) tt
@@ -195,7 +194,7 @@ module _ (s : PlainSession) (r : ReplicaView) (how : How) (view now seq time las
       (begins_later s after_join (join_want (worlds_of r) r.plain how) time from base grows within said.here said.begins))
       counted.0 counted.1 (base_grows (worlds_of r) s after_join base grows within honest) (may_join s after_join r how grows may)
 
-  pub joined_works : IsProgram (program_tree r.program) → ReplicaWorks after_join (after_frame (with_plain r (joining r.plain how)) (Sync seq last from base)) cursor
+  pub joined_works : IsFounding (founding_of r.program) → ReplicaWorks after_join (after_frame (with_plain r (joining r.plain how)) (Sync seq last from base)) cursor
   joined_works program =
       let stands = began.stands in
       let same : cursor ≡ record { view = view; joined = seq; after = from; last_tick = 0 } = cc first in

@@ -16,9 +16,7 @@ use Rattle.reflector_core.specs.declared.request.Reply.{Reply}
 use Rattle.reflector_core.specs.declared.request.Reply.TheVariants.{Again, Batch, Joined, Kept, Left, Refused, Stamped, Ticked}
 use Rattle.join_sync.specs.declared.cursor.Cursor.{Cursor}
 use Rattle.join_sync.specs.Answers.{IsJoinReply, IsReplyTo, first_cursor, join_answer}
-use Rattle.model_tree.specs.Program.{IsProgram}
-use Rattle.model_tree.specs.Tree.{ProgramTree}
-use Rattle.model_tree.specs.TreeView.{program_tree}
+use Rattle.model_solved.specs.Founding.{Founding, founding_of, IsFounding}
 use Rattle.world.specs.Worlds.{replay}
 use Rattle.session_lock.specs.History.{play}
 use Rattle.session_lock.specs.Passes.{PassState, SharedState}
@@ -43,10 +41,10 @@ use Rattle.drill.proofs.SyncsTaken.{sync_leaves}
 
 -- what the worlds of each program are
 abbrev pub AllStand : Type 0
-AllStand = (program : ProgramTree) (id : List ℕ) → IsProgram program → AreWorlds (worlds program id)
+AllStand = (founding : Founding) (id : List ℕ) → IsFounding founding → AreWorlds (worlds founding id)
 
 abbrev pub AllReplay : Type 0
-AllReplay = (program : ProgramTree) (id : List ℕ) (log : List Entry) (t : ℕ) → (replay program id log t).world ≡ replay_world (worlds program id) log t
+AllReplay = (founding : Founding) (id : List ℕ) (log : List Entry) (t : ℕ) → (replay founding id log t).world ≡ replay_world (worlds founding id) log t
 
 -- the session may have grown since
 may_join_later : (s new : PlainSession) (r : ReplicaView) (how : How) → Grows s new → MayJoinBy s r how → MayJoinBy new r how
@@ -76,11 +74,11 @@ module _ (stands : AllStand) (replays : AllReplay) (gives : ℕ → Type 0) (siz
   abbrev wanted : Want
   wanted = join_want (worlds_of w.replica) w.replica.plain how
 
-  tree : IsProgram (program_tree w.replica.program)
+  tree : IsFounding (founding_of w.replica.program)
   tree = rw worker.program worker.tree
 
   laws : AreWorlds (worlds_of w.replica)
-  laws = stands (program_tree w.replica.program) w.replica.id tree
+  laws = stands (founding_of w.replica.program) w.replica.id tree
 
   synced
       : (seq time last from : ℕ) (base : Option Base) (cursor : Cursor) (asked : HasAsked gives size.views shared w.view w.pass after_ask (request.Join w.view now wanted) (Joined seq time last from base))
@@ -92,7 +90,7 @@ module _ (stands : AllStand) (replays : AllReplay) (gives : ℕ → Type 0) (siz
       let r = w.replica in
       let is = sym asked.replies in
       let said = joins_with s w.view now wanted seq time last from base asked.sound is in
-      let honest = honest_base shared r s base worker.program worker.id laws (replays (program_tree r.program) r.id s.log) asked.trusted said.based in
+      let honest = honest_base shared r s base worker.program worker.id laws (replays (founding_of r.program) r.id s.log) asked.trusted said.based in
       let may_then = may_join_later (play w.pass.seen) s r how (Grows-legal (play w.pass.seen) s asked.on.grows asked.sound.legal) may in
       let left = sync_leaves (worlds_of r) r.plain how seq time last from base fine.none in
       record {

@@ -2,11 +2,11 @@
 use Rattle.std.proofs.Common.{◌≡◌, ℕ, zero, suc, ◌+◌, ◌*◌, ◌-◌, ◌≤◌, ◌<◌, Bool, true, false, leb, List, [], ◌∷◌, ◌++◌, if◌then◌else◌, length, refl, sym, ap, ◌∙◌, subst, arith}
 use Rattle.std.specs.List.{AllByRecursion}
 use Rattle.std.specs.Arc.{arc_value}
+use Rattle.saved_value.specs.Saving.{CanBeSaved}
 use Rattle.std.proofs.lemmas.Bool.{le-leb}
 use Rattle.std.proofs.lemmas.List.{map-append}
 use Rattle.std.specs.Str.{chars}
-use Rattle.model_tree.specs.declared.tree.Class.{Class}
-use Rattle.model_tree.specs.TreeView.{program_tree}
+use Rattle.model_solved.specs.Founding.{CheckedView, founding_of}
 use Rattle.reflector_core.specs.Play.{first_session}
 use Rattle.reflector_core.proofs.SoundLaws.{IsSoundSession-first}
 use Rattle.session_lock.specs.declared.knowledge.Item.{Item}
@@ -103,6 +103,9 @@ module _ (gives : ℕ → Type 0) (size : Size) (prepared : DrillSession) (made 
       ∙ ap (λ (p : PassState). first_of_ranges (take_numbers 1 p.spare) ∷ []) is.kept
       ∙ ap (λ (n : ℕ). n ∷ []) (first_spare prepared.shared made (omega (arith, is.next, is.fits.views)) ∙ sym is.view)
 
+  is_drill : IsDrillProgram (founding_of (arc_value prepared.shared.trust.program))
+  is_drill = subst (λ (p : CheckedView). IsDrillProgram (founding_of p)) (sym is.prepares.trusts) is.prepares.tree
+
   is_worker : IsWorker gives size prepared.shared w
   is_worker = record {
     session = ap (λ (p : PassState). p.session) is.pass.same ∙ ap (λ (p : PassState). p.session) is.kept;
@@ -115,7 +118,10 @@ module _ (gives : ℕ → Type 0) (size : Size) (prepared : DrillSession) (made 
     program = ap (λ (r : ReplicaView). r.program) is.replica ∙ sym is.prepares.trusts;
     id = ap (λ (r : ReplicaView). r.id) is.replica ∙ ap (λ i. i.0) (sym is.prepares.same_id);
     view = ap (λ (r : ReplicaView). r.plain.view) is.replica ∙ sym is.view;
-    tree = (drill_text, subst (λ (p : List Class). IsDrillProgram (program_tree p)) (sym is.prepares.trusts) is.prepares.tree);
+    tree = record {
+      program = (drill_text, is_drill.0);
+      persisted = subst CanBeSaved (sym is_drill.1) ((omega arith, omega arith), refl);
+    };
   }
 
   pub is_first : IsFirst gives size prepared.shared w

@@ -12,7 +12,7 @@ use Rattle.reflector_core.specs.declared.request.Reply.{Reply}
 use Rattle.session_lock.specs.History.{IsSoundThrough}
 use Rattle.session_lock.specs.Passes.{PassState, Replied, SharedState}
 use Rattle.join_sync.specs.declared.cursor.Cursor.{Cursor}
-use Rattle.model_tree.specs.TreeView.{program_tree}
+use Rattle.model_solved.specs.Founding.{founding_of}
 use Rattle.world.specs.Worlds.{replay}
 use Rattle.replica.specs.RealWorlds.{is_at_rest}
 use Rattle.replica.specs.View.{ReplicaView, worlds_of}
@@ -28,8 +28,8 @@ use Rattle.drill.proofs.Asks.{has_asked}
 -- the snapshot of a replica that follows the log, and is at rest, is that of the replay to its time
 pub may_offer
     : (shared : SharedState TrustReplay) (s : PlainSession) (r : ReplicaView) (cursor : Cursor) (time : ℕ) (bytes : List ℕ) → r.program ≡ arc_value shared.trust.program → r.id ≡ shared.id.0
-    → ReplicaWorks s r cursor → r.plain.world ≡ (replay (program_tree r.program) r.id s.log r.plain.world.time).world → is_at_rest r.plain.world ≡ true → (worlds_of r).unsnap bytes ≡ Some r.plain.world
-    → time ≡ r.plain.world.time → AllowsReplay (program_tree (arc_value shared.trust.program)) shared.id.0 s.log s.horizon time bytes
+    → ReplicaWorks s r cursor → r.plain.world ≡ (replay (founding_of r.program) r.id s.log r.plain.world.time).world → is_at_rest r.plain.world ≡ true → (worlds_of r).unsnap bytes ≡ Some r.plain.world
+    → time ≡ r.plain.world.time → AllowsReplay (founding_of (arc_value shared.trust.program)) shared.id.0 s.log s.horizon time bytes
 may_offer shared s r cursor time bytes program id works same rests read is =
     rw (sym program, sym id, is)
     (record {

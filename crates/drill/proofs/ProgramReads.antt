@@ -15,7 +15,8 @@ use Rattle.model_check.specs.Answer.{IsFirstFault}
 use Rattle.model_solved.specs.Faults.{first_of, faults_of_program}
 use Rattle.model_solved.specs.declared.fault.CheckFault.{CheckFault}
 use Rattle.model_solved.specs.declared.fault.CheckFault.TheVariants.{WantOfMemory}
-use Rattle.drill.specs.Program.{drill_text, IsDrillProgram}
+use Rattle.model_tree.specs.Program.{IsRead}
+use Rattle.drill.specs.Program.{drill_text}
 
 abbrev with_tokens : List Token → Option (List Token) → Option (List Token)
 with_tokens ts None = None
@@ -87,7 +88,7 @@ no_excess : first_excess drill_tree ≡ None
 unfolding is_utf8 chars read_operator_line lib.Utf8.encode
 no_excess = refl
 
-pub drill_reads : IsDrillProgram drill_tree
+pub drill_reads : IsRead drill_text drill_tree
 drill_reads = record {
   bytes = omega arith;
   tokens = drill_tokens;

@@ -14,8 +14,7 @@ use Rattle.session_lock.specs.Passes.{SharedState, own_calls}
 use Rattle.join_sync.specs.declared.cursor.Cursor.{Cursor}
 use Rattle.join_sync.specs.Answers.{first_cursor}
 use Rattle.connection.specs.Exchanges.{exchanges_in}
-use Rattle.model_tree.specs.Program.{IsProgram}
-use Rattle.model_tree.specs.TreeView.{program_tree}
+use Rattle.model_solved.specs.Founding.{founding_of, IsFounding}
 use Rattle.replica_plain.specs.declared.how.How.{How}
 use Rattle.replica_plain.specs.declared.how.How.TheVariants.{Fresh, Whole, Resume}
 use Rattle.replica_plain.specs.Calls.{join_want}
@@ -28,7 +27,7 @@ use Rattle.drill.specs.Doing.{HasBase, HasDone, IsHereBy, KeepsFrom, WasSentBy, 
 use Rattle.drill.specs.Drilled.{own}
 use Rattle.drill.specs.Sizes.{IsOfSize}
 use Rattle.drill.specs.Turns.{HasJoined, HasStopped, IsBack, IsLost, KeepsForJoin, MayJoinBy, Returns, LeavesUndone, base_after, base_time, calls_made, left_behind}
-use Rattle.drill.specs.ViewCalls.{AfterDrop, AfterRefusal, AfterTurns, Joins, Then}
+use Rattle.drill.specs.ViewCalls.{AfterDrop, AfterRefusal, AfterTurns, AsksJoin, FollowedBy}
 use Rattle.drill.specs.Workers.{IsWorker, KeepsSource}
 use Rattle.drill.proofs.Grown.{HasCalled, base_later, by_horizon, by_later, has_called, sent_later}
 use Rattle.drill.proofs.Histories.{done_same, here_same}
@@ -106,10 +105,10 @@ module _ (gives : ℕ → Type 0) (size : Size) (shared : SharedState TrustRepla
 
   -- it is its next call
   asks_again : (opened : Option Cursor) → HasJoined gives size.views shared w new how opened
-      → Then (AfterDrop new.view number payload (AfterTurns new.view (number - 1)) cursor) (Joins new.view number opened) (calls_made new)
+      → FollowedBy (AfterDrop new.view number payload (AfterTurns new.view (number - 1)) cursor) (AsksJoin new.view number opened) (calls_made new)
   asks_again opened has =
       let want = join_want (worlds_of w.replica) w.replica.plain how in
-      subst (λ (view : ℕ). Then (AfterDrop view number payload (AfterTurns view (number - 1)) cursor) (Joins view number opened) (exchanges_in new.pass.seen view)) (sym view_kept)
+      subst (λ (view : ℕ). FollowedBy (AfterDrop view number payload (AfterTurns view (number - 1)) cursor) (AsksJoin view number opened) (exchanges_in new.pass.seen view)) (sym view_kept)
       (calls_made w, Join w.view has.now want, has.reply, has.asked.exchanged, lost.calls, (has.now, want, lost.wants, refl, has.opened))
 
   -- its Sync is taken
@@ -184,7 +183,7 @@ module _ (gives : ℕ → Type 0) (size : Size) (shared : SharedState TrustRepla
         here = subst (λ (view : ℕ). IsHereBy s.log view cursor.joined) (sym view_kept) (here_same before.log s.log w.view cursor.joined same loses.here);
         ended = ended.0;
         counted = record {
-          program = subst (λ classes. IsProgram (program_tree classes)) (sym worker.program) worker.tree;
+          program = subst (λ classes. IsFounding (founding_of classes)) (sym worker.program) worker.tree;
           least = omega (arith, acknowledged, counted, lost.waiting.acknowledged);
           most = omega (arith, acknowledged, counted, outbox, lost.waiting.acknowledged);
         };

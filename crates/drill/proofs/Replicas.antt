@@ -3,9 +3,7 @@ use Rattle.std.proofs.Common.{◌≡◌, ℕ, zero, suc, ◌+◌, ◌≤◌, ◌
 use Rattle.std.specs.List.{AllByRecursion, AllZip}
 use Rattle.std.proofs.lemmas.List.Elements.{All-from_recursion}
 use Rattle.tea_base.specs.Limits.{end_of_time}
-use Rattle.model_tree.specs.declared.tree.Class.{Class}
-use Rattle.model_tree.specs.Tree.{ProgramTree}
-use Rattle.model_tree.specs.TreeView.{program_tree}
+use Rattle.model_solved.specs.Founding.{CheckedView, Founding, founding_of}
 use Rattle.world.specs.Worlds.{replay}
 use Rattle.std.specs.Arc.{arc_value}
 use Rattle.reflector_core.specs.PlainSession.{PlainSession}
@@ -41,19 +39,19 @@ module _ (gives : ℕ → Type 0) (size : Size) (shared : SharedState TrustRepla
   }
 
   is_replay : (one : Finished) (r : ReplicaView) (view : ℕ) → one.worker.view ≡ view → HasLeft gives size shared s one → ComesToEnd s (rested_of one) r
-      → IsReplayOf s (program_tree (arc_value shared.trust.program)) shared.id.0 view r
+      → IsReplayOf s (founding_of (arc_value shared.trust.program)) shared.id.0 view r
   is_replay one r view is left comes =
       let told = is_reported one r left comes in record {
         of_view = comes.kept.view ∙ left.ended.worker.view ∙ is;
-        program = ap program_tree told.same_program;
+        program = ap founding_of told.same_program;
         session = told.same_id;
         whole = comes.replays.whole;
         synced = comes.replays.synced;
         seen = comes.replays.seen;
         world =
             comes.replays.world
-            ∙ ap (λ (p : List Class). (replay (program_tree p) r.id s.log s.horizon).world) told.same_program
-            ∙ ap (λ (i : List ℕ). (replay (program_tree (arc_value shared.trust.program)) i s.log s.horizon).world) told.same_id;
+            ∙ ap (λ (p : CheckedView). (replay (founding_of p) r.id s.log s.horizon).world) told.same_program
+            ∙ ap (λ (i : List ℕ). (replay (founding_of (arc_value shared.trust.program)) i s.log s.horizon).world) told.same_id;
       }
 
   -- below the end of time it has taken the Sync of its newest Join
@@ -76,7 +74,7 @@ module _ (gives : ℕ → Type 0) (size : Size) (shared : SharedState TrustRepla
   reported_all (one ∷ rest) (r ∷ rs) left come = (is_reported one r left.0 come.0, reported_all rest rs left.1 come.1)
 
   are_replays : (ended : List Finished) (replicas : List ReplicaView) (first count : ℕ) → views_of ended ≡ numbers_from first count → AllByRecursion (HasLeft gives size shared s) ended
-      → AllZip (ComesToEnd s) (map rested_of ended) replicas → AreReplays s (program_tree (arc_value shared.trust.program)) shared.id.0 first replicas
+      → AllZip (ComesToEnd s) (map rested_of ended) replicas → AreReplays s (founding_of (arc_value shared.trust.program)) shared.id.0 first replicas
   are_replays [] [] first count views left come = tt
   are_replays [] (r ∷ rs) first count views left come = absurd come
   are_replays (one ∷ rest) [] first count views left come = tt
@@ -120,10 +118,10 @@ module _ (gives : ℕ → Type 0) (size : Size) (shared : SharedState TrustRepla
     pub all_reported : All (reports.IsAtEnd s (arc_value shared.trust.program) shared.id.0) replicas
     all_reported = All-from_recursion (reports.IsAtEnd s (arc_value shared.trust.program) shared.id.0) replicas (reported_all gives size shared s ended replicas left come)
 
-    module _ (program : List Class) (id : List ℕ) (session : SessionState) (report : DrillReport) (closes : s ≡ session.plain) (same_program : arc_value shared.trust.program ≡ program)
-        (same_id : shared.id.0 ≡ id) (is_program : IsDrillProgram (program_tree program)) (is_id : id ≡ drill_id) (told : Reports session program id replicas report) where
-      abbrev tree : ProgramTree
-      tree = program_tree (arc_value shared.trust.program)
+    module _ (program : CheckedView) (id : List ℕ) (session : SessionState) (report : DrillReport) (closes : s ≡ session.plain) (same_program : arc_value shared.trust.program ≡ program)
+        (same_id : shared.id.0 ≡ id) (is_program : IsDrillProgram (founding_of program)) (is_id : id ≡ drill_id) (told : Reports session program id replicas report) where
+      abbrev founding : Founding
+      founding = founding_of (arc_value shared.trust.program)
 
       as_told : s ≡ report.session.plain
       as_told = closes ∙ ap (λ (t : SessionState). t.plain) (sym told.same_session)
@@ -131,11 +129,11 @@ module _ (gives : ℕ → Type 0) (size : Size) (shared : SharedState TrustRepla
       pub has_drilled : HasDrilled gives size report
       has_drilled =
           let count = as_many gives size shared s ended replicas 1 size.views closed.views come in
-          let replays : AreReplays s tree drill_id 1 replicas =
-          subst (λ (i : List ℕ). AreReplays s tree i 1 replicas) (same_id ∙ is_id) (are_replays gives size shared s ended replicas 1 size.views closed.views left come) in
+          let replays : AreReplays s founding drill_id 1 replicas =
+          subst (λ (i : List ℕ). AreReplays s founding i 1 replicas) (same_id ∙ is_id) (are_replays gives size shared s ended replicas 1 size.views closed.views left come) in
           record {
-            tree = tree;
-            is_program = subst (λ (p : List Class). IsDrillProgram (program_tree p)) (sym same_program) is_program;
+            founding = founding;
+            is_program = subst (λ (p : CheckedView). IsDrillProgram (founding_of p)) (sym same_program) is_program;
             session = record {
               history = keeper.seen;
               play = sym as_told ∙ closed.plays;
@@ -145,14 +143,14 @@ module _ (gives : ℕ → Type 0) (size : Size) (shared : SharedState TrustRepla
             };
             drilled = subst (λ (t : PlainSession). Drilled size.seed size.views size.events t.log t.horizon) as_told (all_drilled gives size shared ended keeper s closed);
             replicas =
-                subst (λ (rs : List ReplicaView). AreReplays report.session.plain tree drill_id 1 rs) (sym told.same_replicas)
-                (subst (λ (t : PlainSession). AreReplays t tree drill_id 1 replicas) as_told replays);
+                subst (λ (rs : List ReplicaView). AreReplays report.session.plain founding drill_id 1 rs) (sym told.same_replicas)
+                (subst (λ (t : PlainSession). AreReplays t founding drill_id 1 replicas) as_told replays);
             number = ap length told.same_replicas ∙ count;
             total =
                 told.total
-                ∙ ap (λ (t : PlainSession). root_total (replay (program_tree program) id t.log t.horizon).world) (sym closes ∙ as_told)
-                ∙ ap (λ (i : List ℕ). root_total (replay (program_tree program) i report.session.plain.log report.session.plain.horizon).world) is_id
-                ∙ ap (λ (p : List Class). root_total (replay (program_tree p) drill_id report.session.plain.log report.session.plain.horizon).world) (sym same_program);
+                ∙ ap (λ (t : PlainSession). root_total (replay (founding_of program) id t.log t.horizon).world) (sym closes ∙ as_told)
+                ∙ ap (λ (i : List ℕ). root_total (replay (founding_of program) i report.session.plain.log report.session.plain.horizon).world) is_id
+                ∙ ap (λ (p : CheckedView). root_total (replay (founding_of p) drill_id report.session.plain.log report.session.plain.horizon).world) (sym same_program);
             agree = told.agree ∙ count;
             based = λ enough below.
                 subst (λ (rs : List ReplicaView). AreBased report.session.plain size.events 1 rs) (sym told.same_replicas)

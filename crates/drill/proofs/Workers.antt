@@ -21,8 +21,7 @@ use Rattle.join_sync.proofs.Pulls.{batch_streams, batch_stands}
 use Rattle.replica_plain.specs.Worlds.{AreWorlds}
 use Rattle.replica_plain.specs.Taking.{taken, IsTimely}
 use Rattle.replica_plain.specs.Following.{IsReadFrame}
-use Rattle.model_tree.specs.Program.{IsProgram}
-use Rattle.model_tree.specs.TreeView.{program_tree}
+use Rattle.model_solved.specs.Founding.{founding_of, IsFounding}
 use Rattle.replica_plain.proofs.FrameSteps.{StandsAt, behind_frame, tick_rests}
 use Rattle.replica.specs.RealWorlds.{is_at_rest}
 use Rattle.replica.specs.View.{ReplicaView, with_plain, worlds_of}
@@ -71,7 +70,7 @@ timely_frame s place Alive sound news comes = absurd news
 
 -- the replica does not come past the horizon
 within_frame
-    : (s : PlainSession) (place : Place) (r : ReplicaView) (frame : ServerFrame) → IsProgram (program_tree r.program) → AreWorlds (worlds_of r) → IsSoundSession s → IsNews s frame → ComesAt s.log place frame
+    : (s : PlainSession) (place : Place) (r : ReplicaView) (frame : ServerFrame) → IsFounding (founding_of r.program) → AreWorlds (worlds_of r) → IsSoundSession s → IsNews s frame → ComesAt s.log place frame
     → StandsAt (worlds_of r) s.log place r.plain → r.plain.world.time ≤ s.horizon → IsFine r frame → (after_frame r frame).plain.world.time ≤ s.horizon
 within_frame s place r (Sync joined last from base) program laws sound news comes stands within fine = absurd news
 within_frame s place r (Recv entry) program laws sound news comes stands within fine =
@@ -104,7 +103,7 @@ pub record TakesNews (s : PlainSession) (place : Place) (r : ReplicaView) (frame
 
 -- what comes of the log is taken
 pub takes_news
-    : (s : PlainSession) (place : Place) (r : ReplicaView) (frames : List ServerFrame) → IsProgram (program_tree r.program) → AreWorlds (worlds_of r) → IsSoundSession s → AreNews s frames → Streams s.log place frames
+    : (s : PlainSession) (place : Place) (r : ReplicaView) (frames : List ServerFrame) → IsFounding (founding_of r.program) → AreWorlds (worlds_of r) → IsSoundSession s → AreNews s frames → Streams s.log place frames
     → StandsAt (worlds_of r) s.log place r.plain → r.plain.world.time ≤ s.horizon → TakesNews s place r frames
 takes_news s place r [] program laws sound news streams stands within = record { fine = tt; stands = stands; within = within; kept = refl; same = same_first r.plain }
 takes_news s place r (frame ∷ rest) program laws sound news streams stands within =

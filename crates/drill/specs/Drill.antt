@@ -1,11 +1,11 @@
 -- What a drill has come to.
-use Rattle.std.specs.Prelude.{◌≡◌, ◌≤◌, ◌<◌, ℕ, ◌+◌, true, false, List, [], ◌∷◌, ◌++◌, length}
+use Rattle.std.specs.Prelude.{◌≡◌, ◌⊎◌, ◌≤◌, ◌<◌, ℕ, ◌+◌, true, false, List, [], ◌∷◌, ◌++◌, All, length}
+use Rattle.tea_base.specs.declared.entry.Entry.{Entry}
 use Rattle.std.specs.List.{AllByRecursion}
 use Rattle.byte_fields.specs.Fields.{text_field}
 use Rattle.sha2.specs.Sha256.{sha256}
 use Rattle.tea_base.specs.Limits.{end_of_time}
-use Rattle.model_tree.specs.Tree.{ProgramTree}
-use Rattle.model_tree.specs.TreeView.{program_tree}
+use Rattle.model_solved.specs.Founding.{Founding, founding_of}
 use Rattle.reflector_core.specs.PlainSession.{PlainSession}
 use Rattle.reflector_core.specs.Play.{first_session}
 use Rattle.session_lock.specs.History.{IsSoundThrough, play}
@@ -27,19 +27,19 @@ abbrev pub drill_id : List ℕ
 drill_id = sha256 (text_field drill_name ++ drill_text)
 
 -- the replica of a view, which has taken its Sync and all entries, and whose world is the replay of the log to the horizon
-pub record IsReplayOf (s : PlainSession) (tree : ProgramTree) (id : List ℕ) (view : ℕ) (r : ReplicaView) : Type 0 where
+pub record IsReplayOf (s : PlainSession) (founding : Founding) (id : List ℕ) (view : ℕ) (r : ReplicaView) : Type 0 where
   pub of_view : r.plain.view ≡ view
-  pub program : program_tree r.program ≡ tree
+  pub program : founding_of r.program ≡ founding
   pub session : r.id ≡ id
   pub whole : r.plain.broken ≡ false
   pub synced : r.plain.synced ≡ true
   pub seen : r.plain.seen ≡ length s.log
-  pub world : r.plain.world ≡ (replay tree id s.log s.horizon).world
+  pub world : r.plain.world ≡ (replay founding id s.log s.horizon).world
 
 -- the replicas are those of this view and the next ones, in order
-abbrev pub AreReplays : PlainSession → ProgramTree → List ℕ → ℕ → List ReplicaView → Type 0
-AreReplays s tree id view [] = Unit {0}
-AreReplays s tree id view (r ∷ replicas) = IsReplayOf s tree id view r × AreReplays s tree id (view + 1) replicas
+abbrev pub AreReplays : PlainSession → Founding → List ℕ → ℕ → List ReplicaView → Type 0
+AreReplays s founding id view [] = Unit {0}
+AreReplays s founding id view (r ∷ replicas) = IsReplayOf s founding id view r × AreReplays s founding id (view + 1) replicas
 
 -- each was made from a base at the last event at which it was lost
 abbrev pub AreBased : PlainSession → ℕ → ℕ → List ReplicaView → Type 0
@@ -55,13 +55,20 @@ pub record PlaysDrill (gives : ℕ → Type 0) (size : Size) (s : PlainSession) 
   pub asked : AllByRecursion (IsAskedInDrill gives size.views) history
   pub calls : (view : ℕ) → IsOfDrill size.views view → AreCallsOf view size.events (exchanges_in history view)
 
+-- each entry is of a view of the drill, and the horizon is at most the length of the log beyond 0 or a value of the clock
+pub record HasDrillEntries (gives : ℕ → Type 0) (views : ℕ) (s : PlainSession) : Type 0 where
+  pub named : All (λ (entry : Entry). IsOfDrill views entry.view) s.log
+  pub given : ℕ
+  pub is_given : (given ≡ 0) ⊎ gives given
+  pub bounded : s.horizon ≤ given + length s.log
+
 pub record HasDrilled (gives : ℕ → Type 0) (size : Size) (report : DrillReport) : Type 0 where
-  pub tree : ProgramTree
-  pub is_program : IsDrillProgram tree
+  pub founding : Founding
+  pub is_program : IsDrillProgram founding
   pub session : PlaysDrill gives size report.session.plain
   pub drilled : Drilled size.seed size.views size.events report.session.plain.log report.session.plain.horizon
-  pub replicas : AreReplays report.session.plain tree drill_id 1 report.replicas
+  pub replicas : AreReplays report.session.plain founding drill_id 1 report.replicas
   pub number : length report.replicas ≡ size.views
-  pub total : report.total ≡ root_total (replay tree drill_id report.session.plain.log report.session.plain.horizon).world
+  pub total : report.total ≡ root_total (replay founding drill_id report.session.plain.log report.session.plain.horizon).world
   pub agree : report.agree ≡ size.views
   pub based : loss_interval ≤ size.events → report.session.plain.horizon < end_of_time → AreBased report.session.plain size.events 1 report.replicas

@@ -2,7 +2,7 @@
 use Rattle.std.specs.Prelude.{IfOk, Result, Vec, ◌≡◌, ℕ, zero, suc, ◌+◌, ◌-◌, true, List, [], ◌∷◌, map}
 use Rattle.std.specs.List.{All, AllByRecursion}
 use Rattle.std.specs.Arc.{arc_value}
-use Rattle.model_tree.specs.TreeView.{program_tree}
+use Rattle.model_solved.specs.Founding.{founding_of}
 use Rattle.session_lock.specs.History.{Saw, calls_of}
 use Rattle.session_lock.specs.Passes.{PassState, SharedState, first_pass, numbers_held}
 use Rattle.reflector_core.specs.PlainSession.{PlainSession}
@@ -20,7 +20,7 @@ use Rattle.drill.specs.Turns.{HasEnded, MayCatchUp}
 
 -- The session trusts the replay of the one program of drills, under the one id.
 pub record IsDrillSession (prepared : DrillSession) : Type 0 where
-  pub tree : IsDrillProgram (program_tree (arc_value prepared.program))
+  pub tree : IsDrillProgram (founding_of (arc_value prepared.program))
   pub trusts : arc_value prepared.shared.trust.program ≡ arc_value prepared.program
   pub same_id : prepared.shared.id ≡ prepared.id
   pub spelled : prepared.id.0 ≡ drill_id

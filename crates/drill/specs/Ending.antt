@@ -2,8 +2,7 @@
 use Rattle.std.specs.Prelude.{◌≡◌, ◌≤◌, ℤ, pos, true, false, List, [], ◌∷◌, length}
 use Rattle.tea_base.specs.Readings.{last_number}
 use Rattle.reflector_core.specs.PlainSession.{PlainSession}
-use Rattle.model_tree.specs.Program.{IsProgram}
-use Rattle.model_tree.specs.TreeView.{program_tree}
+use Rattle.model_solved.specs.Founding.{founding_of, IsFounding}
 use Rattle.model_value.specs.Plain.{PlainValue, int}
 use Rattle.world_plain.specs.World.{ObjectRecord, WorldRecord}
 use Rattle.world.specs.Worlds.{replay}
@@ -13,7 +12,7 @@ use Rattle.replica.specs.View.{ReplicaView, worlds_of}
 
 -- it follows the log, has taken its Sync, and has not come past the horizon
 pub record Catches (s : PlainSession) (r : ReplicaView) : Type 0 where
-  pub program : IsProgram (program_tree r.program)
+  pub program : IsFounding (founding_of r.program)
   pub follows : FollowsLog (worlds_of r) s.log r.plain
   pub synced : r.plain.synced ≡ true
   pub within : r.plain.world.time ≤ s.horizon
@@ -23,11 +22,11 @@ pub record HasReplay (s : PlainSession) (r : ReplicaView) : Type 0 where
   pub whole : r.plain.broken ≡ false
   pub synced : r.plain.synced ≡ true
   pub seen : r.plain.seen ≡ length s.log
-  pub world : r.plain.world ≡ (replay (program_tree r.program) r.id s.log s.horizon).world
+  pub world : r.plain.world ≡ (replay (founding_of r.program) r.id s.log s.horizon).world
 
 -- the log has at least the events of its view that were acknowledged, and no more than it published
 pub record IsCountedBy (s : PlainSession) (r : ReplicaView) : Type 0 where
-  pub program : IsProgram (program_tree r.program)
+  pub program : IsFounding (founding_of r.program)
   pub least : r.plain.acknowledged ≤ last_number s.log r.plain.view
   pub most : last_number s.log r.plain.view ≤ published_count r.plain
 

@@ -3,6 +3,7 @@ use Rattle.std.proofs.Common.{if◌then◌else◌, ℕ, ◌≡◌, ◌≤◌, Bo
 use Rattle.std.proofs.lemmas.Bool.Decides.{nat_tests}
 use Rattle.tea_base.specs.declared.entry.Entry.{Entry}
 use Rattle.model_tree.specs.Tree.{ProgramTree}
+use Rattle.model_solved.specs.Founding.{Founding}
 use Rattle.world.specs.Worlds.{Scene, external, first_scene, replay, replay_from}
 use Rattle.reflector_core.specs.PlainSession.{PlainSession}
 use Rattle.reflector_core.specs.Answer.{answer}
@@ -29,10 +30,10 @@ replay_past program t bound (entry ∷ log) rest s later le = replay_past progra
 
 -- what is allowed stays so when the session goes on
 pub allows_grown
-    : (program : ProgramTree) (id : List ℕ) (s new : PlainSession) (time : ℕ) (bytes : List ℕ) → GrowsTo s new → AllowsReplay program id s.log s.horizon time bytes → AllowsReplay program id new.log new.horizon time bytes
-allows_grown program id s new time bytes grows allows =
-    let scenes : replay program id new.log time ≡ replay program id s.log time = rw grows.log (replay_past program time s.horizon s.log grows.rest (first_scene program id) grows.later allows.within) in
-    let same : (replay program id new.log time).world ≡ (replay program id s.log time).world = ap (λ (scene : Scene). scene.world) scenes in
+    : (founding : Founding) (id : List ℕ) (s new : PlainSession) (time : ℕ) (bytes : List ℕ) → GrowsTo s new → AllowsReplay founding id s.log s.horizon time bytes → AllowsReplay founding id new.log new.horizon time bytes
+allows_grown founding id s new time bytes grows allows =
+    let scenes : replay founding id new.log time ≡ replay founding id s.log time = rw grows.log (replay_past founding.tree time s.horizon s.log grows.rest (first_scene founding id) grows.later allows.within) in
+    let same : (replay founding id new.log time).world ≡ (replay founding id s.log time).world = ap (λ (scene : Scene). scene.world) scenes in
     record {
       within = omega (arith, allows.within, grows.horizon);
       replays = allows.replays ∙ ap (λ (w : WorldRecord). Some w) (sym same);
@@ -41,6 +42,6 @@ allows_grown program id s new time bytes grows allows =
     }
 
 pub allows_stays
-    : (program : ProgramTree) (id : List ℕ) (s : PlainSession) (request : Request) (time : ℕ) (bytes : List ℕ) → AllowsReplay program id s.log s.horizon time bytes
-    → AllowsReplay program id (answer s request).session.log (answer s request).session.horizon time bytes
-allows_stays program id s request time bytes allows = allows_grown program id s (answer s request).session time bytes (GrowsTo-answer s request) allows
+    : (founding : Founding) (id : List ℕ) (s : PlainSession) (request : Request) (time : ℕ) (bytes : List ℕ) → AllowsReplay founding id s.log s.horizon time bytes
+    → AllowsReplay founding id (answer s request).session.log (answer s request).session.horizon time bytes
+allows_stays founding id s request time bytes allows = allows_grown founding id s (answer s request).session time bytes (GrowsTo-answer s request) allows

@@ -33,7 +33,7 @@ use Rattle.drill.specs.Asking.{IsDrillHistory, entries_used_by, most_asked, most
 use Rattle.drill.specs.Doing.{HasBase, HasDone, HasFinished, HasSent, IsHereBy, KeepsFrom, WasSentBy, loss_interval}
 use Rattle.drill.specs.Drilled.{add_payload, drawn_numbers, joins_behind, own, own_turns}
 use Rattle.drill.specs.Ending.{Catches, IsCountedBy}
-use Rattle.drill.specs.ViewCalls.{AfterDrop, AfterEvent, AfterReading, AfterRefusal, AfterRejoin, AfterSend, AfterTurns, AreCallsOf, IsWanted, Pulls, Then, done_of}
+use Rattle.drill.specs.ViewCalls.{AfterDrop, AfterEvent, AfterReading, AfterRefusal, AfterRejoin, AfterSend, AfterTurns, AreCallsOf, IsWanted, AsksPull, FollowedBy, done_of}
 use Rattle.drill.specs.Workers.{HasAsked, HasPassed, IsWorker}
 use Rattle.drill.specs.Working.{IsCaughtUp, ReplicaWorks}
 
@@ -123,7 +123,7 @@ pub record HasTakenMore (gives : ℕ → Type 0) (views : ℕ) (before after : W
 
 -- its pass has made one call, the Pull of the next batch
 abbrev pub HasPulled : ℕ → PassState → PassState → Cursor → Cursor → Bool → Type 0
-HasPulled view before after old new last = Then (λ calls. calls ≡ exchanges_in before.seen view) (Pulls old new last) (exchanges_in after.seen view)
+HasPulled view before after old new last = FollowedBy (λ calls. calls ≡ exchanges_in before.seen view) (AsksPull old new last) (exchanges_in after.seen view)
 
 -- its pass has made a Tick, and Pulls up to the end of the log
 abbrev pub HasRead : ℕ → PassState → PassState → Cursor → Cursor → Type 0

@@ -2,8 +2,7 @@
 use Rattle.std.specs.Prelude.{◌≡◌, ◌+◌, ◌*◌, ◌-◌, ℕ, List, [], ◌∷◌, ◌++◌}
 use Rattle.std.specs.List.{AllByRecursion}
 use Rattle.std.specs.Arc.{arc_value}
-use Rattle.model_tree.specs.Program.{IsProgram}
-use Rattle.model_tree.specs.TreeView.{program_tree}
+use Rattle.model_solved.specs.Founding.{founding_of, IsFounding}
 use Rattle.reflector_core.specs.PlainSession.{PlainSession, IsSoundSession}
 use Rattle.reflector_core.specs.Answer.{answer}
 use Rattle.reflector_core.specs.Growth.{GrowsTo}
@@ -26,7 +25,7 @@ use Rattle.drill.specs.Trust.{AllowsReplay}
 
 -- what the drill's session keeps is the snapshot of a replay
 abbrev pub IsTrustedReplay : SharedState TrustReplay → PlainSession → Type 0
-IsTrustedReplay shared s = IsTrusted (λ trust id log horizon time bytes. AllowsReplay (program_tree (arc_value trust.program)) id.0 log horizon time bytes) shared.trust shared.id s
+IsTrustedReplay shared s = IsTrusted (λ trust id log horizon time bytes. AllowsReplay (founding_of (arc_value trust.program)) id.0 log horizon time bytes) shared.trust shared.id s
 
 -- Its pass is one of the drill's session, and calls by the view's number, as the view may. Its replica is the view's.
 pub record IsWorker (gives : ℕ → Type 0) (size : Size) (shared : SharedState TrustReplay) (w : Worker) : Type 0 where
@@ -40,7 +39,7 @@ pub record IsWorker (gives : ℕ → Type 0) (size : Size) (shared : SharedState
   pub program : w.replica.program ≡ arc_value shared.trust.program
   pub id : w.replica.id ≡ shared.id.0
   pub view : w.replica.plain.view ≡ w.view
-  pub tree : IsProgram (program_tree (arc_value shared.trust.program))
+  pub tree : IsFounding (founding_of (arc_value shared.trust.program))
 
 -- From one history to a longer one the session has grown, and what it keeps has not grown older. If the longer one is of the drill, so is
 -- the other, and the view has done nothing between.

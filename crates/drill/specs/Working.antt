@@ -5,8 +5,7 @@ use Rattle.reflector_core.specs.PlainSession.{PlainSession}
 use Rattle.wire_frames.specs.Served.{Place}
 use Rattle.join_sync.specs.declared.cursor.Cursor.{Cursor}
 use Rattle.join_sync.specs.Standing.{StandsAt}
-use Rattle.model_tree.specs.Program.{IsProgram}
-use Rattle.model_tree.specs.TreeView.{program_tree}
+use Rattle.model_solved.specs.Founding.{founding_of, IsFounding}
 use Rattle.replica_plain.specs.Following.{FollowsLog}
 use Rattle.replica.specs.RealWorlds.{is_at_rest}
 use Rattle.replica.specs.View.{ReplicaView, worlds_of}
@@ -20,7 +19,7 @@ pub record IsCaughtUp (s : PlainSession) (r : ReplicaView) : Type 0 where
 -- The replica follows the log, and has taken all that its connection was sent, up to one place of the log. Unless it is caught up, a tick
 -- of the horizon is still to be sent.
 pub record ReplicaWorks (s : PlainSession) (r : ReplicaView) (cursor : Cursor) : Type 0 where
-  pub program : IsProgram (program_tree r.program)
+  pub program : IsFounding (founding_of r.program)
   pub follows : FollowsLog (worlds_of r) s.log r.plain
   pub synced : r.plain.synced ≡ true
   pub within : r.plain.world.time ≤ s.horizon

@@ -18,6 +18,7 @@ use crate::size::Size;
 use crate::trust::TrustReplay;
 use crate::worker::{Hall, Worker};
 use model_solved::{Checked, checked_crosses_threads};
+use model_value::Value;
 use reflector_core::Session;
 use replica::{Replica, replica_crosses_threads};
 use seeded_random::Source64;
@@ -138,7 +139,7 @@ fn prepare(alloc: Global) -> Result<(DrillSession, Pass), WantOfMemory>
     let trust = TrustReplay {
         program: program.clone()?,
     };
-    let id = session_id(&name, PROGRAM);
+    let id = session_id(&name, PROGRAM, &Value::Nil);
     let Ok((shared, keeper)) = SharedSession::new(alloc, id, Session::new(alloc), trust) else {
         return Err(WantOfMemory);
     };

@@ -1,7 +1,7 @@
 //! How a drill ends: each replica comes to the end of the closed log.
 ghost use Rattle.std.specs.Prelude.{◌≡◌, ◌<◌, ◌≤◌, Some, IfOk, OnOk, length, slice_get, count_by, bytes_eq};
 ghost use Rattle.std.specs.List.{All, AllZip};
-ghost use Rattle.model_tree.specs.TreeView.{program_tree};
+ghost use Rattle.model_solved.specs.Founding.{checked_tree, founding_of};
 ghost use Rattle.world_plain.specs.World.{WorldRecord, world_record};
 ghost use Rattle.replica.specs.RealWorlds.{worlds};
 ghost use Rattle.run_steps.specs.Limits.{most_drill_views};
@@ -113,8 +113,8 @@ fn total_of(
     id: &SessionId,
     snapshot: &Blob,
 ) -> Result<i64, WantOfMemory>
-    requires { IsWorldSnapshot (program_tree program.now) id.now.0 snapshot.now }
-    ensures { IfOk result (λ total. (w : WorldRecord) → (worlds (program_tree program.now) id.now.0).unsnap snapshot.now ≡ Some w → total ≡ root_total w) }
+    requires { IsWorldSnapshot (checked_tree program.now) id.now.0 snapshot.now }
+    ensures { IfOk result (λ total. (w : WorldRecord) → (worlds (founding_of program.now) id.now.0).unsnap snapshot.now ≡ Some w → total ≡ root_total w) }
 {
     match unsnap(alloc, program, id, snapshot.bytes()) {
         Ok(world) => Ok(total_in(&world)),

@@ -6,6 +6,7 @@ mod calls;
 mod drilling;
 mod ending;
 mod finished;
+mod laws;
 mod program;
 mod report;
 mod size;
@@ -15,6 +16,7 @@ mod turns;
 mod worker;
 
 pub use drilling::drill;
+pub use laws::drills_are_sound;
 pub use report::{DrillReport, Replicas};
 pub use size::Size;
 pub use trust::TrustReplay;

@@ -1,6 +1,6 @@
 //! The program of the drill.
 ghost use Rattle.std.specs.Prelude.{IfOk};
-ghost use Rattle.model_tree.specs.TreeView.{program_tree};
+ghost use Rattle.model_solved.specs.Founding.{founding_of};
 ghost use Rattle.drill.specs.Program.{IsDrillProgram};
 
 use model_check::check;
@@ -18,7 +18,7 @@ pub const PROGRAM: &[u8] =
 
 /// The program, checked. Fails for want of memory alone.
 pub fn drill_program(alloc: Global) -> Result<Checked, WantOfMemory>
-    ensures { IfOk result (λ checked. IsDrillProgram (program_tree checked)) }
+    ensures { IfOk result (λ checked. IsDrillProgram (founding_of checked)) }
 {
     one_tree();
     one_reading();

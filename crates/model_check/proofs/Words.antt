@@ -47,6 +47,7 @@ plain_word builtin.Publish = refl
 plain_word builtin.Subscribe = refl
 plain_word builtin.Unsubscribe = refl
 plain_word builtin.Cancel = refl
+plain_word builtin.Persist = refl
 plain_word builtin.Length = refl
 plain_word builtin.At = refl
 plain_word builtin.Put = refl

@@ -1,10 +1,12 @@
 -- What a check answers, beside the faults.
 use Rattle.std.specs.Prelude.{◌≡◌, ◌≢◌, List, Some, None, Result, Ok, Err}
+use Rattle.model_value.specs.Plain.{nil}
 use Rattle.model_tree.specs.declared.tree.Class.{Class}
 use Rattle.model_tree.specs.TreeView.{program_tree}
 use Rattle.model_solved.specs.declared.fault.CheckFault.{CheckFault}
 use Rattle.model_solved.specs.declared.fault.CheckFault.TheVariants.{WantOfMemory}
 use Rattle.model_solved.specs.Faults.{first_of, faults_of_program}
+use Rattle.model_solved.specs.Founding.{CheckedView}
 
 -- it is the first of these faults, unless memory ran out
 abbrev pub IsFirstFault : CheckFault → List CheckFault → Type 0
@@ -15,6 +17,6 @@ abbrev pub Solves : {A : Type 0} → Result A CheckFault → List CheckFault →
 Solves (Ok a) faults wanted = (first_of faults ≡ None) × wanted a
 Solves (Err fault) faults wanted = IsFirstFault fault faults
 
--- the program itself, or its first fault
-abbrev pub Checks : Result (List Class) CheckFault → List Class → Type 0
-Checks result program = Solves result (faults_of_program (program_tree program)) (λ checked. checked ≡ program)
+-- the program itself, with nil as its persisted value, or its first fault
+abbrev pub Checks : Result CheckedView CheckFault → List Class → Type 0
+Checks result program = Solves result (faults_of_program (program_tree program)) (λ checked. checked ≡ record { classes = program; persisted = nil })

@@ -8,7 +8,7 @@ ghost use Rattle.model_check.specs.Solving.{builtin_of};
 use model_solved::{Builtin, CheckFault};
 use tea_base::Text;
 
-const BUILTINS: [Builtin; 22] = [
+const BUILTINS: [Builtin; 23] = [
     Builtin::Now,
     Builtin::Random,
     Builtin::ViewCount,
@@ -22,6 +22,7 @@ const BUILTINS: [Builtin; 22] = [
     Builtin::Subscribe,
     Builtin::Unsubscribe,
     Builtin::Cancel,
+    Builtin::Persist,
     Builtin::Length,
     Builtin::At,
     Builtin::Put,
@@ -91,6 +92,7 @@ fn word(builtin: Builtin) -> &'static str
         Builtin::Subscribe => "subscribe",
         Builtin::Unsubscribe => "unsubscribe",
         Builtin::Cancel => "cancel",
+        Builtin::Persist => "persist",
         Builtin::Length => "length",
         Builtin::At => "at",
         Builtin::Put => "put",
@@ -114,6 +116,7 @@ fn arguments(builtin: Builtin) -> usize
         | Builtin::Exists
         | Builtin::Destroy
         | Builtin::Cancel
+        | Builtin::Persist
         | Builtin::Length
         | Builtin::Text
         | Builtin::Number => 1,

@@ -8,7 +8,7 @@ use Rattle.world_plain.specs.Valid.{Valid, most_turns}
 use Rattle.world_plain.specs.declared.message.Subscription.{Subscription}
 use Rattle.world_plain.specs.declared.world.Known.{Known}
 use Rattle.world_state.specs.declared.fault.Fault.TheVariants.{Fuel, Size}
-use Rattle.world_state.specs.Running.{Running, Outcome, Gives, Faults, and_then, spend_step, spend, give_in_bounds, give_by_weight, PureOutcome, value, fails, give_pure, decide}
+use Rattle.world_state.specs.Running.{Running, with_world, Outcome, Gives, Faults, and_then, spend_step, spend, give_in_bounds, give_by_weight, PureOutcome, value, fails, give_pure, decide}
 use Rattle.model_eval.specs.Kept.{count_due, now_due, Kept, CarriesIf}
 use Rattle.model_eval.proofs.Pending.{if_either}
 use Rattle.model_eval.proofs.ValueBounds.{Replies, fits-true}
@@ -57,6 +57,21 @@ kept-fuel r fuel h =
 
 pub kept-refl : (r : Running) → Kept r r
 kept-refl r = kept-fuel r r.fuel (omega arith)
+
+-- with another saved value
+pub kept-saved : (r : Running) (saved : PlainValue) → Kept r (with_world r (record (r.world) { saved = saved }))
+kept-saved r saved = record {
+  id = refl;
+  time = refl;
+  turns = refl;
+  faults = refl;
+  views = refl;
+  published = ([], sym (append-nil r.published));
+  fuel = omega arith;
+  next_object = omega arith;
+  next_number = omega arith;
+  calm = λ _. omega arith;
+}
 
 -- with more behind what was published
 pub kept-published : (r : Running) (more : List PlainOutgoing) → Kept r (record r { published = r.published ++ more })

@@ -18,23 +18,24 @@ use Rattle.model_solved.specs.declared.builtin.Builtin.TheVariants as builtin
 use Rattle.model_builtin.specs.declared.builtin.Pure.{Pure}
 use Rattle.model_builtin.specs.Builtins.{apply}
 use Rattle.model_builtin.specs.Builtins as without_world
-use Rattle.world_state.specs.declared.fault.Fault.TheVariants.{BadIndex, NoObject, Instant, Full}
+use Rattle.world_state.specs.declared.fault.Fault.TheVariants.{BadKind, BadIndex, NoObject, Instant, Full}
 use Rattle.world_state.specs.Running.{Running, with_world, Outcome, Gives, Faults, give_in_bounds}
-use Rattle.world_state.specs.Objects.{get_named, with_fields, with_objects, if_light, put_fields, new_object, has_room_for, with_object, make_object, without_object, is_held, destroy, known_by, make_known}
+use Rattle.world_state.specs.Objects.{get_named, with_fields, with_objects, if_light, put_fields, new_object, has_room_for, with_object, make_object, without_object, is_held, destroy, known_by, make_known, persist}
 use Rattle.known_names.specs.Names.{with_known}
 use Rattle.model_eval.specs.Futures.{ahead, has_room, with_message, send_message_at, send_to, send}
-use Rattle.model_eval.specs.Builtins.{draw, pure_of, takes_steps, builtin_outcome, pure_outcome, on_none, on_int, on_text, on_texts, on_ref, run_builtin_alone}
+use Rattle.model_eval.specs.Builtins.{draw, pure_of, takes_steps, builtin_outcome, pure_outcome, on_none, on_any, on_int, on_text, on_texts, on_ref, run_builtin_alone}
 use Rattle.model_eval.specs.Publishing.{has_room_to, with_subscription, add_subscription, subscription, subscribe, unsubscribe, messages_without_calls, cancel, count_views, tell_views}
 use Rattle.pubsub.specs.Topics.{is_subscribed, without_subscription}
-use Rattle.world_plain.specs.ValidTest.{same_subscription}
+use Rattle.world_plain.specs.ValidTest.{can_be_saved, same_subscription}
+use Rattle.world_plain.proofs.ValidTests.{saved-Decides}
 use Rattle.message_queue.specs.Queue.{insert_in_order, calls}
 use Rattle.model_eval.specs.Kept.{Kept, CarriesIf}
 use Rattle.model_eval.proofs.FieldBounds.{nil-in_bounds, value_named-in_bounds, object_at-fits}
 use Rattle.model_eval.proofs.Pending.{short-fits, ahead-is, due-later}
 use Rattle.model_eval.proofs.Destroyed.{due-filtered}
-use Rattle.model_eval.proofs.ValidLaws.{valid-fields, valid-message, valid-object, valid-others, valid-known, valid-random, valid-subscription, valid-unsubscribed, valid-cancelled}
+use Rattle.model_eval.proofs.ValidLaws.{valid-fields, valid-message, valid-object, valid-others, valid-known, valid-saved, valid-random, valid-subscription, valid-unsubscribed, valid-cancelled}
 use Rattle.model_eval.proofs.ValueBounds.{PureReplies, bool-in_bounds, int-in_bounds, known_by-in_bounds, applied-in_bounds}
-use Rattle.model_eval.proofs.Carrying.{kept-changed, kept-refl, carries-test, carries-spending, carries-bounded, carries-weighed}
+use Rattle.model_eval.proofs.Carrying.{kept-changed, kept-saved, kept-refl, carries-test, carries-spending, carries-bounded, carries-weighed}
 
 -- what is not refused at an instant at which too many ran is to come
 to_come : (time now turns : ℕ) → (nat_eq time now && nat_eq turns most_turns) ≡ false → now ≤ time → turns ≡ most_turns → now < time
@@ -137,6 +138,14 @@ module _ (counts : List ℕ) (H : Type 0) where
       (λ light h. (valid-known counts x object w (fit h).0 (found-held (object_at w.objects object) held) light (v h), nil-in_bounds)))
       (λ _. (kept-refl r, v))
 
+  persisted-carries : (v : PlainValue) (r : Running) → (H → Valid counts r.world) → CarriesIf H counts InBounds r (persist v r)
+  persisted-carries v r valid =
+      let changed : Running = with_world r (record (r.world) { saved = v }) in
+      carries-test counts H InBounds r (can_be_saved v) (if_light nil r changed) (Faults BadKind r)
+      (λ fits. light-carries InBounds nil r changed valid (kept-saved r v)
+      (λ light h. (valid-saved counts v r.world ((saved-Decides v).0 fits) light (valid h), nil-in_bounds)))
+      (λ _. (kept-refl r, valid))
+
   -- ---- builtins
 
   drawn-carries : (n : ℤ) (r : Running) → (H → Valid counts r.world) → CarriesIf H counts InBounds r (draw n r)
@@ -167,6 +176,11 @@ module _ (counts : List ℕ) (H : Type 0) where
       → (H → Valid counts r.world) → CarriesIf H counts InBounds r (f r) → CarriesIf H counts InBounds r (on_none f args r)
   on_none-carries f [] r v h = h
   on_none-carries f (a ∷ args) r v h = (kept-refl r, v)
+
+  on_any-carries : (f : PlainValue → Running → Outcome PlainValue) (args : List PlainValue) (r : Running)
+      → (H → Valid counts r.world) → ((v : PlainValue) → CarriesIf H counts InBounds r (f v r)) → CarriesIf H counts InBounds r (on_any f args r)
+  on_any-carries f (v ∷ []) r valid h = h v
+  on_any-carries f _ r valid h = (kept-refl r, valid)
 
   on_int-carries : (f : ℤ → Running → Outcome PlainValue) (args : List PlainValue) (r : Running)
       → (H → Valid counts r.world) → ((n : ℤ) → CarriesIf H counts InBounds r (f n r)) → CarriesIf H counts InBounds r (on_int f args r)
@@ -257,4 +271,5 @@ module _ (counts : List ℕ) (H : Type 0) where
       on_texts-carries (unsubscribe object) args r valid fit (λ scope event x _. unsubscribed-carries object scope event x r valid)
   answered_alone-carries builtin.Cancel object args r valid fit =
       on_text-carries (cancel object) args r valid fit (λ x _. cancelled-carries object x r valid)
+  answered_alone-carries builtin.Persist object args r valid fit = on_any-carries persist args r valid (λ v. persisted-carries v r valid)
   answered_alone-carries f object args r valid fit = pure_answered-carries (pure_of f) args r valid

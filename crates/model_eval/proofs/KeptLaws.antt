@@ -1,5 +1,5 @@
 -- What a method keeps of a world, row by row.
-use Rattle.std.proofs.Common.{◌≡◌, ℕ, zero, suc, ◌+◌, ◌-◌, true, false, List, [], ◌∷◌, ◌++◌, length, Option, Some, None, nat_eq, refl, subst, arith, if◌then◌else◌, slice_get, bytes_eq}
+use Rattle.std.proofs.Common.{◌≡◌, Bool, ℕ, zero, suc, ◌+◌, ◌-◌, true, false, List, [], ◌∷◌, ◌++◌, length, Option, Some, None, nat_eq, refl, subst, arith, if◌then◌else◌, slice_get, bytes_eq}
 use Rattle.std.specs.Prelude.{is_some}
 use Rattle.std.proofs.lemmas.List.{length_push}
 use Rattle.model_value.specs.Plain.{PlainValue, nil, bool, text, ref, list, InBounds, AllInBounds}
@@ -20,7 +20,8 @@ use Rattle.model_eval.specs.Operators.{apply_binary, truly, binary_outcome, appl
 use Rattle.world_state.specs.Objects.{with_named, make_object, is_held}
 use Rattle.model_eval.specs.Futures.{send}
 use Rattle.model_eval.specs.Builtins.{on_event, run_builtin, run_if_builtin}
-use Rattle.model_eval.specs.Publishing.{handle, run_handlers, tell_handlers, with_outgoing, publish}
+use Rattle.model_eval.specs.Arguments.{takes_two}
+use Rattle.model_eval.specs.Publishing.{Notice, sender_value, method_on, handler_arguments, handle, run_handlers, tell_handlers, with_outgoing, model_notice, publish}
 use Rattle.pubsub.specs.Topics.{handlers_of}
 use Rattle.pubsub.specs.declared.handler.Handler.{Handler}
 use Rattle.model_solved.specs.declared.builtin.Builtin.{Builtin}
@@ -30,7 +31,7 @@ use Rattle.model_eval.specs.Kept.{Anything, CarriesIf, Carries}
 use Rattle.model_eval.proofs.FieldBounds.{nil-in_bounds, with_named-in_bounds, length-with_named}
 use Rattle.model_eval.proofs.Pending.{if_either}
 use Rattle.model_eval.proofs.Created.{get-mapped}
-use Rattle.model_eval.proofs.ValueBounds.{bool-in_bounds, int-in_bounds, ref-in_bounds, AllInBounds-push, operated-in_bounds, unary_operated-in_bounds, LocalsFit, local_value-in_bounds, with_local-fit, declared-fit, locals_of-fit, FlowFits, behind-fits, value_of-fits}
+use Rattle.model_eval.proofs.ValueBounds.{one_or_both-in_bounds, sender-in_bounds, bool-in_bounds, int-in_bounds, ref-in_bounds, AllInBounds-push, operated-in_bounds, unary_operated-in_bounds, LocalsFit, local_value-in_bounds, with_local-fit, declared-fit, locals_of-fit, FlowFits, behind-fits, value_of-fits}
 use Rattle.model_eval.proofs.Carrying.{kept-refl, kept-published, carries-after, carries-if, carries-more, carries-then, carries-next, carries-test, carries-entering, carries-deciding, carries-replying, carries-bounded, carries-weighed}
 use Rattle.model_eval.proofs.Doing.{got-carries, put-carries, send-carries, made-carries, answered_alone-carries}
 
@@ -105,44 +106,46 @@ module _ (program : ProgramTree) (ev : Evaluate) (start : Start) (keeps : Evalua
       (λ x. (valid x, (fit x, tt))) (begins id init (v ∷ []) r) (λ _ s. (kept-refl s, λ x. (x.1, ref-in_bounds id))))
       (λ _. (kept-refl r, λ x. (valid x, ref-in_bounds id)))
 
-  -- handlers, each of which starts with the value
-  handled_by-carries : (H : Type 0) (v : PlainValue) (h : Handler) (r : Running)
-      → (H → Valid (field_counts program) r.world) → (H → InBounds v) → CarriesIf H (field_counts program) Anything r (handle start v h r)
-  handled_by-carries H v h r valid fit =
+  -- handlers, each of which starts with the value, and with the sender where it wants it
+  handled_by-carries : (H : Type 0) (t : Notice) (h : Handler) (r : Running)
+      → (H → Valid (field_counts program) r.world) → (H → InBounds t.value) → CarriesIf H (field_counts program) Anything r (handle program start t h r)
+  handled_by-carries H t h r valid fit =
       let r1 : Running = record r { fuel = r.fuel - 1 } in
-      carries-test (field_counts program) H Anything r (is_held h.object r.world) (spend_step r (λ s. and_then (start h.object h.method (v ∷ []) s) (λ _. Gives tt))) (Gives tt r)
-      (λ _. carries-entering (field_counts program) H Anything r (λ s. and_then (start h.object h.method (v ∷ []) s) (λ _. Gives tt)) valid
-      (carries-next (field_counts program) H (Valid (field_counts program) r1.world × AllInBounds (v ∷ [])) InBounds Anything r1 (start h.object h.method (v ∷ []) r1) (λ _. Gives tt)
-      (λ x. (valid x, (fit x, tt))) (begins h.object h.method (v ∷ []) r1) (λ _ s. (kept-refl s, λ x. (x.1, tt)))))
+      let args : List PlainValue = handler_arguments program t h r.world in
+      let two : Bool = takes_two (method_on program (object_at r.world.objects h.object) h.method) in
+      carries-test (field_counts program) H Anything r (is_held h.object r.world) (spend_step r (λ s. and_then (start h.object h.method (handler_arguments program t h s.world) s) (λ _. Gives tt))) (Gives tt r)
+      (λ _. carries-entering (field_counts program) H Anything r (λ s. and_then (start h.object h.method (handler_arguments program t h s.world) s) (λ _. Gives tt)) valid
+      (carries-next (field_counts program) H (Valid (field_counts program) r1.world × AllInBounds args) InBounds Anything r1 (start h.object h.method args r1) (λ _. Gives tt)
+      (λ x. (valid x, one_or_both-in_bounds two t.value (sender_value t.sender) (fit x) (sender-in_bounds t.sender))) (begins h.object h.method args r1) (λ _ s. (kept-refl s, λ x. (x.1, tt)))))
       (λ _. (kept-refl r, λ x. (valid x, tt)))
 
-  pub handled-carries : (H : Type 0) (v : PlainValue) (hs : List Handler) (r : Running)
-      → (H → Valid (field_counts program) r.world) → (H → InBounds v) → CarriesIf H (field_counts program) Anything r (run_handlers start v hs r)
-  handled-carries H v [] r valid fit = (kept-refl r, λ x. (valid x, tt))
-  handled-carries H v (h ∷ hs) r valid fit =
-      carries-then (field_counts program) H Anything Anything r (handle start v h r) (λ _. run_handlers start v hs) (handled_by-carries H v h r valid fit)
-      (λ u s. handled-carries (H × Valid (field_counts program) s.world × Anything u) v hs s (λ x. x.1) (λ x. fit x.0))
+  pub handled-carries : (H : Type 0) (t : Notice) (hs : List Handler) (r : Running)
+      → (H → Valid (field_counts program) r.world) → (H → InBounds t.value) → CarriesIf H (field_counts program) Anything r (run_handlers program start t hs r)
+  handled-carries H t [] r valid fit = (kept-refl r, λ x. (valid x, tt))
+  handled-carries H t (h ∷ hs) r valid fit =
+      carries-then (field_counts program) H Anything Anything r (handle program start t h r) (λ _. run_handlers program start t hs) (handled_by-carries H t h r valid fit)
+      (λ u s. handled-carries (H × Valid (field_counts program) s.world × Anything u) t hs s (λ x. x.1) (λ x. fit x.0))
 
   published-carries : (H : Type 0) (scope event : Name) (v : PlainValue) (r : Running)
-      → (H → Valid (field_counts program) r.world) → (H → InBounds v) → CarriesIf H (field_counts program) InBounds r (publish start scope event v r)
+      → (H → Valid (field_counts program) r.world) → (H → InBounds v) → CarriesIf H (field_counts program) InBounds r (publish program start scope event v r)
   published-carries H scope event v r valid fit =
       let s : Running = with_outgoing scope event v r in
-      carries-after (field_counts program) H H InBounds r s (publish start scope event v r) (kept-published r (record { time = r.world.time; scope = scope; event = event; value = v } ∷ [])) (λ x. x)
-      (carries-then (field_counts program) H Anything InBounds s (tell_handlers start scope event v s) (λ _. Gives nil)
-      (handled-carries H v (handlers_of scope event s.world.subscriptions) s valid fit) (λ _ t. (kept-refl t, λ x. (x.1, nil-in_bounds))))
+      carries-after (field_counts program) H H InBounds r s (publish program start scope event v r) (kept-published r (record { time = r.world.time; scope = scope; event = event; value = v } ∷ [])) (λ x. x)
+      (carries-then (field_counts program) H Anything InBounds s (tell_handlers program start scope event (model_notice v) s) (λ _. Gives nil)
+      (handled-carries H (model_notice v) (handlers_of scope event s.world.subscriptions) s valid fit) (λ _ t. (kept-refl t, λ x. (x.1, nil-in_bounds))))
 
   on_event-carries : (H : Type 0) (args : List PlainValue) (r : Running)
-      → (H → Valid (field_counts program) r.world) → (H → AllInBounds args) → CarriesIf H (field_counts program) InBounds r (on_event (publish start) args r)
+      → (H → Valid (field_counts program) r.world) → (H → AllInBounds args) → CarriesIf H (field_counts program) InBounds r (on_event (publish program start) args r)
   on_event-carries H (text scope ∷ text event ∷ v ∷ []) r valid fit = published-carries H scope event v r valid (λ x. (fit x).1.1.0)
   on_event-carries H _ r valid fit = (kept-refl r, valid)
 
   answered-carries : (H : Type 0) (f : Builtin) (object : ℕ) (args : List PlainValue) (r : Running)
-      → (H → Valid (field_counts program) r.world) → (H → AllInBounds args) → CarriesIf H (field_counts program) InBounds r (run_builtin start f object args r)
+      → (H → Valid (field_counts program) r.world) → (H → AllInBounds args) → CarriesIf H (field_counts program) InBounds r (run_builtin program start f object args r)
   answered-carries H builtin_name.Publish object args r valid fit = on_event-carries H args r valid fit
   answered-carries H f object args r valid fit = answered_alone-carries (field_counts program) H f object args r valid fit
 
   answered_by-carries : (H : Type 0) (f : Option Builtin) (object : ℕ) (args : List PlainValue) (r : Running)
-      → (H → Valid (field_counts program) r.world) → (H → AllInBounds args) → CarriesIf H (field_counts program) InBounds r (run_if_builtin start f object args r)
+      → (H → Valid (field_counts program) r.world) → (H → AllInBounds args) → CarriesIf H (field_counts program) InBounds r (run_if_builtin program start f object args r)
   answered_by-carries H None object args r valid fit = (kept-refl r, valid)
   answered_by-carries H (Some f) object args r valid fit = answered-carries H f object args r valid fit
 
@@ -207,7 +210,7 @@ module _ (program : ProgramTree) (ev : Evaluate) (start : Start) (keeps : Evalua
       part-carries (Ready (field_counts program) locals r) here a locals r (λ v. binary_outcome o v (ev here b locals)) (λ x. x) few.0 short.0
       (λ v s. operating-carries (field_counts program) ev keeps _ here o v b locals s (λ x. (x.1, x.0.1)) few.1 short.1)
   expression-carries here (builtin x args) locals r few short =
-      arguments-carry (Ready (field_counts program) locals r) here args locals r (run_if_builtin start (builtin_named x) here.object) (λ y. y) few short.1
+      arguments-carry (Ready (field_counts program) locals r) here args locals r (run_if_builtin program start (builtin_named x) here.object) (λ y. y) few short.1
       (λ vs s. answered_by-carries _ (builtin_named x) here.object vs s (λ y. y.1) (λ y. y.2.0))
   expression-carries here (call object x args) locals r few short =
       part-carries (Ready (field_counts program) locals r) here object locals r _ (λ y. y) few.0 short.0
@@ -373,9 +376,9 @@ starts-kept program room object x args r fit short bounds =
     (λ v. (v, bounds)) (starts-carries program room object x args r fit short)
 
 -- models that are told of an event
-pub told-kept : (program : ProgramTree) (room : ℕ) (scope event : Name) (v : PlainValue) (r : Running)
-    → ClassesFit program → ClassNamesAreShort program → InBounds v → Carries (field_counts program) Anything r (tell_handlers (starts program room) scope event v r)
-told-kept program room scope event v r fit short bounds =
+pub told-kept : (program : ProgramTree) (room : ℕ) (scope event : Name) (t : Notice) (r : Running)
+    → ClassesFit program → ClassNamesAreShort program → InBounds t.value → Carries (field_counts program) Anything r (tell_handlers program (starts program room) scope event t r)
+told-kept program room scope event t r fit short bounds =
     let below = row-kept program room fit short in
     handled-carries program (evaluate program room) (starts program room) below.0 (starting-begins (field_counts program) (execute program room) below.1 program fit short)
-    (Valid (field_counts program) r.world) v (handlers_of scope event r.world.subscriptions) r (λ x. x) (λ _. bounds)
+    (Valid (field_counts program) r.world) t (handlers_of scope event r.world.subscriptions) r (λ x. x) (λ _. bounds)

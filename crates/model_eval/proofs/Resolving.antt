@@ -250,7 +250,7 @@ module _ (program : ProgramTree) (here : Here) (ev : Evaluate) (by_slots : slots
       ap (λ (k : BinaryOp). binary_outcome k v (by_slots here.object q (values_of ls)) r1) (sym h.0)
       ∙ ap (λ (right : Running → Outcome PlainValue). binary_outcome op v right r1) (fun_ext (λ r2. same b q ls r2 h.2)))
   expression_row-stands start (builtin x args) (solved.builtin f ss) ls r h =
-      then_same _ _ _ _ (evaluated-stand args ss ls [] r h.1) (λ vs r1. sym (ap (λ (k : Option Builtin). run_if_builtin start k here.object vs r1) h.0))
+      then_same _ _ _ _ (evaluated-stand args ss ls [] r h.1) (λ vs r1. sym (ap (λ (k : Option Builtin). run_if_builtin program start k here.object vs r1) h.0))
   expression_row-stands start (call object x args) (solved.call o y ss) ls r h =
       then_same _ _ _ _ (same object o ls r h.0) (λ v r1.
       then_same _ _ _ _ (evaluated-stand args ss ls [] r1 h.2) (λ vs r2. ap (λ (z : Name). call_on start v z vs r2) (sym h.1)))

@@ -4,6 +4,7 @@ use Rattle.std.specs.List.{filter}
 use Rattle.std.proofs.lemmas.Bool.{ltb-true, leb-true, and_parts}
 use Rattle.std.proofs.lemmas.List.{length_push, length-replicate}
 use Rattle.model_value.specs.Plain.{PlainValue, nil, AllInBounds, TextFits}
+use Rattle.saved_value.specs.Saving.{CanBeSaved}
 use Rattle.world_plain.specs.Messages.{PlainMessage}
 use Rattle.world_plain.specs.World.{ObjectRecord, WorldRecord, object_weight, message_weight, subscription_weight, known_weight, world_weight, most_world_weight}
 use Rattle.world_plain.specs.Valid.{Valid, ValidClock, ValidViews, ValidObjects, ValidNames, ValidSubscriptions, ValidMessages, RiseFrom, IsHeld, ObjectFits, SubscriptionFits, SubscriptionsFit, MessageFits, MessagesFit, IsUnused, most_objects, most_subscriptions, most_messages}
@@ -30,7 +31,7 @@ use Rattle.world_state.proofs.KnownFits.{KnownFit-with_known}
 
 -- the stores of a valid world, beside another clock, other views and all else, if no message comes too late
 pub valid-beside : (counts : List ℕ) (u w : WorldRecord) → ValidClock u.time u.turns → ValidViews u.views → MessagesFit u.time w.next_number w.objects w.pending
-    → Valid counts w → Valid counts (record u { next_object = w.next_object; next_number = w.next_number; objects = w.objects; known = w.known; subscriptions = w.subscriptions; pending = w.pending })
+    → Valid counts w → Valid counts (record u { next_object = w.next_object; next_number = w.next_number; objects = w.objects; known = w.known; subscriptions = w.subscriptions; pending = w.pending; saved = w.saved })
 valid-beside counts u w clock views fit v =
     record {
       clock = clock;
@@ -44,13 +45,14 @@ valid-beside counts u w clock views fit v =
         fit = fit;
         few = v.messages.few;
       };
+      saved = v.saved;
       weight = v.weight;
     }
 
 -- the clock, the views and the objects of a valid world, with what else speaks of those objects
 pub valid-around : (counts : List ℕ) (u w : WorldRecord) → ValidNames w.objects u.known → ValidSubscriptions w.objects u.subscriptions → ValidMessages w.time u.next_number w.objects u.pending
-    → world_weight (record u { objects = w.objects }) ≤ most_world_weight
-    → Valid counts w → Valid counts (record u { time = w.time; turns = w.turns; views = w.views; next_object = w.next_object; objects = w.objects })
+    → world_weight (record u { objects = w.objects; saved = w.saved }) ≤ most_world_weight
+    → Valid counts w → Valid counts (record u { time = w.time; turns = w.turns; views = w.views; next_object = w.next_object; objects = w.objects; saved = w.saved })
 valid-around counts u w names subscriptions messages light v =
     record {
       clock = v.clock;
@@ -59,6 +61,7 @@ valid-around counts u w names subscriptions messages light v =
       names = names;
       subscriptions = subscriptions;
       messages = messages;
+      saved = v.saved;
       weight = light;
     }
 
@@ -85,6 +88,7 @@ valid-still counts next os w objects held light v =
         fit = MessagesFit-later w.time w.next_number w.next_number w.objects os w.pending (omega arith) held v.messages.fit;
         few = v.messages.few;
       };
+      saved = v.saved;
       weight = light;
     }
 
@@ -189,6 +193,7 @@ valid-others counts id w v =
       };
       subscriptions = fewer-subscriptions w.objects (others id w.objects) s w.subscriptions (SubscriptionsFit-others id w.objects w.subscriptions v.subscriptions.fit) v.subscriptions;
       messages = fewer-messages w.time w.next_number w.objects (others id w.objects) m w.pending (MessagesFit-others w.time w.next_number id w.objects w.pending v.messages.fit) v.messages;
+      saved = v.saved;
       weight = omega (arith, v.weight, total-filtered object_weight o w.objects, total-filtered message_weight m w.pending, total-filtered subscription_weight s w.subscriptions, total-filtered known_weight k w.known);
     }
 
@@ -202,6 +207,21 @@ valid-known counts x object w fits held light v =
       fit = KnownFit-with_known w.objects x object w.known fits held v.names.fit;
     } in
     valid-around counts (record w { known = with_known x object w.known }) w names v.subscriptions v.messages light v
+
+-- with another saved value, if it can be saved and the world stays light
+pub valid-saved : (counts : List ℕ) (saved : PlainValue) (w : WorldRecord) → CanBeSaved saved → world_weight (record w { saved = saved }) ≤ most_world_weight
+    → Valid counts w → Valid counts (record w { saved = saved })
+valid-saved counts saved w fit light v =
+    record {
+      clock = v.clock;
+      views = v.views;
+      objects = v.objects;
+      names = v.names;
+      subscriptions = v.subscriptions;
+      messages = v.messages;
+      saved = fit;
+      weight = light;
+    }
 
 -- with another state of its random numbers
 pub valid-random : (counts : List ℕ) (random : ℕ) (w : WorldRecord) → Valid counts w → Valid counts (record w { random = random })

@@ -1,5 +1,5 @@
 -- Which values are in bounds.
-use Rattle.std.proofs.Common.{◌≡◌, ℕ, zero, suc, ◌≤◌, Bool, true, not, ℤ, pos, List, [], ◌∷◌, ◌++◌, length, take, nat_le, refl, arith, if◌then◌else◌, bytes_eq, neg_ℤ, int_lt, int_le, int_div, int_rem, ◌+ℤ◌, ◌-ℤ◌, ◌*ℤ◌}
+use Rattle.std.proofs.Common.{◌≡◌, ℕ, zero, suc, ◌≤◌, Bool, true, false, not, ℤ, pos, List, [], ◌∷◌, ◌++◌, length, take, Option, Some, None, nat_le, refl, arith, if◌then◌else◌, bytes_eq, neg_ℤ, int_lt, int_le, int_div, int_rem, ◌+ℤ◌, ◌-ℤ◌, ◌*ℤ◌}
 use Rattle.std.specs.Ordering.{int_eq}
 use Rattle.std.proofs.lemmas.Bool.{leb-true, le-leb, and_parts, and_from, cond-true}
 use Rattle.hex.specs.Hex.{encode_lower, lower_digits}
@@ -16,6 +16,8 @@ use Rattle.model_builtin.specs.Builtins as without_world
 use Rattle.model_builtin.specs.declared.builtin.Pure.{Pure}
 use Rattle.world_state.specs.declared.fault.Fault.TheVariants.{Overflow, ZeroDivisor, Size}
 use Rattle.world_state.specs.Running.{Running, Gives, Faults, give_in_bounds, PureOutcome, value, fails}
+use Rattle.model_eval.specs.Arguments.{one_or_both}
+use Rattle.model_eval.specs.Publishing.{sender_value}
 use Rattle.model_eval.specs.Operators.{same, int_or_overflow, on_ints, compare_ints, divide, apply_binary, apply_unary}
 use Rattle.world_state.specs.Objects.{known_by}
 use Rattle.model_eval.specs.Meaning.{Local, local_value, with_local, locals_of, Flow, next, return_with, leave_block, method_result}
@@ -49,6 +51,14 @@ int-in_bounds n = single 1 0 refl refl
 
 pub ref-in_bounds : (id : ℕ) → InBounds (ref id)
 ref-in_bounds id = single 1 0 refl refl
+
+pub sender-in_bounds : (sender : Option ℕ) → InBounds (sender_value sender)
+sender-in_bounds None = nil-in_bounds
+sender-in_bounds (Some view) = int-in_bounds (pos view)
+
+pub one_or_both-in_bounds : (both : Bool) (first second : PlainValue) → InBounds first → InBounds second → AllInBounds (one_or_both both first second)
+one_or_both-in_bounds true first second fit also = (fit, (also, tt))
+one_or_both-in_bounds false first second fit also = (fit, tt)
 
 -- the digits of an id of at most 32 bytes
 pub digits-in_bounds : (id : List ℕ) → length id ≤ 32 → InBounds (text (encode_lower id))

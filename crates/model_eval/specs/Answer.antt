@@ -17,21 +17,27 @@ use Rattle.model_eval.specs.Operators.{on_ints, apply_binary, binary_outcome}
 use Rattle.model_tree.specs.declared.tree.BinaryOp.{BinaryOp}
 use Rattle.model_tree.specs.Tree.{Name, ClassTree, ProgramTree}
 use Rattle.model_solved.specs.Methods.{method_named}
-use Rattle.model_tree.specs.TreeView.{program_tree}
+use Rattle.model_solved.specs.Founding.{checked_tree}
 use Rattle.model_eval.specs.Meaning.{Flow, next, return_with, init, starts}
 use Rattle.model_solved.specs.SolvedTree.{SolvedExpression}
 use Rattle.model_eval.specs.Slots.{Evaluate, Execute, evaluate, execute, expression_row}
+use Rattle.model_eval.specs.Publishing.{Notice}
+use Rattle.model_eval.specs.declared.calls.Event.{Event}
 use Rattle.model_eval.specs.declared.here.Starter.{Starter}
+
+-- what the handlers of an event get
+abbrev pub notice_of : Event → Notice
+notice_of e = record { value = plain e.value.now; sender = e.sender }
 
 -- how methods start, and what expressions and statements mean
 abbrev pub starts_by : Starter → Start
-starts_by s = starts (program_tree s.program.now) s.room
+starts_by s = starts (checked_tree s.program.now) s.room
 
 abbrev pub evaluates_by : Starter → Evaluate
-evaluates_by s = evaluate (program_tree s.program.now) s.room
+evaluates_by s = evaluate (checked_tree s.program.now) s.room
 
 abbrev pub executes_by : Starter → Execute
-executes_by s = execute (program_tree s.program.now) s.room
+executes_by s = execute (checked_tree s.program.now) s.room
 
 -- what an operator gives of its two sides
 abbrev pub operates_by : Starter → ℕ → BinaryOp → SolvedExpression → SolvedExpression → List PlainValue → Running → Outcome PlainValue

@@ -11,7 +11,8 @@ use Rattle.model_builtin.specs.Builtins as without_world
 use Rattle.seeded_random.specs.Draw.{word_of, state_after, number_below}
 use Rattle.world_state.specs.declared.fault.Fault.TheVariants.{BadKind, BadIndex, Size}
 use Rattle.world_state.specs.Running.{Running, with_world, Outcome, Gives, Faults, spend, give_in_bounds, Start}
-use Rattle.world_state.specs.Objects.{is_held, destroy, known_by, make_known}
+use Rattle.model_tree.specs.Tree.{ProgramTree}
+use Rattle.world_state.specs.Objects.{is_held, destroy, known_by, make_known, persist}
 use Rattle.model_eval.specs.Publishing.{publish, subscribe, unsubscribe, cancel, count_views, tell_views}
 
 -- a number below this one; a word is drawn from the world's source
@@ -55,10 +56,14 @@ abbrev pub pure_outcome : Option Pure → List PlainValue → Running → Outcom
 pure_outcome None args r = Faults BadKind r
 pure_outcome (Some f) args r = builtin_outcome (takes_steps f) (apply f args) r
 
--- the arguments that a builtin takes: none, one Int, one Text, three Texts, two Texts and a value, or one Ref
+-- the arguments that a builtin takes: none, any one, one Int, one Text, three Texts, two Texts and a value, or one Ref
 abbrev pub on_none : (Running → Outcome PlainValue) → List PlainValue → Running → Outcome PlainValue
 on_none f [] r = f r
 on_none f _ r = Faults BadKind r
+
+abbrev pub on_any : (PlainValue → Running → Outcome PlainValue) → List PlainValue → Running → Outcome PlainValue
+on_any f (v ∷ []) r = f v r
+on_any f _ r = Faults BadKind r
 
 abbrev pub on_int : (ℤ → Running → Outcome PlainValue) → List PlainValue → Running → Outcome PlainValue
 on_int f (int n ∷ []) r = f n r
@@ -106,13 +111,14 @@ run_builtin_alone builtin.Destroy object = on_ref destroy
 run_builtin_alone builtin.Subscribe object = on_texts (subscribe object)
 run_builtin_alone builtin.Unsubscribe object = on_texts (unsubscribe object)
 run_builtin_alone builtin.Cancel object = on_text (cancel object)
+run_builtin_alone builtin.Persist object = on_any persist
 run_builtin_alone f object = pure_outcome (pure_of f)
 
 -- what a builtin answers; publishing alone starts methods
-abbrev pub run_builtin : Start → Builtin → ℕ → List PlainValue → Running → Outcome PlainValue
-run_builtin start builtin.Publish object = on_event (publish start)
-run_builtin start f object = run_builtin_alone f object
+abbrev pub run_builtin : ProgramTree → Start → Builtin → ℕ → List PlainValue → Running → Outcome PlainValue
+run_builtin program start builtin.Publish object = on_event (publish program start)
+run_builtin program start f object = run_builtin_alone f object
 
-abbrev pub run_if_builtin : Start → Option Builtin → ℕ → List PlainValue → Running → Outcome PlainValue
-run_if_builtin start None object args r = Faults BadKind r
-run_if_builtin start (Some f) object args r = run_builtin start f object args r
+abbrev pub run_if_builtin : ProgramTree → Start → Option Builtin → ℕ → List PlainValue → Running → Outcome PlainValue
+run_if_builtin program start None object args r = Faults BadKind r
+run_if_builtin program start (Some f) object args r = run_builtin program start f object args r

@@ -1,5 +1,6 @@
 pub mod Operators
 pub mod Futures
+pub mod Arguments
 pub mod Publishing
 pub mod Builtins
 pub mod Meaning

@@ -147,7 +147,7 @@ expression_row program ev start here (field x) locals r = get_field here x r
 expression_row program ev start here (tree.list items) locals r = and_then (evaluate_all ev here items locals [] r) (λ vs. give_by_weight (list (plains_of vs)))
 expression_row program ev start here (unary o e) locals r = and_then (ev here e locals r) (λ v. give_pure (apply_unary o v))
 expression_row program ev start here (binary o a b) locals r = and_then (ev here a locals r) (λ v. binary_outcome o v (ev here b locals))
-expression_row program ev start here (builtin x args) locals r = and_then (evaluate_all ev here args locals [] r) (run_if_builtin start (builtin_named x) here.object)
+expression_row program ev start here (builtin x args) locals r = and_then (evaluate_all ev here args locals [] r) (run_if_builtin program start (builtin_named x) here.object)
 expression_row program ev start here (call object x args) locals r =
     and_then (ev here object locals r) (λ o r1. and_then (evaluate_all ev here args locals [] r1) (call_on start o x))
 expression_row program ev start here (future object delay x args) locals r =

@@ -56,7 +56,7 @@ expression_row program ev start object (field slot) locals r = get_slot object s
 expression_row program ev start object (solved.list items) locals r = and_then (evaluate_all ev object items locals [] r) (λ vs. give_by_weight (list (plains_of vs)))
 expression_row program ev start object (unary o e) locals r = and_then (ev object e locals r) (λ v. give_pure (apply_unary o v))
 expression_row program ev start object (binary o a b) locals r = and_then (ev object a locals r) (λ v. binary_outcome o v (ev object b locals))
-expression_row program ev start object (builtin f args) locals r = and_then (evaluate_all ev object args locals [] r) (run_builtin start f object)
+expression_row program ev start object (builtin f args) locals r = and_then (evaluate_all ev object args locals [] r) (run_builtin program start f object)
 expression_row program ev start object (call target x args) locals r =
     and_then (ev object target locals r) (λ o r1. and_then (evaluate_all ev object args locals [] r1) (call_on start o x))
 expression_row program ev start object (future target delay x args) locals r =

@@ -2,9 +2,9 @@
 ghost use Rattle.std.specs.Prelude.{◌≡◌, ◌∷◌, [], length, IfOk};
 ghost use Rattle.hex.specs.Hex.{encode_lower};
 ghost use Rattle.model_value.specs.View.{plain, plain_values};
-ghost use Rattle.model_eval.specs.Builtins.{run_builtin_alone, pure_outcome, pure_of as pure_builtin, takes_steps as is_dear, draw, tell_time, tell_id, tell_known, tell_held, on_none, on_int, on_text, on_texts, on_ref};
+ghost use Rattle.model_eval.specs.Builtins.{run_builtin_alone, pure_outcome, pure_of as pure_builtin, takes_steps as is_dear, draw, tell_time, tell_id, tell_known, tell_held, on_none, on_any, on_int, on_text, on_texts, on_ref};
 ghost use Rattle.model_eval.specs.Publishing.{cancel, subscribe, unsubscribe, count_views, tell_views};
-ghost use Rattle.world_state.specs.Objects.{make_known, destroy};
+ghost use Rattle.world_state.specs.Objects.{make_known, destroy, persist};
 ghost use Rattle.world_state.specs.Answer.{Answers, running};
 ghost use Rattle.model_eval.specs.Answer.{Spends};
 ghost use Rattle.world_state.specs.declared.state.State.{State};
@@ -20,7 +20,9 @@ use model_value::{Value, Values};
 use seeded_random::Source64;
 use std::alloc::Global;
 use tea_base::{SessionId, Text, WantOfMemory};
-use world_state::{Budget, EvalStop, Fault, State, be_known, destroy, is_held, known_object};
+use world_state::{
+    Budget, EvalStop, Fault, State, be_known, destroy, is_held, known_object, persist,
+};
 
 /// What a builtin answers that starts no method.
 pub fn answer(
@@ -47,6 +49,7 @@ pub fn answer(
         Builtin::Subscribe => make_handler(args.as_slice(), object, state),
         Builtin::Unsubscribe => drop_handler(args.as_slice(), object, state),
         Builtin::Cancel => cancel_calls(args.as_slice(), object, state),
+        Builtin::Persist => save(alloc, args.as_slice(), state),
         Builtin::Publish
         | Builtin::Length
         | Builtin::At
@@ -296,6 +299,16 @@ fn cancel_calls_of(method: &Value, object: u32, state: &mut State) -> Result<Val
 {
     match method {
         Value::Text(method) => cancel(object, method, state),
+        _ => Err(EvalStop::Fault(Fault::BadKind)),
+    }
+}
+
+// Saves the one argument for a later session.
+fn save(alloc: Global, args: &[Value], state: &mut State) -> Result<Value, EvalStop>
+    ensures { (budget : Budget) → Answers result state.new budget (on_any persist (plain_values args.now) (running state.old budget)) }
+{
+    match args {
+        [value] => persist(alloc, state, value),
         _ => Err(EvalStop::Fault(Fault::BadKind)),
     }
 }

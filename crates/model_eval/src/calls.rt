@@ -10,10 +10,12 @@ pub struct Call<'a> {
     pub args: Values,
 }
 
-/// An event of which models are told: its scope, its name there, and the value that their methods start with.
+/// An event of which models are told: its scope, its name there, the value that their methods start with, and the view that sent
+/// it, or none where a model published it.
 #[derive(Clone, Copy)]
 pub struct Event<'a> {
     pub scope: &'a Text,
     pub name: &'a Text,
     pub value: &'a Value,
+    pub sender: Option<u32>,
 }

@@ -1,7 +1,7 @@
 //! Expressions and statements, form by form.
-ghost use Rattle.std.specs.Prelude.{[], ◌∷◌, ◌<◌, ◌≡◌, IfOk, Some, slice_get};
+ghost use Rattle.std.specs.Prelude.{[], ◌∷◌, ◌<◌, ◌≡◌, IfOk, Some, None, slice_get};
 ghost use Rattle.model_tree.specs.Tree.{ClassTree};
-ghost use Rattle.model_tree.specs.TreeView.{program_tree};
+ghost use Rattle.model_solved.specs.Founding.{checked_tree};
 ghost use Rattle.model_solved.specs.SolvedView.{solved_expression, solved_expressions, solved_statement, solved_statements, solved_method};
 ghost use Rattle.model_value.specs.Plain.{ref};
 ghost use Rattle.model_value.specs.View.{plain, plain_values};
@@ -11,9 +11,10 @@ ghost use Rattle.model_eval.specs.Publishing.{run_handlers, handle, publish, tel
 ghost use Rattle.model_eval.specs.Meaning.{call_on, create_object, run_init};
 ghost use Rattle.model_eval.specs.Slots.{block as block_of, room_inside, evaluate_all, expression_row as row_of_expression, in_turn, loop_turns, perform, statement_row as row_of_statement};
 ghost use Rattle.world_state.specs.Answer.{Answers, Did, running};
-ghost use Rattle.model_eval.specs.Answer.{AnswersAll, Enters, Proceeds, TakesStep, evaluates_by, executes_by, starts_by};
+ghost use Rattle.model_eval.specs.Answer.{AnswersAll, Enters, Proceeds, TakesStep, evaluates_by, executes_by, notice_of, starts_by};
 ghost use Rattle.world_state.specs.declared.state.State.{State};
 
+use crate::arguments::handler_args;
 use crate::builtins::answer;
 use crate::calls::Event;
 use crate::events::announce;
@@ -25,7 +26,7 @@ use crate::operation::Operation;
 use crate::operator::{operate_on_one, truth};
 use crate::values::{list_of, literal, only};
 use model_solved::{Builtin, Solved, SolvedExpr, SolvedStmt};
-use model_value::{Value, Values, copy};
+use model_value::{Value, Values};
 use pubsub::Handler;
 use tea_base::{List, Text};
 use world_state::{Budget, EvalStop, Fault, State, get_slot, is_held, make, set_slot};
@@ -84,7 +85,7 @@ impl Here<'_> {
         budget: &mut Budget,
     ) -> Result<Value, EvalStop>
         ensures { let inside = record (self.now.starter) { room = room } in
-            Answers result state.new budget.new (row_of_expression (program_tree inside.program.now) (evaluates_by inside) (starts_by inside) self.now.object (solved_expression expr.now) (plain_values locals.now) (running state.old budget.old)) }
+            Answers result state.new budget.new (row_of_expression (checked_tree inside.program.now) (evaluates_by inside) (starts_by inside) self.now.object (solved_expression expr.now) (plain_values locals.now) (running state.old budget.old)) }
     {
         let here = self.with_room(room);
         Ok(here.expression_row(expr, locals, state, budget)?)
@@ -102,7 +103,7 @@ impl Here<'_> {
         budget: &mut Budget,
     ) -> Result<Value, EvalStop>
         ensures { let here = self.now in
-            Answers result state.new budget.new (row_of_expression (program_tree here.starter.program.now) (evaluates_by here.starter) (starts_by here.starter) here.object (solved_expression expr.now) (plain_values locals.now) (running state.old budget.old)) }
+            Answers result state.new budget.new (row_of_expression (checked_tree here.starter.program.now) (evaluates_by here.starter) (starts_by here.starter) here.object (solved_expression expr.now) (plain_values locals.now) (running state.old budget.old)) }
     {
         match expr {
             SolvedExpr::Nil => Ok(Value::Nil),
@@ -185,7 +186,7 @@ impl Here<'_> {
         budget: &mut Budget,
     ) -> Result<Value, EvalStop>
         ensures { let here = self.now in
-            Answers result state.new budget.new (run_builtin (starts_by here.starter) builtin here.object (plain_values args.now) (running state.old budget.old)) }
+            Answers result state.new budget.new (run_builtin (checked_tree here.starter.program.now) (starts_by here.starter) builtin here.object (plain_values args.now) (running state.old budget.old)) }
     {
         match builtin {
             Builtin::Publish => self.starter.publish(args.as_slice(), state, budget),
@@ -369,7 +370,7 @@ impl Starter<'_> {
         state: &mut State,
         budget: &mut Budget,
     ) -> Result<Value, EvalStop>
-        ensures { Answers result state.new budget.new (perform (program_tree self.now.program.now) self.now.room object (solved_method solved.now) (plain_values args) (running state.old budget.old)) }
+        ensures { Answers result state.new budget.new (perform (checked_tree self.now.program.now) self.now.room object (solved_method solved.now) (plain_values args) (running state.old budget.old)) }
     {
         if args.len() != solved.params as usize {
             return Err(EvalStop::Fault(Fault::Arity));
@@ -412,7 +413,7 @@ impl Starter<'_> {
         state: &mut State,
         budget: &mut Budget,
     ) -> Result<Value, EvalStop>
-        ensures { let tree = program_tree self.now.program.now in
+        ensures { let tree = checked_tree self.now.program.now in
             Answers result state.new budget.new (create_object (starts_by self.now) class (slice_get tree class) (plain options) (running state.old budget.old)) }
     {
         // A checked program has each class that it makes objects of.
@@ -433,7 +434,7 @@ impl Starter<'_> {
         state: &mut State,
         budget: &mut Budget,
     ) -> Result<Value, EvalStop>
-        ensures { let tree = program_tree self.now.program.now in (c : ClassTree) → slice_get tree class ≡ Some c →
+        ensures { let tree = checked_tree self.now.program.now in (c : ClassTree) → slice_get tree class ≡ Some c →
             Answers result state.new budget.new (run_init (starts_by self.now) c (plain options) id (running state.old budget.old)) }
     {
         match init_of(self.alloc, self.program, class)? {
@@ -467,7 +468,7 @@ impl Starter<'_> {
         state: &mut State,
         budget: &mut Budget,
     ) -> Result<Value, EvalStop>
-        ensures { Answers result state.new budget.new (on_event (publish (starts_by self.now)) (plain_values args.now) (running state.old budget.old)) }
+        ensures { Answers result state.new budget.new (on_event (publish (checked_tree self.now.program.now) (starts_by self.now)) (plain_values args.now) (running state.old budget.old)) }
     {
         match args {
             [scope, name, value] => self.publish_to(scope, name, value, state, budget),
@@ -486,11 +487,16 @@ impl Starter<'_> {
         state: &mut State,
         budget: &mut Budget,
     ) -> Result<Value, EvalStop>
-        ensures { Answers result state.new budget.new (on_event (publish (starts_by self.now)) (plain scope.now ∷ plain name.now ∷ plain value.now ∷ []) (running state.old budget.old)) }
+        ensures { Answers result state.new budget.new (on_event (publish (checked_tree self.now.program.now) (starts_by self.now)) (plain scope.now ∷ plain name.now ∷ plain value.now ∷ []) (running state.old budget.old)) }
     {
         match (scope, name) {
             (Value::Text(scope), Value::Text(name)) => {
-                let event = Event { scope, name, value };
+                let event = Event {
+                    scope,
+                    name,
+                    value,
+                    sender: None,
+                };
                 self.publish_event(&event, state, budget)
             }
             _ => Err(EvalStop::Fault(Fault::BadKind)),
@@ -505,7 +511,8 @@ impl Starter<'_> {
         state: &mut State,
         budget: &mut Budget,
     ) -> Result<Value, EvalStop>
-        ensures { Answers result state.new budget.new (publish (starts_by self.now) event.now.scope.now event.now.name.now (plain event.now.value.now) (running state.old budget.old)) }
+        requires { event.now.sender ≡ None }
+        ensures { Answers result state.new budget.new (publish (checked_tree self.now.program.now) (starts_by self.now) event.now.scope.now event.now.name.now (plain event.now.value.now) (running state.old budget.old)) }
     {
         announce(self.alloc, event, state)?;
         self.tell(event, state, budget)?;
@@ -513,7 +520,7 @@ impl Starter<'_> {
     }
 
     /// Tells models of an event: the methods that are subscribed to it now start with the value, in order, each unless its
-    /// object is gone.
+    /// object is gone. One with two parameters also gets the view that sent it.
     #[cycle(evaluate)]
     pub fn tell(
         &self,
@@ -521,25 +528,25 @@ impl Starter<'_> {
         state: &mut State,
         budget: &mut Budget,
     ) -> Result<(), EvalStop>
-        ensures { Did result state.new budget.new (tell_handlers (starts_by self.now) event.now.scope.now event.now.name.now (plain event.now.value.now) (running state.old budget.old)) }
+        ensures { Did result state.new budget.new (tell_handlers (checked_tree self.now.program.now) (starts_by self.now) event.now.scope.now event.now.name.now (notice_of event.now) (running state.old budget.old)) }
     {
         let handlers = state.topics.handlers(event.scope, event.name)?;
-        self.tell_all(handlers.as_slice(), event.value, state, budget)
+        self.tell_all(handlers.as_slice(), event, state, budget)
     }
 
-    // Starts the methods that handle an event with the value, in order.
+    // Starts the methods that handle an event, in order.
     #[cycle(evaluate)]
     fn tell_all(
         &self,
         handlers: &[Handler],
-        value: &Value,
+        event: &Event<'_>,
         state: &mut State,
         budget: &mut Budget,
     ) -> Result<(), EvalStop>
-        ensures { Did result state.new budget.new (run_handlers (starts_by self.now) (plain value.now) handlers.now (running state.old budget.old)) }
+        ensures { Did result state.new budget.new (run_handlers (checked_tree self.now.program.now) (starts_by self.now) (notice_of event.now) handlers.now (running state.old budget.old)) }
     {
         for handler in handlers {
-            self.tell_one(handler, value, state, budget)?;
+            self.tell_one(handler, event, state, budget)?;
         }
         Ok(())
     }
@@ -549,17 +556,17 @@ impl Starter<'_> {
     fn tell_one(
         &self,
         handler: &Handler,
-        value: &Value,
+        event: &Event<'_>,
         state: &mut State,
         budget: &mut Budget,
     ) -> Result<(), EvalStop>
-        ensures { Did result state.new budget.new (handle (starts_by self.now) (plain value.now) handler.now (running state.old budget.old)) }
+        ensures { Did result state.new budget.new (handle (checked_tree self.now.program.now) (starts_by self.now) (notice_of event.now) handler.now (running state.old budget.old)) }
     {
         if !is_held(state, handler.object) {
             return Ok(());
         }
         take_step(budget)?;
-        let args = only(self.alloc, copy(self.alloc, value)?)?;
+        let args = handler_args(self, handler, event, state)?;
         self.start(handler.object, &handler.method, args, state, budget)?;
         Ok(())
     }

@@ -7,7 +7,7 @@ ghost use Rattle.model_tree.specs.Bounds.{HasFewArguments};
 ghost use Rattle.model_tree.specs.Names.{NamesAreShort};
 ghost use Rattle.model_solved.specs.Methods.{field_counts};
 ghost use Rattle.world_state.specs.Running.{Running};
-ghost use Rattle.model_eval.specs.Publishing.{tell_handlers};
+ghost use Rattle.model_eval.specs.Publishing.{Notice, tell_handlers};
 ghost use Rattle.model_eval.specs.Kept.{Carries, Anything};
 ghost use Rattle.model_eval.specs.Meaning.{Here, Local, loop_turns, goes_round, evaluate, execute, starts};
 
@@ -19,7 +19,7 @@ pub fn method_keeps()
 
 /// Models that are told of an event leave a valid world valid too, where its value is in bounds, and keep all that a method keeps.
 pub fn telling_keeps()
-    ensures { (program : ProgramTree) (room : ℕ) (scope event : Name) (v : PlainValue) (r : Running) → IsProgram program → InBounds v → Carries (field_counts program) Anything r (tell_handlers (starts program room) scope event v r) }
+    ensures { (program : ProgramTree) (room : ℕ) (scope event : Name) (notice : Notice) (r : Running) → IsProgram program → InBounds notice.value → Carries (field_counts program) Anything r (tell_handlers program (starts program room) scope event notice r) }
 {}
 
 /// The bound on the turns of a loop is never met. A loop is its test and, where that is true, its block and then the loop

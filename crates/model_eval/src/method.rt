@@ -1,10 +1,11 @@
 //! Methods, started on objects.
 ghost use Rattle.std.specs.Prelude.{◌≡◌};
-ghost use Rattle.model_value.specs.View.{plain, plain_values};
-ghost use Rattle.model_tree.specs.TreeView.{program_tree};
+ghost use Rattle.model_value.specs.View.{plain_values};
+ghost use Rattle.model_solved.specs.Founding.{checked_tree};
 ghost use Rattle.model_eval.specs.Meaning.{starts};
 ghost use Rattle.model_eval.specs.Publishing.{tell_handlers};
 ghost use Rattle.world_state.specs.Answer.{Answers, Did, running};
+ghost use Rattle.model_eval.specs.Answer.{notice_of};
 
 use crate::calls::{Call, Event};
 use crate::here::Starter;
@@ -29,7 +30,7 @@ pub fn run_method(
     budget: &mut Budget,
 ) -> Result<Value, EvalStop>
     ensures answers { let c = call.entry in
-        Answers result state.new budget.new (starts (program_tree program.now) budget.old.room c.object c.method.now (plain_values c.args) (running state.old budget.old)) }
+        Answers result state.new budget.new (starts (checked_tree program.now) budget.old.room c.object c.method.now (plain_values c.args) (running state.old budget.old)) }
     ensures room { budget.new.room ≡ budget.old.room }
 {
     let room = budget.room;
@@ -50,8 +51,8 @@ pub fn run_method(
 }
 
 /// Tells models of an event that no model published: the methods that are subscribed to it now start with the value, in order,
-/// each unless its object is gone when its turn comes, and each takes a step of fuel. The event is not added to what was
-/// published.
+/// each unless its object is gone when its turn comes, and each takes a step of fuel. A method with two parameters also gets the
+/// number of the view that sent it. The event is not added to what was published.
 ///
 /// A fault ends it and leaves what was done until then, and the fuel that is left. After `WantOfMemory` nothing is known of the
 /// state.
@@ -63,7 +64,7 @@ pub fn tell_models(
     budget: &mut Budget,
 ) -> Result<(), EvalStop>
     ensures tells { let e = event.now in
-        Did result state.new budget.new (tell_handlers (starts (program_tree program.now) budget.old.room) e.scope.now e.name.now (plain e.value.now) (running state.old budget.old)) }
+        Did result state.new budget.new (tell_handlers (checked_tree program.now) (starts (checked_tree program.now) budget.old.room) e.scope.now e.name.now (notice_of e) (running state.old budget.old)) }
     ensures room { budget.new.room ≡ budget.old.room }
 {
     let room = budget.room;

@@ -1,7 +1,7 @@
 //! The method that a new object starts with.
 ghost use Rattle.std.specs.Prelude.{◌≡◌, IfOk, Some, slice_get};
 ghost use Rattle.model_tree.specs.Tree.{ClassTree};
-ghost use Rattle.model_tree.specs.TreeView.{program_tree};
+ghost use Rattle.model_solved.specs.Founding.{checked_tree};
 ghost use Rattle.model_eval.specs.Meaning.{init as init_name};
 ghost use Rattle.model_eval.specs.Answer.{HasInit};
 
@@ -11,7 +11,7 @@ use tea_base::{Text, WantOfMemory};
 
 /// The name `init`, where the class has a method of this name.
 pub fn init_of(alloc: Global, program: &Checked, class: u16) -> Result<Option<Text>, WantOfMemory>
-    ensures { IfOk result (λ found. (c : ClassTree) → slice_get (program_tree program.now) class ≡ Some c → HasInit found c) }
+    ensures { IfOk result (λ found. (c : ClassTree) → slice_get (checked_tree program.now) class ≡ Some c → HasInit found c) }
 {
     let init = init(alloc)?;
     match program.method(class, &init) {

@@ -18,6 +18,7 @@ builtin_spelling builtin.Publish = codes "publish"
 builtin_spelling builtin.Subscribe = codes "subscribe"
 builtin_spelling builtin.Unsubscribe = codes "unsubscribe"
 builtin_spelling builtin.Cancel = codes "cancel"
+builtin_spelling builtin.Persist = codes "persist"
 builtin_spelling builtin.Length = codes "length"
 builtin_spelling builtin.At = codes "at"
 builtin_spelling builtin.Put = codes "put"
@@ -42,6 +43,7 @@ arguments_of builtin.Publish = 3
 arguments_of builtin.Subscribe = 3
 arguments_of builtin.Unsubscribe = 3
 arguments_of builtin.Cancel = 1
+arguments_of builtin.Persist = 1
 arguments_of builtin.Length = 1
 arguments_of builtin.At = 2
 arguments_of builtin.Put = 3
@@ -54,7 +56,7 @@ arguments_of builtin.Compare = 2
 
 abbrev pub builtins : List Builtin
 builtins =
-    builtin.Now ∷ builtin.Random ∷ builtin.ViewCount ∷ builtin.Views ∷ builtin.SessionId ∷ builtin.Known ∷ builtin.BeKnown ∷ builtin.Exists ∷ builtin.Destroy ∷ builtin.Publish ∷ builtin.Subscribe ∷ builtin.Unsubscribe ∷ builtin.Cancel ∷ builtin.Length ∷ builtin.At ∷ builtin.Put ∷ builtin.Push ∷ builtin.Slice ∷ builtin.Concat ∷ builtin.Text ∷ builtin.Number ∷ builtin.Compare ∷ []
+    builtin.Now ∷ builtin.Random ∷ builtin.ViewCount ∷ builtin.Views ∷ builtin.SessionId ∷ builtin.Known ∷ builtin.BeKnown ∷ builtin.Exists ∷ builtin.Destroy ∷ builtin.Publish ∷ builtin.Subscribe ∷ builtin.Unsubscribe ∷ builtin.Cancel ∷ builtin.Persist ∷ builtin.Length ∷ builtin.At ∷ builtin.Put ∷ builtin.Push ∷ builtin.Slice ∷ builtin.Concat ∷ builtin.Text ∷ builtin.Number ∷ builtin.Compare ∷ []
 
 -- the builtin of that name, if there is one
 abbrev pub builtin_named : Name → Option Builtin

@@ -5,3 +5,4 @@ pub mod SolvedTree
 pub mod SolvedView
 pub mod Resolution
 pub mod Methods
+pub mod Founding

@@ -29,6 +29,8 @@ pub enum Builtin {
     Unsubscribe,
     /// `cancel(a)`
     Cancel,
+    /// `persist(a)`
+    Persist,
     /// `length(a)`
     Length,
     /// `at(a, b)`

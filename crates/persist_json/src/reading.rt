@@ -47,11 +47,11 @@ fn parse(alloc: Global, text: &[u8]) -> Result<Json, JsonFault>
 
 /// The value without objects whose data this is, if there is one.
 #[cycle(value_of)]
-fn value_of(alloc: Global, data: &Json) -> Result<Value, JsonFault>
-    ensures read { IfOk result (λ value. IsReadAs (view data.now) (plain value)) }
-    ensures bad { result ≡ Err JsonFault.BadJson → has_value (view data.now) ≡ false }
+fn value_of(alloc: Global, json: &Json) -> Result<Value, JsonFault>
+    ensures read { IfOk result (λ value. IsReadAs (view json.now) (plain value)) }
+    ensures bad { result ≡ Err JsonFault.BadJson → has_value (view json.now) ≡ false }
 {
-    match data {
+    match json {
         Json::Null => Ok(Value::Nil),
         Json::Bool(flag) => Ok(Value::Bool(*flag)),
         Json::Number(number) => match number.as_i64() {

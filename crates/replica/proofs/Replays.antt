@@ -4,7 +4,7 @@ use Rattle.std.specs.List.{fold, list_all}
 use Rattle.std.proofs.lemmas.Bool.{and_parts}
 use Rattle.std.proofs.lemmas.Bool.Decides.{nat_tests}
 use Rattle.tea_base.specs.declared.entry.Entry.{Entry}
-use Rattle.model_tree.specs.Tree.{ProgramTree}
+use Rattle.model_solved.specs.Founding.{Founding}
 use Rattle.world_plain.specs.Messages.{PlainMessage}
 use Rattle.world_plain.specs.World.{WorldRecord}
 use Rattle.world.specs.View.{AreBehind}
@@ -12,10 +12,10 @@ use Rattle.world.specs.Worlds.{external, take_up}
 use Rattle.replica_plain.specs.Worlds.{externals}
 use Rattle.replica.specs.RealWorlds.{is_at_rest, worlds}
 
-pub fold-externals : (program : ProgramTree) (id : List ℕ) (w : WorldRecord) (entries : List Entry)
-    → fold (λ (v : WorldRecord) (e : Entry). (external program e (take_up v)).world) w entries ≡ externals (worlds program id) w entries
-fold-externals program id w [] = refl
-fold-externals program id w (e ∷ es) = fold-externals program id ((external program e (take_up w)).world) es
+pub fold-externals : (founding : Founding) (id : List ℕ) (w : WorldRecord) (entries : List Entry)
+    → fold (λ (v : WorldRecord) (e : Entry). (external founding.tree e (take_up v)).world) w entries ≡ externals (worlds founding id) w entries
+fold-externals founding id w [] = refl
+fold-externals founding id w (e ∷ es) = fold-externals founding id ((external founding.tree e (take_up w)).world) es
 
 pub behind : (t : ℕ) (messages : List PlainMessage) → list_all (λ (m : PlainMessage). nat_lt t m.time) messages ≡ true → AreBehind t messages
 behind t [] rests = tt

@@ -1,7 +1,7 @@
--- The worlds of a program and a session, as replicas want worlds.
+-- The worlds of a program with its persisted value and of a session, as replicas want worlds.
 use Rattle.std.specs.Prelude.{ℕ, nat_lt, Bool, ◌&&◌, bytes_eq, List}
 use Rattle.std.specs.List.{list_all}
-use Rattle.model_tree.specs.Tree.{ProgramTree}
+use Rattle.model_solved.specs.Founding.{Founding}
 use Rattle.world_plain.specs.Messages.{PlainOutgoing}
 use Rattle.world_plain.specs.ValidTest.{is_valid}
 use Rattle.world_plain.specs.World.{WorldRecord}
@@ -15,12 +15,13 @@ abbrev pub is_at_rest : WorldRecord → Bool
 is_at_rest w = list_all (λ m. nat_lt w.time m.time) w.pending
 
 -- What a world does follows from it alone. What its models publish is told behind what they published before.
-abbrev pub worlds : ProgramTree → List ℕ → Worlds WorldRecord PlainOutgoing
-worlds program id =
+abbrev pub worlds : Founding → List ℕ → Worlds WorldRecord PlainOutgoing
+worlds founding id =
+    let program = founding.tree in
     record {
       session = id;
-      first = (first_scene program id).world;
-      first_out = (first_scene program id).published;
+      first = (first_scene founding id).world;
+      first_out = (first_scene founding id).published;
       external = λ w entry. (external program entry (take_up w)).world;
       external_out = λ w entry out. (external program entry (record { world = w; published = out })).published;
       advance = λ w t. (advance program t (take_up w)).world;

@@ -1,8 +1,6 @@
 -- What contracts see of the world that a replica has.
 use Rattle.std.specs.Prelude.{◌≡◌, ℕ, Bool, true, false, List, [], Option, Some, None, Result, Ok, Err, ⊤}
-use Rattle.model_tree.specs.declared.tree.Class.{Class}
-use Rattle.model_tree.specs.Program.{IsProgram}
-use Rattle.model_tree.specs.TreeView.{program_tree}
+use Rattle.model_solved.specs.Founding.{CheckedView, checked_tree, founding_of, IsFounding}
 use Rattle.world_plain.specs.Messages.{PlainOutgoing}
 use Rattle.world_plain.specs.World.{WorldRecord}
 use Rattle.world.specs.declared.fault.WorldFault.{WorldFault}
@@ -15,7 +13,7 @@ use Rattle.replica.specs.RealWorlds.{worlds}
 
 -- a world of a program and a session, and what its models published and was not taken out
 pub record SessionWorldView : Type 0 where
-  pub program : List Class
+  pub program : CheckedView
   pub id : List ℕ
   pub world : WorldRecord
   pub out : List PlainOutgoing
@@ -23,7 +21,7 @@ pub record SessionWorldView : Type 0 where
 
 -- the worlds of its program and its session
 abbrev pub own_worlds : SessionWorldView → Worlds WorldRecord PlainOutgoing
-own_worlds w = worlds (program_tree w.program) w.id
+own_worlds w = worlds (founding_of w.program) w.id
 
 -- what a broken world holds is not known, so it counts as the first one
 abbrev pub unless_broken : WorldRecord → Bool → WorldRecord → WorldRecord
@@ -35,28 +33,29 @@ session_view id w =
     record {
       program = w.program;
       id = id;
-      world = unless_broken (worlds (program_tree w.program) id).first w.broken w.scene.world;
+      world = unless_broken (worlds (founding_of w.program) id).first w.broken w.scene.world;
       out = w.scene.published;
       broken = w.broken;
     }
 
--- what is so of the parts: one program, which is one, and one session
-pub record IsOfSession (program : List Class) (id : List ℕ) (w : WorldView) : Type 0 where
+-- what is so of the parts: one program, from which a session can be founded, and one session
+pub record IsOfSession (program : CheckedView) (id : List ℕ) (w : WorldView) : Type 0 where
   pub same : program ≡ w.program
-  pub faultless : IsProgram (program_tree w.program)
+  pub founded : IsFounding (founding_of w.program)
   pub session : w.broken ≡ false → w.scene.world.id ≡ id
 
--- what is so of every one: its program is one, its world is valid where it is not broken, and where it is nothing is published
+-- what is so of every one: a session can be founded from its program; its world is valid where it is not broken, and nothing is published
+-- where it is
 pub record IsSoundSessionWorld (w : SessionWorldView) : Type 0 where
-  pub program : IsProgram (program_tree w.program)
+  pub program : IsFounding (founding_of w.program)
   pub valid : w.broken ≡ false → (own_worlds w).valid w.world ≡ true
   pub quiet : w.broken ≡ true → w.out ≡ []
 
 -- ---- calls
 
-abbrev pub first_world : List Class → List ℕ → SessionWorldView
+abbrev pub first_world : CheckedView → List ℕ → SessionWorldView
 first_world program id =
-    let m = worlds (program_tree program) id in
+    let m = worlds (founding_of program) id in
     record { program = program; id = id; world = m.first; out = m.first_out; broken = false }
 
 -- memory was wanted while it went on
@@ -84,7 +83,7 @@ abbrev pub Snaps : Result (List ℕ) WorldFault → SessionWorldView → Type 0
 Snaps (Ok bytes) w =
     (w.broken ≡ false)
     × (bytes ≡ (own_worlds w).snapshot w.world)
-    × IsSnapshot (field_counts (program_tree w.program)) w.id bytes w.world
+    × IsSnapshot (field_counts (checked_tree w.program)) w.id bytes w.world
     × ((own_worlds w).unsnap bytes ≡ Some w.world)
 Snaps (Err fault.Broken) w = w.broken ≡ true
 Snaps (Err (fault.Back time)) w = ⊥

@@ -4,10 +4,7 @@ ghost use Rattle.tea_base.specs.Limits.{time_limit};
 ghost use Rattle.std.specs.Thread.{IsSend};
 ghost use Rattle.tea_base.specs.Legal.{IsLegal};
 ghost use Rattle.tea_base.specs.declared.entry.Entry.{Entry};
-ghost use Rattle.model_tree.specs.declared.tree.Class.{Class};
-ghost use Rattle.model_tree.specs.Program.{IsProgram};
-ghost use Rattle.model_tree.specs.Tree.{ProgramTree};
-ghost use Rattle.model_tree.specs.TreeView.{program_tree};
+ghost use Rattle.model_solved.specs.Founding.{CheckedView, Founding, founding_of, IsFounding};
 ghost use Rattle.world_plain.specs.World.{WorldRecord};
 ghost use Rattle.world.specs.Worlds.{Follows, replay};
 ghost use Rattle.snapshot_codec.specs.Spelling.{world_spelling};
@@ -32,7 +29,7 @@ use world::{
 
 /// The worlds of a program and a session are as a replica wants worlds.
 pub fn worlds_stand()
-    ensures { (program : ProgramTree) (id : List ℕ) → IsProgram program → AreWorlds (worlds program id) }
+    ensures { (founding : Founding) (id : List ℕ) → IsFounding founding → AreWorlds (worlds founding id) }
 {
     first_world_is_valid();
     external_keeps_valid();
@@ -45,8 +42,8 @@ pub fn worlds_stand()
 
 /// What a log makes of them is the replay of the log, and one of them follows a log exactly where a world does.
 pub fn worlds_replay()
-    ensures replays { (program : ProgramTree) (id : List ℕ) (log : List Entry) (t : ℕ) → (replay program id log t).world ≡ replay_world (worlds program id) log t }
-    ensures follows { (program : ProgramTree) (w : WorldRecord) (log : List Entry) → Follows program w log ↔ WorldFollows (worlds program w.id) log w }
+    ensures replays { (founding : Founding) (id : List ℕ) (log : List Entry) (t : ℕ) → (replay founding id log t).world ≡ replay_world (worlds founding id) log t }
+    ensures follows { (founding : Founding) (w : WorldRecord) (log : List Entry) → Follows founding w log ↔ WorldFollows (worlds founding w.id) log w }
 {
     replay_folds();
 }
@@ -60,14 +57,14 @@ pub fn worlds_replay()
 /// acknowledged and of no more than were published. Its base, if it has one, is honest. A replica that joined by `Resume`
 /// followed the log.
 pub fn replica_follows()
-    ensures founded { (program : List Class) (id : List ℕ) (view : ℕ) (log : List Entry) → IsProgram (program_tree program) → IsLegal log
-        → FollowsLog (worlds (program_tree program) id) log (founded_replica program id view).plain }
-    ensures lost { (r : ReplicaView) (log : List Entry) → IsProgram (program_tree r.program) → IsLegal log → FollowsLog (worlds_of r) log (loses (worlds_of r) r.plain) }
+    ensures founded { (program : CheckedView) (id : List ℕ) (view : ℕ) (log : List Entry) → IsFounding (founding_of program) → IsLegal log
+        → FollowsLog (worlds (founding_of program) id) log (founded_replica program id view).plain }
+    ensures lost { (r : ReplicaView) (log : List Entry) → IsFounding (founding_of r.program) → IsLegal log → FollowsLog (worlds_of r) log (loses (worlds_of r) r.plain) }
     ensures follows { (r : ReplicaView) (log : List Entry) (how : How) (given : List (Option ClientFrame)) (joined last from : ℕ) (base : Option Base) (calls : List ReplicaCall) (rest : List ServerFrame)
-        → IsProgram (program_tree r.program) → IsLegal log → IsServedTo (worlds_of r) log r.plain how given joined last from base (frames_of_calls calls ++ rest)
+        → IsFounding (founding_of r.program) → IsLegal log → IsServedTo (worlds_of r) log r.plain how given joined last from base (frames_of_calls calls ++ rest)
         → FollowsLog (worlds_of r) log (after_calls (worlds_of r) r.plain (ToTake (Sync joined last from base) ∷ calls)) }
     ensures read { (r : ReplicaView) (log : List Entry) (how : How) (given : List (Option ClientFrame)) (joined last from : ℕ) (base : Option Base) (calls : List ReplicaCall) (rest : List ServerFrame)
-        → IsProgram (program_tree r.program) → IsLegal log → IsServedTo (worlds_of r) log r.plain how given joined last from base (frames_of_calls calls ++ rest)
+        → IsFounding (founding_of r.program) → IsLegal log → IsServedTo (worlds_of r) log r.plain how given joined last from base (frames_of_calls calls ++ rest)
         → AreReadCalls (worlds_of r) r.plain (ToTake (Sync joined last from base) ∷ calls) }
 {
     worlds_stand();
@@ -76,9 +73,9 @@ pub fn replica_follows()
 /// A replica that follows a log and whose world is at rest has the replay of the log to its time. So two replicas of one program
 /// and session that follow one log, are at rest and have come to one time have equal snapshot bytes.
 pub fn equal_snapshots()
-    ensures replays { (r : ReplicaView) (log : List Entry) → IsProgram (program_tree r.program) → FollowsLog (worlds_of r) log r.plain → is_at_rest r.plain.world ≡ true
-        → r.plain.world ≡ (replay (program_tree r.program) r.id log r.plain.world.time).world }
-    ensures snapshots { (r other : ReplicaView) (log : List Entry) → IsProgram (program_tree r.program) → other.program ≡ r.program → other.id ≡ r.id
+    ensures replays { (r : ReplicaView) (log : List Entry) → IsFounding (founding_of r.program) → FollowsLog (worlds_of r) log r.plain → is_at_rest r.plain.world ≡ true
+        → r.plain.world ≡ (replay (founding_of r.program) r.id log r.plain.world.time).world }
+    ensures snapshots { (r other : ReplicaView) (log : List Entry) → IsFounding (founding_of r.program) → other.program ≡ r.program → other.id ≡ r.id
         → FollowsLog (worlds_of r) log r.plain → FollowsLog (worlds_of other) log other.plain → is_at_rest r.plain.world ≡ true → is_at_rest other.plain.world ≡ true
         → r.plain.world.time ≡ other.plain.world.time
         → world_spelling r.plain.world ≡ world_spelling other.plain.world }
@@ -89,7 +86,7 @@ pub fn equal_snapshots()
 
 /// A replica that took a tick is at rest.
 pub fn ticks_bring_rest()
-    ensures { (r : ReplicaView) (t : ℕ) → IsProgram (program_tree r.program) → (worlds_of r).valid r.plain.world ≡ true → t < time_limit → r.plain.synced ≡ true
+    ensures { (r : ReplicaView) (t : ℕ) → IsFounding (founding_of r.program) → (worlds_of r).valid r.plain.world ≡ true → t < time_limit → r.plain.synced ≡ true
         → (taken (worlds_of r) r.plain (Tick t)).fault ≡ None → is_at_rest (taken (worlds_of r) r.plain (Tick t)).replica.world ≡ true }
 {
     worlds_stand();

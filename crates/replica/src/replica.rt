@@ -56,13 +56,14 @@ impl Model for Replica {
     ghost use Rattle.std.specs.Coded.{codes};
     ghost use Rattle.model_tree.specs.contracts.tree.Stmt as stmt;
     ghost use Rattle.replica_plain.specs.PlainReplica.{AreCounted};
+    ghost use Rattle.model_solved.specs.Founding.{coded_checked};
     ghost use Rattle.world_plain.specs.Messages.{coded_outgoing};
     ghost use Rattle.world_plain.specs.WorldCode.{coded_world};
     ghost use Rattle.replica.specs.View.{ReplicaView};
 
     ghost Value = { ReplicaView };
 
-    ghost coded = { Prim.hlevel (codes, stmt.the_row.coded, coded_world, coded_outgoing) };
+    ghost coded = { Prim.hlevel (codes, coded_checked (Prim.hlevel (codes, stmt.the_row.coded)), coded_world, coded_outgoing) };
 
     ghost use Rattle.replica.specs.Parts.{replica_view, plain_part};
 

@@ -2,7 +2,7 @@
 ghost use Rattle.std.specs.Prelude.{◌≡◌, ◌<◌, nat_le, nat_lt, [], map, IfOk};
 ghost use Rattle.std.specs.Arc.{arc_value};
 ghost use Rattle.tea_base.specs.Limits.{time_limit};
-ghost use Rattle.model_tree.specs.TreeView.{program_tree};
+ghost use Rattle.model_solved.specs.Founding.{checked_tree};
 ghost use Rattle.world_plain.specs.Messages.{plain_outgoing};
 ghost use Rattle.world_plain.specs.Valid.{Valid};
 ghost use Rattle.world_plain.specs.World.{world_record};
@@ -31,13 +31,14 @@ impl Model for SessionWorld {
     ghost use Rattle.std.specs.Arc.{arc_value};
     ghost use Rattle.std.specs.Coded.{codes};
     ghost use Rattle.model_tree.specs.contracts.tree.Stmt as stmt;
+    ghost use Rattle.model_solved.specs.Founding.{coded_checked};
     ghost use Rattle.world_plain.specs.Messages.{coded_outgoing};
     ghost use Rattle.world_plain.specs.WorldCode.{coded_world};
     ghost use Rattle.replica.specs.SessionWorlds.{SessionWorldView, session_view, IsOfSession};
 
     ghost Value = { SessionWorldView };
 
-    ghost coded = { Prim.hlevel (codes, stmt.the_row.coded, coded_world, coded_outgoing) };
+    ghost coded = { Prim.hlevel (codes, coded_checked (Prim.hlevel (codes, stmt.the_row.coded)), coded_world, coded_outgoing) };
 
     ghost view = { λ w. session_view w.id.0 w.world };
 
@@ -84,7 +85,7 @@ impl SessionWorld {
     }
 
     fn of_plain(&self, plain: &PlainWorld) -> Result<SessionWorld, WantOfMemory>
-        requires valid { Valid (field_counts (program_tree self.now.program)) (world_record plain.now) }
+        requires valid { Valid (field_counts (checked_tree self.now.program)) (world_record plain.now) }
         requires session { (world_record plain.now).id ≡ self.now.id }
         ensures { IfOk result (λ w. w ≡ quiet_world self.now (world_record plain.now)) }
     {

@@ -22,11 +22,7 @@ CanBeSaved value = InBounds value × (has_ref value ≡ false)
 -- nil stands for no saved value
 abbrev pub saved_weight : PlainValue → ℕ
 saved_weight nil = 0
-saved_weight (bool flag) = weight (bool flag)
-saved_weight (int number) = weight (int number)
-saved_weight (text characters) = weight (text characters)
-saved_weight (ref object) = weight (ref object)
-saved_weight (list items) = weight (list items)
+saved_weight value = weight value
 
 -- a value that can be saved, with its weight
 pub record IsWeighed (weighs : ℕ) (value : PlainValue) : Type 0 where

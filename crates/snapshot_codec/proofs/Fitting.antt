@@ -40,22 +40,23 @@ all_values vs fits = all-map FitsBounds IsValue vs (λ v f. is_value v f.0.1) fi
 
 pub is_world : (counts : List ℕ) (w : WorldRecord) → FitsWorld counts w → IsWorld w
 is_world counts w fits =
-    let singles = fits.1.0 in
-    let rows = fits.1.1.1 in
+    let singles = fits.0.1.0 in
+    let rows = fits.0.1.1.1 in
     record {
-      id = fits.0;
+      id = fits.0.0;
       time = singles.0;
       next_object = singles.1.0;
       next_number = singles.1.1.0;
       random = singles.1.1.1.0;
       turns = singles.1.1.1.1;
-      kinds = fits.1.1.0.0;
-      faults = fits.1.1.0.1;
+      kinds = fits.0.1.1.0.0;
+      faults = fits.0.1.1.0.1;
       views = rows.0.1;
       objects = all-map (FitsObject counts) IsObject w.objects (λ o f. (f.0, f.1.0, all_values o.fields f.1.1.1)) rows.1.0.1;
       known = all-map FitsKnown IsKnown w.known (λ k f. (f.0.0, f.1)) rows.1.1.0.1;
       subscriptions = all-map FitsSubscription IsSubscription w.subscriptions (λ s f. (f.0.0, f.1.0.0, f.1.1.0, f.1.1.1.0)) rows.1.1.1.0.1;
       pending = all-map FitsMessage IsMessage w.pending (λ m f. (f.0, f.1.0, f.1.1.0, f.1.1.1.0.0, all_values m.args f.1.1.1.1.1)) rows.1.1.1.1.1;
+      saved = is_value w.saved fits.1.0.1;
     }
 
 -- ---- a valid world is read
@@ -89,24 +90,27 @@ messages-fit time next os (m ∷ ms) is fit =
 
 pub world-fits : (counts : List ℕ) (w : WorldRecord) → IsWorld w → Valid counts w → FitsWorld counts w
 world-fits counts w is valid = (
-  is.id,
   (
-    (is.time, (is.next_object, (is.next_number, (is.random, is.turns)))),
+    is.id,
     (
-      (is.kinds, is.faults),
+      (is.time, (is.next_object, (is.next_number, (is.random, is.turns)))),
       (
-        (omega (arith, valid.views.few), is.views),
+        (is.kinds, is.faults),
         (
-          (omega (arith, valid.objects.few), objects-fit counts w.next_object w.objects is.objects valid.objects.fit),
+          (omega (arith, valid.views.few), is.views),
           (
-            (omega (arith, valid.weight, length-known w.known), known-fit w.objects w.known is.known valid.names.fit),
+            (omega (arith, valid.objects.few), objects-fit counts w.next_object w.objects is.objects valid.objects.fit),
             (
-              (omega (arith, valid.subscriptions.few), subscriptions-fit w.objects w.subscriptions is.subscriptions valid.subscriptions.fit),
-              (omega (arith, valid.messages.few), messages-fit w.time w.next_number w.objects w.pending is.pending valid.messages.fit),
+              (omega (arith, valid.weight, length-known w.known), known-fit w.objects w.known is.known valid.names.fit),
+              (
+                (omega (arith, valid.subscriptions.few), subscriptions-fit w.objects w.subscriptions is.subscriptions valid.subscriptions.fit),
+                (omega (arith, valid.messages.few), messages-fit w.time w.next_number w.objects w.pending is.pending valid.messages.fit),
+              ),
             ),
           ),
         ),
       ),
     ),
   ),
+  is_bounded w.saved is.saved valid.saved.0,
 )

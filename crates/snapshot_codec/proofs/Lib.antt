@@ -3,3 +3,4 @@ pub mod Rows
 pub mod WorldCodec
 pub mod Fitting
 pub mod Snapshots
+pub mod Hashed

@@ -6,7 +6,7 @@ use Rattle.world_plain.specs.Messages.{PlainMessage}
 use Rattle.byte_fields.specs.Fields.{text_field, list_of}
 use Rattle.model_value.specs.Spelling.{value_spelling}
 use Rattle.world_plain.specs.World.{WorldRecord}
-use Rattle.snapshot_codec.specs.Spelling.{object_spelling, known_spelling, subscription_spelling, message_spelling, world_spelling}
+use Rattle.snapshot_codec.specs.Spelling.{object_spelling, known_spelling, subscription_spelling, message_spelling, saved_spelling, world_spelling}
 
 pub message_spelling-behind :
     (old : List ℕ) (m : PlainMessage)
@@ -36,6 +36,7 @@ pub world_spelling-behind :
     ++ list_of known_spelling w.known
     ++ list_of subscription_spelling w.subscriptions
     ++ list_of message_spelling w.pending
+    ++ saved_spelling w.saved
 unfolding world_spelling
 world_spelling-behind old w = simp append_assoc refl
 

@@ -5,7 +5,8 @@ use Rattle.std.specs.Prelude.{map}
 use Rattle.std.specs.Int.{to_be_bytes, w32, w64}
 use Rattle.std.specs.List.{flat_map, AllByRecursion}
 use Rattle.world_plain.specs.Messages.{PlainMessage, plain_message}
-use Rattle.model_value.specs.Plain.{PlainValue, text_weight, values_weight}
+use Rattle.model_value.specs.Plain.{PlainValue, nil, bool, int, text, ref, list, text_weight, values_weight}
+use Rattle.saved_value.specs.Saving.{saved_weight}
 use Rattle.byte_fields.specs.Fields.{text_field, list_of}
 use Rattle.model_value.specs.Spelling.{value_spelling}
 use Rattle.world_plain.specs.Valid.{MessagesFit}
@@ -18,7 +19,7 @@ use Rattle.world_plain.specs.declared.world.PlainObject.{PlainObject}
 use Rattle.model_value.proofs.Spellings.{encode_utf8_all-le_weight, value_spelling-le_weight}
 use Rattle.snapshot_codec.specs.Conditions.{IsValid, IsSmall, MessageHasFewArguments}
 use Rattle.tea_base.specs.Limits.{most_snapshot}
-use Rattle.snapshot_codec.specs.Spelling.{object_spelling, known_spelling, subscription_spelling, message_spelling, world_spelling}
+use Rattle.snapshot_codec.specs.Spelling.{object_spelling, known_spelling, subscription_spelling, message_spelling, saved_spelling, world_spelling}
 
 -- ---- a weight bounds how many items there are
 
@@ -96,6 +97,14 @@ views-length : (views : List ℕ) → length (list_of (to_be_bytes w32) views) �
 views-length [] = omega arith
 views-length (v ∷ vs) = omega (arith, views-length vs)
 
+saved_spelling-le : (v : PlainValue) → length (saved_spelling v) ≤ 16 * saved_weight v
+saved_spelling-le nil = omega arith
+saved_spelling-le (bool flag) = value_spelling-le_weight (bool flag)
+saved_spelling-le (int number) = value_spelling-le_weight (int number)
+saved_spelling-le (text characters) = value_spelling-le_weight (text characters)
+saved_spelling-le (ref object) = value_spelling-le_weight (ref object)
+saved_spelling-le (list items) = value_spelling-le_weight (list items)
+
 pub world_spelling-le :
     (w : WorldRecord) → length w.id ≡ 32 → length w.faults ≡ 14 → IsSmall w → length (world_spelling w) ≤ most_snapshot
 unfolding world_spelling
@@ -106,6 +115,7 @@ world_spelling-le w id faults small =
     let known = list_field-le known_spelling known_weight w.known known_spelling-le in
     let subscriptions = list_field-le subscription_spelling subscription_weight w.subscriptions subscription_spelling-le in
     let pending = list_field-le message_spelling message_weight w.pending message_spelling-le in
+    let saved = saved_spelling-le w.saved in
     simp length-append (omega (arith, faults-length w.faults, views-length w.views))
 
 pub ruleset by_size = (world_spelling-le)

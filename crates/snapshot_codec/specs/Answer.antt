@@ -2,7 +2,7 @@
 use Rattle.std.specs.Prelude.{◌≡◌, ◌≢◌, ◌≤◌, ◌<◌, ◌^◌, ℕ, true, List, length, take, Option, Some, None, Result, Ok, Err, ◌&&◌, bytes_eq, if◌then◌else◌}
 use Rattle.std.specs.List.{AllByRecursion}
 use Rattle.std.specs.Str.{all_scalars}
-use Rattle.byte_fields.specs.Fields.{◌>>=◌, whole}
+use Rattle.byte_fields.specs.Fields.{◌>>=◌}
 use Rattle.world_plain.specs.Messages.{PlainMessage}
 use Rattle.model_value.specs.Spelling.{IsValue}
 use Rattle.world_plain.specs.Valid.{Valid}
@@ -12,7 +12,7 @@ use Rattle.tea_base.specs.declared.entry.SessionId.{SessionId}
 use Rattle.world_plain.specs.declared.message.Subscription.{Subscription}
 use Rattle.world_plain.specs.declared.world.Known.{Known}
 use Rattle.world_plain.specs.declared.world.PlainWorld.{PlainWorld}
-use Rattle.snapshot_codec.specs.Reading.{world_record_at}
+use Rattle.snapshot_codec.specs.Reading.{world_in}
 use Rattle.snapshot_codec.specs.Spelling.{world_spelling}
 use Rattle.snapshot_codec.specs.declared.fault.SnapFault.{SnapFault}
 use Rattle.snapshot_codec.specs.declared.fault.SnapFault.TheVariants.{OtherSession, Bad, WantOfMemory}
@@ -48,6 +48,7 @@ pub record IsWorld (w : WorldRecord) : Type 0 where
   pub known : AllByRecursion IsKnown w.known
   pub subscriptions : AllByRecursion IsSubscription w.subscriptions
   pub pending : AllByRecursion IsMessage w.pending
+  pub saved : IsValue w.saved
 
 -- ---- snapshots
 
@@ -61,7 +62,7 @@ pub record IsSnapshot (counts id bytes : List ℕ) (w : WorldRecord) : Type 0 wh
 -- the world that bytes spell, if it is valid and of the session of this id
 abbrev pub snapshot_world : List ℕ → List ℕ → List ℕ → Option WorldRecord
 snapshot_world counts id bytes =
-    whole (world_record_at counts) bytes >>= λ w. if is_valid counts w && bytes_eq w.id id then Some w else None
+    world_in counts bytes >>= λ w. if is_valid counts w && bytes_eq w.id id then Some w else None
 
 -- there are 32 bytes or more, and the first 32 are another id
 abbrev pub IsOfOther : List ℕ → List ℕ → Type 0

@@ -1,9 +1,10 @@
 -- Reading a world, by the number of fields of each class of its program.
-use Rattle.std.specs.Prelude.{ℕ, List, [], Option, Some, None, slice_get}
+use Rattle.std.specs.Prelude.{ℕ, ◌==◌, not, if◌then◌else◌, List, [], length, Option, Some, None, slice_get}
 use Rattle.std.specs.Int.{w16, w32, w64}
-use Rattle.byte_fields.specs.Fields.{Decoder, byte_at, bytes_at, number_at, text_at, paired_at, headed_at, made_at, never_at, items_at, list_at}
+use Rattle.byte_fields.specs.Fields.{Decoder, ◌>>=◌, byte_at, bytes_at, number_at, text_at, paired_at, headed_at, made_at, tested_at, never_at, items_at, list_at, whole}
 use Rattle.world_plain.specs.Messages.{PlainMessage}
-use Rattle.model_value.specs.Plain.{PlainValue}
+use Rattle.model_value.specs.Plain.{PlainValue, nil}
+use Rattle.snapshot_codec.specs.Spelling.{is_nil}
 use Rattle.model_value.specs.Reading.{bounded_at}
 use Rattle.world_plain.specs.WorldCode.{world_of_parts}
 use Rattle.world_plain.specs.World.{ObjectRecord, WorldRecord}
@@ -59,7 +60,24 @@ rows_at counts =
     (paired_at (list_at (λ _. subscription_at))
     (list_at (λ _. message_at)))))
 
-unfoldable pub world_record_at : List ℕ → Decoder WorldRecord
-world_record_at counts =
-    made_at world_of_parts
-    (paired_at (bytes_at 32) (paired_at singles_at (paired_at faults_at (rows_at counts))))
+-- what a world has but for its saved value: the id, the single numbers, the counts of faults, and the lists
+abbrev pub Front : Type 0
+Front = List ℕ × ((ℕ × (ℕ × (ℕ × (ℕ × ℕ)))) × (List ℕ × WorldLists))
+
+unfoldable pub front_at : List ℕ → Decoder Front
+front_at counts = paired_at (bytes_at 32) (paired_at singles_at (paired_at faults_at (rows_at counts)))
+
+-- a value other than nil
+abbrev pub something_at : Decoder PlainValue
+something_at = tested_at (λ v. not (is_nil v)) bounded_at
+
+-- the saved value, by all bytes after the front: nil where there are none, and else another value
+unfoldable pub saved_in : List ℕ → Option PlainValue
+saved_in bytes = if length bytes == 0 then Some nil else whole something_at bytes
+
+abbrev pub world_of_front : Front → PlainValue → WorldRecord
+world_of_front p saved = world_of_parts (p.0, (p.1.0, (p.1.1.0, (p.1.1.1.0, (p.1.1.1.1.0, (p.1.1.1.1.1.0, (p.1.1.1.1.1.1.0, (p.1.1.1.1.1.1.1, saved))))))))
+
+-- the world that all of the bytes spell
+unfoldable pub world_in : List ℕ → List ℕ → Option WorldRecord
+world_in counts bytes = front_at counts bytes >>= λ x. saved_in x.1 >>= λ saved. Some (world_of_front x.0 saved)

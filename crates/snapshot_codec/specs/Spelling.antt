@@ -1,9 +1,10 @@
 -- The one spelling of a world. All numbers are big-endian.
-use Rattle.std.specs.Prelude.{ℕ, List, ◌∷◌, ◌++◌, length}
+use Rattle.std.specs.Prelude.{ℕ, Bool, true, false, if◌then◌else◌, List, [], ◌∷◌, ◌++◌, length}
 use Rattle.std.specs.List.{flat_map}
 use Rattle.std.specs.Int.{to_be_bytes, w16, w32, w64}
 use Rattle.world_plain.specs.Messages.{PlainMessage}
 use Rattle.byte_fields.specs.Fields.{list_of, text_field}
+use Rattle.model_value.specs.Plain.{PlainValue, nil, bool, int, text, ref, list}
 use Rattle.model_value.specs.Spelling.{value_spelling}
 use Rattle.world_plain.specs.World.{ObjectRecord, WorldRecord}
 use Rattle.world_plain.specs.declared.message.Subscription.{Subscription}
@@ -37,7 +38,23 @@ message_spelling m =
     ++ text_field m.method
     ++ length m.args ∷ flat_map value_spelling m.args
 
--- the counts of faults are 14, and have no count of their own
+abbrev pub is_nil : PlainValue → Bool
+is_nil nil = true
+is_nil (bool flag) = false
+is_nil (int number) = false
+is_nil (text characters) = false
+is_nil (ref object) = false
+is_nil (list items) = false
+
+-- nothing stands for nil
+abbrev pub saved_spelling : PlainValue → List ℕ
+saved_spelling v = if is_nil v then [] else value_spelling v
+
+-- what the persisted value adds to what the id of a session is the digest of: nothing for nil
+abbrev pub persisted_bytes : PlainValue → List ℕ
+persisted_bytes v = if is_nil v then [] else 0 ∷ value_spelling v
+
+-- the counts of faults are 14, and have no count of their own; the saved value is the last
 unfoldable pub world_spelling : WorldRecord → List ℕ
 world_spelling w =
     w.id
@@ -52,3 +69,4 @@ world_spelling w =
     ++ list_of known_spelling w.known
     ++ list_of subscription_spelling w.subscriptions
     ++ list_of message_spelling w.pending
+    ++ saved_spelling w.saved

@@ -1,7 +1,7 @@
 //! What is written is read.
 ghost use Rattle.std.specs.Prelude.{◌≡◌, ℕ, List, IfErr, IfOk};
 ghost use Rattle.model_solved.specs.Methods.{field_counts};
-ghost use Rattle.model_tree.specs.TreeView.{program_tree};
+ghost use Rattle.model_solved.specs.Founding.{checked_tree};
 ghost use Rattle.world_plain.specs.Valid.{Valid};
 ghost use Rattle.world_plain.specs.World.{WorldRecord, world_record};
 ghost use Rattle.snapshot_codec.specs.Answer.{IsWorld, snapshot_world};
@@ -16,7 +16,7 @@ use world_plain::PlainWorld;
 
 /// A world, written as a snapshot and read again. Fails for want of memory alone.
 pub fn again(alloc: Global, program: &Checked, world: &PlainWorld) -> Result<PlainWorld, SnapFault>
-    requires { Valid (field_counts (program_tree program.now)) (world_record world.now) }
+    requires { Valid (field_counts (checked_tree program.now)) (world_record world.now) }
     ensures same { IfOk result (λ read. world_record read ≡ world_record world.now) }
     ensures want { IfErr result (λ fault. fault ≡ SnapFault.WantOfMemory) }
 {

@@ -6,6 +6,7 @@ mod fault;
 mod laws;
 mod parts;
 mod reading;
+mod values;
 mod writing;
 
 pub use digests::{digest, session_id};

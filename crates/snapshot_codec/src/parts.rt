@@ -2,15 +2,16 @@
 ghost use Rattle.std.specs.Prelude.{◌≡◌, [], length, map, slice_get};
 ghost use Rattle.std.specs.Int.{w32};
 ghost use Rattle.std.specs.Option.{option_map};
-ghost use Rattle.byte_fields.specs.Fields.{Decodes, byte_at, bytes_at, number_at, headed_at, items_at, list_at, whole};
+ghost use Rattle.byte_fields.specs.Fields.{Decodes, byte_at, bytes_at, number_at, headed_at, items_at, list_at};
 ghost use Rattle.world_plain.specs.Messages.{plain_message};
-ghost use Rattle.model_value.specs.View.{plain_values};
+ghost use Rattle.model_value.specs.View.{plain, plain_values};
 ghost use Rattle.world_plain.specs.World.{object_record, world_record};
 ghost use Rattle.model_value.specs.declared.fault.ValueFault.TheVariants.{BadValue};
-ghost use Rattle.snapshot_codec.specs.Reading.{values_at, fields_at, object_record_at, known_at, subscription_at, message_at, singles_at, faults_at, rows_at, world_record_at};
+ghost use Rattle.snapshot_codec.specs.Reading.{values_at, fields_at, object_record_at, known_at, subscription_at, message_at, singles_at, faults_at, rows_at, something_at, saved_in, world_in};
 
+use crate::values::is_nil;
 use byte_fields::{bytes_at, u8_at, u16_at, u32_at, u64_at};
-use model_value::{ValueFault, Values, bounded_at, owned_text_at};
+use model_value::{Value, ValueFault, Values, bounded_at, owned_text_at};
 use std::alloc::Global;
 use tea_base::{List, Numbers, SessionId};
 use world_plain::{
@@ -20,31 +21,16 @@ use world_plain::{
 
 /// The world that all of the bytes spell, valid or not; of a class of the program each object has as many fields as that
 /// declares.
+#[tactic(auto, unfolding(crate::specs::Reading::world_in, crate::specs::Reading::front_at))]
 pub fn read_all(alloc: Global, counts: &[u32], bytes: &[u8]) -> Result<PlainWorld, ValueFault>
-    ensures { Decodes BadValue world_record result (whole (world_record_at counts.now) bytes.now) }
-{
-    let (world, rest) = world_at(alloc, counts, bytes)?;
-    if !rest.is_empty() {
-        return Err(ValueFault::BadValue);
-    }
-    Ok(world)
-}
-
-// Each reader below gives what its bytes begin with, and the bytes behind it.
-
-#[tactic(auto, unfolding(crate::specs::Reading::world_record_at))]
-fn world_at<'a>(
-    alloc: Global,
-    counts: &[u32],
-    bytes: &'a [u8],
-) -> Result<(PlainWorld, &'a [u8]), ValueFault>
-    ensures { Decodes BadValue (λ x. (world_record x.0, x.1.now)) result (world_record_at counts.now bytes.now) }
+    ensures { Decodes BadValue world_record result (world_in counts.now bytes.now) }
 {
     let (id, rest) = id_at(bytes).ok_or(ValueFault::BadValue)?;
     let (singles, rest) = singles_at(rest).ok_or(ValueFault::BadValue)?;
     let (faults, rest) = faults_at(rest).ok_or(ValueFault::BadValue)?;
     let (rows, rest) = rows_at(alloc, counts, rest)?;
-    let world = PlainWorld {
+    let saved = saved_in(alloc, rest)?;
+    Ok(PlainWorld {
         id,
         time: singles.time,
         next_object: singles.next_object,
@@ -57,8 +43,36 @@ fn world_at<'a>(
         known: rows.known,
         subscriptions: rows.subscriptions,
         pending: rows.pending,
-    };
-    Ok((world, rest))
+        saved,
+    })
+}
+
+/// The saved value that all of the bytes spell: nil where there are none, and else another value.
+#[tactic(auto, unfolding(crate::specs::Reading::saved_in))]
+fn saved_in(alloc: Global, bytes: &[u8]) -> Result<Value, ValueFault>
+    ensures { Decodes BadValue plain result (saved_in bytes.now) }
+{
+    if bytes.is_empty() {
+        return Ok(Value::Nil);
+    }
+    let (value, rest) = something_at(alloc, bytes)?;
+    if !rest.is_empty() {
+        return Err(ValueFault::BadValue);
+    }
+    Ok(value)
+}
+
+// Each reader below gives what its bytes begin with, and the bytes behind it.
+
+/// A value other than nil.
+fn something_at(alloc: Global, bytes: &[u8]) -> Result<(Value, &[u8]), ValueFault>
+    ensures { Decodes BadValue (λ x. (plain x.0, x.1.now)) result (something_at bytes.now) }
+{
+    let (value, rest) = bounded_at(alloc, bytes)?;
+    if is_nil(&value) {
+        return Err(ValueFault::BadValue);
+    }
+    Ok((value, rest))
 }
 
 /// The id of a session.

@@ -1,7 +1,7 @@
 //! Worlds of snapshots.
 ghost use Rattle.byte_fields.specs.Fields.{Decodes};
 ghost use Rattle.model_solved.specs.Methods.{field_counts};
-ghost use Rattle.model_tree.specs.TreeView.{program_tree};
+ghost use Rattle.model_solved.specs.Founding.{checked_tree};
 ghost use Rattle.world_plain.specs.World.{WorldRecord, world_record};
 ghost use Rattle.snapshot_codec.specs.Answer.{HasId, IsSnapshot, ReadsWorld, TellsOther, Unsnaps, snapshot_world};
 
@@ -26,11 +26,11 @@ pub fn unsnap(
     id: &SessionId,
     bytes: &[u8],
 ) -> Result<PlainWorld, SnapFault>
-    ensures answer { Unsnaps result (field_counts (program_tree program.now)) id.now.0 bytes.now }
+    ensures answer { Unsnaps result (field_counts (checked_tree program.now)) id.now.0 bytes.now }
     // The same by the world that the bytes spell.
-    ensures read { Decodes SnapFault.Bad world_record result (snapshot_world (field_counts (program_tree program.now)) id.now.0 bytes.now) }
+    ensures read { Decodes SnapFault.Bad world_record result (snapshot_world (field_counts (checked_tree program.now)) id.now.0 bytes.now) }
     // What is spelled so is read, unless memory runs out.
-    ensures only { (w : WorldRecord) → IsSnapshot (field_counts (program_tree program.now)) id.now.0 bytes.now w →
+    ensures only { (w : WorldRecord) → IsSnapshot (field_counts (checked_tree program.now)) id.now.0 bytes.now w →
         ReadsWorld result w }
 {
     read_session(alloc, program, id, bytes)
@@ -42,8 +42,8 @@ fn read_session(
     id: &SessionId,
     bytes: &[u8],
 ) -> Result<PlainWorld, SnapFault>
-    ensures answer { Unsnaps result (field_counts (program_tree program.now)) id.now.0 bytes.now }
-    ensures only { (w : WorldRecord) → IsSnapshot (field_counts (program_tree program.now)) id.now.0 bytes.now w →
+    ensures answer { Unsnaps result (field_counts (checked_tree program.now)) id.now.0 bytes.now }
+    ensures only { (w : WorldRecord) → IsSnapshot (field_counts (checked_tree program.now)) id.now.0 bytes.now w →
         ReadsWorld result w }
 {
     match other_session(id, bytes) {

@@ -5,17 +5,18 @@ ghost use Rattle.std.specs.List.{flat_map, AllByRecursion};
 ghost use Rattle.world_plain.specs.Messages.{plain_message};
 ghost use Rattle.model_value.specs.Spelling.{value_spelling, IsValue};
 ghost use Rattle.world_plain.specs.Valid.{most_arguments};
-ghost use Rattle.model_value.specs.View.{plain_values};
+ghost use Rattle.model_value.specs.View.{plain, plain_values};
 ghost use Rattle.world_plain.specs.World.{object_record, world_record, object_weight, message_weight, subscription_weight, known_weight, total_weight, most_world_weight};
 ghost use Rattle.model_value.specs.Plain.{values_weight};
+ghost use Rattle.saved_value.specs.Saving.{saved_weight};
 ghost use Rattle.snapshot_codec.specs.Answer.{IsKnown, IsMessage, IsObject, IsSubscription, IsWorld};
 ghost use Rattle.snapshot_codec.specs.Conditions.{IsValid, IsSmall, MessageHasFewArguments};
 ghost use Rattle.tea_base.specs.Limits.{most_snapshot};
 ghost use Rattle.byte_fields.specs.Fields.{list_of};
-ghost use Rattle.snapshot_codec.specs.Spelling.{object_spelling, known_spelling, subscription_spelling, message_spelling, world_spelling};
+ghost use Rattle.snapshot_codec.specs.Spelling.{object_spelling, known_spelling, subscription_spelling, message_spelling, saved_spelling, world_spelling};
 
 use byte_fields::Writer;
-use model_value::{Values, put_value};
+use model_value::{Value, Values, put_value};
 use std::alloc::Global;
 use tea_base::{Blob, WantOfMemory};
 use world_plain::{Known, Message, PlainObject, PlainWorld, Subscription};
@@ -35,6 +36,7 @@ use world_plain::{Known, Message, PlainObject, PlainWorld, Subscription};
 /// - the list of subscriptions: the scope and the event as texts, the object in 4 bytes, and the method as a text
 /// - the list of pending messages: the time in 8 bytes, the number in 8, the object in 4, the method as a text, how many
 ///   arguments there are in one byte, and these as values
+/// - the saved value, where it is not nil
 ///
 /// A text is how many bytes of UTF-8 (RFC 3629) it has, in 4 bytes, and these. A list is how many items it has, in 4
 /// bytes, and these. A value is spelled as [`encode`](model_value::encode) spells it.
@@ -72,7 +74,8 @@ pub(crate) fn put_world(out: &mut Writer, world: &PlainWorld) -> Result<(), Want
     put_objects(out, world.objects.as_slice())?;
     put_known_names(out, world.known.as_slice())?;
     put_subscriptions(out, world.subscriptions.as_slice())?;
-    put_messages(out, world.pending.as_slice())
+    put_messages(out, world.pending.as_slice())?;
+    put_saved(out, &world.saved)
 }
 
 fn put_id(out: &mut Writer, id: &[u8; 32]) -> Result<(), WantOfMemory>
@@ -80,6 +83,17 @@ fn put_id(out: &mut Writer, id: &[u8; 32]) -> Result<(), WantOfMemory>
     ensures bytes { length id.now ≡ 32 }
 {
     out.put_bytes(id)
+}
+
+fn put_saved(out: &mut Writer, saved: &Value) -> Result<(), WantOfMemory>
+    requires { saved_weight (plain saved.now) ≤ most_world_weight }
+    ensures spelled { OnOk result (out.new ≡ out.old ++ saved_spelling (plain saved.now)) }
+    ensures value { OnOk result (IsValue (plain saved.now)) }
+{
+    match saved {
+        Value::Nil => Ok(()),
+        _ => put_value(out, saved),
+    }
 }
 
 fn put_faults(out: &mut Writer, faults: &[u64; 14]) -> Result<(), WantOfMemory>

@@ -2,7 +2,7 @@
 use Rattle.std.proofs.Common.{ℕ, ◌≡◌, ◌≢◌, true, false, eqb, List, [], ◌∷◌, ◌++◌, Some, None, zero, suc, map, set, slice_get, take, refl, sym, ap, ◌∙◌, subst, arith}
 use Rattle.std.specs.List.{AllByRecursion}
 use Rattle.std.proofs.lemmas.Bool.Decides.{nat_tests}
-use Rattle.model_tree.specs.declared.tree.Class.{Class}
+use Rattle.model_solved.specs.Founding.{CheckedView}
 use Rattle.world_plain.specs.Messages.{PlainOutgoing}
 use Rattle.world_plain.specs.World.{WorldRecord}
 use Rattle.system_plain.specs.System.{Client, view_client, with_client}
@@ -81,13 +81,13 @@ miss : (a b : ℕ) → a ≢ b → eqb a b ≡ false
 miss a b far = grind (arith, nat_tests)
 
 -- a view that no member has is no client's
-pub client-absent : (classes : List Class) (id : List ℕ) (members : List Member) (view : ℕ) → AllByRecursion (IsMember classes id) members → IsNoneOf view (map member_view members) → view_client (clients_of members) view ≡ None
+pub client-absent : (classes : CheckedView) (id : List ℕ) (members : List Member) (view : ℕ) → AllByRecursion (IsMember classes id) members → IsNoneOf view (map member_view members) → view_client (clients_of members) view ≡ None
 client-absent classes id [] view each absent = refl
 client-absent classes id (first ∷ rest) view each absent =
     rw (miss first.replica.plain.view view (λ same. absent.0 (each.0.viewed ∙ same))) (client-absent classes id rest view each.1 absent.1)
 
 -- the member of a place is the client of its view
-pub client-found : (classes : List Class) (id : List ℕ) (members : List Member) (k : ℕ) (m : Member) → AllByRecursion (IsMember classes id) members → AreApart (map member_view members) → slice_get members k ≡ Some m
+pub client-found : (classes : CheckedView) (id : List ℕ) (members : List Member) (k : ℕ) (m : Member) → AllByRecursion (IsMember classes id) members → AreApart (map member_view members) → slice_get members k ≡ Some m
     → view_client (clients_of members) m.view ≡ Some (plain_client m)
 client-found classes id [] k m each apart at = absurd cc
 client-found classes id (first ∷ rest) zero m each apart at =
@@ -97,13 +97,13 @@ client-found classes id (first ∷ rest) (suc k) m each apart at =
     rw (miss first.replica.plain.view m.view (λ same. absent-at first.view rest k m apart.0 at (sym same ∙ sym each.0.viewed))) (client-found classes id rest k m each.1 apart.1 at)
 
 -- another client of a view that no member has changes nothing
-with-absent : (classes : List Class) (id : List ℕ) (members : List Member) (new : Client WorldRecord PlainOutgoing) → AllByRecursion (IsMember classes id) members → IsNoneOf new.replica.view (map member_view members) → with_client (clients_of members) new ≡ clients_of members
+with-absent : (classes : CheckedView) (id : List ℕ) (members : List Member) (new : Client WorldRecord PlainOutgoing) → AllByRecursion (IsMember classes id) members → IsNoneOf new.replica.view (map member_view members) → with_client (clients_of members) new ≡ clients_of members
 with-absent classes id [] new each absent = refl
 with-absent classes id (first ∷ rest) new each absent =
     rw (miss first.replica.plain.view new.replica.view (λ same. absent.0 (each.0.viewed ∙ same))) (ap (λ cs. plain_client first ∷ cs) (with-absent classes id rest new each.1 absent.1))
 
 -- another member in a place, of the same view, is another client of it
-pub client-changed : (classes : List Class) (id : List ℕ) (members : List Member) (k : ℕ) (m new : Member) → AllByRecursion (IsMember classes id) members → AreApart (map member_view members) → slice_get members k ≡ Some m → new.replica.plain.view ≡ m.view
+pub client-changed : (classes : CheckedView) (id : List ℕ) (members : List Member) (k : ℕ) (m new : Member) → AllByRecursion (IsMember classes id) members → AreApart (map member_view members) → slice_get members k ≡ Some m → new.replica.plain.view ≡ m.view
     → clients_of (set members k new) ≡ with_client (clients_of members) (plain_client new)
 client-changed classes id [] k m new each apart at same = absurd cc
 client-changed classes id (first ∷ rest) zero m new each apart at same =

@@ -2,7 +2,7 @@
 use Rattle.std.proofs.Common.{ℕ, ◌≡◌, ◌≢◌, ◌≤◌, ◌<◌, Bool, true, false, List, [], ◌∷◌, ◌++◌, Some, None, Ok, get_or, length, map, set, slice_get, refl, sym, ap, ◌∙◌, subst}
 use Rattle.std.specs.Arc.{arc_value}
 use Rattle.std.proofs.lemmas.Option.{get_or_from_slice_get, slice_get_past, slice_get_read}
-use Rattle.model_tree.specs.declared.tree.Class.{Class}
+use Rattle.model_solved.specs.Founding.{CheckedView}
 use Rattle.world_plain.specs.Messages.{PlainOutgoing}
 use Rattle.world_plain.specs.World.{WorldRecord}
 use Rattle.wire_frames.specs.declared.frame.ClientFrame.{ClientFrame}
@@ -93,7 +93,7 @@ lost-has old lost k view x sound placed read program name members =
 
 -- ---- Found
 
-pub found-made : (old new : Parts) (view newest : ℕ) (classes : List Class) (r after : ReplicaView) (frame : ClientFrame) (c : Connection) → IsSound old → IsTypedStep (Found view) → view ≢ 0 → IsNoneOf view (map member_view old.members.items)
+pub found-made : (old new : Parts) (view newest : ℕ) (classes : CheckedView) (r after : ReplicaView) (frame : ClientFrame) (c : Connection) → IsSound old → IsTypedStep (Found view) → view ≢ 0 → IsNoneOf view (map member_view old.members.items)
     → classes ≡ arc_value old.program → r ≡ founded_replica classes old.id.0 view → after ≡ with_plain r (joining r.plain Fresh) → frame ≡ join_frame (worlds_of r) r.plain Fresh → newest ≡ length old.connections.items → c ≡ connecting view frame
     → new.program ≡ old.program → new.id ≡ old.id → new.session.plain ≡ old.session.plain → new.members.items ≡ old.members.items ++ record { view = view; replica = after; newest = newest } ∷ [] → new.connections.items ≡ old.connections.items ++ c ∷ []
     → Takes old new (Found view)

@@ -2,9 +2,7 @@
 use Rattle.std.proofs.Common.{ℕ, ◌≡◌, ◌≢◌, Bool, true, false, cond, List, [], ◌∷◌, ◌++◌, Some, None, length, map, set, slice_get, refl, sym, ap, ◌∙◌, subst}
 use Rattle.std.specs.Arc.{arc_value}
 use Rattle.std.specs.List.{AllByRecursion}
-use Rattle.model_tree.specs.declared.tree.Class.{Class}
-use Rattle.model_tree.specs.Program.{IsProgram}
-use Rattle.model_tree.specs.TreeView.{program_tree}
+use Rattle.model_solved.specs.Founding.{CheckedView, founding_of, IsFounding}
 use Rattle.world_plain.specs.Messages.{PlainOutgoing}
 use Rattle.world_plain.specs.World.{WorldRecord}
 use Rattle.wire_frames.specs.declared.frame.ServerFrame.{ServerFrame}
@@ -33,7 +31,7 @@ use Rattle.system_core.proofs.TurnSteps.{pump_step, take_step, with_turn}
 abbrev pub member_with : Member → PlainReplica WorldRecord PlainOutgoing → ℕ → Member
 member_with m plain newest = record { view = m.view; replica = with_plain m.replica plain; newest = newest }
 
-pub is-member-with : (classes : List Class) (name : List ℕ) (m : Member) (plain : PlainReplica WorldRecord PlainOutgoing) (newest : ℕ) → IsMember classes name m → plain.view ≡ m.replica.plain.view → plain.broken ≡ false
+pub is-member-with : (classes : CheckedView) (name : List ℕ) (m : Member) (plain : PlainReplica WorldRecord PlainOutgoing) (newest : ℕ) → IsMember classes name m → plain.view ≡ m.replica.plain.view → plain.broken ≡ false
     → IsMember classes name (member_with m plain newest)
 is-member-with classes name m plain newest is same whole = record { program = is.program; session = is.session; viewed = is.viewed ∙ sym same; whole = whole }
 
@@ -41,10 +39,10 @@ pub member-at : (p : Parts) (k : ℕ) (m : Member) → IsSound p → slice_get p
 member-at p k m sound at = all-at (IsMember (arc_value p.program) p.id.0) p.members.items k m sound.members at
 
 -- the member's worlds are those of the parts
-pub worlds-at : (p : Parts) (k : ℕ) (m : Member) → IsSound p → slice_get p.members.items k ≡ Some m → worlds (program_tree m.replica.program) m.replica.id ≡ part_worlds p
+pub worlds-at : (p : Parts) (k : ℕ) (m : Member) → IsSound p → slice_get p.members.items k ≡ Some m → worlds (founding_of m.replica.program) m.replica.id ≡ part_worlds p
 worlds-at p k m sound at =
     let is = member-at p k m sound at in
-    ap (λ classes. worlds (program_tree classes) m.replica.id) is.program ∙ ap (worlds (program_tree (arc_value p.program))) is.session
+    ap (λ classes. worlds (founding_of classes) m.replica.id) is.program ∙ ap (worlds (founding_of (arc_value p.program))) is.session
 
 pub found-at : (p : Parts) (k view : ℕ) (m : Member) → IsSound p → slice_get p.members.items k ≡ Some m → m.view ≡ view → view_client (plain_system p).clients view ≡ Some (plain_client m)
 found-at p k view m sound at same =
@@ -59,7 +57,7 @@ absent-in p view sound absent = client-absent (arc_value p.program) p.id.0 p.mem
 stays-sound : (old new : Parts) (members : List Member) → IsSound old → new.program ≡ old.program → new.id ≡ old.id → new.members.items ≡ members
     → AllByRecursion (IsMember (arc_value old.program) old.id.0) members → AreApart (map member_view members) → IsSound new
 stays-sound old new members sound program name are each apart = record {
-  faultless = subst (λ held. IsProgram (program_tree (arc_value held))) (sym program) sound.faultless;
+  founded = subst (λ held. IsFounding (founding_of (arc_value held))) (sym program) sound.founded;
   members =
       subst (λ held. AllByRecursion (IsMember (arc_value held) new.id.0) new.members.items) (sym program)
       (subst (λ id. AllByRecursion (IsMember (arc_value old.program) id.0) new.members.items) (sym name)

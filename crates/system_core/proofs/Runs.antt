@@ -2,8 +2,7 @@
 use Rattle.std.proofs.Common.{ℕ, ◌≡◌, false, List, [], ◌∷◌, ◌++◌, Some, zero, suc, take, slice_get, refl, sym, ap, ◌∙◌, subst}
 use Rattle.tea_base.specs.declared.entry.Entry.{Entry}
 use Rattle.tea_base.specs.Legal.{IsLegal}
-use Rattle.model_tree.specs.declared.tree.Class.{Class}
-use Rattle.model_tree.specs.TreeView.{program_tree}
+use Rattle.model_solved.specs.Founding.{CheckedView, founding_of}
 use Rattle.world.specs.Worlds.{replay}
 use Rattle.replica_plain.specs.Worlds.{AreWorlds, replay_world}
 use Rattle.replica_plain.specs.Following.{IsHonestBase}
@@ -20,17 +19,17 @@ use Rattle.system_core.specs.Systems.{IsStep, SystemView, after_steps, first_vie
 -- ---- a run
 
 -- the system is what these steps make of the first one, and they are a schedule
-pub record HasRun (classes : List Class) (name : List ℕ) (steps : List SystemStep) (s : SystemView) : Type 0 where
+pub record HasRun (classes : CheckedView) (name : List ℕ) (steps : List SystemStep) (s : SystemView) : Type 0 where
   pub fold : s ≡ after_steps (first_view classes name) steps
-  pub schedule : IsSchedule (worlds (program_tree classes) name) steps
+  pub schedule : IsSchedule (worlds (founding_of classes) name) steps
 
-pub has-run-none : (classes : List Class) (name : List ℕ) → AreWorlds (worlds (program_tree classes) name) → HasRun classes name [] (first_view classes name)
+pub has-run-none : (classes : CheckedView) (name : List ℕ) → AreWorlds (worlds (founding_of classes) name) → HasRun classes name [] (first_view classes name)
 has-run-none classes name stand = record { fold = refl; schedule = record { worlds = stand; typed = tt; spelled = tt } }
 
-pub has-run-next : (classes : List Class) (name : List ℕ) (steps : List SystemStep) (step : SystemStep) (s new : SystemView) → HasRun classes name steps s
+pub has-run-next : (classes : CheckedView) (name : List ℕ) (steps : List SystemStep) (step : SystemStep) (s new : SystemView) → HasRun classes name steps s
     → IsStep s new step → HasRun classes name (steps ++ step ∷ []) new
 has-run-next classes name steps step s new run is =
-    let m = worlds (program_tree classes) name in
+    let m = worlds (founding_of classes) name in
     record {
       fold =
           is.plain ∙ ap (λ (old : SystemView). let x : SystemView = record old { plain = after_step (system_worlds old) old.plain step } in x) run.fold
@@ -38,7 +37,7 @@ has-run-next classes name steps step s new run is =
       schedule = schedule_grows m steps step run.schedule is.typed (subst (λ (old : SystemView). SpellsWorld (system_worlds old) old.plain step) run.fold is.spelled);
     }
 
-pub not-spoilt : (classes : List Class) (name : List ℕ) (steps : List SystemStep) (s : SystemView) → HasRun classes name steps s → s.spoilt ≡ false
+pub not-spoilt : (classes : CheckedView) (name : List ℕ) (steps : List SystemStep) (s : SystemView) → HasRun classes name steps s → s.spoilt ≡ false
 not-spoilt classes name steps s run = ap (λ (x : SystemView). x.spoilt) run.fold
 
 -- ---- the promises
@@ -53,11 +52,11 @@ pub record Keeps (steps : List SystemStep) (s : SystemView) : Type 0 where
   pub acknowledged : AreAcknowledged s
   pub calm : HaveNoSurprise (system_worlds s) steps
 
-keeps-first : (classes : List Class) (name : List ℕ) (steps : List SystemStep) → IsSchedule (worlds (program_tree classes) name) steps
-    → ((log : List Entry) (t : ℕ) → (replay (program_tree classes) name log t).world ≡ replay_world (worlds (program_tree classes) name) log t)
+keeps-first : (classes : CheckedView) (name : List ℕ) (steps : List SystemStep) → IsSchedule (worlds (founding_of classes) name) steps
+    → ((log : List Entry) (t : ℕ) → (replay (founding_of classes) name log t).world ≡ replay_world (worlds (founding_of classes) name) log t)
     → Keeps steps (after_steps (first_view classes name) steps)
 keeps-first classes name steps is replays =
-    let m = worlds (program_tree classes) name in
+    let m = worlds (founding_of classes) name in
     record {
       legal = (sound_after m steps is).legal;
       follow = record {
@@ -71,8 +70,8 @@ keeps-first classes name steps is replays =
       calm = record { faults = schedule_expected m steps is; replies = schedule_agrees m steps is };
     }
 
-pub keeps-all : (classes : List Class) (name : List ℕ) (steps : List SystemStep) (s : SystemView) → HasRun classes name steps s
-    → ((log : List Entry) (t : ℕ) → (replay (program_tree classes) name log t).world ≡ replay_world (worlds (program_tree classes) name) log t)
+pub keeps-all : (classes : CheckedView) (name : List ℕ) (steps : List SystemStep) (s : SystemView) → HasRun classes name steps s
+    → ((log : List Entry) (t : ℕ) → (replay (founding_of classes) name log t).world ≡ replay_world (worlds (founding_of classes) name) log t)
     → Keeps steps s
 keeps-all classes name steps s run replays = subst (Keeps steps) (sym run.fold) (keeps-first classes name steps run.schedule replays)
 

@@ -2,9 +2,7 @@
 use Rattle.std.specs.Prelude.{◌≡◌, ◌≢◌, ℕ, false, List, [], ◌∷◌, ◌++◌, length, map, set, slice_get, Option, Some, None, Result, Err, ⊤}
 use Rattle.std.specs.Arc.{arc_value}
 use Rattle.std.specs.List.{AllByRecursion}
-use Rattle.model_tree.specs.declared.tree.Class.{Class}
-use Rattle.model_tree.specs.Program.{IsProgram}
-use Rattle.model_tree.specs.TreeView.{program_tree}
+use Rattle.model_solved.specs.Founding.{CheckedView, founding_of, IsFounding}
 use Rattle.world_plain.specs.Messages.{PlainOutgoing}
 use Rattle.world_plain.specs.World.{WorldRecord}
 use Rattle.replica_plain.specs.Worlds.{Worlds}
@@ -44,7 +42,7 @@ IsMemberPlace None members view = IsNoneOf view (map member_view members)
 IsMemberPlace (Some place) members view = (m : Member) × (slice_get members place ≡ Some m) × (m.view ≡ view)
 
 -- its replica is of this program and session and of its view, and is not broken
-pub record IsMember (classes : List Class) (id : List ℕ) (m : Member) : Type 0 where
+pub record IsMember (classes : CheckedView) (id : List ℕ) (m : Member) : Type 0 where
   pub program : m.replica.program ≡ classes
   pub session : m.replica.id ≡ id
   pub viewed : m.view ≡ m.replica.plain.view
@@ -53,13 +51,13 @@ pub record IsMember (classes : List Class) (id : List ℕ) (m : Member) : Type 0
 -- ---- the whole
 
 abbrev pub part_worlds : Parts → Worlds WorldRecord PlainOutgoing
-part_worlds p = worlds (program_tree (arc_value p.program)) p.id.0
+part_worlds p = worlds (founding_of (arc_value p.program)) p.id.0
 
 abbrev pub plain_system : Parts → System WorldRecord PlainOutgoing
 plain_system p = record { session = p.session.plain; clients = map plain_client p.members.items; connections = p.connections.items }
 
 pub record IsSound (p : Parts) : Type 0 where
-  pub faultless : IsProgram (program_tree (arc_value p.program))
+  pub founded : IsFounding (founding_of (arc_value p.program))
   pub members : AllByRecursion (IsMember (arc_value p.program) p.id.0) p.members.items
   pub apart : AreApart (map member_view p.members.items)
 

@@ -1,6 +1,6 @@
 -- What is promised of a system after a schedule.
 use Rattle.std.specs.Prelude.{◌≡◌, ◌≤◌, ℕ, true, List, Some, All}
-use Rattle.model_tree.specs.TreeView.{program_tree}
+use Rattle.model_solved.specs.Founding.{founding_of}
 use Rattle.world_plain.specs.Messages.{PlainOutgoing}
 use Rattle.world_plain.specs.World.{WorldRecord}
 use Rattle.world.specs.Worlds.{replay}
@@ -22,7 +22,7 @@ IsClient s view client = view_client s.plain.clients view ≡ Some client
 pub record ReplicasFollow (s : SystemView) : Type 0 where
   pub follow : (view : ℕ) (client : Client WorldRecord PlainOutgoing) → IsClient s view client → FollowsLog (system_worlds s) s.plain.session.log client.replica
   pub replay : (view : ℕ) (client : Client WorldRecord PlainOutgoing) → IsClient s view client → is_at_rest client.replica.world ≡ true
-      → client.replica.world ≡ (replay (program_tree s.program) s.id s.plain.session.log client.replica.world.time).world
+      → client.replica.world ≡ (replay (founding_of s.program) s.id s.plain.session.log client.replica.world.time).world
 
 -- Two replicas of one time that are at rest have equal snapshot bytes.
 abbrev pub EqualSnapshots : SystemView → Type 0

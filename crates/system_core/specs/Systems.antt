@@ -1,8 +1,7 @@
 -- A system as contracts see it, and what a step makes of it.
 use Rattle.std.specs.Prelude.{◌≡◌, ℕ, Bool, true, false, ⊤, List, Option, Some, None, Result, Ok, Err}
 use Rattle.std.specs.Arc.{arc_value}
-use Rattle.model_tree.specs.declared.tree.Class.{Class}
-use Rattle.model_tree.specs.TreeView.{program_tree}
+use Rattle.model_solved.specs.Founding.{CheckedView, founding_of}
 use Rattle.world_plain.specs.Messages.{PlainOutgoing}
 use Rattle.world_plain.specs.World.{WorldRecord}
 use Rattle.replica_plain.specs.Worlds.{Worlds}
@@ -18,20 +17,20 @@ use Rattle.system_core.specs.Parts.{plain_system}
 
 -- of which program and session it is; what it holds, which is not known of a spoilt one
 pub record SystemView : Type 0 where
-  pub program : List Class
+  pub program : CheckedView
   pub id : List ℕ
   pub plain : System WorldRecord PlainOutgoing
   pub spoilt : Bool
 
 -- the worlds of its program and its session
 abbrev pub system_worlds : SystemView → Worlds WorldRecord PlainOutgoing
-system_worlds s = worlds (program_tree s.program) s.id
+system_worlds s = worlds (founding_of s.program) s.id
 
 abbrev pub system_view : Parts → Bool → SystemView
 system_view p spoilt = record { program = arc_value p.program; id = p.id.0; plain = plain_system p; spoilt = spoilt }
 
 -- an empty session, without a view and without a connection
-abbrev pub first_view : List Class → List ℕ → SystemView
+abbrev pub first_view : CheckedView → List ℕ → SystemView
 first_view program id = record { program = program; id = id; plain = first_system; spoilt = false }
 
 -- the system after these steps

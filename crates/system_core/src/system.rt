@@ -2,8 +2,7 @@
 ghost use Rattle.std.specs.Prelude.{◌≡◌, false, IfOk};
 ghost use Rattle.std.specs.Arc.{arc_value};
 ghost use Rattle.std.specs.Option.{option_copied};
-ghost use Rattle.model_tree.specs.Program.{IsProgram};
-ghost use Rattle.model_tree.specs.TreeView.{program_tree};
+ghost use Rattle.model_solved.specs.Founding.{founding_of, IsFounding};
 ghost use Rattle.system_core.specs.Schedules.{IsInBounds, plain_system_step};
 ghost use Rattle.system_core.specs.Systems.{IsReplicaOf, Steps, first_view};
 
@@ -31,6 +30,7 @@ impl Model for System {
     ghost use Rattle.std.specs.Coded.{codes};
     ghost use Rattle.std.specs.Prelude.{◌≡◌, false};
     ghost use Rattle.model_tree.specs.contracts.tree.Stmt as stmt;
+    ghost use Rattle.model_solved.specs.Founding.{coded_checked};
     ghost use Rattle.world_plain.specs.Messages.{coded_outgoing};
     ghost use Rattle.world_plain.specs.WorldCode.{coded_world};
     ghost use Rattle.system_core.specs.Parts.{IsSound};
@@ -38,7 +38,7 @@ impl Model for System {
 
     ghost Value = { SystemView };
 
-    ghost coded = { Prim.hlevel (codes, stmt.the_row.coded, coded_world, coded_outgoing) };
+    ghost coded = { Prim.hlevel (codes, coded_checked (Prim.hlevel (codes, stmt.the_row.coded)), coded_world, coded_outgoing) };
 
     ghost view = { λ s. system_view s.parts s.spoilt };
 
@@ -47,9 +47,10 @@ impl Model for System {
 
 /// Tells what is so of every program that was checked.
 pub(crate) fn tell_program(program: &Arc<Checked, Global>)
-    ensures { IsProgram (program_tree (arc_value program.now)) }
+    ensures { IsFounding (founding_of (arc_value program.now)) }
 {
     let _classes = program.program().classes();
+    let _persisted = program.persisted();
 }
 
 impl System {

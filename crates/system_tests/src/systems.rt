@@ -114,8 +114,10 @@ fn snapshot_of_view(system: &System, view: u32) -> Option<Blob> {
 
 /// The snapshot of a world.
 fn snapshot_of(alloc: Global, world: &World) -> Option<Blob> {
-    let plain = world.to_plain().ok()?;
-    snapshot(alloc, &plain).ok()
+    match world.to_plain() {
+        Ok(plain) => snapshot(alloc, &plain).ok(),
+        Err(_) => None,
+    }
 }
 
 /// The world takes an entry, if it is not later than a time.

@@ -14,8 +14,7 @@ use Rattle.wire_frames.specs.Reading.{server_at}
 use Rattle.wire_frames.specs.Spelling.{server_spelling}
 use Rattle.wire_frames.specs.declared.frame.ServerFrame.{ServerFrame}
 use Rattle.wire_frames.proofs.ServerCodec.{server_codec}
-use Rattle.model_tree.specs.Program.{IsProgram}
-use Rattle.model_tree.specs.Tree.{ProgramTree}
+use Rattle.model_solved.specs.Founding.{Founding, IsFounding}
 use Rattle.replica.specs.RealWorlds.{worlds}
 use Rattle.replica_plain.specs.Following.{IsHonestBase}
 use Rattle.replica_plain.specs.PlainReplica.{new_replica}
@@ -39,7 +38,7 @@ use Rattle.view_shell.specs.Viewers.{first_phase}
 use Rattle.view_follows.specs.BothEnds.{IsLinkBetween}
 use Rattle.view_follows.specs.Links.{BeginsHonestly, IsServedBy, LinkTalk, links_in}
 use Rattle.view_follows.specs.Offers.{IsOfFollower}
-use Rattle.view_follows.specs.Sessions.{BeginInOrder, BeginsBefore, ComeTo, ComesTo, IsAmong, IsLinkTo, IsOfView, IsViewOf, SessionView, frames_heard}
+use Rattle.view_follows.specs.Sessions.{BeginInOrder, BeginsBefore, ComeTo, ComesTo, IsAmong, IsLinkTo, IsLinkOfView, IsViewOf, SessionView, frames_heard}
 use Rattle.view_follows.specs.ViewsReplay.{IsServedVisit}
 use Rattle.view_follows.proofs.Lists.{all_both, all_contains, all_front, all_so}
 use Rattle.view_follows.proofs.Meeting.{links_meet}
@@ -106,11 +105,11 @@ split_at connections history (link ∷ links) (first ∷ ends) (suc k) end withi
       order = (all_contains (BeginsBefore history first) ends (Some end) order.0 (k, below, is), rest.order);
     }
 
-module _ {L : Type 0} (gives : ℕ → Type 0) (id : SessionId) (links : LinksTell L) (tree : ProgramTree) (connections : List (ServedConnection L)) (history : List Item) (views : List (SessionView L))
-    (laws : AreWorlds (worlds tree id.0)) (legal : IsLegal (play history).log) (sound : IsSoundThrough first_session history) (talks : IsHistoryOf gives id links connections history)
-    (walked : AllByRecursion (IsViewOf tree id.0 connections history) views) (all : AllByRecursion (IsOfView views) connections) where
+module _ {L : Type 0} (gives : ℕ → Type 0) (id : SessionId) (links : LinksTell L) (founding : Founding) (connections : List (ServedConnection L)) (history : List Item) (views : List (SessionView L))
+    (laws : AreWorlds (worlds founding id.0)) (legal : IsLegal (play history).log) (sound : IsSoundThrough first_session history) (talks : IsHistoryOf gives id links connections history)
+    (walked : AllByRecursion (IsViewOf founding id.0 connections history) views) (all : AllByRecursion (IsLinkOfView views) connections) where
   abbrev m : RealWorlds
-  m = worlds tree id.0
+  m = worlds founding id.0
 
   abbrev log : List Entry
   log = (play history).log
@@ -165,13 +164,13 @@ module _ {L : Type 0} (gives : ℕ → Type 0) (id : SessionId) (links : LinksTe
   view_knows v = record { same = refl; its = refl; follows = first_world_follows m log (new_replica m v.view) laws legal refl refl refl }
 
   -- what was heard on a connection of a view
-  heard_follows : (n : ℕ) → KeptUntil n → (one : ServedConnection L) (v : SessionView L) → IsViewOf tree id.0 connections history v → EndSplit connections history (links_in v.steps) one → HasTalk gives id links history one → CallsBy n one.caller
+  heard_follows : (n : ℕ) → KeptUntil n → (one : ServedConnection L) (v : SessionView L) → IsViewOf founding id.0 connections history v → EndSplit connections history (links_in v.steps) one → HasTalk gives id links history one → CallsBy n one.caller
       → AllByRecursion (IsGoodFrame Follower) (frames_heard one.heard)
   heard_follows n kept one v its split has calls =
       let begins = all_so (λ (front : Option (ServedConnection L)). BeginsBefore history front (Some one)) (BeginsBy n) (λ end first. begins_by n one end calls first) split.fronts split.order in
       let before = ends_serve n kept split.before split.fronts split.come split.known begins in
       let served = connection_serves n kept split.link one split.comes.between has calls in
-      let sent = link_follows m laws log legal v.view (first_phase tree id.0 v.view v.address v.lines) v.steps v.last split.before split.link split.after (view_knows v) its.walks split.is before served in
+      let sent = link_follows m laws log legal v.view (first_phase founding id.0 v.view v.address v.lines) v.steps v.last split.before split.link split.after (view_knows v) its.walks split.is before served in
       comes_good Follower (frames_heard one.heard) split.link.sent split.comes.sent sent
 
   offers_follow : (one : ServedConnection L) → HasTalk gives id links history one → AllByRecursion (IsGoodFrame Follower) (frames_heard one.heard) → AllByRecursion (IsGoodExchange Follower) (exchanges_in history one.caller)
@@ -183,13 +182,13 @@ module _ {L : Type 0} (gives : ℕ → Type 0) (id : SessionId) (links : LinksTe
   offer_is_honest n kept before behind caller view joined time bytes is few =
       let asked : Request = Offer view joined time bytes in
       let found =
-      find_caller (λ (one : ServedConnection L). HasTalk gives id links history one × IsOfView views one) connections caller (is_called (callers_of connections) history before behind (Did caller asked) talks.whole is)
-      (all_both (HasTalk gives id links history) (IsOfView views) connections talks.talks all) in
+      find_caller (λ (one : ServedConnection L). HasTalk gives id links history one × IsLinkOfView views one) connections caller (is_called (callers_of connections) history before behind (Did caller asked) talks.whole is)
+      (all_both (HasTalk gives id links history) (IsLinkOfView views) connections talks.talks all) in
       let one = found.0 in
       let has = found.2.0 in
       let v = found.2.1.0 in
       let end = found.2.1.2 in
-      let its = all_contains (IsViewOf tree id.0 connections history) views v walked found.2.1.1 in
+      let its = all_contains (IsViewOf founding id.0 connections history) views v walked found.2.1.1 in
       let split = split_at connections history (links_in v.steps) v.ends end.0 one end.1 end.2 its.links its.known its.order in
       let own : before ++ Did one.caller asked ∷ behind ≡ history = subst (λ (c : ℕ). before ++ Did c asked ∷ behind ≡ history) found.1 is in
       let calls : CallsBy n one.caller = λ front back same none. let early = is_earlier one.caller asked front back before behind (same ∙ sym own) none in omega (arith, early, few) in
@@ -244,7 +243,7 @@ module _ {L : Type 0} (gives : ℕ → Type 0) (id : SessionId) (links : LinksTe
   all_begin (None ∷ ends) = (tt, all_begin ends)
   all_begin (Some one ∷ ends) = (λ front back is none. within front back is, all_begin ends)
 
-  pub view_is_served : (v : SessionView L) → IsViewOf tree id.0 connections history v → IsProgram tree → IsServedVisit tree id.0 v.view v.address v.lines log v.steps v.last
+  pub view_is_served : (v : SessionView L) → IsViewOf founding id.0 connections history v → IsFounding founding → IsServedVisit founding id.0 v.view v.address v.lines log v.steps v.last
   view_is_served v its program = record {
     program = program;
     legal = legal;

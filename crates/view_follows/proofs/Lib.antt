@@ -7,3 +7,7 @@ pub mod Meeting
 pub mod Openings
 pub mod Places
 pub mod Keeping
+pub mod Numbers
+pub mod Heard
+pub mod Answering
+pub mod Endings

@@ -9,7 +9,7 @@ use Rattle.world_plain.specs.Messages.{PlainOutgoing}
 use Rattle.world_plain.specs.World.{WorldRecord}
 use Rattle.replica_plain.specs.Worlds.{Worlds}
 use Rattle.connection.specs.TalkServed.{IsTalkServed, frames_of}
-use Rattle.view_follows.specs.Links.{BeginsHonestly, IsServedBy, LinkTalk, first_of}
+use Rattle.view_follows.specs.Links.{BeginsHonestly, IsServedBy, LinkTalk, first_bytes}
 
 -- What came to the view is a first part of what the reflector sent, and what the reflector heard is a first part of what the view sent:
 -- a cut may lose the end of each.
@@ -20,7 +20,7 @@ pub record IsLinkBetween (link : LinkTalk) (heard : List Heard) (sent : List (Li
   pub read : link.heard ≡ map (whole server_at) came
   pub more : List (Option ClientFrame)
   pub unheard : List (Option ClientFrame)
-  pub first : whole client_at (first_of link.sent) ∷ more ≡ frames_of heard ++ unheard
+  pub first : whole client_at (first_bytes link.sent) ∷ more ≡ frames_of heard ++ unheard
 
 -- so what a log serves at the reflector's end it serves at the view's
 abbrev pub LinksMeet : Type 0

@@ -4,3 +4,4 @@ pub mod Offers
 pub mod ViewsReplay
 pub mod Sessions
 pub mod SessionsReplay
+pub mod Answered

@@ -42,9 +42,9 @@ sent_in (Connects address ∷ rest) = []
 sent_in (step ∷ rest) = sent_in rest
 
 -- the bytes that were sent first
-abbrev pub first_of : List (List ℕ) → List ℕ
-first_of [] = []
-first_of (bytes ∷ rest) = bytes
+abbrev pub first_bytes : List (List ℕ) → List ℕ
+first_bytes [] = []
+first_bytes (bytes ∷ rest) = bytes
 
 -- the links that steps make, in their order
 abbrev pub links_in : List Step → List LinkTalk
@@ -62,5 +62,5 @@ pub record IsServedBy {W O : Type 0} (m : Worlds W O) (log : List Entry) (link :
   pub given : List (Option ClientFrame)
   pub frames : List ServerFrame
   pub heard : map Some frames ≡ link.heard
-  pub served : Served log (whole client_at (first_of link.sent) ∷ given) frames
+  pub served : Served log (whole client_at (first_bytes link.sent) ∷ given) frames
   pub honest : BeginsHonestly m log frames

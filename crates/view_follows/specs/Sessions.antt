@@ -6,8 +6,7 @@ use Rattle.tea_io.specs.declared.link.Heard.{Heard}
 use Rattle.tea_io.specs.declared.link.Heard.TheVariants.{Frame}
 use Rattle.wire_frames.specs.Spelling.{client_spelling}
 use Rattle.wire_frames.specs.declared.frame.ClientFrame.TheVariants as client
-use Rattle.model_tree.specs.Program.{IsProgram}
-use Rattle.model_tree.specs.Tree.{ProgramTree}
+use Rattle.model_solved.specs.Founding.{Founding, IsFounding}
 use Rattle.reflector_core.specs.PlainSession.{PlainSession}
 use Rattle.session_lock.specs.declared.knowledge.Item.{Item}
 use Rattle.session_lock.specs.History.{calls_of}
@@ -82,21 +81,21 @@ IsAmong connections None = Unit {0}
 IsAmong connections (Some one) = Contains connections one
 
 -- It walked as views do, each of its links came to one of the connections or to none, and these made their first calls in the order of the links.
-pub record IsViewOf {L : Type 0} (tree : ProgramTree) (id : List ℕ) (connections : List (ServedConnection L)) (history : List Item) (v : SessionView L) : Type 0 where
-  pub walks : Walks (first_phase tree id v.view v.address v.lines) v.steps v.last
+pub record IsViewOf {L : Type 0} (founding : Founding) (id : List ℕ) (connections : List (ServedConnection L)) (history : List Item) (v : SessionView L) : Type 0 where
+  pub walks : Walks (first_phase founding id v.view v.address v.lines) v.steps v.last
   pub links : ComeTo (links_in v.steps) v.ends
   pub known : AllByRecursion (IsAmong connections) v.ends
   pub order : BeginInOrder history v.ends
 
 -- the connection is that of a link of one of the views
-abbrev pub IsOfView : {L : Type 0} → List (SessionView L) → ServedConnection L → Type 0
-IsOfView {L = L} views one = (v : SessionView L) × Contains views v × Contains v.ends (Some one)
+abbrev pub IsLinkOfView : {L : Type 0} → List (SessionView L) → ServedConnection L → Type 0
+IsLinkOfView {L = L} views one = (v : SessionView L) × Contains views v × Contains v.ends (Some one)
 
 -- a session that was reflected to these connections, each of which is that of a view
-pub record IsViewSession (gives : ℕ → Type 0) (id : SessionId) {L : Type 0} (links : LinksTell L) (tree : ProgramTree) (connections : List (ServedConnection L)) (history : List Item)
+pub record IsViewSession (gives : ℕ → Type 0) (id : SessionId) {L : Type 0} (links : LinksTell L) (founding : Founding) (connections : List (ServedConnection L)) (history : List Item)
     (session : PlainSession) (views : List (SessionView L)) : Type 0 where
-  pub program : IsProgram tree
+  pub program : IsFounding founding
   pub talks : IsHistoryOf gives id links connections history
   pub plays : Plays history session
-  pub each : AllByRecursion (IsViewOf tree id.0 connections history) views
-  pub all : AllByRecursion (IsOfView views) connections
+  pub each : AllByRecursion (IsViewOf founding id.0 connections history) views
+  pub all : AllByRecursion (IsLinkOfView views) connections

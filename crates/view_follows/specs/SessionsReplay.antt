@@ -2,7 +2,7 @@
 use Rattle.std.specs.Prelude.{◌≡◌, ◌++◌, ℕ, List}
 use Rattle.std.specs.List.{AllByRecursion}
 use Rattle.tea_base.specs.declared.entry.SessionId.{SessionId}
-use Rattle.model_tree.specs.Tree.{ProgramTree}
+use Rattle.model_solved.specs.Founding.{Founding}
 use Rattle.reflector_core.specs.PlainSession.{PlainSession}
 use Rattle.session_lock.specs.declared.knowledge.Item.{Item}
 use Rattle.session_lock.specs.History.{play}
@@ -16,19 +16,19 @@ use Rattle.view_follows.specs.Sessions.{IsViewSession, SessionView}
 use Rattle.view_follows.specs.ViewsReplay.{EndsInReplay, IsServedVisit}
 
 -- a law of each such session
-abbrev pub OfViewSessions : (ℕ → Type 0) → {L : Type 0} → LinksTell L → (ProgramTree → SessionId → List Item → PlainSession → List (SessionView L) → Type 0) → Type 0
+abbrev pub OfViewSessions : (ℕ → Type 0) → {L : Type 0} → LinksTell L → (Founding → SessionId → List Item → PlainSession → List (SessionView L) → Type 0) → Type 0
 OfViewSessions gives {L = L} links Law =
-    (tree : ProgramTree) (id : SessionId) (connections : List (ServedConnection L)) (history : List Item) (session : PlainSession) (views : List (SessionView L))
-    → IsViewSession gives id links tree connections history session views → Law tree id history session views
+    (founding : Founding) (id : SessionId) (connections : List (ServedConnection L)) (history : List Item) (session : PlainSession) (views : List (SessionView L))
+    → IsViewSession gives id links founding connections history session views → Law founding id history session views
 
 -- each snapshot that was kept, at whatever place of the history, is of a world that follows the log
-abbrev pub KeepsHonest : {L : Type 0} → ProgramTree → SessionId → List Item → PlainSession → List (SessionView L) → Type 0
-KeepsHonest tree id history session views = (front back : List Item) → front ++ back ≡ history → IsHonestBase (worlds tree id.0) session.log (play front).kept
+abbrev pub KeepsHonest : {L : Type 0} → Founding → SessionId → List Item → PlainSession → List (SessionView L) → Type 0
+KeepsHonest founding id history session views = (front back : List Item) → front ++ back ≡ history → IsHonestBase (worlds founding id.0) session.log (play front).kept
 
 -- the log serves each link of each view, and a base that it serves is honest
-abbrev pub ServesViews : {L : Type 0} → ProgramTree → SessionId → List Item → PlainSession → List (SessionView L) → Type 0
-ServesViews tree id history session views = AllByRecursion (λ v. IsServedVisit tree id.0 v.view v.address v.lines session.log v.steps v.last) views
+abbrev pub ServesViews : {L : Type 0} → Founding → SessionId → List Item → PlainSession → List (SessionView L) → Type 0
+ServesViews founding id history session views = AllByRecursion (λ v. IsServedVisit founding id.0 v.view v.address v.lines session.log v.steps v.last) views
 
 -- each view that is done printed last the line of the replay of the log
-abbrev pub EndsViews : {L : Type 0} → ProgramTree → SessionId → List Item → PlainSession → List (SessionView L) → Type 0
-EndsViews tree id history session views = AllByRecursion (λ v. v.last ≡ Over ending.Done → EndsInReplay tree id.0 v.view session.log v.steps) views
+abbrev pub EndsViews : {L : Type 0} → Founding → SessionId → List Item → PlainSession → List (SessionView L) → Type 0
+EndsViews founding id history session views = AllByRecursion (λ v. v.last ≡ Over ending.Done → EndsInReplay founding id.0 v.view session.log v.steps) views

@@ -4,8 +4,7 @@ use Rattle.std.specs.List.{AllByRecursion}
 use Rattle.tea_base.specs.Legal.{IsLegal}
 use Rattle.tea_base.specs.Readings.{count_until}
 use Rattle.tea_base.specs.declared.entry.Entry.{Entry}
-use Rattle.model_tree.specs.Program.{IsProgram}
-use Rattle.model_tree.specs.Tree.{ProgramTree}
+use Rattle.model_solved.specs.Founding.{Founding, IsFounding}
 use Rattle.world_plain.specs.Messages.{PlainOutgoing}
 use Rattle.world_plain.specs.World.{WorldRecord}
 use Rattle.world.specs.Worlds.{replay}
@@ -23,49 +22,49 @@ use Rattle.view_follows.specs.Offers.{OffersFollow}
 
 -- The line is that of a replica of this view that follows the log, so that its seq is the number of entries up to its time. Its world is
 -- the replay of the log to that time, and so its digest that of the replay.
-pub record IsReplayLine (tree : ProgramTree) (id : List ℕ) (view : ℕ) (log : List Entry) (line : List ℕ) : Type 0 where
+pub record IsReplayLine (founding : Founding) (id : List ℕ) (view : ℕ) (log : List Entry) (line : List ℕ) : Type 0 where
   pub replica : PlainReplica WorldRecord PlainOutgoing
   pub own : replica.view ≡ view
-  pub follows : FollowsLog (worlds tree id) log replica
-  pub replayed : replica.world ≡ (replay tree id log replica.world.time).world
+  pub follows : FollowsLog (worlds founding id) log replica
+  pub replayed : replica.world ≡ (replay founding id log replica.world.time).world
   pub told : line ≡ view_line replica
 
 -- the same in plain words: the line of a replica that has the replay of the log to a time, and has seen the entries until then
-abbrev pub replayed : ProgramTree → List ℕ → ℕ → List Entry → ℕ → PlainReplica WorldRecord PlainOutgoing
-replayed tree id view log t = record (new_replica (worlds tree id) view) { world = (replay tree id log t).world; seen = count_until log t }
+abbrev pub replayed : Founding → List ℕ → ℕ → List Entry → ℕ → PlainReplica WorldRecord PlainOutgoing
+replayed founding id view log t = record (new_replica (worlds founding id) view) { world = (replay founding id log t).world; seen = count_until log t }
 
 -- the line is the one that a replay of the log prints, at some time
-pub record TellsReplayOf (tree : ProgramTree) (id : List ℕ) (view : ℕ) (log : List Entry) (line : List ℕ) : Type 0 where
+pub record TellsReplayOf (founding : Founding) (id : List ℕ) (view : ℕ) (log : List Entry) (line : List ℕ) : Type 0 where
   pub time : ℕ
-  pub timed : (replay tree id log time).world.time ≡ time
-  pub told : line ≡ view_line (replayed tree id view log time)
+  pub timed : (replay founding id log time).world.time ≡ time
+  pub told : line ≡ view_line (replayed founding id view log time)
 
 -- the text that was printed last is such a line, of a replica of this view that follows the log
-pub record EndsInReplay (tree : ProgramTree) (id : List ℕ) (view : ℕ) (log : List Entry) (steps : List Step) : Type 0 where
+pub record EndsInReplay (founding : Founding) (id : List ℕ) (view : ℕ) (log : List Entry) (steps : List Step) : Type 0 where
   pub front : List Step
   pub line : List ℕ
   pub last : steps ≡ front ++ Prints line ∷ []
-  pub replayed : IsReplayLine tree id view log line
-  pub tells : TellsReplayOf tree id view log line
+  pub replayed : IsReplayLine founding id view log line
+  pub tells : TellsReplayOf founding id view log line
 
 -- a view, a script, a legal log and steps that lead to this phase, where the log serves each link
-pub record IsServedVisit (tree : ProgramTree) (id : List ℕ) (view : ℕ) (address : List ℕ) (lines : List PlainLine) (log : List Entry) (steps : List Step) (last : Phase) : Type 0 where
-  pub program : IsProgram tree
+pub record IsServedVisit (founding : Founding) (id : List ℕ) (view : ℕ) (address : List ℕ) (lines : List PlainLine) (log : List Entry) (steps : List Step) (last : Phase) : Type 0 where
+  pub program : IsFounding founding
   pub legal : IsLegal log
-  pub walks : Walks (first_phase tree id view address lines) steps last
-  pub serves : AllByRecursion (IsServedBy (worlds tree id) log) (links_in steps)
+  pub walks : Walks (first_phase founding id view address lines) steps last
+  pub serves : AllByRecursion (IsServedBy (worlds founding id) log) (links_in steps)
 
 -- whoever comes to his last line is told the replay
 abbrev pub ViewsReplay : Type 0
-ViewsReplay = (tree : ProgramTree) (id : List ℕ) (view : ℕ) (address : List ℕ) (lines : List PlainLine) (log : List Entry) (steps : List Step) (line : List ℕ)
-    → IsServedVisit tree id view address lines log steps (PrintingLast line) → IsReplayLine tree id view log line × TellsReplayOf tree id view log line
+ViewsReplay = (founding : Founding) (id : List ℕ) (view : ℕ) (address : List ℕ) (lines : List PlainLine) (log : List Entry) (steps : List Step) (line : List ℕ)
+    → IsServedVisit founding id view address lines log steps (PrintingLast line) → IsReplayLine founding id view log line × TellsReplayOf founding id view log line
 
 -- and so is whoever is done
 abbrev pub VisitsEndInReplay : Type 0
-VisitsEndInReplay = (tree : ProgramTree) (id : List ℕ) (view : ℕ) (address : List ℕ) (lines : List PlainLine) (log : List Entry) (steps : List Step)
-    → IsServedVisit tree id view address lines log steps (Over ending.Done) → EndsInReplay tree id view log steps
+VisitsEndInReplay = (founding : Founding) (id : List ℕ) (view : ℕ) (address : List ℕ) (lines : List PlainLine) (log : List Entry) (steps : List Step)
+    → IsServedVisit founding id view address lines log steps (Over ending.Done) → EndsInReplay founding id view log steps
 
 -- each snapshot that it offers, in whatever phase it is, is of a replica that follows the log
 abbrev pub VisitsOfferFollowers : Type 0
-VisitsOfferFollowers = (tree : ProgramTree) (id : List ℕ) (view : ℕ) (address : List ℕ) (lines : List PlainLine) (log : List Entry) (steps : List Step) (last : Phase)
-    → IsServedVisit tree id view address lines log steps last → OffersFollow (worlds tree id) log steps
+VisitsOfferFollowers = (founding : Founding) (id : List ℕ) (view : ℕ) (address : List ℕ) (lines : List PlainLine) (log : List Entry) (steps : List Step) (last : Phase)
+    → IsServedVisit founding id view address lines log steps last → OffersFollow (worlds founding id) log steps

@@ -1,5 +1,6 @@
 //! The last line of a view is the replay of the log.
 ghost use Rattle.run_steps.specs.Outside.{links_tell};
+ghost use Rattle.view_follows.specs.Answered.{AnsweredVisitsHaveNoFault, VisitsEndByRefusals, VisitsEndWithLinks};
 ghost use Rattle.view_follows.specs.BothEnds.{LinksMeet};
 ghost use Rattle.view_follows.specs.SessionsReplay.{EndsViews, KeepsHonest, OfViewSessions, ServesViews};
 ghost use Rattle.view_follows.specs.ViewsReplay.{ViewsReplay, VisitsEndInReplay, VisitsOfferFollowers};
@@ -18,6 +19,19 @@ pub fn views_replay()
 {
     worlds_stand();
     worlds_replay();
+}
+
+/// Which links keep a view from an end that is not its script's.
+///
+/// It does not end with `Peer` where one legal log answered its links with honest bases, each frame only after that which it answers, and
+/// each SYNC that came counted at least the events that were acknowledged and at most those that were published. It does not end with `Ended`
+/// where no link said that it has ended, or was quiet 6,000 times in a row; nor with `Refused` where nothing was refused but a snapshot.
+pub fn ends_are_caused()
+    ensures peer { AnsweredVisitsHaveNoFault }
+    ensures ended { VisitsEndWithLinks }
+    ensures refused { VisitsEndByRefusals }
+{
+    worlds_stand();
 }
 
 /// A link that a log serves at the reflector's end is served by it at the view's, also where a cut lost the end of what went either way.

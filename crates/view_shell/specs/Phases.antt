@@ -244,7 +244,7 @@ Hearing v aim heard.Quiet next = next ≡ quiet (heard_quiet v) aim
 Hearing v aim heard.End next = next ≡ Over ending.Ended
 Hearing v aim what next = ⊥
 
--- a snapshot that is sent is read again as the view's world
+-- A snapshot that is sent is read again as the view's world. So what is offered can be read off the steps.
 abbrev pub IsReadAsWorld : Viewer → ClientFrame → Type 0
 IsReadAsWorld v (client.Snap time bytes) = v.worlds.unsnap bytes ≡ Some v.replica.world
 IsReadAsWorld v frame = Unit {0}

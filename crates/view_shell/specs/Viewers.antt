@@ -1,6 +1,6 @@
 -- What contracts see of a view while it runs.
 use Rattle.std.specs.Prelude.{◌≡◌, ◌≤◌, ◌<◌, ℕ, ◌+◌, drop, length, List, []}
-use Rattle.model_tree.specs.Tree.{ProgramTree}
+use Rattle.model_solved.specs.Founding.{Founding}
 use Rattle.replica_plain.specs.declared.how.How.TheVariants.{Fresh}
 use Rattle.replica_plain.specs.PlainReplica.{new_replica, published_count}
 use Rattle.replica.specs.RealWorlds.{worlds}
@@ -26,14 +26,14 @@ viewer address w lines =
     }
 
 -- a view that has done nothing yet
-abbrev pub first_viewer : ProgramTree → List ℕ → ℕ → List ℕ → List PlainLine → Viewer
-first_viewer tree id view address lines =
-    let m = worlds tree id in
+abbrev pub first_viewer : Founding → List ℕ → ℕ → List ℕ → List PlainLine → Viewer
+first_viewer founding id view address lines =
+    let m = worlds founding id in
     record { worlds = m; address = address; replica = new_replica m view; topics = []; lines = lines; receives = 0; quiets = 0 }
 
 -- it connects, and joins for the first time
-abbrev pub first_phase : ProgramTree → List ℕ → ℕ → List ℕ → List PlainLine → Phase
-first_phase tree id view address lines = Connecting (first_viewer tree id view address lines) Fresh
+abbrev pub first_phase : Founding → List ℕ → ℕ → List ℕ → List PlainLine → Phase
+first_phase founding id view address lines = Connecting (first_viewer founding id view address lines) Fresh
 
 -- the events that were published and those that its script has yet to publish are no more than a view may publish
 abbrev pub HasRoomFor : Watcher → List PlainLine → Type 0

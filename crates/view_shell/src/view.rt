@@ -2,7 +2,7 @@
 ghost use Rattle.std.specs.Prelude.{◌≡◌, ◌<◌, ℕ, List, [], None, Some, IfOk, OnOk, MatchResult};
 ghost use Rattle.std.specs.Arc.{arc_value};
 ghost use Rattle.std.specs.List.{AllByRecursion};
-ghost use Rattle.model_tree.specs.TreeView.{program_tree};
+ghost use Rattle.model_solved.specs.Founding.{founding_of};
 ghost use Rattle.run_steps.specs.Outside.{Acts, booth, booth_tells, links_tell, net_tells, output_tells, window, window_tells};
 ghost use Rattle.view_script.specs.PlainLine.{LineFits, PlainLine, plain_lines};
 ghost use Rattle.view_shell.specs.Phases.{Connecting, ToJoin, enter_session, run};
@@ -208,7 +208,7 @@ pub fn run_view<R: Wait, N: Net, W: Sink>(
     ensures ran { ViewRan
         (booth_tells (output_tells W.written W.faults W.wants) (net_tells N.coming N.over N.asked N.faults N.lent N.link_counts)
         (links_tell N.Conn.coming N.Conn.heard N.Conn.sent N.Conn.counts))
-        (first_phase (program_tree (arc_value visit.now.program)) visit.now.id.0 visit.now.view visit.now.address (plain_lines visit.now.script))
+        (first_phase (founding_of (arc_value visit.now.program)) visit.now.id.0 visit.now.view visit.now.address (plain_lines visit.now.script))
         result (booth out.old net.old None) (booth out.new net.new None) }
 {
     let Ok(program) = visit.program.clone() else {

@@ -12,7 +12,7 @@ use Rattle.model_tree.specs.Tree.{Name, ProgramTree}
 use Rattle.world_state.specs.declared.fault.Fault.TheVariants.{Full}
 use Rattle.world_state.specs.Running.{Outcome, Gives, Faults, most_open}
 use Rattle.model_eval.specs.Meaning.{starts}
-use Rattle.model_eval.specs.Publishing.{tell_handlers}
+use Rattle.model_eval.specs.Publishing.{Notice, tell_handlers, view_notice}
 use Rattle.world.specs.Worlds.{Scene, scene_with_world, with_fault, with_next_turn, with_full_budget, scene_of_outcome, after_method, due, after_message, on_due, enough, advance_within, advance, after_telling, session_scope, view_join, view_exit, after_telling_of, is_view_here, with_view, without_view, after_join, after_exit, after_event, after_entry, external, replay_from, take_up}
 use Rattle.world.proofs.Advancing.{opened}
 use Rattle.world.proofs.Silent.{bare_end, starts-silent, told-silent}
@@ -67,13 +67,13 @@ advance-by_world program t s = advance_within-by_world program (enough t s.world
 
 -- ---- entries
 
-informed-by_world : (program : ProgramTree) (scope event : Name) (v : PlainValue) → IsByWorld (after_telling program scope event v)
-informed-by_world program scope event v s =
-    ended-alike (tell_handlers (starts program most_open) scope event v (with_full_budget s)) (tell_handlers (starts program most_open) scope event v (with_full_budget (take_up s.world)))
-    (told-silent (starts program most_open) (starts-silent program most_open) scope event v (with_full_budget s))
+informed-by_world : (program : ProgramTree) (scope event : Name) (t : Notice) → IsByWorld (after_telling program scope event t)
+informed-by_world program scope event t s =
+    ended-alike (tell_handlers program (starts program most_open) scope event t (with_full_budget s)) (tell_handlers program (starts program most_open) scope event t (with_full_budget (take_up s.world)))
+    (told-silent program (starts program most_open) (starts-silent program most_open) scope event t (with_full_budget s))
 
 told_of-by_world : (program : ProgramTree) (event : Name) (view : ℕ) → IsByWorld (after_telling_of program event view)
-told_of-by_world program event view s = informed-by_world program (session_scope s.world) event (int (pos view)) s
+told_of-by_world program event view s = informed-by_world program (session_scope s.world) event (view_notice view (int (pos view))) s
 
 came-by_world : (program : ProgramTree) (view : ℕ) → IsByWorld (after_join program view)
 came-by_world program view s =
@@ -91,14 +91,14 @@ went-by_world program view s =
     either-by_world (is_view_here view w.views) (λ u. after_telling_of program view_exit view (scene_with_world u left)) (λ u. u) s
     (told_of-by_world program view_exit view (scene_with_world s left)) refl
 
-heard-by_world : (program : ProgramTree) (read : Option PlainPayload) → IsByWorld (after_event program read)
-heard-by_world program None s = refl
-heard-by_world program (Some p) s = informed-by_world program p.scope p.event p.value s
+heard-by_world : (program : ProgramTree) (view : ℕ) (read : Option PlainPayload) → IsByWorld (after_event program view read)
+heard-by_world program view None s = refl
+heard-by_world program view (Some p) s = informed-by_world program p.scope p.event (view_notice view p.value) s
 
 entered-by_world : (program : ProgramTree) (what : What) (view : ℕ) → IsByWorld (after_entry program what view)
 entered-by_world program Join view s = came-by_world program view s
 entered-by_world program Exit view s = went-by_world program view s
-entered-by_world program (Event number payload) view s = heard-by_world program (whole_payload payload) s
+entered-by_world program (Event number payload) view s = heard-by_world program view (whole_payload payload) s
 
 -- what an entry does once the world has advanced to its time
 abbrev pub arrived : ProgramTree → Entry → Scene → Scene

@@ -11,6 +11,7 @@ use Rattle.model_value.specs.Plain.{int}
 use Rattle.model_value.specs.Payload.{PlainPayload, whole_payload}
 use Rattle.model_value.proofs.PayloadCodec.{payload_of-in_bounds}
 use Rattle.model_tree.specs.Tree.{Name, ProgramTree}
+use Rattle.model_eval.specs.Publishing.{view_notice}
 use Rattle.model_eval.proofs.ValidLaws.{valid-beside}
 use Rattle.model_eval.proofs.ValueBounds.{int-in_bounds}
 use Rattle.world_state.specs.declared.fault.Fault.TheVariants.{Full}
@@ -46,7 +47,7 @@ length-with view [] = refl
 length-with view (x ∷ xs) = length_if (nat_lt view x) view x xs (with_view view xs) (length-with view xs)
 
 told_of-valid : (counts : List ℕ) (program : ProgramTree) (event : Name) (view : ℕ) (s : Scene) → Fits counts program → Valid counts s.world → Valid counts (after_telling_of program event view s).world
-told_of-valid counts program event view s fits v = informed-valid counts program (session_scope s.world) event (int (pos view)) s fits (int-in_bounds (pos view)) v
+told_of-valid counts program event view s fits v = informed-valid counts program (session_scope s.world) event (view_notice view (int (pos view))) s fits (int-in_bounds (pos view)) v
 
 came_if : (counts : List ℕ) (program : ProgramTree) (none here few : Bool) (view : ℕ) (s : Scene) → Fits counts program → none ≡ nat_eq view 0 → here ≡ is_view_here view s.world.views → few ≡ nat_lt (length s.world.views) most_here → Valid counts s.world
     → Valid counts (if none || here then s else (if few then after_telling_of program view_join view (scene_with_world s (record (s.world) { views = with_view view s.world.views })) else scene_with_world s (with_fault Full s.world))).world
@@ -99,14 +100,14 @@ went-valid counts program view s fits v = went_if counts program (is_view_here v
 
 -- ---- an event
 
-heard_by : (counts : List ℕ) (program : ProgramTree) (bytes : List ℕ) (read : Option PlainPayload) (s : Scene) → Fits counts program → whole_payload bytes ≡ read → Valid counts s.world → Valid counts (after_event program read s).world
-heard_by counts program bytes None s fits e v = with_count-valid counts bad_event s.world v
-heard_by counts program bytes (Some p) s fits e v = informed-valid counts program p.scope p.event p.value s fits (payload_of-in_bounds bytes p e) v
+heard_by : (counts : List ℕ) (program : ProgramTree) (view : ℕ) (bytes : List ℕ) (read : Option PlainPayload) (s : Scene) → Fits counts program → whole_payload bytes ≡ read → Valid counts s.world → Valid counts (after_event program view read s).world
+heard_by counts program view bytes None s fits e v = with_count-valid counts bad_event s.world v
+heard_by counts program view bytes (Some p) s fits e v = informed-valid counts program p.scope p.event (view_notice view p.value) s fits (payload_of-in_bounds bytes p e) v
 
 pub entered-valid : (counts : List ℕ) (program : ProgramTree) (what : What) (view : ℕ) (s : Scene) → Fits counts program → Valid counts s.world → Valid counts (after_entry program what view s).world
 entered-valid counts program Join view s fits v = came-valid counts program view s fits v
 entered-valid counts program Exit view s fits v = went-valid counts program view s fits v
-entered-valid counts program (Event number payload) view s fits v = heard_by counts program payload (whole_payload payload) s fits refl v
+entered-valid counts program (Event number payload) view s fits v = heard_by counts program view payload (whole_payload payload) s fits refl v
 
 pub external-valid : (counts : List ℕ) (program : ProgramTree) (e : Entry) (s : Scene) → Fits counts program → e.time < time_limit → Valid counts s.world → Valid counts (external program e s).world
 external-valid counts program e s fits below v =

@@ -3,16 +3,19 @@ use Rattle.std.proofs.Common.{◌≡◌, ℕ, zero, suc, ◌+◌, ◌≤◌, Boo
 use Rattle.std.specs.Prelude.{slice_get, bytes_eq, is_some, encode_utf8_all}
 use Rattle.std.proofs.lemmas.Bool.{le-leb}
 use Rattle.std.proofs.lemmas.Option.{none-some, same_Some, slice_get-map}
-use Rattle.model_value.specs.Plain.{nil, values_weight, AllInBounds}
+use Rattle.model_value.specs.Plain.{PlainValue, nil, bool, int, text, ref, list, values_weight, most_weight, AllInBounds}
+use Rattle.saved_value.specs.Saving.{CanBeSaved, saved_weight}
 use Rattle.world_plain.specs.World.{object_weight, world_weight, most_world_weight}
 use Rattle.world_plain.specs.Valid.{Valid}
 use Rattle.model_tree.specs.Tree.{ClassTree, ProgramTree, root_name}
 use Rattle.model_tree.specs.Bounds.{most_members, ClassesFit}
 use Rattle.model_solved.specs.Methods.{method_named}
 use Rattle.world_state.specs.Objects.{new_object, has_room_for, with_object}
+use Rattle.model_eval.specs.Arguments.{takes_two}
 use Rattle.model_eval.proofs.FieldBounds.{nil-in_bounds}
+use Rattle.model_eval.proofs.ValueBounds.{one_or_both-in_bounds}
 use Rattle.model_eval.proofs.ValidLaws.{valid-object, valid-known}
-use Rattle.world.specs.Worlds.{Scene, empty_world, with_next_turn, with_root, root_from, field_counts, first_with, first_scene, after_method, init, model_root}
+use Rattle.world.specs.Worlds.{Scene, Founding, init_arguments, empty_world, with_next_turn, with_root, root_from, field_counts, first_with, first_scene, after_method, init, model_root}
 use Rattle.world.proofs.Running.{Fits, ran-keeps}
 
 pub nils-fit : (n : ℕ) → AllInBounds (replicate n nil)
@@ -27,9 +30,17 @@ pub name-bytes : length (encode_utf8_all model_root) ≡ 9
 unfolding lib.Utf8.encode
 name-bytes = refl
 
--- a world with nothing in it
-empty-valid : (counts : List ℕ) (id : List ℕ) → Valid counts (with_next_turn (empty_world id))
-empty-valid counts id = record {
+saved-light : (v : PlainValue) → CanBeSaved v → saved_weight v ≤ most_weight
+saved-light nil fit = omega arith
+saved-light (bool flag) fit = fit.0.0
+saved-light (int number) fit = fit.0.0
+saved-light (text characters) fit = fit.0.0
+saved-light (ref object) fit = fit.0.0
+saved-light (list items) fit = fit.0.0
+
+-- a world with nothing in it but a saved value
+empty-valid : (counts : List ℕ) (persisted : PlainValue) (id : List ℕ) → CanBeSaved persisted → Valid counts (with_next_turn (empty_world persisted id))
+empty-valid counts persisted id fit = record {
   clock = record {
     time_fits = omega arith;
     turns_fit = omega arith;
@@ -59,18 +70,20 @@ empty-valid counts id = record {
     fit = tt;
     few = omega arith;
   };
-  weight = omega arith;
+  saved = fit;
+  weight = omega (arith, saved-light persisted fit);
 }
 
 -- the root is a new object, which is known by its name
-pub rooted-valid : (counts : List ℕ) (number : ℕ) (class : ClassTree) (id : List ℕ) → slice_get counts number ≡ Some (length class.fields) → length class.fields ≤ most_members → Valid counts (with_root number class (with_next_turn (empty_world id)))
-rooted-valid counts number class id at few =
+pub rooted-valid : (counts : List ℕ) (number : ℕ) (class : ClassTree) (persisted : PlainValue) (id : List ℕ) → CanBeSaved persisted → slice_get counts number ≡ Some (length class.fields) → length class.fields ≤ most_members → Valid counts (with_root number class (with_next_turn (empty_world persisted id)))
+rooted-valid counts number class persisted id fit at few =
+    let light = saved-light persisted fit in
     let n = length class.fields in
-    let w = with_next_turn (empty_world id) in
+    let w = with_next_turn (empty_world persisted id) in
     let o = new_object number n w in
-    let room : has_room_for w o ≡ true = le-leb (world_weight w + object_weight o) most_world_weight (omega (arith, nils-weight n, few)) in
-    valid-known counts model_root 1 (with_object w o) (omega (arith, name-bytes)) (o, refl) (omega (arith, nils-weight n, few, name-bytes))
-    (valid-object counts number n w at room (empty-valid counts id))
+    let room : has_room_for w o ≡ true = le-leb (world_weight w + object_weight o) most_world_weight (omega (arith, nils-weight n, few, light)) in
+    valid-known counts model_root 1 (with_object w o) (omega (arith, name-bytes)) (o, refl) (omega (arith, nils-weight n, few, name-bytes, light))
+    (valid-object counts number n w at room (empty-valid counts persisted id fit))
 
 -- ---- the class Root
 
@@ -93,23 +106,29 @@ few_fields j [] d fit h = absurd (none-some d h)
 few_fields zero (c ∷ cs) d fit h = subst (λ (k : ClassTree). length k.fields ≤ most_members) (same_Some c d h) fit.0.0
 few_fields (suc j) (c ∷ cs) d fit h = few_fields j cs d fit.1 h
 
-root-valid : (program : ProgramTree) (id : List ℕ) (n : ℕ) (c : ClassTree) → Fits (field_counts program) program → root_from 0 program ≡ Some (n, c) → Valid (field_counts program) (with_root n c (with_next_turn (empty_world id)))
-root-valid program id n c fits h =
+root-valid : (founding : Founding) (id : List ℕ) (n : ℕ) (c : ClassTree) → CanBeSaved founding.persisted → Fits (field_counts founding.tree) founding.tree → root_from 0 founding.tree ≡ Some (n, c)
+    → Valid (field_counts founding.tree) (with_root n c (with_next_turn (empty_world founding.persisted id)))
+root-valid founding id n c fit fits h =
+    let program = founding.tree in
     let f = root_found 0 n c program h in
     let place : n ≡ 0 + f.0 = f.1 in
     let same : n ≡ f.0 = omega (arith, place) in
     let at : slice_get program n ≡ Some c = rw same f.2 in
     let counted : slice_get (field_counts program) n ≡ Some (length c.fields) = slice_get-map (λ (k : ClassTree). length k.fields) program n ∙ rw at refl in
-    rooted-valid (field_counts program) n c id counted (few_fields n program c fits.classes at)
+    rooted-valid (field_counts program) n c founding.persisted id fit counted (few_fields n program c fits.classes at)
 
-initialised_if : (has : Bool) (program : ProgramTree) (s : Scene) → Fits (field_counts program) program → Valid (field_counts program) s.world → Valid (field_counts program) (if has then after_method program 1 init (nil ∷ []) s else s).world
-initialised_if true program s fits v = (ran-keeps (field_counts program) program 1 init (nil ∷ []) s fits).valid (v, (nil-in_bounds, tt))
-initialised_if false program s fits v = v
+initialised_if : (has : Bool) (program : ProgramTree) (args : List PlainValue) (s : Scene) → Fits (field_counts program) program → AllInBounds args → Valid (field_counts program) s.world
+    → Valid (field_counts program) (if has then after_method program 1 init args s else s).world
+initialised_if true program args s fits bounds v = (ran-keeps (field_counts program) program 1 init args s fits).valid (v, bounds)
+initialised_if false program args s fits bounds v = v
 
-first_by : (program : ProgramTree) (id : List ℕ) (root : Option (ℕ × ClassTree)) → root_from 0 program ≡ root → Fits (field_counts program) program → Valid (field_counts program) (first_with program root (with_next_turn (empty_world id))).world
-first_by program id None e fits = empty-valid (field_counts program) id
-first_by program id (Some r) e fits =
-    initialised_if (is_some (method_named init r.1.methods)) program (record { world = with_root r.0 r.1 (with_next_turn (empty_world id)); published = [] }) fits (root-valid program id r.0 r.1 fits e)
+first_by : (founding : Founding) (id : List ℕ) (root : Option (ℕ × ClassTree)) → root_from 0 founding.tree ≡ root → CanBeSaved founding.persisted → Fits (field_counts founding.tree) founding.tree
+    → Valid (field_counts founding.tree) (first_with founding root (with_next_turn (empty_world founding.persisted id))).world
+first_by founding id None e fit fits = empty-valid (field_counts founding.tree) founding.persisted id fit
+first_by founding id (Some r) e fit fits =
+    let named = method_named init r.1.methods in
+    initialised_if (is_some named) founding.tree (init_arguments founding.persisted r.1) (record { world = with_root r.0 r.1 (with_next_turn (empty_world founding.persisted id)); published = [] }) fits
+    (one_or_both-in_bounds (takes_two named) nil founding.persisted nil-in_bounds fit.0) (root-valid founding id r.0 r.1 fit fits e)
 
-pub first-valid : (program : ProgramTree) (id : List ℕ) → Fits (field_counts program) program → Valid (field_counts program) (first_scene program id).world
-first-valid program id fits = first_by program id (root_from 0 program) refl fits
+pub first-valid : (founding : Founding) (id : List ℕ) → CanBeSaved founding.persisted → Fits (field_counts founding.tree) founding.tree → Valid (field_counts founding.tree) (first_scene founding id).world
+first-valid founding id fit fits = first_by founding id (root_from 0 founding.tree) refl fit fits

@@ -8,7 +8,7 @@ use Rattle.world_plain.specs.World.{WorldRecord}
 use Rattle.world_plain.specs.Valid.{Valid}
 use Rattle.tea_base.specs.Limits.{time_limit}
 use Rattle.model_tree.specs.Tree.{ProgramTree}
-use Rattle.world.specs.Worlds.{Scene, advance, first_scene, external, replay_from, replay, take_up, entries_behind, replay_on, Follows}
+use Rattle.world.specs.Worlds.{Scene, Founding, advance, first_scene, external, replay_from, replay, take_up, entries_behind, replay_on, Follows}
 use Rattle.world.proofs.Running.{Fits}
 use Rattle.world.proofs.Advancing.{advance-twice}
 use Rattle.world.proofs.Entries.{external-valid}
@@ -85,7 +85,7 @@ module _ (counts : List ℕ) (program : ProgramTree) (s t : ℕ) (fits : Fits co
   followed low (e ∷ es) a r rise va vr meet =
       step (nat_le e.time s) e es a r refl rise.1 va vr meet (λ u valid same. followed e.time es a u rise.1 va valid same)
 
-pub follows-on : (counts : List ℕ) (program : ProgramTree) (w : WorldRecord) (entries : List Entry) (t : ℕ) → Fits counts program → Valid counts w → Valid counts (first_scene program w.id).world → IsLegal entries
-    → w.time ≤ t → t < time_limit → Follows program w entries → (replay_on program w entries t).world ≡ (replay program w.id entries t).world
-follows-on counts program w entries t fits v begins legal le below follows =
-    followed counts program w.time t fits le below 0 entries (take_up w) (first_scene program w.id) (TimesRise-legal entries legal) v begins follows
+pub follows-on : (counts : List ℕ) (founding : Founding) (w : WorldRecord) (entries : List Entry) (t : ℕ) → Fits counts founding.tree → Valid counts w → Valid counts (first_scene founding w.id).world → IsLegal entries
+    → w.time ≤ t → t < time_limit → Follows founding w entries → (replay_on founding.tree w entries t).world ≡ (replay founding w.id entries t).world
+follows-on counts founding w entries t fits v begins legal le below follows =
+    followed counts founding.tree w.time t fits le below 0 entries (take_up w) (first_scene founding w.id) (TimesRise-legal entries legal) v begins follows

@@ -2,6 +2,7 @@
 use Rattle.std.proofs.Common.{◌≡◌, ℕ, ◌+◌, ◌<◌, ◌≤◌, inl, inr, Bool, true, false, if◌then◌else◌, nat_lt, nat_le, List, [], ◌∷◌, length, Some, None, refl, sym, ap, ◌∙◌, subst, arith}
 use Rattle.std.proofs.lemmas.Bool.{leb-true, leb-false, lt-leb}
 use Rattle.std.proofs.lemmas.Option.{none-some, same_Some}
+use Rattle.saved_value.specs.Saving.{saved_weight}
 use Rattle.world_plain.specs.Messages.{PlainMessage}
 use Rattle.world_plain.specs.World.{ObjectRecord, WorldRecord, total_weight, object_weight, message_weight, subscription_weight, known_weight, most_world_weight}
 use Rattle.world_plain.specs.Valid.{Valid, ValidMessages, most_turns, most_messages, PrecedesAll, AreInOrder, MessageFits, MessagesFit, NumbersDiffer}
@@ -80,8 +81,8 @@ taken-valid counts w m rest e v =
     let differ : NumbersDiffer (m ∷ rest) = subst NumbersDiffer e v.messages.differ in
     let fit : MessagesFit w.time w.next_number w.objects (m ∷ rest) = subst (MessagesFit w.time w.next_number w.objects) e v.messages.fit in
     let few : length (m ∷ rest) ≤ most_messages = subst (λ ms. length ms ≤ most_messages) e v.messages.few in
-    let light : total_weight object_weight w.objects + total_weight message_weight (m ∷ rest) + total_weight subscription_weight w.subscriptions + total_weight known_weight w.known ≤ most_world_weight =
-    subst (λ ms. total_weight object_weight w.objects + total_weight message_weight ms + total_weight subscription_weight w.subscriptions + total_weight known_weight w.known ≤ most_world_weight) e v.weight in
+    let light : total_weight object_weight w.objects + total_weight message_weight (m ∷ rest) + total_weight subscription_weight w.subscriptions + total_weight known_weight w.known + saved_weight w.saved ≤ most_world_weight =
+    subst (λ ms. total_weight object_weight w.objects + total_weight message_weight ms + total_weight subscription_weight w.subscriptions + total_weight known_weight w.known + saved_weight w.saved ≤ most_world_weight) e v.weight in
     let messages : ValidMessages w.time w.next_number w.objects rest = record { order = order.1; differ = differ.1; fit = fit.1; few = omega (arith, few) } in
     valid-around counts (record w { pending = rest }) w v.names v.subscriptions messages (omega (arith, light)) v
 

@@ -7,7 +7,7 @@ use Rattle.tea_base.specs.declared.entry.Entry.{Entry}
 use Rattle.tea_base.specs.declared.entry.What.{What}
 use Rattle.tea_base.specs.declared.entry.What.TheVariants.{Join, Exit, Event}
 use Rattle.tea_base.proofs.LogLaws.{TimesRise-legal}
-use Rattle.model_value.specs.Plain.{PlainValue, nil, int}
+use Rattle.model_value.specs.Plain.{PlainValue, int}
 use Rattle.world_plain.specs.Messages.{PlainMessage}
 use Rattle.model_value.specs.Payload.{PlainPayload, whole_payload}
 use Rattle.world_plain.specs.Valid.{Valid}
@@ -18,7 +18,8 @@ use Rattle.model_solved.specs.Methods.{method_named}
 use Rattle.model_tree.specs.Tree.{Name, ClassTree, ProgramTree}
 use Rattle.world_state.specs.declared.fault.Fault.TheVariants.{Full}
 use Rattle.model_eval.proofs.ValueBounds.{int-in_bounds}
-use Rattle.world.specs.Worlds.{Scene, scene_with_world, with_fault, field_counts, with_next_turn, after_method, init, empty_world, with_root, root_from, first_with, first_scene, at_later_time, due, after_message, on_due, advance_within, advance, enough, is_view_here, with_view, without_view, after_telling_of, session_scope, view_join, view_exit, after_join, after_exit, after_event, after_entry, external, replay_from, replay, take_up, entries_behind, replay_on, Follows}
+use Rattle.model_eval.specs.Publishing.{view_notice}
+use Rattle.world.specs.Worlds.{Scene, Founding, init_arguments, scene_with_world, with_fault, field_counts, with_next_turn, after_method, init, empty_world, with_root, root_from, first_with, first_scene, at_later_time, due, after_message, on_due, advance_within, advance, enough, is_view_here, with_view, without_view, after_telling_of, session_scope, view_join, view_exit, after_join, after_exit, after_event, after_entry, external, replay_from, replay, take_up, entries_behind, replay_on, Follows}
 use Rattle.world.proofs.Running.{Fits, ran-keeps, informed-keeps}
 use Rattle.world.proofs.Advancing.{advance-valid, advance-arrives, advance-twice}
 use Rattle.world.proofs.Entries.{external-valid}
@@ -47,7 +48,7 @@ module _ (program : ProgramTree) (fits : Fits (field_counts program) program) wh
   ran-stays object x args s = let k = ran-keeps (field_counts program) program object x args s fits in record { id = k.id; time = k.time }
 
   told_of-stays : (event : Name) (view : ℕ) (s : Scene) → Stays s.world (after_telling_of program event view s).world
-  told_of-stays event view s = let k = informed-keeps program (session_scope s.world) event (int (pos view)) s fits (int-in_bounds (pos view)) in record { id = k.id; time = k.time }
+  told_of-stays event view s = let k = informed-keeps program (session_scope s.world) event (view_notice view (int (pos view))) s fits (int-in_bounds (pos view)) in record { id = k.id; time = k.time }
 
   came-stays : (view : ℕ) (s : Scene) → Stays s.world (after_join program view s).world
   came-stays view s =
@@ -65,14 +66,14 @@ module _ (program : ProgramTree) (fits : Fits (field_counts program) program) wh
       either (is_view_here view w.views) w (after_telling_of program view_exit view left) s
       (stays-on w left.world (after_telling_of program view_exit view left).world (record { id = refl; time = refl }) (told_of-stays view_exit view left)) (here w)
 
-  heard-stays : (bytes : List ℕ) (read : Option PlainPayload) (s : Scene) → whole_payload bytes ≡ read → Stays s.world (after_event program read s).world
-  heard-stays bytes None s e = record { id = refl; time = refl }
-  heard-stays bytes (Some p) s e = let k = informed-keeps program p.scope p.event p.value s fits (payload_of-in_bounds bytes p e) in record { id = k.id; time = k.time }
+  heard-stays : (view : ℕ) (bytes : List ℕ) (read : Option PlainPayload) (s : Scene) → whole_payload bytes ≡ read → Stays s.world (after_event program view read s).world
+  heard-stays view bytes None s e = record { id = refl; time = refl }
+  heard-stays view bytes (Some p) s e = let k = informed-keeps program p.scope p.event (view_notice view p.value) s fits (payload_of-in_bounds bytes p e) in record { id = k.id; time = k.time }
 
   entered-stays : (what : What) (view : ℕ) (s : Scene) → Stays s.world (after_entry program what view s).world
   entered-stays Join view s = came-stays view s
   entered-stays Exit view s = went-stays view s
-  entered-stays (Event number payload) view s = heard-stays payload (whole_payload payload) s refl
+  entered-stays (Event number payload) view s = heard-stays view payload (whole_payload payload) s refl
 
   -- ---- advancing
 
@@ -147,35 +148,37 @@ module _ (program : ProgramTree) (fits : Fits (field_counts program) program) wh
   pub resumed-stands : (w : WorldRecord) (entries : List Entry) (t : ℕ) → Valid (field_counts program) w → IsLegal entries → w.time ≤ t → t < time_limit → Stands w.id t (replay_on program w entries t)
   resumed-stands w entries t v legal le below = stands t w.time w.id (entries_behind w.time entries) (take_up w) below (behind-rises w.time 0 entries (TimesRise-legal entries legal)) v refl le (omega arith)
 
-  -- ---- the first world
+-- ---- the first world
 
-  first-stays : (has : Bool) (w : WorldRecord) (s : Scene) → Stays w s.world → Stays w (if has then after_method program 1 init (nil ∷ []) s else s).world
-  first-stays true w s stays = stays-on w s.world (after_method program 1 init (nil ∷ []) s).world stays (ran-stays 1 init (nil ∷ []) s)
-  first-stays false w s stays = stays
+module _ (founding : Founding) (fits : Fits (field_counts founding.tree) founding.tree) where
+  first-stays : (has : Bool) (args : List PlainValue) (w : WorldRecord) (s : Scene) → Stays w s.world → Stays w (if has then after_method founding.tree 1 init args s else s).world
+  first-stays true args w s stays = stays-on w s.world (after_method founding.tree 1 init args s).world stays (ran-stays founding.tree fits 1 init args s)
+  first-stays false args w s stays = stays
 
-  first_with-stays : (id : List ℕ) (root : Option (ℕ × ClassTree)) → Stays (empty_world id) (first_with program root (with_next_turn (empty_world id))).world
+  first_with-stays : (id : List ℕ) (root : Option (ℕ × ClassTree)) → Stays (empty_world founding.persisted id) (first_with founding root (with_next_turn (empty_world founding.persisted id))).world
   first_with-stays id None = record { id = refl; time = refl }
   first_with-stays id (Some r) =
-      first-stays (is_some (method_named init r.1.methods)) (empty_world id) (record { world = with_root r.0 r.1 (with_next_turn (empty_world id)); published = [] }) (record { id = refl; time = refl })
+      let w = empty_world founding.persisted id in
+      first-stays (is_some (method_named init r.1.methods)) (init_arguments founding.persisted r.1) w (record { world = with_root r.0 r.1 (with_next_turn w); published = [] }) (record { id = refl; time = refl })
 
-  pub first-begins : (id : List ℕ) → (first_scene program id).world.time ≡ 0
-  first-begins id = (first_with-stays id (root_from 0 program)).time
+  pub first-begins : (id : List ℕ) → (first_scene founding id).world.time ≡ 0
+  first-begins id = (first_with-stays id (root_from 0 founding.tree)).time
 
-  pub first-id : (id : List ℕ) → (first_scene program id).world.id ≡ id
-  first-id id = (first_with-stays id (root_from 0 program)).id
+  pub first-id : (id : List ℕ) → (first_scene founding id).world.id ≡ id
+  first-id id = (first_with-stays id (root_from 0 founding.tree)).id
 
-  pub replay-stands : (id : List ℕ) (entries : List Entry) (t : ℕ) → Valid (field_counts program) (first_scene program id).world → IsLegal entries → t < time_limit → Stands id t (replay program id entries t)
+  pub replay-stands : (id : List ℕ) (entries : List Entry) (t : ℕ) → Valid (field_counts founding.tree) (first_scene founding id).world → IsLegal entries → t < time_limit → Stands founding.tree fits id t (replay founding id entries t)
   replay-stands id entries t begins legal below =
-      let stays = first_with-stays id (root_from 0 program) in
+      let stays = first_with-stays id (root_from 0 founding.tree) in
       let zero_is = stays.time in
-      stands t 0 id entries (first_scene program id) below (TimesRise-legal entries legal) begins stays.id (omega (arith, zero_is)) (omega (arith, zero_is))
+      stands founding.tree fits t 0 id entries (first_scene founding id) below (TimesRise-legal entries legal) begins stays.id (omega (arith, zero_is)) (omega (arith, zero_is))
 
-  follows-if : (t : ℕ) (id : List ℕ) (entries : List Entry) (s : Scene) → s ≡ replay program id entries t → Stands id t s → Follows program s.world entries
+  follows-if : (t : ℕ) (id : List ℕ) (entries : List Entry) (s : Scene) → s ≡ replay founding id entries t → Stands founding.tree fits id t s → Follows founding s.world entries
   follows-if t id entries s is stands =
-      let P : ℕ → List ℕ → Type 0 = λ u i. (advance program u (take_up s.world)).world ≡ (replay program i entries u).world in
+      let P : ℕ → List ℕ → Type 0 = λ u i. (advance founding.tree u (take_up s.world)).world ≡ (replay founding i entries u).world in
       let Q : ℕ → Type 0 = λ u. P u s.world.id in
       subst Q (sym stands.time) (subst (P t) (sym stands.session)
-      (sym (advance-by_world program t s) ∙ ap (λ (x : Scene). x.world) (stands.rests ∙ is)))
+      (sym (advance-by_world founding.tree t s) ∙ ap (λ (x : Scene). x.world) (stands.rests ∙ is)))
 
-  pub replay-follows : (id : List ℕ) (entries : List Entry) (t : ℕ) → Valid (field_counts program) (first_scene program id).world → IsLegal entries → t < time_limit → Follows program (replay program id entries t).world entries
-  replay-follows id entries t begins legal below = follows-if t id entries (replay program id entries t) refl (replay-stands id entries t begins legal below)
+  pub replay-follows : (id : List ℕ) (entries : List Entry) (t : ℕ) → Valid (field_counts founding.tree) (first_scene founding id).world → IsLegal entries → t < time_limit → Follows founding (replay founding id entries t).world entries
+  replay-follows id entries t begins legal below = follows-if t id entries (replay founding id entries t) refl (replay-stands id entries t begins legal below)

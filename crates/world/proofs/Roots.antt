@@ -11,7 +11,7 @@ use Rattle.model_solved.specs.Faults.{is_among, twice_where, missing_from, fault
 use Rattle.model_solved.specs.Methods.{IsClass}
 use Rattle.model_solved.proofs.NoFaults.{none-left, none-right}
 use Rattle.model_solved.proofs.Compared.{compared_back}
-use Rattle.world.specs.Worlds.{empty_world, with_next_turn, with_root, root_from, with_root_init, first_with, first_scene}
+use Rattle.world.specs.Worlds.{Founding, empty_world, with_next_turn, with_root, root_from, with_root_init, first_with, first_scene}
 
 neither : (a b : Bool) → (a || b) ≡ false → (a ≡ false) × (b ≡ false)
 neither true b e = absurd cc
@@ -63,8 +63,9 @@ first_root tree n is none =
     let number : 0 + n ≡ n = omega arith in
     root_at (class_names tree) [] tree 0 n is.0 classes is.1 is.2 ∙ ap (λ (m : ℕ). Some (m, is.0)) number
 
-pub first-is : (tree : ProgramTree) (id : List ℕ) (n : ℕ) (is : IsClass tree n root_name) → first_fault tree ≡ None → first_scene tree id ≡ with_root_init tree is.0 (record { world = with_root n is.0 (with_next_turn (empty_world id)); published = [] })
-first-is tree id n is none = ap (λ (root : Option (ℕ × ClassTree)). first_with tree root (with_next_turn (empty_world id))) (first_root tree n is none)
+pub first-is : (founding : Founding) (id : List ℕ) (n : ℕ) (is : IsClass founding.tree n root_name) → first_fault founding.tree ≡ None
+    → first_scene founding id ≡ with_root_init founding is.0 (record { world = with_root n is.0 (with_next_turn (empty_world founding.persisted id)); published = [] })
+first-is founding id n is none = ap (λ (root : Option (ℕ × ClassTree)). first_with founding root (with_next_turn (empty_world founding.persisted id))) (first_root founding.tree n is none)
 
 -- the class at a place has the fields that its tree has
 pub fields_there : (cs : List Class) (n : ℕ) (c : Class) (tree : ClassTree) → n < length cs → c ≡ get_or cs n c → slice_get (program_tree cs) n ≡ Some tree → length tree.fields ≡ length c.fields.items

@@ -9,7 +9,7 @@ use Rattle.model_tree.specs.Names.{ClassNamesAreShort}
 use Rattle.world_state.specs.declared.fault.Fault.{Fault}
 use Rattle.world_state.specs.Running.{Outcome, Gives, Faults, most_open}
 use Rattle.model_eval.specs.Meaning.{starts}
-use Rattle.model_eval.specs.Publishing.{tell_handlers}
+use Rattle.model_eval.specs.Publishing.{Notice, tell_handlers}
 use Rattle.model_solved.specs.Methods.{field_counts}
 use Rattle.model_eval.specs.Kept.{now_due, Anything, CarriesIf}
 use Rattle.model_eval.proofs.ValidLaws.{valid-beside}
@@ -49,14 +49,14 @@ ran-keeps counts program object x args s fits =
     (ended-keeps InBounds (Valid (field_counts program) s.world × AllInBounds args) (field_counts program) s (starts program most_open object x args (with_full_budget s)) (starts-carries program most_open object x args (with_full_budget s) fits.classes fits.names))
 
 -- models that are told of an event
-pub informed-keeps : (program : ProgramTree) (scope event : Name) (v : PlainValue) (s : Scene) → Fits (field_counts program) program → InBounds v → Keeps (Valid (field_counts program) s.world) (field_counts program) s (after_telling program scope event v s)
-informed-keeps program scope event v s fits bound =
-    ended-keeps Anything (Valid (field_counts program) s.world) (field_counts program) s (tell_handlers (starts program most_open) scope event v (with_full_budget s)) (told-kept program most_open scope event v (with_full_budget s) fits.classes fits.names bound)
+pub informed-keeps : (program : ProgramTree) (scope event : Name) (t : Notice) (s : Scene) → Fits (field_counts program) program → InBounds t.value → Keeps (Valid (field_counts program) s.world) (field_counts program) s (after_telling program scope event t s)
+informed-keeps program scope event t s fits bound =
+    ended-keeps Anything (Valid (field_counts program) s.world) (field_counts program) s (tell_handlers program (starts program most_open) scope event t (with_full_budget s)) (told-kept program most_open scope event t (with_full_budget s) fits.classes fits.names bound)
 
 -- they leave a valid world valid
-pub informed-valid : (counts : List ℕ) (program : ProgramTree) (scope event : Name) (v : PlainValue) (s : Scene) → Fits counts program → InBounds v → Valid counts s.world → Valid counts (after_telling program scope event v s).world
-informed-valid counts program scope event v s fits bound valid =
+pub informed-valid : (counts : List ℕ) (program : ProgramTree) (scope event : Name) (t : Notice) (s : Scene) → Fits counts program → InBounds t.value → Valid counts s.world → Valid counts (after_telling program scope event t s).world
+informed-valid counts program scope event t s fits bound valid =
     let counted = fits.counted in
     let here : Valid (field_counts program) s.world = subst (λ (cs : List ℕ). Valid cs s.world) counted valid in
     let own : Fits (field_counts program) program = subst (λ (cs : List ℕ). Fits cs program) counted fits in
-    subst (λ (cs : List ℕ). Valid cs (after_telling program scope event v s).world) (sym counted) ((informed-keeps program scope event v s own bound).valid here)
+    subst (λ (cs : List ℕ). Valid cs (after_telling program scope event t s).world) (sym counted) ((informed-keeps program scope event t s own bound).valid here)

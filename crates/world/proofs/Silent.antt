@@ -7,6 +7,7 @@ use Rattle.model_value.specs.View.{plains_of}
 use Rattle.world_plain.specs.Messages.{PlainMessage}
 use Rattle.world_plain.specs.World.{ObjectRecord, WorldRecord, world_weight, most_world_weight}
 use Rattle.world_plain.specs.Valid.{object_at, most_turns}
+use Rattle.world_plain.specs.ValidTest.{can_be_saved}
 use Rattle.world_plain.specs.declared.message.Subscription.{Subscription}
 use Rattle.model_builtin.specs.declared.builtin.Pure.{Pure}
 use Rattle.model_builtin.specs.Builtins.{apply}
@@ -22,14 +23,14 @@ use Rattle.model_solved.specs.Methods.{method_named}
 use Rattle.pubsub.specs.declared.handler.Handler.{Handler}
 use Rattle.pubsub.specs.Topics.{is_subscribed, without_subscription, handlers_of}
 use Rattle.world_state.specs.declared.fault.Fault.{Fault}
-use Rattle.world_state.specs.declared.fault.Fault.TheVariants.{BadIndex, NoObject, Arity, Fuel, Depth, Size, Instant, Full}
+use Rattle.world_state.specs.declared.fault.Fault.TheVariants.{BadKind, BadIndex, NoObject, Arity, Fuel, Depth, Size, Instant, Full}
 use Rattle.world_state.specs.Running.{Running, with_world, Outcome, Gives, Faults, and_then, spend_step, spend, give_in_bounds, give_by_weight, PureOutcome, value, fails, give_pure, truth, decide, Start}
 use Rattle.model_eval.specs.Operators.{apply_binary, truly, binary_outcome, apply_unary}
-use Rattle.world_state.specs.Objects.{get_named, with_fields, if_light, put_fields, new_object, has_room_for, with_object, make_object, without_object, is_held, destroy, with_named, make_known}
+use Rattle.world_state.specs.Objects.{get_named, with_fields, if_light, put_fields, new_object, has_room_for, with_object, make_object, without_object, is_held, destroy, with_named, make_known, persist}
 use Rattle.known_names.specs.Names.{with_known}
 use Rattle.model_eval.specs.Futures.{ahead, has_room, with_message, send_message_at, send_to, send}
-use Rattle.model_eval.specs.Builtins.{draw, pure_of, takes_steps, builtin_outcome, pure_outcome, on_none, on_int, on_text, on_texts, on_event, on_ref, tell_time, tell_id, tell_known, tell_held, run_builtin_alone, run_builtin, run_if_builtin}
-use Rattle.model_eval.specs.Publishing.{handle, run_handlers, tell_handlers, with_outgoing, publish, has_room_to, with_subscription, add_subscription, subscription, subscribe, unsubscribe, messages_without_calls, cancel, count_views, tell_views}
+use Rattle.model_eval.specs.Builtins.{draw, pure_of, takes_steps, builtin_outcome, pure_outcome, on_none, on_any, on_int, on_text, on_texts, on_event, on_ref, tell_time, tell_id, tell_known, tell_held, run_builtin_alone, run_builtin, run_if_builtin}
+use Rattle.model_eval.specs.Publishing.{Notice, handler_arguments, handle, run_handlers, tell_handlers, with_outgoing, model_notice, publish, has_room_to, with_subscription, add_subscription, subscription, subscribe, unsubscribe, messages_without_calls, cancel, count_views, tell_views}
 use Rattle.model_eval.specs.Meaning.{Here, Local, locals_of, with_local, Flow, next, return_with, follow, leave_block, method_result, put_field, Evaluate, Execute, evaluate_all, in_turn, block, otherwise, loop_turns, call_on, init, run_init, create_object, create_if_class, number_of_class, expression_row, statement_row, perform, starts_in, starts_on, start_by, evaluate, execute, starts}
 
 -- what runs, as if nothing was published yet
@@ -135,6 +136,11 @@ made_known-silent object x r =
     let named : WorldRecord = record (r.world) { known = with_known x object r.world.known } in
     either-silent (is_held object r.world) (λ s. if_light nil s (with_world s named)) (Faults NoObject) r (light-silent nil named r) refl
 
+persisted-silent : (v : PlainValue) (r : Running) → IsSilent (persist v) r
+persisted-silent v r =
+    let saved : WorldRecord = record (r.world) { saved = v } in
+    either-silent (can_be_saved v) (λ s. if_light nil s (with_world s saved)) (Faults BadKind) r (light-silent nil saved r) refl
+
 -- ---- subscriptions and messages
 
 added-silent : (s : Subscription) (r : Running) → IsSilent (add_subscription s) r
@@ -197,6 +203,10 @@ on_event-silent : (f : List ℕ → List ℕ → PlainValue → Running → Outc
 on_event-silent f (text x ∷ text y ∷ v ∷ []) r h = h x y v
 on_event-silent f _ r h = refl
 
+on_any-silent : (f : PlainValue → Running → Outcome PlainValue) (args : List PlainValue) (r : Running) → ((v : PlainValue) → IsSilent (f v) r) → IsSilent (on_any f args) r
+on_any-silent f (v ∷ []) r h = h v
+on_any-silent f _ r h = refl
+
 on_ref-silent : (f : ℕ → Running → Outcome PlainValue) (args : List PlainValue) (r : Running) → ((id : ℕ) → IsSilent (f id) r) → IsSilent (on_ref f args) r
 on_ref-silent f (ref id ∷ []) r h = h id
 on_ref-silent f _ r h = refl
@@ -220,6 +230,7 @@ answered_alone-silent builtin_name.Destroy object args r = on_ref-silent destroy
 answered_alone-silent builtin_name.Subscribe object args r = on_texts-silent (subscribe object) args r (λ scope event x. subscribed-silent object scope event x r)
 answered_alone-silent builtin_name.Unsubscribe object args r = on_texts-silent (unsubscribe object) args r (λ scope event x. unsubscribed-silent object scope event x r)
 answered_alone-silent builtin_name.Cancel object args r = on_text-silent (cancel object) args r (λ x. cancelled-silent object x r)
+answered_alone-silent builtin_name.Persist object args r = on_any-silent persist args r (λ v. persisted-silent v r)
 answered_alone-silent f object args r = pure_answered-silent (pure_of f) args r
 
 -- ---- the table
@@ -236,7 +247,7 @@ StartsSilently start = (object : ℕ) (x : Name) (args : List PlainValue) (r : R
 
 -- ---- what starts methods
 
-module _ (start : Start) (begins : StartsSilently start) where
+module _ (program : ProgramTree) (start : Start) (begins : StartsSilently start) where
   called_on-silent : (o : PlainValue) (x : Name) (args : List PlainValue) (r : Running) → IsSilent (call_on start o x args) r
   called_on-silent (ref object) x args r = begins object x args r
   called_on-silent _ x args r = refl
@@ -250,39 +261,41 @@ module _ (start : Start) (begins : StartsSilently start) where
   created-silent n None v r = refl
   created-silent n (Some c) v r = then-silent (make_object n (length c.fields)) (run_init start c v) r (made-silent n (length c.fields) r) (λ id s. initialised-silent c v id s)
 
-  created_by-silent : (program : ProgramTree) (n : Option ℕ) (v : PlainValue) (r : Running) → IsSilent (create_if_class program start n v) r
-  created_by-silent program None v r = refl
-  created_by-silent program (Some n) v r = created-silent n (slice_get program n) v r
+  created_by-silent : (n : Option ℕ) (v : PlainValue) (r : Running) → IsSilent (create_if_class program start n v) r
+  created_by-silent None v r = refl
+  created_by-silent (Some n) v r = created-silent n (slice_get program n) v r
 
-  -- handlers, each of which starts with the value
-  handled_by-silent : (v : PlainValue) (h : Handler) (r : Running) → IsSilent (handle start v h) r
-  handled_by-silent v h r =
-      let go : Running → Outcome ⊤ = λ s. and_then (start h.object h.method (v ∷ []) s) (λ _. Gives tt) in
+  -- handlers, each of which starts with the value, and with the sender where it wants it
+  handled_by-silent : (t : Notice) (h : Handler) (r : Running) → IsSilent (handle program start t h) r
+  handled_by-silent t h r =
+      let args : List PlainValue = handler_arguments program t h r.world in
+      let begin : Running → Outcome ⊤ = λ s. and_then (start h.object h.method args s) (λ _. Gives tt) in
+      let go : Running → Outcome ⊤ = λ s. and_then (start h.object h.method (handler_arguments program t h s.world) s) (λ _. Gives tt) in
       let r1 : Running = record r { fuel = r.fuel - 1 } in
-      either-silent (is_held h.object r.world) (λ s. spend_step s go) (Gives tt) r
-      (entering-silent go r (then-silent (start h.object h.method (v ∷ [])) (λ _. Gives tt) r1 (begins h.object h.method (v ∷ []) r1) (λ _ s. refl))) refl
+      let begun : IsSilent begin r1 = then-silent (start h.object h.method args) (λ _. Gives tt) r1 (begins h.object h.method args r1) (λ _ s. refl) in
+      either-silent (is_held h.object r.world) (λ s. spend_step s go) (Gives tt) r (entering-silent go r begun) refl
 
-  handled-silent : (v : PlainValue) (hs : List Handler) (r : Running) → IsSilent (run_handlers start v hs) r
-  handled-silent v [] r = refl
-  handled-silent v (h ∷ hs) r = then-silent (handle start v h) (λ _. run_handlers start v hs) r (handled_by-silent v h r) (λ _ s. handled-silent v hs s)
+  handled-silent : (t : Notice) (hs : List Handler) (r : Running) → IsSilent (run_handlers program start t hs) r
+  handled-silent t [] r = refl
+  handled-silent t (h ∷ hs) r = then-silent (handle program start t h) (λ _. run_handlers program start t hs) r (handled_by-silent t h r) (λ _ s. handled-silent t hs s)
 
-  pub told-silent : (scope event : Name) (v : PlainValue) (r : Running) → IsSilent (tell_handlers start scope event v) r
-  told-silent scope event v r = handled-silent v (handlers_of scope event r.world.subscriptions) r
+  pub told-silent : (scope event : Name) (t : Notice) (r : Running) → IsSilent (tell_handlers program start scope event t) r
+  told-silent scope event t r = handled-silent t (handlers_of scope event r.world.subscriptions) r
 
   -- the event that is published stands where no program reads it
-  outgoing-silent : (scope event : Name) (v : PlainValue) (r : Running) → IsSilent (λ s. tell_handlers start scope event v (with_outgoing scope event v s)) r
+  outgoing-silent : (scope event : Name) (v : PlainValue) (r : Running) → IsSilent (λ s. tell_handlers program start scope event (model_notice v) (with_outgoing scope event v s)) r
   outgoing-silent scope event v r =
-      told-silent scope event v (with_outgoing scope event v r) ∙ sym (told-silent scope event v (with_outgoing scope event v (bare r)))
+      told-silent scope event (model_notice v) (with_outgoing scope event v r) ∙ sym (told-silent scope event (model_notice v) (with_outgoing scope event v (bare r)))
 
-  published-silent : (scope event : Name) (v : PlainValue) (r : Running) → IsSilent (publish start scope event v) r
+  published-silent : (scope event : Name) (v : PlainValue) (r : Running) → IsSilent (publish program start scope event v) r
   published-silent scope event v r =
-      then-silent (λ s. tell_handlers start scope event v (with_outgoing scope event v s)) (λ _. Gives nil) r (outgoing-silent scope event v r) (λ _ s. refl)
+      then-silent (λ s. tell_handlers program start scope event (model_notice v) (with_outgoing scope event v s)) (λ _. Gives nil) r (outgoing-silent scope event v r) (λ _ s. refl)
 
-  answered-silent : (f : Builtin) (object : ℕ) (args : List PlainValue) (r : Running) → IsSilent (run_builtin start f object args) r
-  answered-silent builtin_name.Publish object args r = on_event-silent (publish start) args r (λ scope event v. published-silent scope event v r)
+  answered-silent : (f : Builtin) (object : ℕ) (args : List PlainValue) (r : Running) → IsSilent (run_builtin program start f object args) r
+  answered-silent builtin_name.Publish object args r = on_event-silent (publish program start) args r (λ scope event v. published-silent scope event v r)
   answered-silent f object args r = answered_alone-silent f object args r
 
-  answered_by-silent : (f : Option Builtin) (object : ℕ) (args : List PlainValue) (r : Running) → IsSilent (run_if_builtin start f object args) r
+  answered_by-silent : (f : Option Builtin) (object : ℕ) (args : List PlainValue) (r : Running) → IsSilent (run_if_builtin program start f object args) r
   answered_by-silent None object args r = refl
   answered_by-silent (Some f) object args r = answered-silent f object args r
 
@@ -333,17 +346,17 @@ module _ (program : ProgramTree) (ev : Evaluate) (start : Start) (evaluates : Ev
   expression-silent here (binary o a b) locals r =
       part-silent ev evaluates here a locals r (λ v. binary_outcome o v (ev here b locals)) (λ v s. operating-silent o v (ev here b locals) s (evaluates here b locals s))
   expression-silent here (builtin x args) locals r =
-      arguments-silent ev evaluates here args locals r (run_if_builtin start (builtin_named x) here.object)
-      (λ vs s. answered_by-silent start begins (builtin_named x) here.object vs s)
+      arguments-silent ev evaluates here args locals r (run_if_builtin program start (builtin_named x) here.object)
+      (λ vs s. answered_by-silent program start begins (builtin_named x) here.object vs s)
   expression-silent here (call object x args) locals r =
       part-silent ev evaluates here object locals r (λ o s. and_then (evaluate_all ev here args locals [] s) (call_on start o x))
-      (λ o s. arguments-silent ev evaluates here args locals s (call_on start o x) (λ vs t. called_on-silent start begins o x vs t))
+      (λ o s. arguments-silent ev evaluates here args locals s (call_on start o x) (λ vs t. called_on-silent program start begins o x vs t))
   expression-silent here (future object delay x args) locals r =
       part-silent ev evaluates here object locals r (λ o s. and_then (ev here delay locals s) (λ d t. and_then (evaluate_all ev here args locals [] t) (send o d x)))
       (λ o s. part-silent ev evaluates here delay locals s (λ d t. and_then (evaluate_all ev here args locals [] t) (send o d x))
       (λ d t. arguments-silent ev evaluates here args locals t (send o d x) (λ vs u. send-silent o d x vs u)))
   expression-silent here (create x options) locals r =
-      part-silent ev evaluates here options locals r (create_if_class program start (number_of_class x program)) (λ v s. created_by-silent start begins program (number_of_class x program) v s)
+      part-silent ev evaluates here options locals r (create_if_class program start (number_of_class x program)) (λ v s. created_by-silent program start begins (number_of_class x program) v s)
 
 -- ---- statements
 

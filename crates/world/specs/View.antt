@@ -9,9 +9,7 @@ use Rattle.world_plain.specs.declared.world.PlainWorld.{PlainWorld}
 use Rattle.world_state.specs.declared.state.State.{State}
 use Rattle.world_state.specs.Answer.{world_of}
 use Rattle.world_plain.specs.Valid.{Valid}
-use Rattle.model_tree.specs.declared.tree.Class.{Class}
-use Rattle.model_tree.specs.TreeView.{program_tree}
-use Rattle.model_tree.specs.Program.{IsProgram}
+use Rattle.model_solved.specs.Founding.{CheckedView, checked_tree, founding_of, IsFounding}
 use Rattle.world.specs.declared.fault.WorldFault.{WorldFault}
 use Rattle.world.specs.declared.fault.WorldFault.TheVariants as fault
 use Rattle.world.specs.Worlds.{Scene, scene_with_world, due, without_view, field_counts}
@@ -37,23 +35,24 @@ IsPlaceOfView (Some place) view views = (place < length views) × (without_view 
 
 -- what contracts see of a World
 pub record WorldView : Type 0 where
-  pub program : List Class
+  pub program : CheckedView
   pub scene : Scene
   pub broken : Bool
 
-abbrev pub coded_view : Coded (List Class) → Coded WorldView
-coded_view classes =
+abbrev pub coded_view : Coded CheckedView → Coded WorldView
+coded_view checked =
     code_by
-    (List Class × (WorldRecord × (List PlainOutgoing × Bool)))
-    (coded× classes (coded× coded_world (coded× (coded_list coded_outgoing) coded_bool)))
+    (CheckedView × (WorldRecord × (List PlainOutgoing × Bool)))
+    (coded× checked (coded× coded_world (coded× (coded_list coded_outgoing) coded_bool)))
     (λ w. (w.program, (w.scene.world, (w.scene.published, w.broken))))
     (λ p. record { program = p.0; scene = record { world = p.1.0; published = p.1.1.0 }; broken = p.1.1.1 })
     (λ _. refl)
 
--- what is so of every World: its program is one, its world is valid where it is not broken, and where it is nothing is published
+-- what is so of every World: a session can be founded from its program, its world is valid where it is not broken, and where it is
+-- nothing is published
 pub record IsSoundWorld (w : WorldView) : Type 0 where
-  pub program : IsProgram (program_tree w.program)
-  pub valid : w.broken ≡ false → Valid (field_counts (program_tree w.program)) w.scene.world
+  pub program : IsFounding (founding_of w.program)
+  pub valid : w.broken ≡ false → Valid (field_counts (checked_tree w.program)) w.scene.world
   pub quiet : w.broken ≡ true → w.scene.published ≡ []
 
 -- a call that moves a world on, where it would go back or not

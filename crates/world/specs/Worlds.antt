@@ -17,11 +17,13 @@ use Rattle.model_tree.specs.Tree.{Name, ClassTree, ProgramTree, root_name}
 use Rattle.world_state.specs.declared.fault.Fault.{Fault}
 use Rattle.world_state.specs.declared.fault.Fault.TheVariants as fault
 pub use Rattle.model_solved.specs.Methods.{field_counts}
+pub use Rattle.model_solved.specs.Founding.{Founding, IsFounding}
 use Rattle.model_eval.specs.Kept.{now_due}
 use Rattle.world_state.specs.Running.{Running, Outcome, Gives, Faults, most_open, most_fuel}
 pub use Rattle.model_eval.specs.Meaning.{init}
 use Rattle.model_eval.specs.Meaning.{starts}
-use Rattle.model_eval.specs.Publishing.{tell_handlers}
+use Rattle.model_eval.specs.Publishing.{Notice, tell_handlers, view_notice}
+use Rattle.model_eval.specs.Arguments.{takes_two, one_or_both}
 use Rattle.model_solved.specs.Methods.{method_named}
 
 -- a world, and what its models published
@@ -80,8 +82,9 @@ after_method program object x args s = scene_of_outcome (starts program most_ope
 
 -- ---- the first world
 
-abbrev pub empty_world : List ℕ → WorldRecord
-empty_world id = record {
+-- before its first message; the persisted value is the saved one
+abbrev pub empty_world : PlainValue → List ℕ → WorldRecord
+empty_world persisted id = record {
   id = id;
   time = 0;
   next_object = 1;
@@ -95,6 +98,7 @@ empty_world id = record {
   known = [];
   subscriptions = [];
   pending = [];
+  saved = persisted;
 }
 
 abbrev pub model_root : Name
@@ -113,17 +117,22 @@ abbrev pub root_from : ℕ → ProgramTree → Option (ℕ × ClassTree)
 root_from n [] = None
 root_from n (c ∷ cs) = if bytes_eq c.name root_name then Some (n, c) else root_from (n + 1) cs
 
+-- `init` starts with nil, and where it has two parameters with the persisted value too
+abbrev pub init_arguments : PlainValue → ClassTree → List PlainValue
+init_arguments persisted class = one_or_both (takes_two (method_named init class.methods)) nil persisted
+
 -- a class without `init` starts nothing
-abbrev pub with_root_init : ProgramTree → ClassTree → Scene → Scene
-with_root_init program class s = if is_some (method_named init class.methods) then after_method program 1 init (nil ∷ []) s else s
+abbrev pub with_root_init : Founding → ClassTree → Scene → Scene
+with_root_init founding class s =
+    if is_some (method_named init class.methods) then after_method founding.tree 1 init (init_arguments founding.persisted class) s else s
 
-abbrev pub first_with : ProgramTree → Option (ℕ × ClassTree) → WorldRecord → Scene
-first_with program None w = record { world = w; published = [] }
-first_with program (Some root) w = with_root_init program root.1 (record { world = with_root root.0 root.1 w; published = [] })
+abbrev pub first_with : Founding → Option (ℕ × ClassTree) → WorldRecord → Scene
+first_with founding None w = record { world = w; published = [] }
+first_with founding (Some root) w = with_root_init founding root.1 (record { world = with_root root.0 root.1 w; published = [] })
 
--- one message makes the object of class Root and starts its `init` with nil
-abbrev pub first_scene : ProgramTree → List ℕ → Scene
-first_scene program id = first_with program (root_from 0 program) (with_next_turn (empty_world id))
+-- one message makes the object of class Root and starts its `init`
+abbrev pub first_scene : Founding → List ℕ → Scene
+first_scene founding id = first_with founding (root_from 0 founding.tree) (with_next_turn (empty_world founding.persisted id))
 
 -- ---- advance
 
@@ -178,8 +187,8 @@ without_view view [] = []
 without_view view (v ∷ vs) = if nat_eq view v then vs else v ∷ without_view view vs
 
 -- models alone are told of an event, as a message of its own: with all steps and nothing open
-abbrev pub after_telling : ProgramTree → Name → Name → PlainValue → Scene → Scene
-after_telling program scope event v s = scene_of_outcome (tell_handlers (starts program most_open) scope event v (with_full_budget s))
+abbrev pub after_telling : ProgramTree → Name → Name → Notice → Scene → Scene
+after_telling program scope event notice s = scene_of_outcome (tell_handlers program (starts program most_open) scope event notice (with_full_budget s))
 
 -- the scope of what the session tells of its views: its id in hexadecimal digits
 abbrev pub session_scope : WorldRecord → Name
@@ -191,9 +200,9 @@ view_join = codes "view-join"
 abbrev pub view_exit : Name
 view_exit = codes "view-exit"
 
--- models are told of a view, by its number
+-- models are told of a view, by its number; it is the sender too
 abbrev pub after_telling_of : ProgramTree → Name → ℕ → Scene → Scene
-after_telling_of program event view s = after_telling program (session_scope s.world) event (int (pos view)) s
+after_telling_of program event view s = after_telling program (session_scope s.world) event (view_notice view (int (pos view))) s
 
 abbrev pub after_join : ProgramTree → ℕ → Scene → Scene
 after_join program view s =
@@ -208,14 +217,14 @@ after_exit program view s =
     if is_view_here view w.views then after_telling_of program view_exit view (scene_with_world s (record w { views = without_view view w.views })) else s
 
 -- an event of a view, by the payload that its bytes spell
-abbrev pub after_event : ProgramTree → Option PlainPayload → Scene → Scene
-after_event program None s = scene_with_world s (with_count bad_event s.world)
-after_event program (Some p) s = after_telling program p.scope p.event p.value s
+abbrev pub after_event : ProgramTree → ℕ → Option PlainPayload → Scene → Scene
+after_event program view None s = scene_with_world s (with_count bad_event s.world)
+after_event program view (Some p) s = after_telling program p.scope p.event (view_notice view p.value) s
 
 abbrev pub after_entry : ProgramTree → What → ℕ → Scene → Scene
 after_entry program Join view s = after_join program view s
 after_entry program Exit view s = after_exit program view s
-after_entry program (Event number payload) view s = after_event program (whole_payload payload) s
+after_entry program (Event number payload) view s = after_event program view (whole_payload payload) s
 
 -- an entry of the log is one message, at its time
 abbrev pub external : ProgramTree → Entry → Scene → Scene
@@ -228,8 +237,8 @@ abbrev pub replay_from : ProgramTree → ℕ → List Entry → Scene → Scene
 replay_from program t [] s = advance program t s
 replay_from program t (e ∷ es) s = replay_from program t es (if nat_le e.time t then external program e s else s)
 
-abbrev pub replay : ProgramTree → List ℕ → List Entry → ℕ → Scene
-replay program id entries t = replay_from program t entries (first_scene program id)
+abbrev pub replay : Founding → List ℕ → List Entry → ℕ → Scene
+replay founding id entries t = replay_from founding.tree t entries (first_scene founding id)
 
 -- ---- going on from a world
 
@@ -246,5 +255,5 @@ abbrev pub replay_on : ProgramTree → WorldRecord → List Entry → ℕ → Sc
 replay_on program w entries t = replay_from program t (entries_behind w.time entries) (take_up w)
 
 -- a world follows a log: once it has advanced to its own time it is the replay of the log to that time
-abbrev pub Follows : ProgramTree → WorldRecord → List Entry → Type 0
-Follows program w entries = (advance program w.time (take_up w)).world ≡ (replay program w.id entries w.time).world
+abbrev pub Follows : Founding → WorldRecord → List Entry → Type 0
+Follows founding w entries = (advance founding.tree w.time (take_up w)).world ≡ (replay founding w.id entries w.time).world

@@ -9,7 +9,7 @@ ghost use Rattle.world_plain.specs.Valid.{Valid};
 ghost use Rattle.tea_base.specs.Limits.{time_limit};
 ghost use Rattle.model_tree.specs.Tree.{ProgramTree};
 ghost use Rattle.model_tree.specs.Program.{IsProgram};
-ghost use Rattle.world.specs.Worlds.{Scene, field_counts, first_scene, advance, due, on_due, external, replay, take_up, replay_on, Follows};
+ghost use Rattle.world.specs.Worlds.{Scene, Founding, IsFounding, field_counts, first_scene, advance, due, on_due, external, replay, take_up, replay_on, Follows};
 ghost use Rattle.world.specs.View.{AreBehind};
 ghost use Rattle.world.specs.contracts.world.World as world;
 
@@ -17,9 +17,9 @@ use model_solved::checked_crosses_threads;
 
 /// The first world of a session is valid, of that session, and at time 0.
 pub fn first_world_is_valid()
-    ensures valid { (program : ProgramTree) (id : List ℕ) → IsProgram program → Valid (field_counts program) (first_scene program id).world }
-    ensures session { (program : ProgramTree) (id : List ℕ) → IsProgram program → (first_scene program id).world.id ≡ id }
-    ensures time { (program : ProgramTree) (id : List ℕ) → IsProgram program → (first_scene program id).world.time ≡ 0 }
+    ensures valid { (founding : Founding) (id : List ℕ) → IsFounding founding → Valid (field_counts founding.tree) (first_scene founding id).world }
+    ensures session { (founding : Founding) (id : List ℕ) → IsFounding founding → (first_scene founding id).world.id ≡ id }
+    ensures time { (founding : Founding) (id : List ℕ) → IsFounding founding → (first_scene founding id).world.time ≡ 0 }
 {}
 
 /// To advance to s and then to a later t is to advance to t.
@@ -67,17 +67,17 @@ pub fn world_decides()
 /// The replay of a log to t is what the first world comes to by the entries with a time of at most t, one after the other,
 /// and then by an advance to t. Its world is the same where the world is taken up anew before each of these steps.
 pub fn replay_folds()
-    ensures scene { (program : ProgramTree) (id : List ℕ) (entries : List Entry) (t : ℕ) →
-        replay program id entries t ≡ advance program t (fold (λ (a : Scene) (e : Entry). external program e a) (first_scene program id) (filter (λ (e : Entry). nat_le e.time t) entries)) }
-    ensures world { (program : ProgramTree) (id : List ℕ) (entries : List Entry) (t : ℕ) →
-        (replay program id entries t).world ≡ (advance program t (take_up (fold (λ (w : WorldRecord) (e : Entry). (external program e (take_up w)).world) (first_scene program id).world (filter (λ (e : Entry). nat_le e.time t) entries)))).world }
+    ensures scene { (founding : Founding) (id : List ℕ) (entries : List Entry) (t : ℕ) →
+        replay founding id entries t ≡ advance founding.tree t (fold (λ (a : Scene) (e : Entry). external founding.tree e a) (first_scene founding id) (filter (λ (e : Entry). nat_le e.time t) entries)) }
+    ensures world { (founding : Founding) (id : List ℕ) (entries : List Entry) (t : ℕ) →
+        (replay founding id entries t).world ≡ (advance founding.tree t (take_up (fold (λ (w : WorldRecord) (e : Entry). (external founding.tree e (take_up w)).world) (first_scene founding id).world (filter (λ (e : Entry). nat_le e.time t) entries)))).world }
 {}
 
 /// A world that follows a log, taken up at its time, is from there on the replay of the whole log: it handles the entries
 /// behind its time alone.
 pub fn resumed_follows()
-    ensures { (program : ProgramTree) (w : WorldRecord) (entries : List Entry) (t : ℕ) → IsProgram program → Valid (field_counts program) w → IsLegal entries → w.time ≤ t → t < time_limit → Follows program w entries →
-        (replay_on program w entries t).world ≡ (replay program w.id entries t).world }
+    ensures { (founding : Founding) (w : WorldRecord) (entries : List Entry) (t : ℕ) → IsFounding founding → Valid (field_counts founding.tree) w → IsLegal entries → w.time ≤ t → t < time_limit → Follows founding w entries →
+        (replay_on founding.tree w entries t).world ≡ (replay founding w.id entries t).world }
 {}
 
 /// A world that is taken up and goes on to t is a valid world of its session at t, whether it follows the log or not.
@@ -90,10 +90,10 @@ pub fn resumed_world_is_valid()
 /// The replay of a log to t is a valid world of its session at t, and it follows the log: so it may be put away, and goes on
 /// as the replay of the whole log wherever it is taken up.
 pub fn replay_follows()
-    ensures valid { (program : ProgramTree) (id : List ℕ) (entries : List Entry) (t : ℕ) → IsProgram program → IsLegal entries → t < time_limit → Valid (field_counts program) (replay program id entries t).world }
-    ensures session { (program : ProgramTree) (id : List ℕ) (entries : List Entry) (t : ℕ) → IsProgram program → IsLegal entries → t < time_limit → (replay program id entries t).world.id ≡ id }
-    ensures time { (program : ProgramTree) (id : List ℕ) (entries : List Entry) (t : ℕ) → IsProgram program → IsLegal entries → t < time_limit → (replay program id entries t).world.time ≡ t }
-    ensures follows { (program : ProgramTree) (id : List ℕ) (entries : List Entry) (t : ℕ) → IsProgram program → IsLegal entries → t < time_limit → Follows program (replay program id entries t).world entries }
+    ensures valid { (founding : Founding) (id : List ℕ) (entries : List Entry) (t : ℕ) → IsFounding founding → IsLegal entries → t < time_limit → Valid (field_counts founding.tree) (replay founding id entries t).world }
+    ensures session { (founding : Founding) (id : List ℕ) (entries : List Entry) (t : ℕ) → IsFounding founding → IsLegal entries → t < time_limit → (replay founding id entries t).world.id ≡ id }
+    ensures time { (founding : Founding) (id : List ℕ) (entries : List Entry) (t : ℕ) → IsFounding founding → IsLegal entries → t < time_limit → (replay founding id entries t).world.time ≡ t }
+    ensures follows { (founding : Founding) (id : List ℕ) (entries : List Entry) (t : ℕ) → IsFounding founding → IsLegal entries → t < time_limit → Follows founding (replay founding id entries t).world entries }
 {}
 
 /// A world may go to another thread.

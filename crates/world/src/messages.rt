@@ -1,8 +1,9 @@
 //! Messages of a world, run one after the other.
 ghost use Rattle.std.specs.Prelude.{◌≡◌, ◌<◌, OnOk};
 ghost use Rattle.world_plain.specs.Messages.{plain_message};
-ghost use Rattle.model_value.specs.View.{plain, plain_values};
-ghost use Rattle.model_tree.specs.TreeView.{program_tree};
+ghost use Rattle.model_value.specs.View.{plain_values};
+ghost use Rattle.model_eval.specs.Answer.{notice_of};
+ghost use Rattle.model_solved.specs.Founding.{checked_tree};
 ghost use Rattle.world.specs.Worlds.{after_method, after_telling, with_fault, with_count, bad_event, with_next_turn, at_later_time, scene_with_world, fault_number};
 ghost use Rattle.world.specs.View.{scene, TakesDue};
 
@@ -27,7 +28,7 @@ pub fn run(
     call: Call<'_>,
 ) -> Result<(), WantOfMemory>
     ensures { let c = call.entry in
-        OnOk result (scene state.new ≡ after_method (program_tree program.now) c.object c.method.now (plain_values c.args) (scene state.old)) }
+        OnOk result (scene state.new ≡ after_method (checked_tree program.now) c.object c.method.now (plain_values c.args) (scene state.old)) }
 {
     let mut budget = Budget::new();
     match run_method(alloc, program, call, state, &mut budget) {
@@ -49,7 +50,7 @@ pub fn inform(
     event: &Event<'_>,
 ) -> Result<(), WantOfMemory>
     ensures { let e = event.now in
-        OnOk result (scene state.new ≡ after_telling (program_tree program.now) e.scope.now e.name.now (plain e.value.now) (scene state.old)) }
+        OnOk result (scene state.new ≡ after_telling (checked_tree program.now) e.scope.now e.name.now (notice_of e) (scene state.old)) }
 {
     let mut budget = Budget::new();
     match tell_models(alloc, program, event, state, &mut budget) {
@@ -144,7 +145,7 @@ pub fn handle(
     message: Message,
 ) -> Result<(), WantOfMemory>
     ensures { let m = plain_message message in
-        OnOk result (scene state.new ≡ after_method (program_tree program.now) m.object m.method m.args (scene_with_world (scene state.old) (with_next_turn (at_later_time m.time (scene state.old).world)))) }
+        OnOk result (scene state.new ≡ after_method (checked_tree program.now) m.object m.method m.args (scene_with_world (scene state.old) (with_next_turn (at_later_time m.time (scene state.old).world)))) }
 {
     move_to(state, message.time);
     begin(state);

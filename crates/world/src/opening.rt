@@ -1,9 +1,11 @@
 //! The first world of a session.
-ghost use Rattle.std.specs.Prelude.{◌≡◌, ◌≤◌, ◌∷◌, [], length, IfOk, OnOk, Some, slice_get, take};
+ghost use Rattle.std.specs.Prelude.{◌≡◌, ◌≤◌, ◌∷◌, [], length, nat_eq, IfOk, OnOk, Some, slice_get, take};
 ghost use Rattle.std.specs.Int.{from_le_bytes, w64};
-ghost use Rattle.model_tree.specs.Program.{IsProgram};
+ghost use Rattle.model_value.specs.Plain.{nil};
+ghost use Rattle.model_value.specs.View.{plain, plain_values};
 ghost use Rattle.model_tree.specs.Tree.{ClassTree};
-ghost use Rattle.model_tree.specs.TreeView.{program_tree};
+ghost use Rattle.model_solved.specs.Founding.{checked_tree, founding_of, IsFounding};
+ghost use Rattle.model_eval.specs.Arguments.{one_or_both};
 ghost use Rattle.model_tree.specs.Bounds.{most_members};
 ghost use Rattle.world.specs.Worlds.{empty_world, model_root, with_root, scene_with_world, first_scene as first_of, with_root_init};
 ghost use Rattle.world.specs.View.{scene};
@@ -11,23 +13,25 @@ ghost use Rattle.world.specs.View.{scene};
 use crate::messages::{begin, run};
 use known_names::Names;
 use message_queue::Queue;
-use model_eval::Call;
-use model_solved::Checked;
-use model_value::nils;
+use model_eval::{Call, both};
+use model_solved::{Checked, Solved};
+use model_value::{Value, Values, copy, nils};
 use object_store::Store;
 use pubsub::Topics;
+use saved_value::Saved;
 use std::alloc::Global;
 use tea_base::{List, SessionId, Text, WantOfMemory};
 use world_plain::Known;
 use world_state::State;
 
 /// The first world: one message makes an object of class Root, known as `modelRoot`, and starts its `init`, if it has
-/// one, with nil.
+/// one, with nil, and with the persisted value too where it has two parameters. That value is the saved one.
 pub fn first(alloc: Global, program: &Checked, id: SessionId) -> Result<State, WantOfMemory>
-    ensures first { IfOk result (λ state. scene state ≡ first_of (program_tree program.now) id.0) }
-    ensures program { IfOk result (λ _. IsProgram (program_tree program.now)) }
+    ensures first { IfOk result (λ state. scene state ≡ first_of (founding_of program.now) id.0) }
+    ensures founding { IfOk result (λ _. IsFounding (founding_of program.now)) }
 {
-    let mut state = empty(alloc, id);
+    let saved = Saved::of(copy(alloc, program.persisted())?);
+    let mut state = empty(alloc, id, saved);
     begin(&mut state);
     let root = program.root();
     let Some(class) = program.program().classes().get(usize::from(root)) else {
@@ -38,8 +42,8 @@ pub fn first(alloc: Global, program: &Checked, id: SessionId) -> Result<State, W
     Ok(state)
 }
 
-fn empty(alloc: Global, id: SessionId) -> State
-    ensures { scene result ≡ record { world = empty_world id.0; published = [] } }
+fn empty(alloc: Global, id: SessionId, saved: Saved) -> State
+    ensures { scene result ≡ record { world = empty_world saved id.0; published = [] } }
 {
     State {
         id,
@@ -52,6 +56,7 @@ fn empty(alloc: Global, id: SessionId) -> State
         known: Names::new(alloc),
         topics: Topics::new(alloc),
         pending: Queue::new(alloc),
+        saved,
         published: List::new(alloc),
     }
 }
@@ -103,17 +108,28 @@ fn initialise(
     state: &mut State,
     class: u16,
 ) -> Result<(), WantOfMemory>
-    ensures { (root : ClassTree) → slice_get (program_tree program.now) class ≡ Some root → OnOk result (scene state.new ≡ with_root_init (program_tree program.now) root (scene state.old)) }
+    ensures { (root : ClassTree) → slice_get (checked_tree program.now) class ≡ Some root → OnOk result (scene state.new ≡ with_root_init (founding_of program.now) root (scene state.old)) }
 {
     let init = Text::copy(alloc, "init")?;
-    if program.method(class, &init).is_none() {
+    let Some(method) = program.method(class, &init) else {
         return Ok(());
-    }
-    let args = nils(alloc, 1)?;
+    };
+    let args = init_args(alloc, method, program.persisted())?;
     let call = Call {
         object: 1,
         method: &init,
         args,
     };
     run(alloc, program, state, call)
+}
+
+/// What the `init` of the first object starts with: nil, and where it has two parameters the persisted value too.
+fn init_args(alloc: Global, init: &Solved, persisted: &Value) -> Result<Values, WantOfMemory>
+    ensures { IfOk result (λ args. plain_values args ≡ one_or_both (nat_eq init.now.params 2) nil (plain persisted.now)) }
+{
+    if init.params == 2 {
+        both(alloc, Value::Nil, copy(alloc, persisted)?)
+    } else {
+        nils(alloc, 1)
+    }
 }

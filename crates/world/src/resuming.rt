@@ -8,9 +8,10 @@ ghost use Rattle.world.specs.View.{scene};
 
 use known_names::Names;
 use message_queue::Queue;
-use model_value::copy_values;
+use model_value::{copy, copy_values};
 use object_store::Store;
 use pubsub::Topics;
+use saved_value::Saved;
 use std::alloc::Global;
 use tea_base::{List, WantOfMemory};
 use world_plain::{
@@ -29,6 +30,7 @@ pub fn from_plain(alloc: Global, plain: &PlainWorld) -> Result<State, WantOfMemo
     let known = put_names(alloc, plain)?;
     let topics = put_subscriptions(alloc, plain)?;
     let pending = put_messages(alloc, plain)?;
+    let saved = Saved::of(copy(alloc, &plain.saved)?);
     Ok(State {
         id: plain.id,
         time: plain.time,
@@ -40,6 +42,7 @@ pub fn from_plain(alloc: Global, plain: &PlainWorld) -> Result<State, WantOfMemo
         known,
         topics,
         pending,
+        saved,
         published: List::new(alloc),
     })
 }

@@ -3,7 +3,7 @@ ghost use Rattle.std.specs.Prelude.{◌≡◌, ◌≤◌, ◌<◌, IfOk, OnOk, l
 ghost use Rattle.world_plain.specs.Valid.{Valid};
 ghost use Rattle.tea_base.specs.Limits.{time_limit};
 ghost use Rattle.model_value.specs.Payload.{whole_payload};
-ghost use Rattle.model_tree.specs.TreeView.{program_tree};
+ghost use Rattle.model_solved.specs.Founding.{checked_tree};
 ghost use Rattle.model_tree.specs.Program.{IsProgram};
 ghost use Rattle.world.specs.Worlds.{field_counts, advance as advanced, external as entered_by, after_entry, after_join, after_exit, after_event, after_telling_of, view_join, view_exit, is_view_here, with_view, without_view};
 ghost use Rattle.world_state.specs.Answer.{world_of};
@@ -26,11 +26,11 @@ pub fn advance(
     state: &mut State,
     time: u64,
 ) -> Result<(), WantOfMemory>
-    requires program { IsProgram (program_tree program.now) }
-    requires valid { Valid (field_counts (program_tree program.now)) (world_of state.old) }
+    requires program { IsProgram (checked_tree program.now) }
+    requires valid { Valid (field_counts (checked_tree program.now)) (world_of state.old) }
     requires time { time < time_limit }
-    ensures advanced { OnOk result (scene state.new ≡ advanced (program_tree program.now) time (scene state.old)) }
-    ensures valid { OnOk result (Valid (field_counts (program_tree program.now)) (world_of state.new)) }
+    ensures advanced { OnOk result (scene state.new ≡ advanced (checked_tree program.now) time (scene state.old)) }
+    ensures valid { OnOk result (Valid (field_counts (checked_tree program.now)) (world_of state.new)) }
 {
     while let Some(message) = take_due(state, time) {
         handle(alloc, program, state, message)?;
@@ -46,11 +46,11 @@ pub fn external(
     state: &mut State,
     entry: &Entry,
 ) -> Result<(), WantOfMemory>
-    requires program { IsProgram (program_tree program.now) }
-    requires valid { Valid (field_counts (program_tree program.now)) (world_of state.old) }
+    requires program { IsProgram (checked_tree program.now) }
+    requires valid { Valid (field_counts (checked_tree program.now)) (world_of state.old) }
     requires time { entry.now.time < time_limit }
-    ensures entered { OnOk result (scene state.new ≡ entered_by (program_tree program.now) entry.now (scene state.old)) }
-    ensures valid { OnOk result (Valid (field_counts (program_tree program.now)) (world_of state.new)) }
+    ensures entered { OnOk result (scene state.new ≡ entered_by (checked_tree program.now) entry.now (scene state.old)) }
+    ensures valid { OnOk result (Valid (field_counts (checked_tree program.now)) (world_of state.new)) }
 {
     advance(alloc, program, state, entry.time)?;
     begin(state);
@@ -63,18 +63,18 @@ fn enter(
     state: &mut State,
     entry: &Entry,
 ) -> Result<(), WantOfMemory>
-    ensures { OnOk result (scene state.new ≡ after_entry (program_tree program.now) entry.now.what entry.now.view (scene state.old)) }
+    ensures { OnOk result (scene state.new ≡ after_entry (checked_tree program.now) entry.now.what entry.now.view (scene state.old)) }
 {
     match &entry.what {
         What::Join => come(alloc, program, state, entry.view),
         What::Exit => go(alloc, program, state, entry.view),
-        What::Event { payload, .. } => hear(alloc, program, state, payload.bytes()),
+        What::Event { payload, .. } => hear(alloc, program, state, entry.view, payload.bytes()),
     }
 }
 
 /// Adds a view that is not here and tells models of it, unless too many are here: that is a fault.
 fn come(alloc: Global, program: &Checked, state: &mut State, view: u32) -> Result<(), WantOfMemory>
-    ensures { OnOk result (scene state.new ≡ after_join (program_tree program.now) view (scene state.old)) }
+    ensures { OnOk result (scene state.new ≡ after_join (checked_tree program.now) view (scene state.old)) }
 {
     if view == 0 || is_here(state.views.as_slice(), view) {
         return Ok(());
@@ -90,7 +90,7 @@ fn come(alloc: Global, program: &Checked, state: &mut State, view: u32) -> Resul
 
 /// Takes away a view that is here, and tells models of it.
 fn go(alloc: Global, program: &Checked, state: &mut State, view: u32) -> Result<(), WantOfMemory>
-    ensures { OnOk result (scene state.new ≡ after_exit (program_tree program.now) view (scene state.old)) }
+    ensures { OnOk result (scene state.new ≡ after_exit (checked_tree program.now) view (scene state.old)) }
 {
     if !is_here(state.views.as_slice(), view) {
         return Ok(());
@@ -105,9 +105,10 @@ fn hear(
     alloc: Global,
     program: &Checked,
     state: &mut State,
+    view: u32,
     payload: &[u8],
 ) -> Result<(), WantOfMemory>
-    ensures { OnOk result (scene state.new ≡ after_event (program_tree program.now) (whole_payload payload.now) (scene state.old)) }
+    ensures { OnOk result (scene state.new ≡ after_event (checked_tree program.now) view (whole_payload payload.now) (scene state.old)) }
 {
     match read_payload(alloc, payload) {
         Ok((scope, name, value)) => {
@@ -115,6 +116,7 @@ fn hear(
                 scope: &scope,
                 name: &name,
                 value: &value,
+                sender: Some(view),
             };
             inform(alloc, program, state, &event)
         }
@@ -134,7 +136,7 @@ fn tell_of(
     name: &Text,
     view: u32,
 ) -> Result<(), WantOfMemory>
-    ensures { OnOk result (scene state.new ≡ after_telling_of (program_tree program.now) name.now view (scene state.old)) }
+    ensures { OnOk result (scene state.new ≡ after_telling_of (checked_tree program.now) name.now view (scene state.old)) }
 {
     let scope = session_text(alloc, &state.id)?;
     let value = Value::Int(i64::from(view));
@@ -142,6 +144,7 @@ fn tell_of(
         scope: &scope,
         name,
         value: &value,
+        sender: Some(view),
     };
     inform(alloc, program, state, &event)
 }

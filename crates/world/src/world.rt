@@ -5,7 +5,7 @@ ghost use Rattle.world_plain.specs.Messages.{plain_outgoing};
 ghost use Rattle.world_plain.specs.Valid.{Valid};
 ghost use Rattle.tea_base.specs.Limits.{time_limit};
 ghost use Rattle.world_plain.specs.World.{world_record};
-ghost use Rattle.model_tree.specs.TreeView.{program_tree};
+ghost use Rattle.model_solved.specs.Founding.{checked_tree, founding_of};
 ghost use Rattle.world.specs.Worlds.{field_counts, first_scene as first_of, advance as advanced, external as entered_by, take_up};
 ghost use Rattle.world.specs.View.{MovesOn, Copies, IsSoundWorld};
 
@@ -37,11 +37,12 @@ impl Model for World {
     ghost use Rattle.std.specs.Arc.{arc_value};
     ghost use Rattle.std.specs.Coded.{codes};
     ghost use Rattle.model_tree.specs.contracts.tree.Stmt as stmt;
+    ghost use Rattle.model_solved.specs.Founding.{coded_checked};
     ghost use Rattle.world.specs.View.{WorldView, coded_view, scene, IsSoundWorld};
 
     ghost Value = { WorldView };
 
-    ghost coded = { coded_view (Prim.hlevel (codes, stmt.the_row.coded)) };
+    ghost coded = { coded_view (coded_checked (Prim.hlevel (codes, stmt.the_row.coded))) };
 
     ghost view = { λ w. record { program = arc_value w.program; scene = scene w.state; broken = w.broken } };
 
@@ -50,13 +51,14 @@ impl Model for World {
 
 impl World {
     /// The first world of a session: at time 0, one message makes an object of the class Root, known as `modelRoot`, and
-    /// starts its `init` with nil, if it has one.
+    /// starts its `init` with nil, if it has one; an `init` with two parameters gets the persisted value of the program too. That
+    /// value is the saved one of the world.
     pub fn first(
         alloc: Global,
         program: Arc<Checked, Global>,
         id: SessionId,
     ) -> Result<World, WantOfMemory>
-        ensures first { IfOk result (λ w. w ≡ record { program = arc_value program; scene = first_of (program_tree (arc_value program)) id.0; broken = false }) }
+        ensures first { IfOk result (λ w. w ≡ record { program = arc_value program; scene = first_of (founding_of (arc_value program)) id.0; broken = false }) }
         ensures begins { IfOk result (λ w. w.scene.world.time ≡ 0) }
     {
         let state = opening::first(alloc, &program, id)?;
@@ -75,12 +77,13 @@ impl World {
         program: Arc<Checked, Global>,
         plain: &PlainWorld,
     ) -> Result<World, WantOfMemory>
-        requires { Valid (field_counts (program_tree (arc_value program))) (world_record plain.now) }
+        requires { Valid (field_counts (checked_tree (arc_value program))) (world_record plain.now) }
         ensures { IfOk result (λ w. w ≡ record { program = arc_value program; scene = take_up (world_record plain.now); broken = false }) }
     {
         let state = resuming::from_plain(alloc, plain)?;
-        // The classes tell what a world wants of its program: that it is one.
+        // The classes and the persisted value tell what a world wants of its program.
         let _classes = program.program().classes();
+        let _persisted = program.persisted();
         Ok(World {
             alloc,
             program,
@@ -98,7 +101,7 @@ impl World {
     /// nothing. Want of memory breaks the world.
     pub fn advance(&mut self, time: u64) -> Result<(), WorldFault>
         requires { time < time_limit }
-        ensures moves { MovesOn result self.old self.new (nat_lt time self.old.scene.world.time) (advanced (program_tree self.old.program) time self.old.scene) }
+        ensures moves { MovesOn result self.old self.new (nat_lt time self.old.scene.world.time) (advanced (checked_tree self.old.program) time self.old.scene) }
         ensures arrives { OnOk result (self.new.scene.world.time ≡ time) }
     {
         if self.broken {
@@ -131,7 +134,7 @@ impl World {
     /// both change nothing. Want of memory breaks the world.
     pub fn external(&mut self, entry: &Entry) -> Result<(), WorldFault>
         requires { entry.now.time < time_limit }
-        ensures moves { MovesOn result self.old self.new (nat_le entry.now.time self.old.scene.world.time) (entered_by (program_tree self.old.program) entry.now self.old.scene) }
+        ensures moves { MovesOn result self.old self.new (nat_le entry.now.time self.old.scene.world.time) (entered_by (checked_tree self.old.program) entry.now self.old.scene) }
         ensures arrives { OnOk result (self.new.scene.world.time ≡ entry.now.time) }
     {
         if self.broken {
@@ -159,7 +162,7 @@ impl World {
     /// `Broken` exactly where the world is broken. Want of memory changes nothing.
     pub fn to_plain(&self) -> Result<PlainWorld, WorldFault>
         ensures copy { Copies result self.now }
-        ensures valid { IfOk result (λ plain. Valid (field_counts (program_tree self.now.program)) (world_record plain)) }
+        ensures valid { IfOk result (λ plain. Valid (field_counts (checked_tree self.now.program)) (world_record plain)) }
     {
         if self.broken {
             return Err(WorldFault::Broken);

@@ -1,5 +1,5 @@
 -- The test of a world is true exactly where the world is valid.
-use Rattle.std.proofs.Common.{◌≡◌, ℕ, ◌≤◌, Bool, true, ◌&&◌, not, nat_eq, nat_lt, nat_le, List, [], ◌∷◌, length, map, Option, Some, None, refl, ap, ◌∙◌}
+use Rattle.std.proofs.Common.{◌≡◌, ℕ, ◌≤◌, Bool, true, false, ◌&&◌, not, nat_eq, nat_lt, nat_le, List, [], ◌∷◌, length, map, Option, Some, None, refl, sym, ap, ◌∙◌}
 use Rattle.std.specs.Prelude.{Decides, bytes_eq, is_some, slice_get}
 use Rattle.std.specs.List.{AllByRecursion, list_all}
 use Rattle.std.proofs.lemmas.Bool.{leb-true, le-leb, false≢true}
@@ -8,11 +8,12 @@ use Rattle.std.proofs.lemmas.Option.{none-some, same_Some}
 use Rattle.std.proofs.lemmas.Slice.Eq.{bytes_eq-Decides}
 use Rattle.tea_base.specs.Order.{comes_before}
 use Rattle.model_value.specs.Plain.{PlainValue, InBounds, AllInBounds, is_in_bounds, TextFits, text_weight, most_weight, weight, depth, most_depth}
+use Rattle.saved_value.specs.Saving.{CanBeSaved, has_ref}
 use Rattle.world_plain.specs.Messages.{PlainMessage}
 use Rattle.world_plain.specs.World.{ObjectRecord, WorldRecord, world_weight, most_world_weight}
 use Rattle.world_plain.specs.Valid.{RiseFrom, EachBefore, object_at, IsHeld, ObjectFits, NameFits, SubscriptionFits, Precedes, MessageFits, ValidClock, ValidViews, ValidObjects, ValidNames, ValidSubscriptions, ValidMessages, Valid, most_turns, most_objects, most_subscriptions, most_messages, most_arguments}
 use Rattle.tea_base.specs.Limits.{time_limit, most_here}
-use Rattle.world_plain.specs.ValidTest.{is_rising, each_pair, is_fit_text, holds_object, is_number, is_fit_object, is_fit_name, is_fit_subscription, same_subscription, is_due_before, is_fit_message, is_valid_clock, is_valid_views, is_valid_objects, is_valid_names, is_valid_subscriptions, is_valid_messages, is_valid}
+use Rattle.world_plain.specs.ValidTest.{is_rising, each_pair, is_fit_text, holds_object, is_number, is_fit_object, is_fit_name, is_fit_subscription, same_subscription, is_due_before, is_fit_message, is_valid_clock, is_valid_views, is_valid_objects, is_valid_names, is_valid_subscriptions, is_valid_messages, can_be_saved, is_valid}
 use Rattle.world_plain.specs.declared.message.Subscription.{Subscription}
 use Rattle.world_plain.specs.declared.world.Known.{Known}
 
@@ -159,6 +160,13 @@ messages-Decides w =
     (Decides-all (is_fit_message w.time w.next_number w.objects) (MessageFits w.time w.next_number w.objects) (message-Decides w.time w.next_number w.objects) w.pending)
     (Decides-le (length w.pending) most_messages))
 
+false-Decides : (b : Bool) → Decides (not b) (b ≡ false)
+false-Decides true = (λ e. absurd (false≢true e), λ e. absurd (false≢true (sym e)))
+false-Decides false = (λ _. refl, λ _. refl)
+
+pub saved-Decides : (v : PlainValue) → Decides (can_be_saved v) (CanBeSaved v)
+saved-Decides v = Decides-and (is_in_bounds v) (not (has_ref v)) (in_bounds-Decides v) (false-Decides (has_ref v))
+
 pub Valid-Decides : (counts : List ℕ) (w : WorldRecord) → Decides (is_valid counts w) (Valid counts w)
 Valid-Decides counts w =
     Decides-like (is_valid counts w)
@@ -169,12 +177,13 @@ Valid-Decides counts w =
       names = h.0.0.3;
       subscriptions = h.0.1;
       messages = h.0.2;
+      saved = h.0.3;
       weight = h.1;
     })
-    (λ v. (((v.clock, v.views, v.objects, v.names), v.subscriptions, v.messages), v.weight))
-    (Decides-and (is_valid_clock w && is_valid_views w && is_valid_objects counts w && is_valid_names w && is_valid_subscriptions w && is_valid_messages w) (nat_le (world_weight w) most_world_weight)
-    (three (is_valid_clock w && is_valid_views w && is_valid_objects counts w && is_valid_names w) (is_valid_subscriptions w) (is_valid_messages w)
+    (λ v. (((v.clock, v.views, v.objects, v.names), v.subscriptions, v.messages, v.saved), v.weight))
+    (Decides-and (is_valid_clock w && is_valid_views w && is_valid_objects counts w && is_valid_names w && is_valid_subscriptions w && is_valid_messages w && can_be_saved w.saved) (nat_le (world_weight w) most_world_weight)
+    (four (is_valid_clock w && is_valid_views w && is_valid_objects counts w && is_valid_names w) (is_valid_subscriptions w) (is_valid_messages w) (can_be_saved w.saved)
     (four (is_valid_clock w) (is_valid_views w) (is_valid_objects counts w) (is_valid_names w)
     (clock-Decides w) (views-Decides w) (objects-Decides counts w) (names-Decides w))
-    (subscriptions-Decides w) (messages-Decides w))
+    (subscriptions-Decides w) (messages-Decides w) (saved-Decides w.saved))
     (Decides-le (world_weight w) most_world_weight))

@@ -4,6 +4,7 @@ use Rattle.std.specs.List.{AllByRecursion}
 use Rattle.tea_base.specs.Limits.{time_limit, most_here}
 use Rattle.tea_base.specs.Order.{IsBefore}
 use Rattle.model_value.specs.Plain.{AllInBounds, TextFits}
+use Rattle.saved_value.specs.Saving.{CanBeSaved}
 use Rattle.world_plain.specs.Messages.{PlainMessage}
 use Rattle.world_plain.specs.World.{ObjectRecord, WorldRecord, world_weight, most_world_weight}
 use Rattle.world_plain.specs.declared.message.Subscription.{Subscription}
@@ -153,4 +154,5 @@ pub record Valid (counts : List ℕ) (w : WorldRecord) : Type 0 where
   pub names : ValidNames w.objects w.known
   pub subscriptions : ValidSubscriptions w.objects w.subscriptions
   pub messages : ValidMessages w.time w.next_number w.objects w.pending
+  pub saved : CanBeSaved w.saved
   pub weight : world_weight w ≤ most_world_weight

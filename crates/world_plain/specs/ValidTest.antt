@@ -2,7 +2,8 @@
 use Rattle.std.specs.Prelude.{ℕ, Bool, true, false, ◌&&◌, ◌||◌, not, nat_eq, nat_lt, nat_le, bytes_eq, is_some, List, [], ◌∷◌, map, length, Option, Some, None, slice_get}
 use Rattle.std.specs.List.{list_all}
 use Rattle.tea_base.specs.Order.{comes_before}
-use Rattle.model_value.specs.Plain.{is_in_bounds, text_weight, most_weight}
+use Rattle.model_value.specs.Plain.{PlainValue, is_in_bounds, text_weight, most_weight}
+use Rattle.saved_value.specs.Saving.{has_ref}
 use Rattle.world_plain.specs.Messages.{PlainMessage}
 use Rattle.world_plain.specs.World.{ObjectRecord, WorldRecord, world_weight, most_world_weight}
 use Rattle.world_plain.specs.Valid.{object_at, most_turns, most_objects, most_subscriptions, most_messages, most_arguments}
@@ -91,6 +92,9 @@ is_valid_messages w =
     && list_all (is_fit_message w.time w.next_number w.objects) w.pending
     && nat_le (length w.pending) most_messages
 
+abbrev pub can_be_saved : PlainValue → Bool
+can_be_saved value = is_in_bounds value && not (has_ref value)
+
 -- by the numbers of fields of the classes of a program
 abbrev pub is_valid : List ℕ → WorldRecord → Bool
 is_valid counts w =
@@ -100,4 +104,5 @@ is_valid counts w =
     && is_valid_names w
     && is_valid_subscriptions w
     && is_valid_messages w
+    && can_be_saved w.saved
     && nat_le (world_weight w) most_world_weight

@@ -1,7 +1,8 @@
 -- Worlds, with plain values in them, and their weight.
 use Rattle.std.specs.Prelude.{ℕ, ◌+◌, List, [], ◌∷◌, map}
 use Rattle.model_value.specs.Plain.{PlainValue, text_weight, values_weight}
-use Rattle.model_value.specs.View.{plain_values}
+use Rattle.model_value.specs.View.{plain, plain_values}
+use Rattle.saved_value.specs.Saving.{saved_weight}
 use Rattle.world_plain.specs.Messages.{PlainMessage, plain_message}
 use Rattle.world_plain.specs.declared.message.Subscription.{Subscription}
 use Rattle.world_plain.specs.declared.world.PlainObject.{PlainObject}
@@ -27,6 +28,8 @@ pub record WorldRecord : Type 0 where
   pub known : List Known
   pub subscriptions : List Subscription
   pub pending : List PlainMessage
+  -- nil where there is none
+  pub saved : PlainValue
 
 abbrev pub object_record : PlainObject → ObjectRecord
 object_record object = record { id = object.id; class = object.class; fields = plain_values object.fields }
@@ -45,6 +48,7 @@ world_record w = record {
   known = w.known;
   subscriptions = w.subscriptions;
   pending = map plain_message w.pending;
+  saved = plain w.saved;
 }
 
 -- ---- weights
@@ -68,6 +72,7 @@ total_weight weighs (x ∷ xs) = weighs x + total_weight weighs xs
 abbrev pub world_weight : WorldRecord → ℕ
 world_weight w =
     total_weight object_weight w.objects + total_weight message_weight w.pending + total_weight subscription_weight w.subscriptions + total_weight known_weight w.known
+    + saved_weight w.saved
 
 abbrev pub most_world_weight : ℕ
 most_world_weight = 131072

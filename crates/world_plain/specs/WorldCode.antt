@@ -44,13 +44,13 @@ coded_singles = coded× coded_ℕ (coded× coded_ℕ (coded× coded_ℕ (coded×
 
 -- what a world lists
 abbrev pub Rows : Type 0
-Rows = List ℕ × (List ℕ × (List ObjectRecord × (List Known × (List Subscription × List PlainMessage))))
+Rows = List ℕ × (List ℕ × (List ObjectRecord × (List Known × (List Subscription × (List PlainMessage × PlainValue)))))
 
 abbrev pub coded_rows : Coded Rows
 coded_rows =
     coded×
     (coded_list coded_ℕ)
-    (coded× (coded_list coded_ℕ) (coded× (coded_list coded_object) (coded× (coded_list coded_known) (coded× (coded_list coded_subscription) (coded_list coded_message)))))
+    (coded× (coded_list coded_ℕ) (coded× (coded_list coded_object) (coded× (coded_list coded_known) (coded× (coded_list coded_subscription) (coded× (coded_list coded_message) coded_plain)))))
 
 -- the world of its parts, in the order of its spelling
 abbrev pub world_of_parts : List ℕ × (Singles × Rows) → WorldRecord
@@ -66,7 +66,8 @@ world_of_parts p = record {
   objects = p.1.1.1.1.0;
   known = p.1.1.1.1.1.0;
   subscriptions = p.1.1.1.1.1.1.0;
-  pending = p.1.1.1.1.1.1.1;
+  pending = p.1.1.1.1.1.1.1.0;
+  saved = p.1.1.1.1.1.1.1.1;
 }
 
 abbrev pub coded_world : Coded WorldRecord
@@ -74,6 +75,6 @@ coded_world =
     code_by
     (List ℕ × (Singles × Rows))
     (coded× (coded_list coded_ℕ) (coded× coded_singles coded_rows))
-    (λ w. (w.id, ((w.time, (w.next_object, (w.next_number, (w.random, w.turns)))), (w.faults, (w.views, (w.objects, (w.known, (w.subscriptions, w.pending))))))))
+    (λ w. (w.id, ((w.time, (w.next_object, (w.next_number, (w.random, w.turns)))), (w.faults, (w.views, (w.objects, (w.known, (w.subscriptions, (w.pending, w.saved)))))))))
     world_of_parts
     (λ _. refl)

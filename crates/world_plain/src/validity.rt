@@ -13,6 +13,7 @@ use crate::objects::{ids_rise, names_fit, names_rise, objects_fit};
 use crate::subscriptions::{subscriptions_differ, subscriptions_fit};
 use crate::weights::room;
 use crate::world::PlainWorld;
+use saved_value::can_be_saved;
 use tea_base::TIME_LIMIT;
 
 /// Whether a world is valid for a program, which is told by the numbers of fields of its classes, in their order. Any world
@@ -27,6 +28,7 @@ use tea_base::TIME_LIMIT;
 /// - Its pending messages stand by rising time and number. There are at most 16,384. None is due before the world's time,
 ///   or at 2^53 or later. Their numbers differ from each other, and are below the next message's number. Each is for an
 ///   object that is held, and has at most 16 arguments, each in bounds.
+/// - Its saved value is in bounds, and there is no object in it.
 /// - Each text weighs at most 4,096, and the world at most 131,072.
 pub fn valid(world: &PlainWorld, counts: &[u32]) -> bool
     ensures valid { IsTrue result ↔ Valid counts.now (world_record world.now) }
@@ -47,6 +49,7 @@ fn has_valid_parts(world: &PlainWorld, counts: &[u32]) -> bool
         && has_fit_names(world)
         && has_fit_subscriptions(world)
         && has_fit_messages(world)
+        && can_be_saved(&world.saved)
         && is_light(world)
         && subscriptions_differ(world.subscriptions.as_slice())
         && numbers_differ(world.pending.as_slice())

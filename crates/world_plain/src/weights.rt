@@ -4,6 +4,7 @@ ghost use Rattle.world_plain.specs.Messages.{plain_message};
 ghost use Rattle.model_value.specs.Room.{IsRoomBehind};
 ghost use Rattle.model_value.specs.View.{plain, plain_values};
 ghost use Rattle.world_plain.specs.World.{object_record, world_record, object_weight, message_weight, subscription_weight, known_weight, total_weight, world_weight, most_world_weight};
+ghost use Rattle.saved_value.specs.Saving.{saved_weight};
 ghost use Rattle.model_value.specs.Plain.{weight as weight_of, text_weight, values_weight};
 
 use crate::limits::MOST_WORLD_WEIGHT;
@@ -16,15 +17,16 @@ use tea_base::Text;
 /// may be.
 ///
 /// An object weighs 2 and its fields. A pending message weighs 3, its method's name and its arguments. A subscription
-/// weighs 2 and its three texts, and a known name 1 and its text. Texts and values weigh as [`weight`](model_value::weight)
-/// says. Any world may be asked about.
+/// weighs 2 and its three texts, and a known name 1 and its text. A saved value weighs as it does, and nil nothing. Texts
+/// and values weigh as [`weight`](model_value::weight) says. Any world may be asked about.
 pub fn room(world: &PlainWorld) -> Option<u32>
     ensures { IsRoomBehind result most_world_weight (world_weight (world_record world.now)) }
 {
     let left = room_behind_objects(world.objects.as_slice(), MOST_WORLD_WEIGHT)?;
     let left = room_behind_messages(world.pending.as_slice(), left)?;
     let left = room_behind_subscriptions(world.subscriptions.as_slice(), left)?;
-    room_behind_known(world.known.as_slice(), left)
+    let left = room_behind_known(world.known.as_slice(), left)?;
+    room_behind_saved(&world.saved, left)
 }
 
 /// Whether a value fits into so much room: it weighs no more. Any value may be asked about.
@@ -122,4 +124,13 @@ fn room_behind_name(known: &Known, room: u32) -> Option<u32>
     ensures { IsRoomBehind result room (known_weight known.now) }
 {
     room_behind_text(&known.name, room.checked_sub(1)?)
+}
+
+fn room_behind_saved(saved: &Value, room: u32) -> Option<u32>
+    ensures { IsRoomBehind result room (saved_weight (plain saved.now)) }
+{
+    match saved {
+        Value::Nil => Some(room),
+        _ => room_behind_value(saved, room),
+    }
 }

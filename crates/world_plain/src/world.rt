@@ -1,7 +1,7 @@
 //! A world as plain data: what a snapshot holds. What is said here of numbers and orders holds in a valid world.
 
 use crate::message::{Messages, Subscriptions};
-use model_value::Values;
+use model_value::{Value, Values};
 use tea_base::{List, Numbers, SessionId, Text};
 
 /// An object of a world.
@@ -55,4 +55,6 @@ pub struct PlainWorld {
     pub subscriptions: Subscriptions,
     /// Messages to come, by rising time and number.
     pub pending: Messages,
+    /// The value that is saved for a later session, nil where there is none.
+    pub saved: Value,
 }

@@ -31,6 +31,7 @@ world_of s = record {
   known = s.known;
   subscriptions = s.topics;
   pending = s.pending.messages;
+  saved = s.saved;
 }
 
 -- what a contract sees of what runs

@@ -1,14 +1,15 @@
--- Objects: their fields, how one is made and taken away, and the names by which they are known.
+-- Objects: their fields, how one is made and taken away, and the names by which they are known; and the saved value.
 use Rattle.std.specs.Prelude.{ℕ, ◌+◌, Bool, not, nat_eq, nat_lt, nat_le, if◌then◌else◌, ◌&&◌, List, [], ◌∷◌, ◌++◌, length, replicate, bytes_eq, Option, Some, None, is_some, slice_index_or, slice_set, ⊤}
 use Rattle.std.specs.List.{filter}
 use Rattle.model_value.specs.Plain.{PlainValue, nil, ref}
 use Rattle.world_plain.specs.World.{ObjectRecord, WorldRecord, object_weight, world_weight, most_world_weight}
 use Rattle.world_plain.specs.Valid.{object_at, most_objects}
+use Rattle.world_plain.specs.ValidTest.{can_be_saved}
 use Rattle.world_plain.specs.declared.world.Known.{Known}
 use Rattle.object_store.specs.Store.{last_object_id}
 use Rattle.known_names.specs.Names.{with_known}
 use Rattle.model_tree.specs.Tree.{Name}
-use Rattle.world_state.specs.declared.fault.Fault.TheVariants.{NoObject, Full}
+use Rattle.world_state.specs.declared.fault.Fault.TheVariants.{BadKind, NoObject, Full}
 use Rattle.world_state.specs.Running.{Running, with_world, Outcome, Gives, Faults, PureOutcome, value, fails, give_pure}
 
 -- ---- fields
@@ -103,3 +104,10 @@ abbrev pub make_known : ℕ → Name → Running → Outcome PlainValue
 make_known object x r =
     if is_held object r.world then if_light nil r (with_world r (record (r.world) { known = with_known x object r.world.known }))
     else Faults NoObject r
+
+-- ---- the saved value
+
+-- a value that can be saved becomes the saved one, in place of any other, if the world stays light; a value of a program is in bounds, so one
+-- that cannot be saved holds an object
+abbrev pub persist : PlainValue → Running → Outcome PlainValue
+persist v r = if can_be_saved v then if_light nil r (with_world r (record (r.world) { saved = v })) else Faults BadKind r

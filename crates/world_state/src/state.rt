@@ -8,9 +8,10 @@ ghost use Rattle.world_state.specs.Answer.{world_of};
 
 use known_names::Names;
 use message_queue::Queue;
-use model_value::copy_all;
+use model_value::{copy, copy_all};
 use object_store::{Object, Store};
 use pubsub::Topics;
+use saved_value::Saved;
 use std::alloc::Global;
 use tea_base::{List, Numbers, SessionId, WantOfMemory};
 use world_plain::{
@@ -41,6 +42,8 @@ pub struct State {
     pub topics: Topics,
     /// The messages to come, and the number that the next one gets.
     pub pending: Queue,
+    /// The value that is saved for a later session, nil where there is none.
+    pub saved: Saved,
     /// What was published.
     pub published: Published,
 }
@@ -55,6 +58,7 @@ impl State {
         let known = copy_known_names(alloc, self.known.names())?;
         let subscriptions = copy_subscriptions(alloc, self.topics.subscriptions())?;
         let pending = self.pending.copy_in_order(alloc)?;
+        let saved = copy(alloc, self.saved.value())?;
         Ok(PlainWorld {
             id: self.id,
             time: self.time,
@@ -68,6 +72,7 @@ impl State {
             known,
             subscriptions,
             pending,
+            saved,
         })
     }
 
@@ -79,6 +84,7 @@ impl State {
         let left = left.checked_sub(self.pending.weight())?;
         let left = left.checked_sub(self.topics.weight())?;
         let left = left.checked_sub(self.known.weight())?;
+        let left = left.checked_sub(u64::from(self.saved.weight()))?;
         Some(left as u32)
     }
 

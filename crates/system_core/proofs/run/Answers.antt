@@ -2,7 +2,7 @@ use Rattle.std.proofs.Common.{ℕ, ◌≡◌, ◌+◌, List, [], ◌∷◌, ◌+
 use Rattle.std.proofs.lemmas.List.{take_all}
 use Rattle.std.proofs.lemmas.Option.{slice_get_read}
 use Rattle.std.specs.Arc.{arc_value}
-use Rattle.model_tree.specs.TreeView.{program_tree}
+use Rattle.model_solved.specs.Founding.{founding_of}
 use Rattle.system_core.specs.declared.step.ScheduleStep.{ScheduleStep}
 use Rattle.system_core.specs.Schedules.{AreInBounds, IsInBounds, plain_system_step, plain_steps}
 use Rattle.system_core.proofs.Members.{all-at, map-push}
@@ -13,7 +13,7 @@ pub loop-step-init : goal.loop-step-init
 loop-step-init c =
     let classes = arc_value c.args.program in
     let name = c.args.id.0 in
-    subst (HasRun classes name []) (sym c.in_ok-system.ensures) (has-run-none classes name (c.worlds_stand.ensures (program_tree classes) name c.tell_program.ensures))
+    subst (HasRun classes name []) (sym c.in_ok-system.ensures) (has-run-none classes name (c.worlds_stand.ensures (founding_of classes) name c.tell_program.ensures))
 
 -- one step more
 steps-next : (list : List ScheduleStep) (k : ℕ) (step : ScheduleStep) → slice_get list k ≡ Some step → plain_steps (take (k + 1) list) ≡ plain_steps (take k list) ++ plain_system_step step ∷ []
@@ -46,7 +46,7 @@ returns c =
     let steps = plain_steps c.args.steps.now in
     let run =
     subst (λ (list : List ScheduleStep). HasRun classes name (plain_steps list) c.loop-step.system) (take_all c.loop-step.step-index c.as_slice-list.result.now c.loop-step-test.false ∙ c.as_slice-list.ensures) c.loop-step.invariant in
-    let keeps = keeps-all classes name steps c.loop-step.system run (λ log t. c.worlds_replay.ensures.replays (program_tree classes) name log t) in
+    let keeps = keeps-all classes name steps c.loop-step.system run (λ log t. c.worlds_replay.ensures.replays (founding_of classes) name log t) in
     record {
       fold = run.fold;
       schedule_legal_log = keeps.legal;

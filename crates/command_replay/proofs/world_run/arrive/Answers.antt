@@ -2,7 +2,7 @@ use Rattle.std.proofs.Common.{◌≡◌, ℕ, List, subst, IfOk, Option}
 use Rattle.std.proofs.lemmas.Result.{IfOk-weaker}
 use Rattle.std.specs.Option.{option_map}
 use Rattle.model_solved.specs.Methods.{field_counts}
-use Rattle.model_tree.specs.TreeView.{program_tree}
+use Rattle.model_solved.specs.Founding.{checked_tree}
 use Rattle.snapshot_codec.specs.Conditions.{IsValid}
 use Rattle.world_plain.specs.Valid.{Valid}
 use Rattle.world_plain.specs.World.{WorldRecord, world_record}
@@ -18,5 +18,5 @@ returns-clause-world c =
 
 pub returns-clause-valid : goal.returns-clause-valid
 returns-clause-valid c =
-    let counts : List ℕ = field_counts (program_tree c.go_on.new.world.program) in
+    let counts : List ℕ = field_counts (checked_tree c.go_on.new.world.program) in
     IfOk-weaker c.plain_of.result (λ plain. Valid counts (world_record plain)) (λ plain. IsValid (world_record plain)) (λ plain valid. (counts, valid)) c.plain_of.ensures.valid

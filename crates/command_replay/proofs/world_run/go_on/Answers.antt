@@ -1,6 +1,6 @@
 use Rattle.std.proofs.Common.{◌+◌, ◌-◌, ◌∙◌, ap, arith}
 use Rattle.tea_base.specs.Readings.{count_until}
-use Rattle.model_tree.specs.TreeView.{program_tree}
+use Rattle.model_solved.specs.Founding.{checked_tree}
 use Rattle.world.specs.Worlds.{Scene, entries_behind, replay_from}
 use Rattle.command_replay.proofs.WorldLaws.{handles, next_later, passes, starts_on, time_there, timed_at}
 use Rattle.command_replay.proofs.world_run.go_on.Goals as goal
@@ -20,7 +20,7 @@ loop-place-preserved c =
     let classes = c.args.world.now.program in
     let log = c.args.log.now.entries in
     let place = c.loop-place.place in
-    let last : Scene = replay_from (program_tree classes) c.args.time (entries_behind c.args.world.now.scene.world.time log) c.args.world.now.scene in
+    let last : Scene = replay_from (checked_tree classes) c.args.time (entries_behind c.args.world.now.scene.world.time log) c.args.world.now.scene in
     let there = timed_at log (place + 1 - 1) c.time_of.result c.time_of.ensures in
     elim c.if-time_of-time.branch [
       | then-time_of-time+in_ok-entry+in_ok-handle+in-Event-1 w ↦ rw w.world-is (handles classes c.args.time log place last c.loop-place.world w.in_ok-entry.entry w.in_ok-entry.ensures c.loop-place.invariant w.handle.new.world (omega (arith, time_there log (place + 1 - 1) c.time_of.result w.in_ok-entry.entry w.in_ok-entry.ensures c.time_of.ensures, w.if-time_of-time.true)) w.in_ok-handle.ensures.handled w.in_ok-handle.ensures.arrives)

@@ -1,4 +1,4 @@
-use Rattle.model_tree.specs.TreeView.{program_tree}
+use Rattle.model_solved.specs.Founding.{checked_tree}
 use Rattle.world.specs.Worlds.{entries_behind, replay_from}
 use Rattle.command_replay.proofs.WorldLaws.{GoesOn}
 use Rattle.command_replay.proofs.world_run.go_on.Given as goal
@@ -7,4 +7,4 @@ use Rattle.command_replay.proofs.world_run.go_on.Given as goal
 abbrev pub invariant-loop-place : goal.invariant-loop-place
 invariant-loop-place l =
     GoesOn l.fn.world.program l.time l.log.entries l.place
-    (replay_from (program_tree l.fn.world.program) l.time (entries_behind l.fn.world.scene.world.time l.log.entries) l.fn.world.scene) l.world
+    (replay_from (checked_tree l.fn.world.program) l.time (entries_behind l.fn.world.scene.world.time l.log.entries) l.fn.world.scene) l.world

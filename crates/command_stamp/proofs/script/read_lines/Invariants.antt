@@ -1,6 +1,7 @@
 use Rattle.std.proofs.Common.{◌≡◌, drop, map}
 use Rattle.std.specs.Str.Lines.{lines}
-use Rattle.command_stamp.specs.Script.{requests_of, then_requests}
+use Rattle.command_stamp.specs.Script.{requests_of}
+use Rattle.command_stamp.specs.ScriptRead.{then_requests}
 use Rattle.command_stamp.proofs.script.read_lines.Given as goal
 
 -- the requests so far, and those of the lines that are left

@@ -1,6 +1,7 @@
 use Rattle.std.proofs.Common.{◌<◌, ◌+◌, length, arith, ◌∙◌, sym, drop}
 use Rattle.std.proofs.lemmas.List.{at_drop_more}
-use Rattle.command_words.specs.Parts.{all_parts, read_on}
+use Rattle.command_words.specs.Parts.{all_parts}
+use Rattle.command_words.specs.PartsRead.{read_on}
 use Rattle.command_words.proofs.PartsLaws.{behind_nothing}
 use Rattle.command_words.proofs.parts.read_parts.Goals as goal
 

@@ -1,5 +1,6 @@
 use Rattle.std.proofs.Common.{◌≡◌, drop}
-use Rattle.command_words.specs.Parts.{read_on, all_parts}
+use Rattle.command_words.specs.Parts.{all_parts}
+use Rattle.command_words.specs.PartsRead.{read_on}
 use Rattle.command_words.proofs.parts.read_parts.Given as goal
 
 -- what is read of the rest, behind what was read, is what is read of all the words

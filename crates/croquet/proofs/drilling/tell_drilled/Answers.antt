@@ -1,14 +1,14 @@
 use Rattle.std.proofs.Common.{refl}
 use Rattle.command_outcome.specs.Outcome.{steps_of}
 use Rattle.commands.specs.Verdict.{ByWant}
-use Rattle.croquet.specs.Run.{EndsWanting}
+use Rattle.croquet.specs.Run.{OutOfMemory}
 use Rattle.croquet.proofs.DrillRuns.{ran_drilled}
 use Rattle.croquet.proofs.Runs.{ran_closed, ran_wanting}
 use Rattle.croquet.proofs.drilling.tell_drilled.Goals as goal
 
 pub returns-in_default : goal.returns-in_default
 returns-in_default g c =
-    rw c.in_default.is (ran_closed _ _ ByWant EndsWanting c.args.files.now c.args.out.now c.tell_want_of_memory.new.out c.tell_want_of_memory.result (refl, refl) c.tell_want_of_memory.ensures)
+    rw c.in_default.is (ran_closed _ _ ByWant OutOfMemory c.args.files.now c.args.out.now c.tell_want_of_memory.new.out c.tell_want_of_memory.result (refl, refl) c.tell_want_of_memory.ensures)
 
 pub returns-in-Ok-outcome_of : goal.returns-in-Ok-outcome_of
 returns-in-Ok-outcome_of g c =

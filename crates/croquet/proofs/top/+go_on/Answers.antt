@@ -1,7 +1,7 @@
 use Rattle.std.proofs.Common.{[], refl}
 use Rattle.command_outcome.specs.Outcome.{steps_of}
 use Rattle.commands.specs.Verdict.{ByRefusal, ByWant}
-use Rattle.croquet.specs.Run.{EndsRefused, EndsWanting}
+use Rattle.croquet.specs.Run.{refusal_ending, OutOfMemory}
 use Rattle.croquet.proofs.Runs.{turns_on, ran_unread, ran_unread_memory, ran_closed, ran_done}
 use Rattle.croquet.proofs.top.+go_on.Goals as goal
 
@@ -17,8 +17,8 @@ returns-in-Err-Failed-clause-turns g t c =
     (ran_unread _ _ c.in-Reads.waiting c.args.files.now c.read_asked.new.files c.args.out.now c.tell.new.out c.tell.result
     (rw c.in-Err-Failed.field-0-is at c.in-Err-Failed.ensures) c.tell.ensures)
 
-pub returns-in-Reads-clause-turns : goal.returns-in-Reads-clause-turns
-returns-in-Reads-clause-turns g t c =
+pub returns-in-Err-WantOfMemory-clause-turns : goal.returns-in-Err-WantOfMemory-clause-turns
+returns-in-Err-WantOfMemory-clause-turns g t c =
     rw c.in-Reads.is
     (ran_unread_memory _ _ c.in-Reads.waiting c.args.files.now c.read_asked.new.files c.args.out.now c.tell_want_of_memory.new.out c.tell_want_of_memory.result
     (rw c.in-Err-WantOfMemory.field-0-is at c.in-Err-WantOfMemory.ensures) c.tell_want_of_memory.ensures)
@@ -26,7 +26,7 @@ returns-in-Reads-clause-turns g t c =
 pub returns-in-Refuses-clause-turns : goal.returns-in-Refuses-clause-turns
 returns-in-Refuses-clause-turns g t c =
     rw c.in-Refuses.is
-    (ran_closed _ _ (ByRefusal c.in-Refuses.refusal) (EndsRefused c.in-Refuses.refusal) c.args.files.now c.args.out.now c.tell_refusal.new.out c.tell_refusal.result (refl, refl) c.tell_refusal.ensures)
+    (ran_closed _ _ (ByRefusal c.in-Refuses.refusal) (refusal_ending c.in-Refuses.refusal) c.args.files.now c.args.out.now c.tell_refusal.new.out c.tell_refusal.result (refl, refl) c.tell_refusal.ensures)
 
 pub returns-in-Gives-clause-turns : goal.returns-in-Gives-clause-turns
 returns-in-Gives-clause-turns g t c =
@@ -42,7 +42,7 @@ returns-in-Reflects-clause-turns g t c = rw c.in-Reflects.is (record { steps = [
 pub returns-in-Drills-clause-turns : goal.returns-in-Drills-clause-turns
 returns-in-Drills-clause-turns g t c = rw c.in-Drills.is (record { steps = []; comes = refl; acts = refl })
 
-pub returns-clause-turns : goal.returns-clause-turns
-returns-clause-turns g t c =
+pub returns-in-WantOfMemory-clause-turns : goal.returns-in-WantOfMemory-clause-turns
+returns-in-WantOfMemory-clause-turns g t c =
     rw c.in-WantOfMemory.is
-    (ran_closed _ _ ByWant EndsWanting c.args.files.now c.args.out.now c.tell_want_of_memory-in-WantOfMemory.new.out c.tell_want_of_memory-in-WantOfMemory.result (refl, refl) c.tell_want_of_memory-in-WantOfMemory.ensures)
+    (ran_closed _ _ ByWant OutOfMemory c.args.files.now c.args.out.now c.tell_want_of_memory-in-WantOfMemory.new.out c.tell_want_of_memory-in-WantOfMemory.result (refl, refl) c.tell_want_of_memory-in-WantOfMemory.ensures)

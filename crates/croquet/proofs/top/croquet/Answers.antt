@@ -30,17 +30,17 @@ returns-in-Drills-clause-ran g c =
 
 -- each run is complete
 pub returns-in-Over-clause-complete : goal.returns-in-Over-clause-complete
-returns-in-Over-clause-complete g c = is_complete _ _ _ _ c.one_verdict.ensures _ (command_of c.args.words.now) _ _ c.in-Over.status (returns-in-Over-clause-ran g c)
+returns-in-Over-clause-complete g c = is_complete _ _ _ _ c.one_verdict.ensures c.ends_are_caused.ensures.peer c.ends_are_caused.ensures.ended c.ends_are_caused.ensures.refused _ (command_of c.args.words.now) _ _ c.in-Over.status (returns-in-Over-clause-ran g c)
 
 pub returns-in-Visits-clause-complete : goal.returns-in-Visits-clause-complete
-returns-in-Visits-clause-complete g c = is_complete _ _ _ _ c.one_verdict.ensures _ (command_of c.args.words.now) _ _ c.run_visit-status.result (returns-in-Visits-clause-ran g c)
+returns-in-Visits-clause-complete g c = is_complete _ _ _ _ c.one_verdict.ensures c.ends_are_caused.ensures.peer c.ends_are_caused.ensures.ended c.ends_are_caused.ensures.refused _ (command_of c.args.words.now) _ _ c.run_visit-status.result (returns-in-Visits-clause-ran g c)
 
 pub returns-in-Reflects-clause-complete : goal.returns-in-Reflects-clause-complete
 returns-in-Reflects-clause-complete g c =
-    is_complete _ _ _ _ c.one_verdict.ensures _ (command_of c.args.words.now) _ _ c.tell_reflected-status.result (returns-in-Reflects-clause-ran g c)
+    is_complete _ _ _ _ c.one_verdict.ensures c.ends_are_caused.ensures.peer c.ends_are_caused.ensures.ended c.ends_are_caused.ensures.refused _ (command_of c.args.words.now) _ _ c.tell_reflected-status.result (returns-in-Reflects-clause-ran g c)
 
 pub returns-in-Drills-clause-complete : goal.returns-in-Drills-clause-complete
-returns-in-Drills-clause-complete g c = is_complete _ _ _ _ c.one_verdict.ensures _ (command_of c.args.words.now) _ _ c.tell_drilled-status.result (returns-in-Drills-clause-ran g c)
+returns-in-Drills-clause-complete g c = is_complete _ _ _ _ c.one_verdict.ensures c.ends_are_caused.ensures.peer c.ends_are_caused.ensures.ended c.ends_are_caused.ensures.refused _ (command_of c.args.words.now) _ _ c.tell_drilled-status.result (returns-in-Drills-clause-ran g c)
 
 -- a command that goes on with a net is `join` or `reflect`
 pub returns-in-Visits-clause-net : goal.returns-in-Visits-clause-net

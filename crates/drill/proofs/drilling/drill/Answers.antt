@@ -2,8 +2,7 @@ use Rattle.std.proofs.Common.{◌≡◌, ◌+◌, ◌≤◌, All, List, ℕ, len
 use Rattle.std.specs.Arc.{arc_value}
 use Rattle.std.specs.List.{AllZip}
 use Rattle.tea_base.specs.declared.entry.SessionId.{SessionId}
-use Rattle.model_tree.specs.declared.tree.Class.{Class}
-use Rattle.model_tree.specs.TreeView.{program_tree}
+use Rattle.model_solved.specs.Founding.{CheckedView, founding_of}
 use Rattle.reflector_core.specs.PlainSession.{PlainSession}
 use Rattle.reflector_core.specs.Play.{first_session}
 use Rattle.session_lock.specs.History.{IsSoundThrough, play}
@@ -73,7 +72,7 @@ report-requires-clause-ended g c =
     let program_is : arc_value prepared.shared.trust.program ≡ c.deref.result.now = told.trusts ∙ sym c.deref.ensures in
     let id_is : prepared.shared.id.0 ≡ prepared.id.0 = ap (λ (i : SessionId). i.0) told.same_id in
     subst (λ (i : List ℕ). All (IsAtEnd s c.deref.result.now i) c.in_ok-replicas.replicas) id_is
-    (subst (λ (p : List Class). All (IsAtEnd s p prepared.shared.id.0) c.in_ok-replicas.replicas) program_is
+    (subst (λ (p : CheckedView). All (IsAtEnd s p prepared.shared.id.0) c.in_ok-replicas.replicas) program_is
     (all_reported _ _ _ _ _ _ closed c.in_ok-replicas.replicas (come_by _ _ _ _ c.in_ok-rested.ensures.rested c.in_ok-replicas.ensures)))
 
 pub returns : goal.returns
@@ -83,7 +82,7 @@ returns g c =
     let told = c.in_ok-prepared.ensures.prepared in
     let program_is : arc_value prepared.shared.trust.program ≡ c.deref.result.now = told.trusts ∙ sym c.deref.ensures in
     let id_is : prepared.shared.id.0 ≡ prepared.id.0 = ap (λ (i : SessionId). i.0) told.same_id in
-    let is_program : IsDrillProgram (program_tree c.deref.result.now) = subst (λ (p : List Class). IsDrillProgram (program_tree p)) (sym c.deref.ensures) told.tree in
+    let is_program : IsDrillProgram (founding_of c.deref.result.now) = subst (λ (p : CheckedView). IsDrillProgram (founding_of p)) (sym c.deref.ensures) told.tree in
     if_ok_weaker (Reports c.close-session.result c.deref.result.now prepared.id.0 c.in_ok-replicas.replicas) (HasDrilled (g.C.Clock.gives c.args.clock.now) c.args.size) c.report.result
     (λ report reports.
     has_drilled _ _ _ _ _ _ closed c.in_ok-replicas.replicas (come_by _ _ _ _ c.in_ok-rested.ensures.rested c.in_ok-replicas.ensures) c.deref.result.now prepared.id.0 c.close-session.result report refl program_is id_is is_program told.spelled reports)

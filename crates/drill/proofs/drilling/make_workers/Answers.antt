@@ -1,7 +1,7 @@
 use Rattle.std.proofs.Common.{◌≡◌, ◌+◌, ◌<◌, List, rules, arith, refl, sym, ap, ◌∙◌, subst, All}
 use Rattle.std.specs.Arc.{arc_value}
 use Rattle.std.proofs.lemmas.List.Elements.{All-push}
-use Rattle.model_tree.specs.declared.tree.Class.{Class}
+use Rattle.model_solved.specs.Founding.{CheckedView}
 use Rattle.session_lock.specs.Passes.{SharedState}
 use Rattle.replica.specs.View.{founded_replica}
 use Rattle.drill.specs.declared.trust.TrustReplay.{TrustReplay}
@@ -29,7 +29,7 @@ loop-made-preserved g c =
       pass = c.in_ok-split.ensures.given;
       numbers = c.in_ok-split.ensures.numbers.0;
       view = refl;
-      replica = c.in_ok-found.ensures ∙ ap (λ (p : List Class). founded_replica p prepared.id.0 (made + 1)) cloned;
+      replica = c.in_ok-found.ensures ∙ ap (λ (p : CheckedView). founded_replica p prepared.id.0 (made + 1)) cloned;
       source = c.source_of.ensures;
     } in
     let first : P w = subst (λ (s : SharedState TrustReplay). IsFirst (g.C.Clock.gives hall.clock.now) hall.size s w) (sym c.requires.shared)

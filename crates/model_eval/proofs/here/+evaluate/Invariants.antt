@@ -1,9 +1,10 @@
 use Rattle.std.proofs.Common.{◌≡◌, ◌+◌, ◌-◌, ◌*◌, [], drop}
-use Rattle.model_value.specs.View.{plain, plain_values}
+use Rattle.model_value.specs.View.{plain_values}
+use Rattle.model_solved.specs.Founding.{checked_tree}
 use Rattle.model_solved.specs.SolvedView.{solved_expression, solved_expressions, solved_statements}
 use Rattle.model_eval.specs.Publishing.{run_handlers}
 use Rattle.model_eval.specs.Slots.{evaluate_all, in_turn, loop_turns}
-use Rattle.model_eval.specs.Answer.{evaluates_by, executes_by, starts_by}
+use Rattle.model_eval.specs.Answer.{evaluates_by, executes_by, notice_of, starts_by}
 use Rattle.world_state.specs.Answer.{running}
 use Rattle.model_eval.proofs.here.+evaluate.Given as goal
 
@@ -110,5 +111,7 @@ invariant-Here::run_loop-loop-turn l =
 
 abbrev pub invariant-Starter::tell_all-loop-handler : goal.invariant-Starter::tell_all-loop-handler
 invariant-Starter::tell_all-loop-handler l =
+    let program = checked_tree l.self.program.now in
     let start = starts_by l.self in
-    run_handlers start (plain l.value) (drop l.handler-index l.handlers) (running l.state l.budget) ≡ run_handlers start (plain l.value) l.handlers (running l.fn.state l.fn.budget)
+    let notice = notice_of l.event in
+    run_handlers program start notice (drop l.handler-index l.handlers) (running l.state l.budget) ≡ run_handlers program start notice l.handlers (running l.fn.state l.fn.budget)

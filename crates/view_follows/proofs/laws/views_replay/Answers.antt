@@ -1,7 +1,7 @@
 use Rattle.std.proofs.Common.{◌≡◌, ℕ, List, refl, sym, ap, ◌∙◌}
 use Rattle.tea_base.specs.declared.entry.Entry.{Entry}
 use Rattle.tea_base.specs.Readings.{count_until}
-use Rattle.model_tree.specs.Tree.{ProgramTree}
+use Rattle.model_solved.specs.Founding.{Founding}
 use Rattle.world.specs.Worlds.{replay}
 use Rattle.replica.specs.RealWorlds.{worlds}
 use Rattle.replica_plain.specs.Worlds.{replay_world}
@@ -13,18 +13,18 @@ use Rattle.view_follows.proofs.Stands.{TellsReplay, line_of}
 use Rattle.view_follows.proofs.Walking.{walk_ends, walk_offers, walk_tells}
 use Rattle.view_follows.proofs.laws.views_replay.Goals as goal
 
-tells_replay : (tree : ProgramTree) (id : List ℕ) (view : ℕ) (log : List Entry) (line : List ℕ) → ((t : ℕ) → (replay tree id log t).world ≡ replay_world (worlds tree id) log t) → TellsReplay (worlds tree id) log view line → TellsReplayOf tree id view log line
-tells_replay tree id view log line same told =
+tells_replay : (founding : Founding) (id : List ℕ) (view : ℕ) (log : List Entry) (line : List ℕ) → ((t : ℕ) → (replay founding id log t).world ≡ replay_world (worlds founding id) log t) → TellsReplay (worlds founding id) log view line → TellsReplayOf founding id view log line
+tells_replay founding id view log line same told =
     let r = told.replica in
     let world = told.has.replayed ∙ sym (same r.world.time) in
     record {
       time = r.world.time;
       timed = sym (ap (λ w. w.time) world);
-      told = told.told ∙ line_of (worlds tree id) r view (count_until log r.world.time) (replay tree id log r.world.time).world told.has.its told.has.follows.counted world;
+      told = told.told ∙ line_of (worlds founding id) r view (count_until log r.world.time) (replay founding id log r.world.time).world told.has.its told.has.follows.counted world;
     }
 
-replay_line : (tree : ProgramTree) (id : List ℕ) (view : ℕ) (log : List Entry) (line : List ℕ) → ((t : ℕ) → (replay tree id log t).world ≡ replay_world (worlds tree id) log t) → TellsReplay (worlds tree id) log view line → IsReplayLine tree id view log line
-replay_line tree id view log line same told = record {
+replay_line : (founding : Founding) (id : List ℕ) (view : ℕ) (log : List Entry) (line : List ℕ) → ((t : ℕ) → (replay founding id log t).world ≡ replay_world (worlds founding id) log t) → TellsReplay (worlds founding id) log view line → IsReplayLine founding id view log line
+replay_line founding id view log line same told = record {
   replica = told.replica;
   own = told.has.its;
   follows = told.has.follows;
@@ -34,23 +34,23 @@ replay_line tree id view log line same told = record {
 
 pub returns : goal.returns
 returns c = record {
-  line = λ tree id view address lines log steps line visit.
-      let m = worlds tree id in
-      let laws = c.worlds_stand.ensures tree id visit.program in
-      let told = walk_tells m laws log visit.legal view (first_phase tree id view address lines) steps line
+  line = λ founding id view address lines log steps line visit.
+      let m = worlds founding id in
+      let laws = c.worlds_stand.ensures founding id visit.program in
+      let told = walk_tells m laws log visit.legal view (first_phase founding id view address lines) steps line
       (record { same = refl; its = refl; follows = first_world_follows m log (new_replica m view) laws visit.legal refl refl refl }) visit.serves visit.walks in (
-        replay_line tree id view log line (c.worlds_replay.ensures.replays tree id log) told,
-        tells_replay tree id view log line (c.worlds_replay.ensures.replays tree id log) told,
+        replay_line founding id view log line (c.worlds_replay.ensures.replays founding id log) told,
+        tells_replay founding id view log line (c.worlds_replay.ensures.replays founding id log) told,
       );
-  done = λ tree id view address lines log steps visit.
-      let m = worlds tree id in
-      let laws = c.worlds_stand.ensures tree id visit.program in
-      let ends = walk_ends m laws log visit.legal view (first_phase tree id view address lines) steps
+  done = λ founding id view address lines log steps visit.
+      let m = worlds founding id in
+      let laws = c.worlds_stand.ensures founding id visit.program in
+      let ends = walk_ends m laws log visit.legal view (first_phase founding id view address lines) steps
       (record { same = refl; its = refl; follows = first_world_follows m log (new_replica m view) laws visit.legal refl refl refl }) visit.serves visit.walks in
-      record { front = ends.front; line = ends.line; last = ends.last; replayed = replay_line tree id view log ends.line (c.worlds_replay.ensures.replays tree id log) ends.tells; tells = tells_replay tree id view log ends.line (c.worlds_replay.ensures.replays tree id log) ends.tells };
-  offers = λ tree id view address lines log steps last visit.
-      let m = worlds tree id in
-      let laws = c.worlds_stand.ensures tree id visit.program in
-      walk_offers m laws log visit.legal view (first_phase tree id view address lines) steps last
+      record { front = ends.front; line = ends.line; last = ends.last; replayed = replay_line founding id view log ends.line (c.worlds_replay.ensures.replays founding id log) ends.tells; tells = tells_replay founding id view log ends.line (c.worlds_replay.ensures.replays founding id log) ends.tells };
+  offers = λ founding id view address lines log steps last visit.
+      let m = worlds founding id in
+      let laws = c.worlds_stand.ensures founding id visit.program in
+      walk_offers m laws log visit.legal view (first_phase founding id view address lines) steps last
       (record { same = refl; its = refl; follows = first_world_follows m log (new_replica m view) laws visit.legal refl refl refl }) visit.serves visit.walks;
 }

@@ -1,6 +1,6 @@
 use Rattle.std.proofs.Common.{None, refl}
 use Rattle.std.specs.Arc.{arc_value}
-use Rattle.model_tree.specs.TreeView.{program_tree}
+use Rattle.model_solved.specs.Founding.{founding_of}
 use Rattle.run_steps.specs.Outside.{booth, booth_tells, links_tell, net_tells, output_tells}
 use Rattle.view_script.specs.PlainLine.{plain_lines}
 use Rattle.view_shell.specs.declared.ending.ViewEnd.TheVariants as ending
@@ -15,7 +15,7 @@ returns-in_default g c =
     let net = net_tells g.N.Net.coming g.N.Net.over g.N.Net.asked g.N.Net.faults g.N.Net.lent g.N.Net.link_counts in
     let links = links_tell g.N.Conn.Link.coming g.N.Conn.Link.heard g.N.Conn.Link.sent g.N.Conn.Link.counts in
     let visit = c.args.visit.now in
-    let start = first_phase (program_tree (arc_value visit.program)) visit.id.0 visit.view visit.address (plain_lines visit.script) in
+    let start = first_phase (founding_of (arc_value visit.program)) visit.id.0 visit.view visit.address (plain_lines visit.script) in
     let old = booth c.args.out.now c.args.net.now None in
     record { ran = over_without_link out net links start ending.WantOfMemory old c.args.out.now c.args.net.now (wants (booth_tells out net links) start ending.WantOfMemory old refl) }
 
@@ -25,6 +25,6 @@ returns-in-Err g c =
     let net = net_tells g.N.Net.coming g.N.Net.over g.N.Net.asked g.N.Net.faults g.N.Net.lent g.N.Net.link_counts in
     let links = links_tell g.N.Conn.Link.coming g.N.Conn.Link.heard g.N.Conn.Link.sent g.N.Conn.Link.counts in
     let visit = c.args.visit.now in
-    let start = first_phase (program_tree (arc_value visit.program)) visit.id.0 visit.view visit.address (plain_lines visit.script) in
+    let start = first_phase (founding_of (arc_value visit.program)) visit.id.0 visit.view visit.address (plain_lines visit.script) in
     let old = booth c.args.out.now c.args.net.now None in
     record { ran = over_without_link out net links start ending.WantOfMemory old c.args.out.now c.args.net.now (wants (booth_tells out net links) start ending.WantOfMemory old refl) }

@@ -4,10 +4,10 @@ use Rattle.world.proofs.Turn.{program-fits}
 use Rattle.world.proofs.laws.first_world_is_valid.Goals as goal
 
 pub returns-clause-valid : goal.returns-clause-valid
-returns-clause-valid c = λ program id p. first-valid program id (program-fits program p)
+returns-clause-valid c = λ founding id f. first-valid founding id f.persisted (program-fits founding.tree f.program)
 
 pub returns-clause-session : goal.returns-clause-session
-returns-clause-session c = λ program id p. first-id program (program-fits program p) id
+returns-clause-session c = λ founding id f. first-id founding (program-fits founding.tree f.program) id
 
 pub returns-clause-time : goal.returns-clause-time
-returns-clause-time c = λ program id p. first-begins program (program-fits program p) id
+returns-clause-time c = λ founding id f. first-begins founding (program-fits founding.tree f.program) id

@@ -5,5 +5,6 @@ use Rattle.world.proofs.Following.{follows-on}
 use Rattle.world.proofs.laws.resumed_follows.Goals as goal
 
 pub returns : goal.returns
-returns c = λ program w entries t p v legal le below follows.
-    follows-on (field_counts program) program w entries t (program-fits program p) v (first-valid program w.id (program-fits program p)) legal le below follows
+returns c = λ founding w entries t f v legal le below follows.
+    let fits = program-fits founding.tree f.program in
+    follows-on (field_counts founding.tree) founding w entries t fits v (first-valid founding w.id f.persisted fits) legal le below follows

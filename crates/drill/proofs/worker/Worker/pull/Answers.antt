@@ -1,5 +1,5 @@
 use Rattle.std.proofs.Common.{Bool, ◌∙◌, subst, sym, ap}
-use Rattle.model_tree.specs.TreeView.{program_tree}
+use Rattle.model_solved.specs.Founding.{founding_of}
 use Rattle.replica.specs.View.{ReplicaView}
 use Rattle.drill.specs.declared.worker.Worker.{Worker}
 use Rattle.drill.proofs.Asks.{worker_with}
@@ -12,20 +12,20 @@ use Rattle.drill.proofs.worker.Worker.pull.Goals as goal
 
 pub next-requires : goal.next-requires
 next-requires g c =
-    let laws = c.worlds_stand.ensures (program_tree c.args.self.now.replica.program) c.args.self.now.replica.id c.requires.works.program in
+    let laws = c.worlds_stand.ensures (founding_of c.args.self.now.replica.program) c.args.self.now.replica.id c.requires.works.program in
     let asked = asked_behind _ _ _ _ _ _ c.after.result c.args.cursor.now c.in_ok-batch.batch c.in_ok-batch.ensures.asked c.after.ensures in
     batch_follows _ _ _ _ _ _ _ c.args.cursor.now c.in_ok-batch.batch asked c.requires.works laws
 
 pub take_all-requires : goal.take_all-requires
 take_all-requires g c =
-    let laws = c.worlds_stand.ensures (program_tree c.args.self.now.replica.program) c.args.self.now.replica.id c.requires.works.program in
+    let laws = c.worlds_stand.ensures (founding_of c.args.self.now.replica.program) c.args.self.now.replica.id c.requires.works.program in
     let asked = asked_behind _ _ _ _ _ _ c.after.result c.args.cursor.now c.in_ok-batch.batch c.in_ok-batch.ensures.asked c.after.ensures in
     let same = ap (λ (w : Worker). w.replica) c.in_ok-batch.ensures.pass in
     rw same (pull_fine _ _ _ _ _ _ c.args.self.now.replica c.args.cursor.now c.in_ok-batch.batch asked c.requires.works laws _ (c.as_slice.ensures ∙ c.in_ok-frames.ensures.frames))
 
 pub returns-clause-worker : goal.returns-clause-worker
 returns-clause-worker g c =
-    let laws = c.worlds_stand.ensures (program_tree c.args.self.now.replica.program) c.args.self.now.replica.id c.requires.works.program in
+    let laws = c.worlds_stand.ensures (founding_of c.args.self.now.replica.program) c.args.self.now.replica.id c.requires.works.program in
     let asked = asked_behind _ _ _ _ _ _ c.after.result c.args.cursor.now c.in_ok-batch.batch c.in_ok-batch.ensures.asked c.after.ensures in
     let same = ap (λ (w : Worker). w.replica) c.in_ok-batch.ensures.pass in
     let keeps = pull_keeps _ _ _ _ _ _ c.args.self.now.replica c.args.cursor.now c.in_ok-batch.batch asked c.requires.works laws c.take_all.new.replica _ (c.as_slice.ensures ∙ c.in_ok-frames.ensures.frames) (rw same at c.in_ok-take_all.ensures) in
@@ -34,7 +34,7 @@ returns-clause-worker g c =
 
 pub returns-clause-more : goal.returns-clause-more
 returns-clause-more g c =
-    let laws = c.worlds_stand.ensures (program_tree c.args.self.now.replica.program) c.args.self.now.replica.id c.requires.works.program in
+    let laws = c.worlds_stand.ensures (founding_of c.args.self.now.replica.program) c.args.self.now.replica.id c.requires.works.program in
     let asked = asked_behind _ _ _ _ _ _ c.after.result c.args.cursor.now c.in_ok-batch.batch c.in_ok-batch.ensures.asked c.after.ensures in
     let same = ap (λ (w : Worker). w.replica) c.in_ok-batch.ensures.pass in
     let frames = c.as_slice.ensures ∙ c.in_ok-frames.ensures.frames in
@@ -47,7 +47,7 @@ returns-clause-more g c =
 
 pub returns-clause-come : goal.returns-clause-come
 returns-clause-come g c =
-    let laws = c.worlds_stand.ensures (program_tree c.args.self.now.replica.program) c.args.self.now.replica.id c.requires.works.program in
+    let laws = c.worlds_stand.ensures (founding_of c.args.self.now.replica.program) c.args.self.now.replica.id c.requires.works.program in
     let asked = asked_behind _ _ _ _ _ _ c.after.result c.args.cursor.now c.in_ok-batch.batch c.in_ok-batch.ensures.asked c.after.ensures in
     let same = ap (λ (w : Worker). w.replica) c.in_ok-batch.ensures.pass in
     let comes = pull_comes _ _ _ _ _ _ c.args.self.now.replica c.args.cursor.now c.in_ok-batch.batch asked c.requires.works laws c.take_all.new.replica c.next.new.self _

@@ -17,6 +17,6 @@ overflow_cast-result c =
 pub returns : goal.returns
 returns c =
     let class = c.in_ok-class.class.now in
-    let here : slice_get c.args.self.now c.args.class ≡ Some class = grind (arith, common_steps, gets) in
+    let here : slice_get c.args.self.now.classes c.args.class ≡ Some class = grind (arith, common_steps, gets) in
     let count : c.len.result ≡ length class.fields.items = omega (arith, c.len.ensures, class.fields.ok) in
-    field_count_at c.args.self.now c.args.class class c.len.result here count
+    field_count_at c.args.self.now.classes c.args.class class c.len.result here count

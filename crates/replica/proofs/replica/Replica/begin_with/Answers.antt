@@ -1,5 +1,5 @@
 use Rattle.std.proofs.Common.{◌≡◌, ◌≢◌, ℕ, List, Some, ap, sym, subst, ◌∙◌}
-use Rattle.model_tree.specs.TreeView.{program_tree}
+use Rattle.model_solved.specs.Founding.{checked_tree}
 use Rattle.world_plain.specs.Messages.{PlainOutgoing}
 use Rattle.world_plain.specs.World.{WorldRecord}
 use Rattle.world.specs.Worlds.{field_counts}
@@ -11,9 +11,9 @@ use Rattle.replica.proofs.Bases.{own-time, other-time}
 use Rattle.replica.proofs.replica.Replica.begin_with.Goals as goal
 
 -- what is spelled, in the words of the replica
-spelled : (r s : ReplicaView) (bytes other : List ℕ) (world : WorldRecord) → r ≡ s → bytes ≡ other → snapshot_world (field_counts (program_tree r.program)) r.id bytes ≡ Some world → snapshot_world (field_counts (program_tree s.program)) s.id other ≡ Some world
+spelled : (r s : ReplicaView) (bytes other : List ℕ) (world : WorldRecord) → r ≡ s → bytes ≡ other → snapshot_world (field_counts (checked_tree r.program)) r.id bytes ≡ Some world → snapshot_world (field_counts (checked_tree s.program)) s.id other ≡ Some world
 spelled r s bytes other world same e found =
-    subst (λ (b : List ℕ). snapshot_world (field_counts (program_tree s.program)) s.id b ≡ Some world) e (subst (λ (v : ReplicaView). snapshot_world (field_counts (program_tree v.program)) v.id bytes ≡ Some world) same found)
+    subst (λ (b : List ℕ). snapshot_world (field_counts (checked_tree s.program)) s.id b ≡ Some world) e (subst (λ (v : ReplicaView). snapshot_world (field_counts (checked_tree v.program)) v.id bytes ≡ Some world) same found)
 
 pub returns-then-time-base-clause-taken : goal.returns-then-time-base-clause-taken
 returns-then-time-base-clause-taken c =

@@ -1,5 +1,5 @@
 use Rattle.std.proofs.Common.{◌∙◌, ap, arith}
-use Rattle.model_tree.specs.TreeView.{program_tree}
+use Rattle.model_solved.specs.Founding.{checked_tree}
 use Rattle.model_tree.specs.Tree.{ProgramTree}
 use Rattle.world.specs.Worlds.{Scene}
 use Rattle.world.specs.View.{scene}
@@ -9,7 +9,7 @@ use Rattle.world.proofs.world.World.external.Goals as goal
 
 pub returns-in-Ok-clause-arrives : goal.returns-in-Ok-clause-arrives
 returns-in-Ok-clause-arrives c =
-    let tree : ProgramTree = program_tree c.deref.result.now in
+    let tree : ProgramTree = checked_tree c.deref.result.now in
     ap (λ (s : Scene). s.world.time) c.in-Ok.ensures.entered
-    ∙ external-time tree (program-fits tree (rw c.deref.ensures c.self.invariant.program)) c.args.entry.now (scene c.self.inside.state)
+    ∙ external-time tree (program-fits tree (rw c.deref.ensures c.self.invariant.program.program)) c.args.entry.now (scene c.self.inside.state)
     (rw c.deref.ensures (c.self.invariant.valid c.if-self.false)) (omega (arith, c.if-entry-self.false))

@@ -1,0 +1,49 @@
+-- What is known of what the words ask for.
+use Rattle.std.specs.Prelude.{⊤, ◌≤◌, ◌<◌, ℕ, length, encode_utf8_all, Option, Some}
+use Rattle.tea_base.specs.Limits.{time_limit}
+use Rattle.run_steps.specs.Limits.{most_connections, most_drill_events, most_drill_views}
+use Rattle.command_words.specs.declared.words.ReplayRequest.{ReplayRequest}
+use Rattle.command_words.specs.declared.words.JoinRequest.{JoinRequest}
+use Rattle.command_words.specs.declared.words.ReflectRequest.{ReflectRequest}
+use Rattle.command_words.specs.declared.words.DrillRequest.{DrillRequest}
+use Rattle.command_words.specs.declared.words.Command.{Command}
+use Rattle.command_words.specs.declared.words.Command.TheVariants.{Stamp, Check, Replay, Join, Reflect, Drill}
+use Rattle.command_words.specs.CommandWords.{most_name}
+
+-- the words ask for a command that uses a net: join or reflect
+abbrev pub UsesNet : Option Command → Type 0
+UsesNet (Some (Join request)) = ⊤
+UsesNet (Some (Reflect request)) = ⊤
+UsesNet command = ⊥
+
+-- a replay has a name of at most so many bytes, and a time below the limit of times
+abbrev pub IsBounded : ReplayRequest → Type 0
+IsBounded request = (length (encode_utf8_all request.name) ≤ most_name) × (request.time < time_limit)
+
+-- a join has a name of at most so many bytes too, and a view from 1
+abbrev pub IsBoundedJoin : JoinRequest → Type 0
+IsBoundedJoin request = (length (encode_utf8_all request.name) ≤ most_name) × (1 ≤ request.view)
+
+-- from 1 to the most links
+abbrev pub AreConnections : ℕ → Type 0
+AreConnections count = (1 ≤ count) × (count ≤ most_connections)
+
+-- a reflect has a name of at most so many bytes too, and so many connections
+abbrev pub IsBoundedReflect : ReflectRequest → Type 0
+IsBoundedReflect request = (length (encode_utf8_all request.name) ≤ most_name) × AreConnections request.connections
+
+-- from 1 to the most views
+abbrev pub AreViews : ℕ → Type 0
+AreViews count = (1 ≤ count) × (count ≤ most_drill_views)
+
+-- a drill has so many views, of so many events each at most
+abbrev pub IsBoundedDrill : DrillRequest → Type 0
+IsBoundedDrill request = AreViews request.views × (request.events ≤ most_drill_events)
+
+abbrev pub IsWithinBounds : Command → Type 0
+IsWithinBounds (Stamp script log) = ⊤
+IsWithinBounds (Check program) = ⊤
+IsWithinBounds (Replay request) = IsBounded request
+IsWithinBounds (Join request) = IsBoundedJoin request
+IsWithinBounds (Reflect request) = IsBoundedReflect request
+IsWithinBounds (Drill request) = IsBoundedDrill request

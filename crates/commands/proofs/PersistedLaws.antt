@@ -1,0 +1,72 @@
+-- A replay whose persisted value was read goes on as its request says.
+use Rattle.std.proofs.Common.{◌≡◌, ℕ, List, Option, Some, None, inl, inr, subst, sym}
+use Rattle.tea_base.specs.declared.entry.Entry.{Entry}
+use Rattle.model_tree.specs.Tree.{ProgramTree}
+use Rattle.model_solved.specs.Founding.{Founding}
+use Rattle.model_value.specs.Plain.{PlainValue, nil}
+use Rattle.model_value.specs.View.{plain}
+use Rattle.model_value.specs.declared.value.Value.TheVariants.{Nil}
+use Rattle.model_value.proofs.Plains.{plain-Nil}
+use Rattle.run_steps.specs.Steps.{Ask}
+use Rattle.command_outcome.specs.declared.outcome.Input.{Input}
+use Rattle.command_outcome.specs.declared.outcome.Input.TheVariants as input
+use Rattle.command_words.specs.declared.words.ReplayRequest.{ReplayRequest}
+use Rattle.persist_json.specs.JsonOf.{most_json}
+use Rattle.commands.specs.Verdict.{Coming, Free, OfFile, OfFounded, OfJson, OfPersisted, OfRecorded, Starts, Verdict, founded, session_of, ask_file}
+
+-- what a request asks for once its persisted value is known does not depend on where that is named
+abbrev pub renamed : Option (List ℕ) → ReplayRequest → ReplayRequest
+renamed name request = record request { persisted = name }
+
+pub starts_alike : (from name : Option (List ℕ)) (request : ReplayRequest) (founding : Founding) (id : List ℕ) (log : List Entry) (verdict : Verdict)
+    → Starts from (renamed name request) founding id log verdict → Starts from request founding id log verdict
+starts_alike None name request founding id log verdict comes = comes
+starts_alike (Some from) name request founding id log verdict comes = comes
+
+pub founded_alike : (name : Option (List ℕ)) (request : ReplayRequest) (text : List ℕ) (log : List Entry) (founding : Founding) (verdict : Verdict)
+    → OfFounded (renamed name request) text log founding verdict → OfFounded request text log founding verdict
+founded_alike name request text log founding verdict = starts_alike request.from name request founding (session_of request.name text founding.persisted) log verdict
+
+-- where each file's bytes lead on alike, so does the file
+pub file_alike : (at : Input) (ask : Ask) (one other : List ℕ → Coming) → ((bytes : List ℕ) (verdict : Verdict) → one bytes verdict → other bytes verdict)
+    → (verdict : Verdict) → OfFile at ask one verdict → OfFile at ask other verdict
+file_alike at ask one other goes verdict (None, (rest, is, comes)) = (None, (rest, is, comes))
+file_alike at ask one other goes verdict (Some bytes, (rest, is, inl want)) = (Some bytes, (rest, is, inl want))
+file_alike at ask one other goes verdict (Some bytes, (rest, is, inr comes)) = (Some bytes, (rest, is, inr (goes bytes rest comes)))
+
+pub json_alike : (one other : PlainValue → Coming) → ((v : PlainValue) (verdict : Verdict) → one v verdict → other v verdict)
+    → (bytes : List ℕ) (verdict : Verdict) → OfJson one bytes verdict → OfJson other bytes verdict
+json_alike one other goes bytes verdict (inl (v, is, comes)) = inl (v, is, goes v verdict comes)
+json_alike one other goes bytes verdict (inr refused) = inr refused
+
+-- the persisted value is in a file
+pub recorded_by_file : (request : ReplayRequest) (name : List ℕ) (other : Option (List ℕ)) (text : List ℕ) (tree : ProgramTree) (log : List Entry) (verdict : Verdict) → request.persisted ≡ Some name
+    → OfFile input.Persisted (ask_file name most_json) (OfJson (λ v. OfFounded (renamed other request) text log (founded tree v))) verdict → Free (OfRecorded request text tree log) verdict
+recorded_by_file request name other text tree log verdict named comes =
+    let asked = λ (v : PlainValue). OfFounded request text log (founded tree v) in
+    let left = λ (v : PlainValue). OfFounded (renamed other request) text log (founded tree v) in
+    let alike = json_alike left asked (λ v verdict came. founded_alike other request text log (founded tree v) verdict came) in
+    inr (subst (λ (p : Option (List ℕ)). OfPersisted p asked verdict) (sym named) (file_alike input.Persisted (ask_file name most_json) (OfJson left) (OfJson asked) alike verdict comes))
+
+-- there is none
+pub recorded_without : (request : ReplayRequest) (other : Option (List ℕ)) (text : List ℕ) (tree : ProgramTree) (log : List Entry) (verdict : Verdict) → request.persisted ≡ None
+    → Free (OfFounded (renamed other request) text log (founded tree nil)) verdict → Free (OfRecorded request text tree log) verdict
+recorded_without request other text tree log verdict named (inl want) = inl want
+recorded_without request other text tree log verdict named (inr comes) =
+    let asked = λ (v : PlainValue). OfFounded request text log (founded tree v) in
+    inr (subst (λ (p : Option (List ℕ)). OfPersisted p asked verdict) (sym named) (founded_alike other request text log (founded tree nil) verdict comes))
+
+-- the program has its persisted value, and the session its id
+pub founded_so : (request : ReplayRequest) (text id : List ℕ) (log : List Entry) (founding asked : Founding) (verdict : Verdict) → founding ≡ asked → id ≡ session_of request.name text asked.persisted
+    → Free (Starts request.from request founding id log) verdict → Free (OfFounded request text log asked) verdict
+founded_so request text id log founding asked verdict same is comes =
+    subst (λ (f : Founding). Free (Starts request.from request f (session_of request.name text asked.persisted) log) verdict) same
+    (subst (λ (i : List ℕ). Free (Starts request.from request founding i log) verdict) is comes)
+
+-- ---- whatever follows the persisted value
+
+pub persisted_by_file : (name : Option (List ℕ)) (file : List ℕ) (next : PlainValue → Coming) (verdict : Verdict) → name ≡ Some file → OfFile input.Persisted (ask_file file most_json) (OfJson next) verdict → OfPersisted name next verdict
+persisted_by_file name file next verdict is comes = subst (λ (p : Option (List ℕ)). OfPersisted p next verdict) (sym is) comes
+
+pub persisted_without : (name : Option (List ℕ)) (next : PlainValue → Coming) (verdict : Verdict) → name ≡ None → next (plain Nil) verdict → OfPersisted name next verdict
+persisted_without name next verdict is comes = subst (λ (p : Option (List ℕ)). OfPersisted p next verdict) (sym is) (subst (λ (v : PlainValue). next v verdict) plain-Nil comes)
