@@ -137,6 +137,32 @@ def check_resumed(program, case, wanted):
     return expect(wanted, f"{run.told()} {same}")
 
 
+# ---------------------------------------------------------------- moments of a session
+
+
+def run_recorded(recorded, words, files):
+    """A run of a command over the case's program and log, with its persisted value, which writes no file."""
+    files = {"p": recorded.source, "l": recorded.stamped.files["l"], **files}
+    if recorded.json:
+        words = [*words, "--persisted", "j"]
+        files["j"] = recorded.json[0]
+    run = recorded.program.run(words, files)
+    expect({}, run.files)
+    return run.told()
+
+
+def check_inspect(program, case, wanted):
+    head, queries, rest = case.split(b" | ", 2)
+    recorded = Recorded(program, head + b" | " + rest, 1)
+    files = {"q": b"" if queries == b"-" else croquet.lines_of(queries)}
+    expect(wanted, run_recorded(recorded, ["inspect", "p", recorded.name, "l", *recorded.times, "q"], files))
+
+
+def check_trace(program, case, wanted):
+    recorded = Recorded(program, case, 2)
+    expect(wanted, run_recorded(recorded, ["trace", "p", recorded.name, "l", *recorded.times], {}))
+
+
 # ---------------------------------------------------------------- spoiled snapshots
 
 COUNTING = b"class Root{field n;init(o,p){if(p==nil){this.n=0;}else{this.n=at(p,0);}persist([this.n+1]);}}"
@@ -282,6 +308,8 @@ PARTS = {
     "resumed": lambda: each("resumed", "resumed", check_resumed),
     "saved": lambda: each("saved", "saved", check_saved),
     "jsons": lambda: each("data", "jsons", check_json),
+    "inspects": lambda: reference_cases("inspects", "inspects"),
+    "traces": lambda: reference_cases("traces", "traces"),
     "spoiled": spoiled_cases,
     "commands": command_cases,
 }

@@ -9,7 +9,7 @@ is proved of it.
 
 prints each line of FILE with what it comes to. The kinds are evaluate, run,
 canonical, decode, payload, data (language) and scripts, logs, programs, worlds,
-saved, snapshots, resumed, views (commands).
+saved, snapshots, resumed, inspects, traces, views (commands).
 """
 import hashlib
 import heapq
@@ -1301,12 +1301,14 @@ class World:
     # -- messages
 
     def message(self, work):
-        """One message: `work` with a fresh budget; a fault is counted."""
+        """One message: `work` with a fresh budget. A fault is counted, and its name is given."""
         self.turns = min(self.turns + 1, MOST_TURNS)
         try:
             work(Evaluation(self))
         except Fault as fault:
             self.count(fault.name)
+            return fault.name
+        return None
 
     def count(self, name):
         place = FAULTS.index(name)
@@ -2055,15 +2057,20 @@ def read_request(line):
     raise Ended("input script", 3)
 
 
-def read_script(source):
-    if len(source) > SCRIPT_BYTES:
-        raise Ended("input script", 3)
+def read_lines(source, limit, refusal):
+    """The lines of a text that are not skipped."""
+    if len(source) > limit:
+        raise Ended(refusal, 3)
     try:
         lines = source.decode("utf-8").split("\n")
     except UnicodeDecodeError:
-        raise Ended("input script", 3) from None
+        raise Ended(refusal, 3) from None
     ended = [line.removesuffix("\r") for line in lines[:-1]] + lines[-1:]
-    return [read_request(line) for line in ended if line and not line.startswith("#")]
+    return [line for line in ended if line and not line.startswith("#")]
+
+
+def read_script(source):
+    return [read_request(line) for line in read_lines(source, SCRIPT_BYTES, "input script")]
 
 
 def stamped(source):
@@ -2108,6 +2115,7 @@ class Replaying:
 
 
 def read_replaying(case, times):
+    """`NAME TIME.. SCRIPT | PROGRAM`, and ` | JSON` where a value is persisted."""
     head, source, *given = case.split(b" | ", 2)
     words = head.split(b" ", times + 1)
     script = b"" if words[-1] == b"-" else lines_of(words[-1])
@@ -2120,6 +2128,130 @@ def read_replaying(case, times):
 
 def whole_replay(case):
     return replayed(case.first_world(), case.entries, case.times[-1])
+
+
+# ---------------------------------------------------------------- inspect
+
+MOST_QUERIES_BYTES = 65_536
+MOST_KEYFRAMES = 128
+
+
+def fault_word(name):
+    """`zero-divisor` of `ZeroDivisor`."""
+    return re.sub(r"(?<!^)(?=[A-Z])", "-", name).lower()
+
+
+def method_word(method):
+    """A method's name as it is, and a text that is no name of the language as its literal."""
+    named = re.fullmatch(r"[a-z_][A-Za-z0-9_]*", method, re.ASCII) and len(method) <= MOST_NAME
+    return method if named and method not in WORDS else value_text(method)
+
+
+def object_line(world, id_):
+    o = world.objects[id_]
+    class_ = world.program.classes[o.class_]
+    fields = [f"{name} {value_text(v)}" for name, v in zip(class_.fields, o.fields, strict=True)]
+    return " ".join([f"object {id_} {class_.name}", *fields])
+
+
+def full_lines(world):
+    """The lines of what is in a world."""
+    lines = [object_line(world, id_) for id_ in sorted(world.objects)]
+    lines += [f"topic {value_text(scope)} {value_text(event)} {id_} {method_word(method)}"
+              for scope, event, id_, method in world.subscriptions]
+    lines += [f"pending {m.time} {m.number} {m.object} {method_word(m.method)} {value_text(List(m.args))}"
+              for m in world.pending_in_order()]
+    lines += [f"fault {fault_word(name)} {count}"
+              for name, count in zip(FAULTS, world.faults, strict=True) if count]
+    return lines
+
+
+def read_query(line):
+    """The word of a query, and its time."""
+    words = re.split(" +", line)
+    if len(words) != 2 or words[0] not in ("at", "full") or not is_time(words[1]):
+        raise Ended("input queries", 3)
+    return words[0], int(words[1])
+
+
+def is_time(word):
+    return re.fullmatch(r"0|[1-9][0-9]{0,15}", word, re.ASCII) and int(word) < TIME_LIMIT
+
+
+def inspected(recorded, every, source):
+    """The lines that queries print."""
+    if len(recorded.entries) // every > MOST_KEYFRAMES:
+        raise Ended("input every", 3)
+    lines = []
+    for word, time in [read_query(line) for line in read_lines(source, MOST_QUERIES_BYTES, "input queries")]:
+        world = replayed(recorded.first_world(), recorded.entries, time)
+        lines.append(world_line(world))
+        lines += full_lines(world) if word == "full" else []
+    return lines
+
+
+# ---------------------------------------------------------------- trace
+
+class Tracing:
+    """A world that goes on, and the lines of what runs from a time on."""
+
+    def __init__(self, recorded, begin):
+        self.world, self.begin, self.lines = recorded.first_world(), begin, []
+        init = self.world.program.methods[self.world.program.numbers["Root"]].get("init")
+        if init is not None:
+            args = [None, recorded.persisted] if len(init.params) == 2 else [None]
+            self.tell(f"message 0 1 Root init {value_text(List(args))}")
+        self.tell_fault(next((name for name, count in zip(FAULTS, self.world.faults) if count), None))
+
+    def tell(self, line):
+        if self.world.time >= self.begin:
+            self.lines.append(line)
+
+    def tell_fault(self, name):
+        if name is not None:
+            self.tell(f"fault {fault_word(name)}")
+
+    def run_until(self, time):
+        """The messages that are due up to a time, each told before it runs."""
+        world = self.world
+        while (m := world.take_least(time)) is not None:
+            world.move_to(m.time)
+            class_ = world.program.classes[world.objects[m.object].class_].name
+            self.tell(f"message {m.time} {m.object} {class_} {method_word(m.method)} {value_text(List(m.args))}")
+            self.tell_fault(world.message(lambda evaluation: evaluation.start(m.object, m.method, m.args)))
+        world.move_to(time)
+
+    def topic_of(self, entry):
+        """What models are told of an entry; None where it is nothing."""
+        world = self.world
+        if entry.kind == "event":
+            try:
+                return read_payload(entry.payload)[:2]
+            except Bad:
+                return None
+        if entry.kind == "join":
+            comes = entry.view not in world.views and len(world.views) < MOST_VIEWS
+            return (world.id.hex(), "view-join") if comes else None
+        return (world.id.hex(), "view-exit") if entry.view in world.views else None
+
+    def enter(self, entry):
+        self.run_until(entry.time)
+        topic = self.topic_of(entry)
+        words = [f"entry {entry.seq} time {entry.time} view {entry.view} {entry.kind}"]
+        words += [value_text(text) for text in topic or ()]
+        heard = len(self.world.topics.get(topic, ()))
+        self.tell(" ".join([*words, f"heard {heard}"]))
+        self.tell_fault(self.world.message(lambda evaluation: self.world.enter(entry, evaluation)))
+
+
+def traced(recorded, begin, end):
+    """The lines of what ran from one time to another."""
+    tracing = Tracing(recorded, begin)
+    for entry in recorded.entries:
+        if entry.time <= end:
+            tracing.enter(entry)
+    tracing.run_until(end)
+    return tracing.lines
 
 
 # ---------------------------------------------------------------- frames
@@ -2832,6 +2964,18 @@ def resumed_case(line):
     return world_line(world) + (" same" if world.snapshot() == whole.snapshot() else " differs")
 
 
+def inspects_case(line):
+    """`NAME EVERY SCRIPT | QUERIES | PROGRAM`, and ` | JSON` where a value is persisted."""
+    head, queries, rest = line.split(b" | ", 2)
+    recorded = read_replaying(head + b" | " + rest, 1)
+    return " / ".join(inspected(recorded, recorded.times[0], b"" if queries == b"-" else lines_of(queries)))
+
+
+def traces_case(line):
+    recorded = read_replaying(line, 2)
+    return " / ".join(traced(recorded, *recorded.times))
+
+
 def numbers_in(word):
     """`N` or `N-M`."""
     first, _, last = word.partition("-")
@@ -2891,8 +3035,10 @@ def views_case(case):
 KINDS = {"evaluate": evaluate_case, "run": run_case, "canonical": canonical_case,
          "decode": decode_case, "payload": payload_case, "data": data_case, "scripts": scripts_case,
          "logs": logs_case, "programs": programs_case, "worlds": worlds_case, "saved": saved_case,
-         "snapshots": snapshots_case, "resumed": resumed_case, "views": views_case}
-WITH_STATUS = {"scripts", "logs", "programs", "worlds", "saved", "snapshots", "resumed"}
+         "snapshots": snapshots_case, "resumed": resumed_case, "inspects": inspects_case,
+         "traces": traces_case, "views": views_case}
+WITH_STATUS = {"scripts", "logs", "programs", "worlds", "saved", "snapshots", "resumed", "inspects",
+               "traces"}
 
 
 def outcome_of(kind, case):

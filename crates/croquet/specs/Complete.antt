@@ -103,8 +103,9 @@ HasRightInput files old (Some (Drill request)) = ⊤
 
 -- ---- what keeps a view's links from having a say
 
--- Of a view that took these steps: which of them lead to which end. Where its links went on it does not end with them, where nothing was refused
--- but a snapshot it does not end refused, and where one legal log answered its links, with honest bases, it finds no fault in its peer.
+-- Of a view that took these steps: which of them lead to which end. Where its links went on it does not end with them. Where nothing was refused
+-- but a snapshot it does not end refused. Where one legal log answered its links, with honest bases, and each Sync counted its own events, it finds
+-- no fault in its peer.
 pub record OnlyByLinks (visit : PlainVisit) (steps : List Step) (result : Status) : Type 0 where
   pub ended : GoOn 0 steps → result ≢ status.Ended
   pub refused : RefuseNoOther steps → result ≢ status.Refused

@@ -127,8 +127,9 @@ pub fn croquet<
         (net_tells N.coming N.over N.asked N.faults N.lent N.link_counts)
         (links_tell N.Conn.coming N.Conn.heard N.Conn.sent N.Conn.counts))
         (Comes (command_of words.now)) (outside files.old out.old net None) (outside files.new out.new result.0 None) result.1 }
-    // Where the inputs of a command are right and no call has failed, it is done, unless memory runs out. Of `join` its links have a say too:
-    // none, where they went on, refused nothing but a snapshot, and were answered by one legal log with honest bases.
+    // Where the files tell what they hold, the inputs of a command are right and no call has failed, it is done, unless memory runs out. Of
+    // `join` its links have a say too: none, where they went on, refused nothing but a snapshot, and were answered by one legal log, with honest
+    // bases and with counts of this view's events alone.
     ensures complete { IsComplete (files_tell F.held F.asked F.faults F.wants) (output_tells W.written W.faults W.wants)
         (net_tells N.coming N.over N.asked N.faults N.lent N.link_counts)
         (links_tell N.Conn.coming N.Conn.heard N.Conn.sent N.Conn.counts)

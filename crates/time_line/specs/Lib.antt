@@ -1,0 +1,2 @@
+pub mod Keyframes
+pub mod Answer

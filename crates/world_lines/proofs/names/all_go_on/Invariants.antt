@@ -1,0 +1,8 @@
+use Rattle.std.proofs.Common.{◌≡◌, drop}
+use Rattle.std.specs.List.{list_all}
+use Rattle.model_tokens.specs.Bytes.{goes_on_name}
+use Rattle.world_lines.proofs.names.all_go_on.Given as goal
+
+-- all so far go on a name
+abbrev pub invariant-loop-byte : goal.invariant-loop-byte
+invariant-loop-byte l = list_all goes_on_name (drop l.byte-index l.bytes) ≡ list_all goes_on_name l.bytes
