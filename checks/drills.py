@@ -1,6 +1,6 @@
 """Runs of `drill` against `replay` and against the reference."""
 from case import FOLDER, Case, expect, expect_that
-from reference import croquet, read_log
+from reference import croquet, read_stored
 
 PREFIX = "snap"
 with open(f"{FOLDER}/../examples/drill.program", "rb") as opened:
@@ -33,13 +33,17 @@ def check_drill(program, seed, views, events):
     expect((f"views {views} events {views * events} entries {count} total {total} agree {views}\n", 0),
            (run.text.decode(), run.status))
     expect(["l", *(f"{PREFIX}{view}" for view in own)], sorted(run.files))
-    entries = read_log(run.files["l"])
-    expect_that(entries is not None, "a legal log", run.files["l"][:200].hex())
+    session = read_stored(run.files["l"])
+    expect_that(session is not None, "a stored session", run.files["l"][:200].hex())
+    entries = session.log
+    expect((entries[-1].time, events >= 256), (session.horizon, session.kept is not None))
+    if session.kept is not None:
+        expect(reference_replay(entries, session.kept[0]), session.kept[1])
     for view, wanted in own.items():
         expect(wanted, [(e.kind, e.number, e.payload) for e in entries if e.view == view])
     snapshots = {run.files[f"{PREFIX}{view}"] for view in own}
     expect({replayed(program, run.files["l"], entries[-1].time)}, snapshots)
-    expect({reference_replay(entries)}, snapshots)
+    expect({reference_replay(entries, entries[-1].time)}, snapshots)
 
 
 def replayed(program, log, time):
@@ -50,11 +54,11 @@ def replayed(program, log, time):
     return run.files["f"]
 
 
-def reference_replay(entries):
-    """The snapshot of the reference."""
+def reference_replay(entries, time):
+    """The snapshot of the reference at this time."""
     world = croquet.World.first(croquet.Program(croquet.parse(SOURCE)),
                                 croquet.session_id(b"drill", SOURCE))
-    return croquet.replayed(world, entries, entries[-1].time).snapshot()
+    return croquet.replayed(world, entries, time).snapshot()
 
 
 def drill_cases(drills):

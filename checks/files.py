@@ -37,6 +37,26 @@ def a_kill_in_the_midst_leaves_the_old_file(program):
     expect_that(run.status != 0 and "f" not in run.files, "the old file", (run.status, run.files.get("f")))
 
 
+GOING_ON = ["stamp", "s", "--from", "f", "--log", "f"]
+
+
+def a_session_that_cannot_be_whole_leaves_the_old_one(program):
+    """The file that a session goes on from is the one that it is to be written to."""
+    run = program.launched_by(*FAILING).run(GOING_ON, {"s": b"leave 7 1 0\n", "f": log_of_script()})
+    expect(("write-fault [5]", {}), (run.told(), run.files))
+
+
+def a_kill_in_the_midst_leaves_the_old_session(program):
+    run = program.launched_by(*ENDING).run(GOING_ON, {"s": b"leave 7 1 0\n", "f": log_of_script()})
+    expect_that(run.status != 0 and "f" not in run.files, "the old file", (run.status, run.files.get("f")))
+
+
+def a_session_takes_the_place_of_the_one_that_it_goes_on_from(program):
+    run = program.run(GOING_ON, {"s": b"leave 7 1 0\ntick 900\n", "f": log_of_script()})
+    session, lines = croquet.stamped(b"leave 7 1 0\ntick 900\n", log_of_script())
+    expect((" / ".join(lines), {"f": session.encoded()}), (run.told(), run.files))
+
+
 def a_file_takes_the_place_of_the_old_one(program):
     run = program.run(WORDS, {"s": SCRIPT, "f": b"old" * 100_000})
     expect((0, {"f": log_of_script()}), (run.status, run.files))
@@ -111,8 +131,21 @@ def a_disk_that_is_full_keeps_the_old_file(program):
     inner = "mount -t tmpfs -o size=64k none d && echo old > d/f && \"$@\"; status=$?; cat d/f; ls -A d; exit $status"
     script = f"mkdir d; unshare -rm /bin/sh -c '{inner}' sh \"$@\"; status=$?; rmdir d; exit $status"
     long = b"join 7 0\n" + b"".join(b"send 7 1 %d 0 %s\n" % (number, b"ab" * 200) for number in range(1, 401))
-    run = program.launched_by("/bin/sh", "-c", script, "sh").run(["stamp", "s", "--log", "d/f"], {"s": long})
-    expect("write-fault / old / f [5]", run.told())
+    full = program.launched_by("/bin/sh", "-c", script, "sh")
+    expect("write-fault / old / f [5]", full.run(["stamp", "s", "--log", "d/f"], {"s": long}).told())
+
+
+def a_disk_that_is_full_keeps_the_old_session(program):
+    """A session goes on from a file that fills more than half of its disk."""
+    if not may_mount():
+        return
+    stored = log_of_script()
+    inner = ("mount -t tmpfs -o size=32k none d && cp f d/f && \"$@\"; status=$?; cmp f d/f && echo same; "
+             "ls -A d; exit $status")
+    script = f"mkdir d; unshare -rm /bin/sh -c '{inner}' sh \"$@\"; status=$?; rmdir d; exit $status"
+    full = program.launched_by("/bin/sh", "-c", script, "sh")
+    run = full.run(["stamp", "s", "--from", "d/f", "--log", "d/f"], {"s": b"leave 7 1 0\n", "f": stored})
+    expect("write-fault / same / f [5]", run.told())
 
 
 def a_device_is_written_as_it_is(program):
@@ -128,5 +161,7 @@ CHECKS = [a_file_that_cannot_be_whole_leaves_the_old_one, a_file_that_cannot_be_
           no_other_name_is_left, a_name_that_is_in_use_beside_it_is_left, a_symbolic_link_stays_one,
           a_folder_that_takes_no_file_has_the_file_written, a_folder_that_cannot_be_read_has_the_file_put,
           a_file_that_may_not_be_written_is_left, a_name_may_be_as_long_as_the_system_takes,
-          a_disk_that_is_full_keeps_the_old_file, a_device_is_written_as_it_is]
+          a_disk_that_is_full_keeps_the_old_file, a_disk_that_is_full_keeps_the_old_session,
+          a_session_that_cannot_be_whole_leaves_the_old_one, a_kill_in_the_midst_leaves_the_old_session,
+          a_session_takes_the_place_of_the_one_that_it_goes_on_from, a_device_is_written_as_it_is]
 PARTS = {"files": lambda: [Case(check.__name__.replace("_", " "), check) for check in CHECKS]}

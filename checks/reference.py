@@ -51,9 +51,15 @@ def log_text(entries):
                     for entry in entries)
 
 
-def read_log(source):
-    """The entries of a log; None where it is no legal log."""
+def read_stored(source):
+    """The session of a file; None where it is no stored session."""
     try:
-        return croquet.read_log(source)
+        return croquet.read_stored(source)
     except croquet.Bad:
         return None
+
+
+def read_log(source):
+    """The entries of a file; None where it is no stored session."""
+    session = read_stored(source)
+    return None if session is None else session.log

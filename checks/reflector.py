@@ -7,7 +7,7 @@ import time
 
 import websocket
 from case import Wrong, expect, expect_that
-from reference import croquet, log_text, read_log
+from reference import croquet, log_text, read_stored
 from websocket import BINARY, CLOSE, PING, PONG, Wire, frame
 
 EMPTY = b"class Root{init(o){}}"
@@ -39,17 +39,19 @@ def snap_frame(time_, snapshot):
 
 
 class Reflector:
-    """A run of `reflect` of a session named `a`."""
+    """A run of `reflect` of a session named `a`. It goes on from a stored session, where one is given."""
 
-    def __init__(self, program, connections, source=EMPTY, port=None, json=None):
+    def __init__(self, program, connections, source=EMPTY, port=None, json=None, stored=None, log="f"):
         persisted = None if json is None else croquet.from_json(json)
         options, files = ([], {}) if json is None else (["--persisted", "j"], {"j": json})
+        if stored is not None:
+            options, files = [*options, "--from", "o"], {**files, "o": stored}
         self.ident = croquet.session_id(b"a", source, persisted)
         self.holder = None if port else hold_port()
         self.port = port or self.holder.getsockname()[1]
         self.begun, self.address = time.monotonic(), f"127.0.0.1:{self.port}"
         self.run = program.start(
-            ["reflect", "p", "a", self.address, "--connections", str(connections), "--log", "f", *options],
+            ["reflect", "p", "a", self.address, "--connections", str(connections), "--log", log, *options],
             {"p": source, **files}, f"listening at {self.address}, session {self.ident.hex()}\n".encode())
         self.wires = []
 
@@ -83,9 +85,9 @@ class Reflector:
 
 
 @contextlib.contextmanager
-def reflecting(program, connections, source=EMPTY, json=None):
+def reflecting(program, connections, source=EMPTY, json=None, stored=None, log="f"):
     """A reflector that is killed where the check does not come to its end."""
-    reflector = Reflector(program, connections, source, json=json)
+    reflector = Reflector(program, connections, source, json=json, stored=stored, log=log)
     try:
         yield reflector
     finally:
@@ -203,16 +205,16 @@ def leave_all(*views):
         view.ends()
 
 
-def served_log(run, views):
-    """The entries of the log, which is legal and of which the views were told."""
-    expect(["f"], sorted(run.files))
-    entries = read_log(run.files["f"])
-    expect_that(entries is not None, "a legal log", run.files["f"].hex())
+def served_log(run, views, log="f"):
+    """The entries of the log, which is legal and of which the views were told. Its file is that of a stored session."""
+    expect([log], sorted(run.files))
+    session = read_stored(run.files[log])
+    expect_that(session is not None, "a stored session", run.files[log].hex())
+    entries = session.log
     match = LAST_LINE.fullmatch(run.text.decode().rstrip("\n").split("\n")[-1])
     expect_that(match is not None, "the line of a session", run.text)
-    expect(len(entries), int(match[1]))
-    last = entries[-1].time if entries else 0
-    expect_that(int(match[2]) >= last, f"a time from {last} on", match[2])
+    expect((len(entries), session.horizon), (int(match[1]), int(match[2])))
+    expect(0, session.here)
     for view in views:
         from_ = view.from_ or 0
         expect(entries[from_:from_ + len(view.entries)], view.entries)

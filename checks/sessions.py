@@ -3,7 +3,8 @@ import time
 
 import websocket
 from case import Case, expect, expect_that, read_cases
-from reference import croquet, expanded, log_text, read_log
+from commands import reference_cases
+from reference import croquet, expanded, log_text
 from reflector import (ALIVE, LAST_LINE, LEAVE, EMPTY, expect_entries, expect_words, leave_all,
                        reflecting, send_frame, served_log, snap_frame)
 from websocket import BINARY, CLOSE_NORMAL, frame
@@ -298,35 +299,48 @@ def frames_of(part):
     return [] if part == "-" else [bytes.fromhex(word) for word in part.split(" ")]
 
 
+def opening_of(parts):
+    """The bytes of the file that a line names by its first part, if it does, and the parts that follow."""
+    if not parts[0].startswith("from "):
+        return None, parts
+    return bytes.fromhex(parts[0].removeprefix("from ")), parts[1:]
+
+
 def check_reflector(program, case, wanted):
     """A line of `reflectors`, with the times of the clock in place of those of a clock at 0."""
     _, source, *parts = case.decode().split(" | ")
+    stored, parts = opening_of(parts)
     text, log, links = wanted_session(wanted)
-    with reflecting(program, len(links), source.encode()) as reflector:
+    with reflecting(program, len(links), source.encode(), stored=stored) as reflector:
         for part, _ in zip(parts, links):
             say_all(reflector.connect(), frames_of(part))
         heard = [hear_all(wire) for wire in reflector.wires]
         run = reflector.end()
     expect([without_times(link) for link in links], [without_times(link) for link in heard])
     expect(LAST_LINE.sub("", text), LAST_LINE.sub("", run.told()))
-    expect(log_text(read_log(log)), log_text(served_log(run, [])))
+    session = croquet.read_stored(log)
+    expect(log_text(session.log), log_text(served_log(run, [])))
+    expect(session.kept, croquet.read_stored(run.files["f"]).kept)
 
 
 def check_no_reflector(program, case, wanted):
-    """A line of `reflectors` whose address is none."""
+    """A line of `reflectors` whose inputs are refused."""
     head, source, *parts = case.decode().split(" | ")
-    address = parts[-1].removeprefix("address ")
-    words = ["reflect", "p", "a", address, "--connections", head.split(" ")[1], "--log", "f"]
-    run = program.run(words, {"p": source.encode()})
+    stored, parts = opening_of(parts)
+    options, files = ([], {}) if stored is None else (["--from", "o"], {"o": stored})
+    address = next((part.removeprefix("address ") for part in parts if part.startswith("address ")), "localhost:1")
+    words = ["reflect", "p", "a", address, "--connections", head.split(" ")[1], "--log", "f", *options]
+    run = program.run(words, {"p": source.encode(), **files})
     expect((wanted.partition(" ; ")[0], {}), (run.told(), run.files))
 
 
 def reflector_cases():
     def case_of(case, wanted):
-        check = check_no_reflector if " | address " in case else check_reflector
+        check = check_no_reflector if wanted.startswith("input ") else check_reflector
         return Case(case, lambda program: check(program, expanded(case), wanted))
 
-    return [case_of(case, wanted) for case, wanted in read_cases("reflectors")]
+    cases = [case_of(case, wanted) for case, wanted in read_cases("reflectors")]
+    return reference_cases("reflectors", "reflectors") + cases
 
 
 SESSIONS = [

@@ -11,18 +11,16 @@ import stand_in_links as links
 from reference import croquet
 from stand_in_links import Failed, LinkEnd
 
-COMMANDS = {"stamp": (1, {"--log"}, set()), "check": (1, set(), set()),
+COMMANDS = {"stamp": (1, {"--from", "--log"}, set()), "check": (1, set(), set()),
             "replay": (4, {"--persisted", "--from", "--snapshot", "--saved"}, set()),
             "join": (5, {"--persisted"}, set()),
-            "reflect": (3, {"--persisted", "--connections", "--log"}, {"--connections", "--log"}),
+            "reflect": (3, {"--persisted", "--from", "--connections", "--log"}, {"--connections", "--log"}),
             "drill": (3, {"--log", "--snapshots"}, {"--log", "--snapshots"})}
-LIMITS = {"script": croquet.SCRIPT_BYTES, "program": croquet.PROGRAM_BYTES, "log": 2**27,
+LIMITS = {"script": croquet.SCRIPT_BYTES, "program": croquet.PROGRAM_BYTES, "log": croquet.LOG_FILE_BYTES,
           "snapshot": croquet.MOST_SNAPSHOT, "persisted": croquet.MOST_JSON}
 DRILL = (b'class Root{field total;field n;init(o){this.total=0;this.n=0;subscribe("drill","add","add")'
          b';}add(v){this.total=this.total+v;this.n=this.n+1;if(this.n%16==0){this.future(1).mark();}}'
          b'mark(){publish("drill","mark",this.total);}}')
-CODES = ["stale", "too-long", "differs", "gap", "log-full", "time-end", "views-full", "bad-view",
-         "ahead", "older", "no-such-seq"]
 
 # ---------------------------------------------------------------- words
 
@@ -142,8 +140,17 @@ class Output:
 # ---------------------------------------------------------------- commands that wait for nobody
 
 
+def opening_session(options):
+    """The session of `--from`, or the first one."""
+    if "--from" not in options:
+        return croquet.Session()
+    return croquet.read_opening(read_file(options["--from"], "log"))
+
+
 def stamp(plain, options):
-    session, lines = croquet.stamped(read_file(plain[0], "script"))
+    requests = croquet.read_script(read_file(plain[0], "script"))
+    session = opening_session(options)
+    lines = [session.reply(request) for request in requests]
     if "--log" in options:
         write_file(options["--log"], session.encoded())
     for line in lines:
@@ -197,10 +204,10 @@ def drill(plain, options):
     seed, views = number(plain[0], 0, 2**32), number(plain[1], 1, 9)
     events = number(plain[2], 0, 10_001)
     session, program = croquet.Session(), croquet.Program(croquet.parse(DRILL))
+    world = croquet.World.first(program, croquet.session_id(b"drill", DRILL))
     for view in range(1, views + 1):
-        drill_view(session, program, seed * 8 + view - 1, view, events)
-    world = croquet.replayed(croquet.World.first(program, croquet.session_id(b"drill", DRILL)),
-                             session.log, session.horizon)
+        drill_view(session, world, seed * 8 + view - 1, view, events)
+    world = croquet.replayed(world, session.log, session.horizon)
     write_file(options["--log"], session.encoded())
     for view in range(1, views + 1):
         write_file(f"{options['--snapshots']}{view}", world.snapshot())
@@ -208,16 +215,24 @@ def drill(plain, options):
         f"total {world.objects[1].fields[0]} agree {views}")
 
 
-def drill_view(session, program, seed, view, events):
-    source = croquet.World(program, bytes(32))
+def drill_view(session, world, seed, view, events):
+    source = croquet.World(world.program, bytes(32))
     source.random = seed
     session.join(view, 0, "whole", 0)
     for event in range(1, events + 1):
         content = croquet.payload("drill", "add", source.below(100))
         session.send(view, session.view(view).current, event, 0, content)
+        if event % 256 == 0:
+            offer(session, world, view)
         if event % 64 == 0:
             session.join(view, 0, "whole", 0)
     session.leave(view, session.view(view).current, 0)
+
+
+def offer(session, world, view):
+    """Offers the snapshot of the world at the time of the session."""
+    croquet.replayed(world, session.log, session.horizon)
+    session.offer(view, session.view(view).current, world.time, world.snapshot())
 
 
 # ---------------------------------------------------------------- a view
@@ -231,7 +246,7 @@ class Net:
 
     def connect(self):
         try:
-            return ViewLink(links.connect(self.address))
+            return OneLink(links.connect(self.address))
         except OSError:
             raise croquet.Failed() from None
 
@@ -240,8 +255,8 @@ class Net:
         links.close_all([link.link])
 
 
-class ViewLink:
-    """A link as the run of a view takes it."""
+class OneLink:
+    """A link as the reference takes it."""
 
     def __init__(self, link):
         self.link = link
@@ -276,163 +291,7 @@ def join(plain, options):
 # ---------------------------------------------------------------- a reflector
 
 
-class Reflecting:
-    """A session that links share."""
-
-    def __init__(self, ident):
-        self.ident, self.session, self.lock = ident, croquet.Session(), threading.Lock()
-
-    def ask(self, request, *words):
-        with self.lock:
-            return self.session.reply([request, *words])
-
-    def entries(self, after):
-        """A tick, and then the entries behind this seq and the time, if they reach to the end."""
-        with self.lock:
-            self.session.tick(links.now())
-            entries = self.session.log[after:after + 256]
-            return entries, self.session.horizon if after + 256 >= len(self.session.log) else None
-
-    def base(self):
-        with self.lock:
-            return self.session.kept
-
-
-def refused_frame(about, code, kept=0, more=0):
-    sizes = [(about, 1), (code, 1), (kept, 8), (more, 8)]
-    return croquet.framed(70, *(croquet.number(value, size) for value, size in sizes))
-
-
-def refusal_of(about, reply):
-    """The frame of a reply that refuses."""
-    word, *numbers = reply.split(" ")[1:]
-    return refused_frame(about, CODES.index(word) + 1, *map(int, numbers))
-
-
-def entry_frame(entry):
-    kinds = {"join": 1, "exit": 2, "event": 3}
-    fields = [croquet.number(entry.seq, 4), croquet.number(entry.time, 8),
-              croquet.number(entry.view, 4), croquet.number(kinds[entry.kind], 1)]
-    if entry.kind == "event":
-        fields += [croquet.number(entry.number, 4), croquet.bytes_field(entry.payload)]
-    return croquet.framed(66, *fields)
-
-
-def read_client(content):
-    """The name of a view's frame, and its fields."""
-    reader = croquet.Reader(content)
-    tag = reader.number(1)
-    if tag == 1:
-        fields = [reader.bytes(32), reader.number(4), reader.number(1)]
-        croquet.need(fields[2] <= 2)
-        fields.append(croquet.frame_time(reader) if fields[2] == 2 else 0)
-    elif tag == 2:
-        fields = [reader.number(4), reader.bytes(reader.number(4))]
-    elif tag == 3:
-        fields = [croquet.frame_time(reader), reader.bytes(reader.number(4))]
-    else:
-        croquet.need(tag in (4, 5))
-        fields = []
-    reader.end()
-    return tag, fields
-
-
-class Talk:
-    """A link from its first frame to its end."""
-
-    def __init__(self, shared, link):
-        self.shared, self.link = shared, link
-        self.view = self.joined = self.after = self.last_tick = 0
-
-    def run(self):
-        """The word that tells how it ended."""
-        try:
-            return self.begin() or self.converse()
-        except LinkEnd:
-            word = "link-end"
-        except Failed:
-            word = "link-fault"
-        if self.joined:
-            self.shared.ask("leave", self.view, self.joined, links.now())
-        return word
-
-    def begin(self):
-        """Joins; the word of its end where that is refused."""
-        while (content := self.link.hear()) is None:
-            pass
-        try:
-            tag, fields = read_client(content)
-        except croquet.Bad:
-            return self.refuse(refused_frame(0, 13), 13)
-        if tag != 1:
-            return self.refuse(refused_frame(tag, 14), 14)
-        ident, self.view, want, time = fields
-        if ident != self.shared.ident:
-            return self.refuse(refused_frame(1, 12), 12)
-        base = self.shared.base()
-        wanted = ["fresh", "whole", "after"][want]
-        reply = self.shared.ask("join", self.view, links.now(), wanted, time)
-        if reply.startswith("refused"):
-            frame = refusal_of(1, reply)
-            return self.refuse(frame, frame[2])
-        words = reply.split(" ")
-        self.joined, last, self.after = int(words[1]), int(words[3]), int(words[4])
-        numbers = [croquet.number(value, 4) for value in (self.joined, last, self.after)]
-        tail = [b"\0"] if "base" not in words else [
-            b"\1", croquet.number(base[0], 8), croquet.bytes_field(base[1])]
-        self.link.send(croquet.framed(65, *numbers, *tail))
-        return None
-
-    def refuse(self, frame, code):
-        try:
-            self.link.send(frame)
-        except Failed:
-            pass
-        return f"refused {code}"
-
-    def converse(self):
-        word = None
-        while word is None:
-            entries, tick = self.shared.entries(self.after)
-            for entry in entries:
-                self.link.send(entry_frame(entry))
-                self.after = entry.seq
-            if tick is not None and tick > self.last_tick:
-                self.link.send(croquet.framed(67, croquet.number(tick, 8)))
-                self.last_tick = tick
-            content = self.link.hear()
-            word = None if content is None else self.take(content)
-        return word
-
-    def take(self, content):
-        """Answers a frame; the word of the end where it is the last one."""
-        try:
-            tag, fields = read_client(content)
-        except croquet.Bad:
-            return self.link.send(refused_frame(0, 13))
-        if tag == 1:
-            return self.link.send(refused_frame(1, 15))
-        if tag == 5:
-            return self.link.send(croquet.framed(71))
-        return self.asked(tag, fields)
-
-    def asked(self, tag, fields):
-        """Makes the request of a SEND, a SNAP or a LEAVE, and answers by its reply."""
-        words = {2: lambda: ["send", self.view, self.joined, fields[0], links.now(), fields[1]],
-                 3: lambda: ["offer", self.view, self.joined, *fields],
-                 4: lambda: ["leave", self.view, self.joined, links.now()]}[tag]()
-        reply = self.shared.ask(*words)
-        word, *numbers = reply.split(" ")
-        if word == "left":
-            return "left"
-        if word == "refused":
-            self.link.send(refusal_of(tag, reply))
-            return f"stale {numbers[1]}" if numbers[0] == "stale" else None
-        if word == "kept":
-            return self.link.send(croquet.framed(69, croquet.number(fields[0], 8)))
-        return self.link.send(croquet.framed(68, croquet.number(fields[0], 4),
-                                             croquet.number(int(numbers[0]), 4),
-                                             croquet.number(int(numbers[1]), 8)))
+Reflecting, Talk = croquet.Reflecting, croquet.Talk
 
 
 def reflect(plain, options):
@@ -440,7 +299,8 @@ def reflect(plain, options):
     source = read_file(plain[0], "program")
     croquet.read_program(source)
     croquet.check_address(plain[2])
-    shared = Reflecting(croquet.session_id(name, source, read_persisted(options)))
+    ident = croquet.session_id(name, source, read_persisted(options))
+    shared = Reflecting(ident, opening_session(options), lambda: links.now())
     accepted, words = [], {}
     try:
         listener = links.listen(links.socket_address(plain[2]))
@@ -451,7 +311,7 @@ def reflect(plain, options):
     threads = []
     for place in range(count):
         accepted.append(links.accept(listener))
-        serve = lambda place, link: words.update({place: Talk(shared, link).run()})
+        serve = lambda place, link: words.update({place: Talk(shared, OneLink(link)).run()})
         threads.append(threading.Thread(target=serve, args=(place, accepted[-1])))
         threads[-1].start()
     for thread in threads:

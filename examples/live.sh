@@ -1,11 +1,13 @@
 #!/usr/bin/env bash
-# An example live: examples/live.sh whiteboard|pong|epidemic [PORT]. It starts a reflector and views, waits for them, prints what the views saw,
-# and compares the digest of each with that of the replay of the log that the reflector wrote. It ends with 1 where one differs.
+# An example live: examples/live.sh whiteboard|pong|epidemic|restart [PORT [PROGRAM]]. It starts a reflector and views, waits for them, prints what the views saw,
+# and compares the digest of each with that of the replay of the log that the reflector wrote. It ends with 1 where one differs. `restart` is a whiteboard
+# whose reflector ends, and is started again on its own file. PROGRAM is another program than ./croquet.
 set -euo pipefail
 top=$(cd "$(dirname "$(readlink -f "${BASH_SOURCE[0]}")")/.." && pwd)
 example=${1:-}
 address=localhost:${2:-8080}
-program=$top/examples/$example.program
+croquet=${3:-$top/croquet}
+program=$top/examples/${example/restart/whiteboard}.program
 work=$(mktemp -d)
 
 # Ends with a status, and keeps what was printed.
@@ -15,11 +17,13 @@ fail() {
     exit "$1"
 }
 
-# Starts the reflector of so many connections, and waits until it says that it listens. The program is built before anything waits for it.
+# Starts the reflector of so many connections, and waits until it says that it listens. With a second word it goes on from that file. The program is built
+# before anything waits for it.
 reflect() {
     local tries
-    "$top/croquet" check "$program" >/dev/null || fail 1 "the program does not run"
-    "$top/croquet" reflect "$program" "$example" "$address" --connections "$1" --log "$work/log" >"$work/reflect" 2>"$work/told" &
+    "$croquet" check "$program" >/dev/null || fail 1 "the program does not run"
+    : >"$work/told"
+    "$croquet" reflect "$program" "$example" "$address" --connections "$1" ${2:+--from "$2"} --log "$work/log" >"$work/reflect" 2>>"$work/told" &
     reflector=$!
     for tries in {1..300}; do
         kill -0 "$reflector" 2>/dev/null || fail 6 "the reflector ended: $(cat "$work/told" "$work/reflect")"
@@ -35,7 +39,7 @@ reflect() {
 
 # Starts a view: its number and its name, by which its script and what it prints are named.
 join() {
-    "$top/croquet" join "$program" "$example" "$address" "$1" "$top/examples/${3:-$2}.view" >"$work/$2" &
+    "$croquet" join "$program" "$example" "$address" "$1" "$top/examples/${3:-$2}.view" >"$work/$2" &
     views+=($!)
 }
 
@@ -49,7 +53,7 @@ finish() {
 # Compares the last line of a view, `view V time N seq SEQ digest HEX`, with the replay to its time.
 compare() {
     read -r _ _ _ time _ _ _ digest < <(tail -n 1 "$work/$1") || fail 1 "$1 printed nothing"
-    "$top/croquet" replay "$program" "$example" "$work/log" "$time" >"$work/replay"
+    "$croquet" replay "$program" "$example" "$work/log" "$time" >"$work/replay"
     grep -q " digest $digest\$" "$work/replay" || fail 1 "the replay differs from what $1 has"
 }
 
@@ -101,14 +105,30 @@ epidemic() {
     tell citizen count "in two seconds" 2
 }
 
+# The second run goes on where the first one ended, and writes its file over that of the first. So the last file has the log of both.
+restart() {
+    reflect 2
+    join 7 alice
+    join 8 bob
+    finish
+    wait "$reflector"
+    reflect 2 "$work/log"
+    join 9 carol
+    join 10 dave
+    finish
+    wait "$reflector"
+    local name
+    for name in alice bob carol dave; do tell "$name" changed strokes; done
+}
+
 views=()
 case $example in
-whiteboard | pong | epidemic)
+whiteboard | pong | epidemic | restart)
     "$example"
     rm -rf "$work"
     ;;
 *)
-    echo "usage: examples/live.sh whiteboard|pong|epidemic [PORT]" >&2
+    echo "usage: examples/live.sh whiteboard|pong|epidemic|restart [PORT [PROGRAM]]" >&2
     exit 1
     ;;
 esac

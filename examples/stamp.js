@@ -1,5 +1,5 @@
 // A reflector in plain JavaScript, to compare with: node stamp.js SCRIPT [LOG]. It prints what `croquet stamp` prints for joins, sends, ticks and
-// leaves, and writes the same log. It has no limits, no snapshots and no batches, and takes its script as it is.
+// leaves, and writes the same log, where no time passes after the last entry. It has no limits, no snapshots and no batches, and takes its script as it is.
 const { readFileSync, writeFileSync } = require("fs");
 const END = 2 ** 53 - 4096;
 const [script, file] = process.argv.slice(2);

@@ -8,8 +8,9 @@ is proved of it.
     python3 croquet_reference.py KIND FILE
 
 prints each line of FILE with what it comes to. The kinds are evaluate, run,
-canonical, decode, payload, data (language) and scripts, logs, programs, worlds,
-saved, snapshots, resumed, inspects, traces, views (commands).
+canonical, decode, payload, data (language) and scripts, logs, stored, onward,
+programs, worlds, saved, snapshots, resumed, inspects, traces, reflectors, views
+(commands).
 """
 import hashlib
 import heapq
@@ -23,6 +24,7 @@ from dataclasses import dataclass, field
 
 PROGRAM_BYTES = 65_536
 SCRIPT_BYTES = 16_777_216
+LOG_FILE_BYTES = 134_217_728
 MOST_OPEN = 32
 MOST_OPERATORS = 32
 MOST_CLASSES = MOST_FIELDS = MOST_METHODS = 256
@@ -1971,6 +1973,18 @@ class Session:
             return f"batch {count} tick {self.horizon}"
         return f"batch {count} more"
 
+    def next_here(self, above):
+        """The least view above this number that is here, with its current; None where there is none."""
+        here = [view for view, state in self.views.items() if state.here and view > above]
+        return (min(here), self.views[min(here)].current) if here else None
+
+    def put_out_all(self, now):
+        """A Leave of each view that is here, in rising order."""
+        found = self.next_here(0)
+        while found is not None:
+            self.leave(*found, now())
+            found = self.next_here(found[0])
+
     def reply(self, request):
         name, *words = request
         try:
@@ -1978,8 +1992,18 @@ class Session:
         except Refusal as refusal:
             return f"refused {refusal.words}"
 
+    def last_time(self):
+        return self.log[-1].time if self.log else 0
+
     def encoded(self):
-        out = [b"TEALOG01", number(len(self.log), 4)]
+        """The bytes of the stored session."""
+        if self.kept is None and self.horizon == self.last_time():
+            return b"TEALOG01" + self.encoded_log()
+        kept = b"\0" if self.kept is None else b"\1" + number(self.kept[0], 8) + bytes_field(self.kept[1])
+        return b"TEALOG02" + number(self.horizon, 8) + kept + self.encoded_log()
+
+    def encoded_log(self):
+        out = [number(len(self.log), 4)]
         kinds = {"join": 1, "exit": 2, "event": 3}
         for entry in self.log:
             out += [number(entry.time, 8), number(entry.view, 4), number(kinds[entry.kind], 1)]
@@ -1988,23 +2012,55 @@ class Session:
         return b"".join(out)
 
 
-# ---------------------------------------------------------------- reading a log
+# ---------------------------------------------------------------- reading a stored session
 
 MOST_OPEN_ENTRIES = 2**20
 MOST_ALL_ENTRIES = MOST_OPEN_ENTRIES + MOST_VIEWS
 
 
-def read_log(source):
-    """The entries of the legal log that the bytes spell."""
-    reader = Reader(source)
-    need(reader.bytes(8) == b"TEALOG01")
+def read_stored(source):
+    """The session that the bytes spell."""
+    reader, session = Reader(source), Session()
+    mark = reader.bytes(8)
+    need(mark in (b"TEALOG01", b"TEALOG02"))
+    horizon, kept = read_state(reader) if mark == b"TEALOG02" else (None, None)
     count = reader.number(4)
     need(count <= MOST_ALL_ENTRIES)
-    session = Session()
     for _ in range(count):
         append_read(session, reader)
     reader.end()
-    return session.log
+    if mark == b"TEALOG02":
+        need(has_state(session.horizon, horizon, kept))
+        session.horizon, session.kept = horizon, kept
+    need(each_can_leave(session) and keeps_no_later_time(session))
+    return session
+
+
+def has_state(last, horizon, kept):
+    """Whether a horizon and what is kept are more than the log says by its last time."""
+    return horizon > last or horizon == last and kept is not None
+
+
+def each_can_leave(session):
+    return session.horizon + session.here < TIME_LIMIT
+
+
+def keeps_no_later_time(session):
+    return session.kept is None or session.kept[0] <= session.horizon
+
+
+def read_state(reader):
+    """A horizon, and what is kept: a time and bytes, or nothing."""
+    horizon, flag = reader.number(8), reader.number(1)
+    need(flag <= 1)
+    kept = (reader.number(8), reader.bytes(reader.number(4))) if flag else None
+    need(kept is None or len(kept[1]) <= MOST_SNAPSHOT)
+    return horizon, kept
+
+
+def read_log(source):
+    """The entries of the stored session that the bytes spell."""
+    return read_stored(source).log
 
 
 def append_read(session, reader):
@@ -2073,11 +2129,24 @@ def read_script(source):
     return [read_request(line) for line in read_lines(source, SCRIPT_BYTES, "input script")]
 
 
-def stamped(source):
-    """The session after a script, and the printed lines."""
+def stamped(source, stored=None):
+    """The session after a script, and the printed lines. It goes on from a stored one, where there is one.
+
+    The script is read before the stored session.
+    """
     requests = read_script(source)
-    session = Session()
+    session = Session() if stored is None else read_opening(stored)
     return session, [session.reply(request) for request in requests]
+
+
+def read_opening(source):
+    """The session with which a run begins."""
+    if len(source) > LOG_FILE_BYTES:
+        raise Ended("input log", 3)
+    try:
+        return read_stored(source)
+    except Bad:
+        raise Ended("input log", 3) from None
 
 
 # ---------------------------------------------------------------- replay
@@ -2589,9 +2658,209 @@ class Output(Calls):
         self.lines.append(line)
 
 
+# ---------------------------------------------------------------- a reflector
+
+CODES = ["stale", "too-long", "differs", "gap", "log-full", "time-end", "views-full", "bad-view",
+         "ahead", "older", "no-such-seq"]
+OTHER_SESSION, NO_FRAME, NOT_JOINED, JOINED_ALREADY = 12, 13, 14, 15
+MOST_BATCH = 256
+MOST_QUIET = 6_000
+
+
+class LinkOver(Exception):
+    """The end of a link, with the word that says how."""
+
+    def __init__(self, word):
+        super().__init__(word)
+        self.word = word
+
+
+def later_clock(clock, since):
+    """The clock of a session that begins at this horizon."""
+    return lambda: min(clock() + since, 2**64 - 1)
+
+
+class Reflecting:
+    """A session that links share. Whoever is here as it begins is put out."""
+
+    def __init__(self, ident, session, clock):
+        self.ident, self.session, self.lock = ident, session, threading.RLock()
+        self.now = later_clock(clock, session.horizon)
+        session.put_out_all(self.now)
+
+    def ask(self, request, *words):
+        with self.lock:
+            return self.session.reply([request, *words])
+
+    def entries(self, after):
+        """A tick, and then the entries after this seq and the time, if they reach to the end."""
+        with self.lock:
+            self.session.tick(self.now())
+            entries = self.session.log[after:after + MOST_BATCH]
+            is_end = after + MOST_BATCH >= len(self.session.log)
+            return entries, self.session.horizon if is_end else None
+
+    def base(self):
+        with self.lock:
+            return self.session.kept
+
+
+def refused_frame(about, code, kept=0, more=0):
+    sizes = [(about, 1), (code, 1), (kept, 8), (more, 8)]
+    return framed(70, *(number(value, size) for value, size in sizes))
+
+
+def refusal_of(about, reply):
+    """The frame of a reply that refuses."""
+    word, *numbers = reply.split(" ")[1:]
+    return refused_frame(about, CODES.index(word) + 1, *map(int, numbers))
+
+
+def entry_frame(entry):
+    kinds = {"join": 1, "exit": 2, "event": 3}
+    fields = [number(entry.seq, 4), number(entry.time, 8), number(entry.view, 4), number(kinds[entry.kind], 1)]
+    if entry.kind == "event":
+        fields += [number(entry.number, 4), bytes_field(entry.payload)]
+    return framed(66, *fields)
+
+
+def read_client(content):
+    """The tag of a view's frame, and its fields."""
+    reader = Reader(content)
+    tag = reader.number(1)
+    if tag == 1:
+        fields = [reader.bytes(32), reader.number(4), reader.number(1)]
+        need(fields[2] <= 2)
+        fields.append(frame_time(reader) if fields[2] == 2 else 0)
+    elif tag == 2:
+        fields = [reader.number(4), reader.bytes(reader.number(4))]
+    elif tag == 3:
+        fields = [frame_time(reader), reader.bytes(reader.number(4))]
+    else:
+        need(tag in (4, 5))
+        fields = []
+    reader.end()
+    return tag, fields
+
+
+class Talk:
+    """A link from its first frame to its end."""
+
+    def __init__(self, shared, link):
+        self.shared, self.link = shared, link
+        self.view = self.joined = self.after = self.last_tick = self.quiets = 0
+
+    def run(self):
+        """The word that says how it ended."""
+        word = self.converse()
+        if self.joined and word in ("link-end", "link-fault", "idle"):
+            self.shared.ask("leave", self.view, self.joined, self.shared.now())
+        return word
+
+    def converse(self):
+        try:
+            word = self.begin()
+            while word is None:
+                self.serve()
+                word = self.take(self.hear())
+            return word
+        except LinkOver as over:
+            return over.word
+        except Failed:
+            return "link-fault"
+
+    def hear(self):
+        """The next frame; None where the receive was quiet."""
+        heard = self.link.recv()
+        if heard is LINK_END:
+            raise LinkOver("link-end")
+        self.quiets = self.quiets + 1 if heard is QUIET else 0
+        if self.quiets == MOST_QUIET:
+            raise LinkOver("idle")
+        return None if heard is QUIET else heard
+
+    def begin(self):
+        """Joins; the word of the end where that is refused."""
+        while (content := self.hear()) is None:
+            pass
+        try:
+            tag, fields = read_client(content)
+        except Bad:
+            return self.refuse(0, NO_FRAME)
+        if tag != 1:
+            return self.refuse(tag, NOT_JOINED)
+        ident, self.view, want, time = fields
+        if ident != self.shared.ident:
+            return self.refuse(1, OTHER_SESSION)
+        with self.shared.lock:
+            base = self.shared.base()
+            reply = self.shared.ask("join", self.view, self.shared.now(), ["fresh", "whole", "after"][want], time)
+        if reply.startswith("refused"):
+            frame = refusal_of(1, reply)
+            self.send_last(frame)
+            return f"refused {frame[2]}"
+        words = reply.split(" ")
+        self.joined, last, self.after = int(words[1]), int(words[3]), int(words[4])
+        tail = [b"\0"] if "base" not in words else [b"\1", number(base[0], 8), bytes_field(base[1])]
+        self.link.send(framed(65, *(number(value, 4) for value in (self.joined, last, self.after)), *tail))
+        return None
+
+    def refuse(self, about, code):
+        self.send_last(refused_frame(about, code))
+        return f"refused {code}"
+
+    def send_last(self, frame):
+        """Sends a refusal that ends the link, which changes nothing of the end where it fails."""
+        try:
+            self.link.send(frame)
+        except Failed:
+            pass
+
+    def serve(self):
+        """Sends the entries and the time that the link lacks."""
+        entries, tick = self.shared.entries(self.after)
+        for entry in entries:
+            self.link.send(entry_frame(entry))
+            self.after = entry.seq
+        if tick is not None and tick > self.last_tick:
+            self.link.send(framed(67, number(tick, 8)))
+            self.last_tick = tick
+
+    def take(self, content):
+        """Answers a frame, if there is one; the word of the end where it is the last one."""
+        if content is None:
+            return None
+        try:
+            tag, fields = read_client(content)
+        except Bad:
+            return self.link.send(refused_frame(0, NO_FRAME))
+        if tag == 1:
+            return self.link.send(refused_frame(1, JOINED_ALREADY))
+        if tag == 5:
+            return self.link.send(framed(71))
+        return self.asked(tag, fields)
+
+    def asked(self, tag, fields):
+        """Makes the request of a SEND, a SNAP or a LEAVE, and answers by its reply."""
+        words = {2: lambda: ["send", self.view, self.joined, fields[0], self.shared.now(), fields[1]],
+                 3: lambda: ["offer", self.view, self.joined, *fields],
+                 4: lambda: ["leave", self.view, self.joined, self.shared.now()]}[tag]()
+        reply = self.shared.ask(*words)
+        word, *numbers = reply.split(" ")
+        if word == "left":
+            return "left"
+        if reply.startswith("refused stale"):
+            self.send_last(refusal_of(tag, reply))
+            return f"stale {numbers[1]}"
+        if word == "refused":
+            return self.link.send(refusal_of(tag, reply))
+        if word == "kept":
+            return self.link.send(framed(69, number(fields[0], 8)))
+        return self.link.send(framed(68, number(fields[0], 4), number(int(numbers[0]), 4), number(int(numbers[1]), 8)))
+
+
 # ---------------------------------------------------------------- the run of a view
 
-MOST_QUIET = 6_000
 RECEIVES_TO_ALIVE = 1_000
 MOST_UNANSWERED = 4_096
 MOST_UNANSWERED_BYTES = 65_536
@@ -2925,6 +3194,37 @@ def logs_case(case):
     return stamped(lines_of(case))[0].encoded().hex()
 
 
+# What shows the horizon of a session, how long its log is, and what is kept.
+PROBE = b"tick 0 / pull 4294967295 0 / join 4294967295 0 fresh"
+
+
+def stored_case(case):
+    """What a stored session is told by, if the bytes are one."""
+    source = hex_case(case)
+    try:
+        assert read_opening(source).encoded() == source
+    except Ended:
+        raise Bad() from None
+    return " / ".join(stamped(lines_of(PROBE), source)[1])
+
+
+def onward_parts(case):
+    """The bytes of the first file, if there is one, and the scripts, each of which goes on from the file before."""
+    stored, parts = None, case.split(b" | ")
+    if parts[0].startswith(b"from "):
+        stored = hex_case(parts.pop(0).removeprefix(b"from "))
+    return stored, [b"" if part == b"-" else lines_of(part) for part in parts]
+
+
+def onward_case(case):
+    """The lines of the last script, and the file that it leaves."""
+    stored, scripts = onward_parts(case)
+    for script in scripts:
+        session, lines = stamped(script, stored)
+        stored = session.encoded()
+    return " / ".join([*lines, f"f={stored.hex()}"])
+
+
 def programs_case(case):
     program = read_program(case)
     methods = sum(len(class_.methods) for class_ in program.classes)
@@ -3018,6 +3318,32 @@ def read_joining(case):
                    Output(faults["fail output "], next(iter(faults["want output "]), 0)))
 
 
+def reflectors_case(case):
+    """What `reflect` prints at a clock that is always 0, its file, and what it sends on each link."""
+    head, source, *parts = case.decode().split(" | ")
+    name, count = head.split(" ")
+    links, address, stored = [], "localhost:8080", None
+    for part in parts:
+        if part.startswith("address "):
+            address = part.removeprefix("address ")
+        elif part.startswith("from "):
+            stored = hex_case(part.removeprefix("from ").encode())
+        else:
+            links.append(read_link(part))
+    links = links[:int(count)]
+    try:
+        read_program(source.encode())
+        check_address(address)
+        session = Session() if stored is None else read_opening(stored)
+    except Ended as ended:
+        return f"{ended.line} [{ended.status}] ; 0 back of 0 asked"
+    shared = Reflecting(session_id(name.encode(), source.encode()), session, lambda: 0)
+    lines = [f"connection {place} {Talk(shared, link).run()}" for place, link in enumerate(links)]
+    lines.append(f"entries {len(session.log)} time {session.horizon} f={session.encoded().hex()}")
+    told = [" ".join([*(frame.hex() for frame in link.sent), f"heard {link.heard}"]) for link in links]
+    return " > ".join([" / ".join(lines), *told]) + f" ; {len(links)} back of {len(links)} asked"
+
+
 def views_case(case):
     joining = read_joining(case)
     net = joining.net
@@ -3034,11 +3360,12 @@ def views_case(case):
 
 KINDS = {"evaluate": evaluate_case, "run": run_case, "canonical": canonical_case,
          "decode": decode_case, "payload": payload_case, "data": data_case, "scripts": scripts_case,
-         "logs": logs_case, "programs": programs_case, "worlds": worlds_case, "saved": saved_case,
+         "logs": logs_case, "stored": stored_case, "onward": onward_case,
+         "programs": programs_case, "worlds": worlds_case, "saved": saved_case,
          "snapshots": snapshots_case, "resumed": resumed_case, "inspects": inspects_case,
-         "traces": traces_case, "views": views_case}
-WITH_STATUS = {"scripts", "logs", "programs", "worlds", "saved", "snapshots", "resumed", "inspects",
-               "traces"}
+         "traces": traces_case, "reflectors": reflectors_case, "views": views_case}
+WITH_STATUS = {"scripts", "logs", "onward", "programs", "worlds", "saved", "snapshots", "resumed",
+               "inspects", "traces"}
 
 
 def outcome_of(kind, case):

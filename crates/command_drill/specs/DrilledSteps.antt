@@ -1,9 +1,10 @@
 -- What is put and printed of a drill.
 use Rattle.std.specs.Prelude.{ℕ, ℤ, ◌+◌, ◌*◌, List, [], ◌∷◌, ◌++◌, length, codes}
 use Rattle.std.specs.Fmt.{decimal, signed_decimal}
-use Rattle.tea_base.specs.declared.entry.Entry.{Entry}
 use Rattle.text_lines.specs.Lines.{spell_numbers}
-use Rattle.session_log.specs.Spelling.{log_spelling}
+use Rattle.session_log.specs.Stored.{stored_spelling}
+use Rattle.reflector_core.specs.PlainSession.{PlainSession}
+use Rattle.reflector_core.specs.Stored.{stored_of}
 use Rattle.run_steps.specs.Steps.{Step}
 use Rattle.command_words.specs.declared.words.DrillRequest.{DrillRequest}
 use Rattle.command_outcome.specs.declared.outcome.Put.{Put}
@@ -28,7 +29,7 @@ abbrev pub snapshot_puts : List ℕ → ℕ → List (List ℕ) → List Put
 snapshot_puts prefix view [] = []
 snapshot_puts prefix view (bytes ∷ snapshots) = record { name = prefix ++ decimal view; bytes = bytes } ∷ snapshot_puts prefix (view + 1) snapshots
 
--- of a drill the log is put and the snapshot of each view, and its line is printed
-abbrev pub drilled_steps : DrillRequest → List Entry → List (List ℕ) → ℤ → ℕ → List Step
-drilled_steps request log snapshots total agree =
-    steps_of (record { name = request.log; bytes = log_spelling log } ∷ snapshot_puts request.snapshots 1 snapshots) (drilled_line request (length log) total agree)
+-- of a drill the session is put as it is stored, and the snapshot of each view, and its line is printed
+abbrev pub drilled_steps : DrillRequest → PlainSession → List (List ℕ) → ℤ → ℕ → List Step
+drilled_steps request session snapshots total agree =
+    steps_of (record { name = request.log; bytes = stored_spelling (stored_of session) } ∷ snapshot_puts request.snapshots 1 snapshots) (drilled_line request (length session.log) total agree)

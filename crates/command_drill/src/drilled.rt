@@ -7,7 +7,6 @@ ghost use Rattle.command_outcome.specs.Outcome.{steps_of};
 use command_outcome::{Outcome, Put, Puts, optional_put};
 use command_words::DrillRequest;
 use reflector_core::Session;
-use session_log::encode;
 use std::alloc::Global;
 use std::fmt::Write;
 use tea_base::{Blob, List, Text, WantOfMemory};
@@ -80,18 +79,18 @@ fn put_snapshots(
     Ok(())
 }
 
-/// What is put and printed of a drill: its log, the snapshot of each view, and its line.
+/// What is put and printed of a drill: its session, the snapshot of each view, and its line.
 pub fn drilled_outcome(
     alloc: Global,
     request: DrillRequest,
     drilled: Drilled,
 ) -> Result<Outcome, WantOfMemory>
     ensures { IfOk result (λ outcome. steps_of outcome.files outcome.text
-        ≡ drilled_steps request drilled.session.plain.log drilled.snapshots drilled.total drilled.agree) }
+        ≡ drilled_steps request drilled.session.plain drilled.snapshots drilled.total drilled.agree) }
 {
     let line = drilled_line(alloc, &request, &drilled)?;
     let DrillRequest { log, snapshots, .. } = request;
-    let mut files = optional_put(alloc, Some(log), encode(drilled.session.log())?)?;
+    let mut files = optional_put(alloc, Some(log), drilled.session.store()?)?;
     put_snapshots(alloc, &mut files, &snapshots, drilled.snapshots)?;
     Ok(Outcome {
         files,

@@ -1,8 +1,9 @@
 -- What is put and printed of a session that was reflected.
 use Rattle.std.specs.Prelude.{ℕ, ◌+◌, List, [], ◌∷◌, ◌++◌, length, codes}
 use Rattle.text_lines.specs.Lines.{spell_numbers}
-use Rattle.session_log.specs.Spelling.{log_spelling}
+use Rattle.session_log.specs.Stored.{stored_spelling}
 use Rattle.reflector_core.specs.PlainSession.{PlainSession}
+use Rattle.reflector_core.specs.Stored.{stored_of}
 use Rattle.connection.specs.declared.ending.Ended.{Ended}
 use Rattle.connection.specs.declared.ending.Ended.TheVariants as ended
 use Rattle.run_steps.specs.Steps.{Step}
@@ -36,6 +37,6 @@ session_line session =
 abbrev pub reflected_text : List Ended → PlainSession → List ℕ
 reflected_text ends session = end_lines 0 ends ++ session_line session
 
--- a session that was reflected is told by how its connections ended, and its log is put
+-- a session that was reflected is told by how its connections ended, and it is put as it is stored
 abbrev pub reflected_steps : List ℕ → List Ended → PlainSession → List Step
-reflected_steps log ends session = steps_of (record { name = log; bytes = log_spelling session.log } ∷ []) (reflected_text ends session)
+reflected_steps log ends session = steps_of (record { name = log; bytes = stored_spelling (stored_of session) } ∷ []) (reflected_text ends session)

@@ -6,4 +6,5 @@ mod world_run;
 mod world_text;
 
 pub use recording::Recording;
-pub use world_run::{Told, tell_replay};
+pub use world_run::{Told, plain_of, tell_replay};
+pub use world_text::world_line;

@@ -118,7 +118,7 @@ fn open(
 }
 
 /// A world that is not broken, as plain data.
-fn plain_of(world: &World) -> Result<PlainWorld, WantOfMemory>
+pub fn plain_of(world: &World) -> Result<PlainWorld, WantOfMemory>
     requires { world.now.broken ≡ false }
     ensures copy { IfOk result (λ plain. world_record plain ≡ world.now.scene.world) }
     ensures valid { IfOk result (λ plain. Valid (field_counts (checked_tree world.now.program)) (world_record plain)) }

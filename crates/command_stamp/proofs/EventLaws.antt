@@ -10,9 +10,10 @@ use Rattle.text_lines.specs.Lines.{LineWord, in_range, is_skipped, spelled_by, t
 use Rattle.wire_frames.specs.declared.start.Want.{Want}
 use Rattle.reflector_core.specs.declared.request.Request.{Request}
 use Rattle.reflector_core.specs.declared.request.Request.TheVariants.{Join, Send, Tick, Leave, Offer, Pull}
-use Rattle.reflector_core.specs.Play.{TellsItsEvents, first_session, after_all, replies_from}
+use Rattle.reflector_core.specs.PlainSession.{PlainSession, IsSoundSession}
+use Rattle.reflector_core.specs.Play.{TellsItsEvents, after_all, replies_from}
 use Rattle.reflector_core.proofs.PlayLaws.{TellsItsEvents-all}
-use Rattle.reflector_core.proofs.SoundLaws.{AreBounded, IsBounded, IsSoundSession-after_all, IsSoundSession-first}
+use Rattle.reflector_core.proofs.SoundLaws.{AreBounded, IsBounded, IsSoundSession-after_all}
 use Rattle.command_stamp.specs.Script.{hex_of, join_of, join_with, large_of, leave_of, leave_with, offer_of, offer_with, pull_of, pull_with, request_of, requests_of, script_of, send_of, send_with, small_of, tick_of, want_of}
 
 -- ---- numbers of 32 bits
@@ -157,8 +158,9 @@ script-bounded : (b : Bool) (found : Option (List Request)) → AreScripts found
 script-bounded true found bounded requests is = bounded requests is
 script-bounded false found bounded requests is = absurd cc
 
-pub events_told : (bytes : List ℕ) (requests : List Request) → script_of bytes ≡ Some requests → TellsItsEvents requests (replies_from first_session requests) (after_all first_session requests).log
-events_told bytes requests is =
+pub events_told : (bytes : List ℕ) (requests : List Request) (opening : PlainSession) → script_of bytes ≡ Some requests → IsSoundSession opening
+    → TellsItsEvents opening.log requests (replies_from opening requests) (after_all opening requests).log
+events_told bytes requests opening is sound =
     let bounded = script-bounded (is_utf8 bytes) (requests_of (lines bytes)) (lines-bounded (lines bytes)) requests is in
-    TellsItsEvents-all (after_all first_session requests) requests (replies_from first_session requests)
-    (IsSoundSession-after_all first_session requests IsSoundSession-first bounded) refl refl
+    TellsItsEvents-all opening (after_all opening requests) requests (replies_from opening requests)
+    (IsSoundSession-after_all opening requests sound bounded) refl refl

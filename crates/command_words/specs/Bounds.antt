@@ -41,7 +41,7 @@ abbrev pub IsBoundedDrill : DrillRequest → Type 0
 IsBoundedDrill request = AreViews request.views × (request.events ≤ most_drill_events)
 
 abbrev pub IsWithinBounds : Command → Type 0
-IsWithinBounds (Stamp script log) = ⊤
+IsWithinBounds (Stamp script from log) = ⊤
 IsWithinBounds (Check program) = ⊤
 IsWithinBounds (Replay request) = IsBounded request
 IsWithinBounds (Join request) = IsBoundedJoin request

@@ -59,9 +59,9 @@ Row = LineWord × Reading
 
 -- ---- the table
 
--- `stamp SCRIPT [--log FILE]`
+-- `stamp SCRIPT [--from LOG] [--log FILE]`
 abbrev pub stamp_row : Row
-stamp_row = (codes "stamp", positional a_word (λ script. free (codes "--log") (λ log. asks (Stamp script log))))
+stamp_row = (codes "stamp", positional a_word (λ script. free (codes "--from") (λ from. free (codes "--log") (λ log. asks (Stamp script from log)))))
 
 -- `check PROGRAM`
 abbrev pub check_row : Row
@@ -94,15 +94,20 @@ join_row = (
       join_options (record { program = program; name = name; address = address; view = view; script = script; persisted = None })))))),
 )
 
--- `[--persisted JSON] --connections N --log FILE`
-abbrev pub reflect_options : LineWord → LineWord → LineWord → Reading
-reflect_options program name address =
-    free (codes "--persisted") (λ persisted. needed (codes "--connections") (a_number 1 most_connections) (λ connections. needed (codes "--log") a_word (λ log.
-    asks (Reflect (record { program = program; name = name; address = address; persisted = persisted; connections = connections; log = log })))))
+-- `[--persisted JSON] [--from LOG]`
+abbrev pub reflect_options : ReflectRequest → Reading
+reflect_options request =
+    free (codes "--persisted") (λ persisted. free (codes "--from") (λ from. asks (Reflect (record request { persisted = persisted; from = from }))))
+
+-- `--connections N --log FILE`, and what else may be said
+abbrev pub reflect_ends : LineWord → LineWord → LineWord → Reading
+reflect_ends program name address =
+    needed (codes "--connections") (a_number 1 most_connections) (λ connections. needed (codes "--log") a_word (λ log.
+    reflect_options (record { program = program; name = name; address = address; persisted = None; from = None; connections = connections; log = log })))
 
 -- `reflect PROGRAM NAME ADDRESS`, and its options
 abbrev pub reflect_row : Row
-reflect_row = (codes "reflect", positional a_word (λ program. positional a_name (λ name. positional a_word (λ address. reflect_options program name address))))
+reflect_row = (codes "reflect", positional a_word (λ program. positional a_name (λ name. positional a_word (λ address. reflect_ends program name address))))
 
 -- `drill SEED VIEWS EVENTS --log FILE --snapshots PREFIX`
 abbrev pub drill_row : Row

@@ -3,8 +3,8 @@ ghost use Rattle.std.specs.Prelude.{◌≡◌, ◌≤◌, ◌<◌, IfOk, IfSome,
 ghost use Rattle.std.specs.Option.{option_and_then};
 ghost use Rattle.tea_base.specs.Limits.{time_limit};
 ghost use Rattle.command_words.specs.Parts.{behind_first, first_positional};
-ghost use Rattle.command_words.specs.CommandWords.{a_name, a_number, a_time, asks, check_row, command_of, drill_row, join_row, join_options, most_name, read_by, reflect_options, reflect_row, replay_options, replay_puts, replay_row, rows, stamp_row};
-ghost use Rattle.command_words.specs.Bounds.{IsBounded, IsBoundedJoin, IsWithinBounds};
+ghost use Rattle.command_words.specs.CommandWords.{a_name, a_number, a_time, asks, check_row, command_of, drill_row, join_row, join_options, most_name, read_by, reflect_options, reflect_row, replay_options, replay_puts, replay_row, rows, stamp_row, reflect_ends};
+ghost use Rattle.command_words.specs.Bounds.{IsBounded, IsBoundedJoin, IsBoundedReflect, IsWithinBounds};
 
 use crate::parts::{Parts, is_word, read_parts};
 use run_steps::{MOST_CONNECTIONS, MOST_DRILL_EVENTS, MOST_DRILL_VIEWS};
@@ -18,15 +18,21 @@ const MOST_NAME: usize = 255;
 /// A command with its words.
 #[derive(Drop)]
 pub enum Command {
-    /// `stamp SCRIPT [--log FILE]`
-    Stamp { script: Text, log: Option<Text> },
+    /// `stamp SCRIPT [--from LOG] [--log FILE]`
+    Stamp {
+        script: Text,
+        from: Option<Text>,
+        log: Option<Text>,
+    },
     /// `check PROGRAM`
-    Check { program: Text },
+    Check {
+        program: Text,
+    },
     /// `replay PROGRAM NAME LOG TIME [--persisted JSON] [--from SNAP] [--snapshot FILE] [--saved FILE]`
     Replay(ReplayRequest),
     /// `join PROGRAM NAME ADDRESS VIEW SCRIPT [--persisted JSON]`
     Join(JoinRequest),
-    /// `reflect PROGRAM NAME ADDRESS [--persisted JSON] --connections N --log FILE`
+    /// `reflect PROGRAM NAME ADDRESS [--persisted JSON] [--from LOG] --connections N --log FILE`
     Reflect(ReflectRequest),
     /// `drill SEED VIEWS EVENTS --log FILE --snapshots PREFIX`
     Drill(DrillRequest),
@@ -74,6 +80,8 @@ pub struct ReflectRequest {
     pub address: Text,
     /// The JSON of the persisted value.
     pub persisted: Option<Text>,
+    /// The log of the session that goes on.
+    pub from: Option<Text>,
     /// How many links it accepts, from 1 to 64.
     pub connections: u32,
     /// Where the log of the session is put.
@@ -158,14 +166,15 @@ fn ask(command: Command, parts: &Parts) -> Option<Command>
     }
 }
 
-/// `stamp SCRIPT [--log FILE]`
+/// `stamp SCRIPT [--from LOG] [--log FILE]`
 fn stamp(mut parts: Parts) -> Option<Command>
     ensures read { result ≡ stamp_row.1 parts }
     ensures bounds { IfSome result IsWithinBounds }
 {
     let script = parts.positional()?;
+    let from = parts.option("--from");
     let log = parts.option("--log");
-    ask(Command::Stamp { script, log }, &parts)
+    ask(Command::Stamp { script, from, log }, &parts)
 }
 
 /// `check PROGRAM`
@@ -259,24 +268,35 @@ fn join(mut parts: Parts) -> Option<Command>
     join_options(parts, request)
 }
 
-/// The options of `reflect`: `[--persisted JSON] --connections N --log FILE`
-fn reflect_options(mut parts: Parts, program: Text, name: Text, address: Text) -> Option<Command>
-    requires { length (encode_utf8_all name) ≤ most_name }
-    ensures read { result ≡ reflect_options program name address parts }
+/// What `reflect` may be told besides: `[--persisted JSON] [--from LOG]`
+fn reflect_options(mut parts: Parts, mut request: ReflectRequest) -> Option<Command>
+    requires { IsBoundedReflect request }
+    ensures read { result ≡ reflect_options request parts }
     ensures bounds { IfSome result IsWithinBounds }
 {
-    let persisted = parts.option("--persisted");
+    request.persisted = parts.option("--persisted");
+    request.from = parts.option("--from");
+    ask(Command::Reflect(request), &parts)
+}
+
+/// The options of `reflect`: `--connections N --log FILE`, and what else it may be told
+fn reflect_ends(mut parts: Parts, program: Text, name: Text, address: Text) -> Option<Command>
+    requires { length (encode_utf8_all name) ≤ most_name }
+    ensures read { result ≡ reflect_ends program name address parts }
+    ensures bounds { IfSome result IsWithinBounds }
+{
     let connections = number_within(&parts.option("--connections")?, 1, MOST_CONNECTIONS)?;
     let log = parts.option("--log")?;
     let request = ReflectRequest {
         program,
         name,
         address,
-        persisted,
+        persisted: None,
+        from: None,
         connections,
         log,
     };
-    ask(Command::Reflect(request), &parts)
+    reflect_options(parts, request)
 }
 
 /// `reflect PROGRAM NAME ADDRESS`, and its options
@@ -287,7 +307,7 @@ fn reflect(mut parts: Parts) -> Option<Command>
     let program = parts.positional()?;
     let name = next_name(&mut parts)?;
     let address = parts.positional()?;
-    reflect_options(parts, program, name, address)
+    reflect_ends(parts, program, name, address)
 }
 
 /// `drill SEED VIEWS EVENTS --log FILE --snapshots PREFIX`

@@ -1,6 +1,7 @@
 pub mod Agreement
 pub mod NetLaws
 pub mod OneVerdict
+pub mod OpeningLaws
 pub mod PersistedLaws
 pub mod ProgramLaws
 pub mod SomeVerdict

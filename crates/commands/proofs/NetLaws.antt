@@ -3,6 +3,10 @@ use Rattle.std.proofs.Common.{inl, inr, ℕ, Bool, true, false, cond, nat_lt, Li
 use Rattle.std.specs.Prelude.{⊤}
 use Rattle.tea_base.specs.declared.entry.Entry.{Entry}
 use Rattle.reflector_core.specs.declared.request.Request.{Request}
+use Rattle.reflector_core.specs.PlainSession.{PlainSession}
+use Rattle.reflector_core.specs.Play.{first_session}
+use Rattle.reflector_core.specs.Stored.{session_of}
+use Rattle.session_log.specs.Stored.{PlainStored}
 use Rattle.model_tree.specs.Tree.{ProgramTree}
 use Rattle.model_solved.specs.Founding.{Founding}
 use Rattle.model_value.specs.Plain.{PlainValue, nil}
@@ -20,7 +24,7 @@ use Rattle.model_tree.specs.Bounds.{most_program_bytes}
 use Rattle.persist_json.specs.JsonOf.{most_json}
 use Rattle.tea_base.specs.Limits.{most_snapshot}
 use Rattle.commands.specs.Work.{RunsOn}
-use Rattle.commands.specs.Verdict.{ByDrill, ByNetFault, ByRefusal, ByReflecting, ByVisit, ByWant, Closing, Coming, Comes, Fine, Free, Only, OfFile, OfFounded, OfGiven, OfJson, OfLog, OfPersisted, OfProgram, OfRecorded, OfScript, OfSnapshot, OfTree, OfWords, Starts, Verdict, ask_file, at_once, count_verdict, fine, founded, session_of, stamp_verdict, most_script, most_log}
+use Rattle.commands.specs.Verdict.{ByDrill, ByNetFault, ByRefusal, ByReflecting, ByVisit, ByWant, Closing, Coming, Comes, Fine, Free, Only, OfFile, OfFounded, OfGiven, OfJson, OfPersisted, OfProgram, OfRecorded, OfScript, OfSnapshot, OfTree, OfWords, Starts, Verdict, ask_file, at_once, count_verdict, fine, founded, stamp_verdict, most_script, most_log, OfOpening, OfStored, session_id_of}
 
 -- the run goes on
 abbrev pub IsGoingOn : Closing → Type 0
@@ -59,9 +63,20 @@ file_never at ask next each verdict (given, (rest, is, comes)) on =
 
 -- ---- the commands
 
-script_never : (log : Option (List ℕ)) (requests : Option (List Request)) → NeverGoesOn (OfScript log requests)
-script_never log None = refused_never (refusal.Input input.Script)
-script_never log (Some requests) = fine_never (stamp_verdict log requests).steps
+stored_never : (next : PlainStored → Coming) (bytes : List ℕ) → ((stored : PlainStored) → NeverGoesOn (next stored)) → NeverGoesOn (OfStored next bytes)
+stored_never next bytes each verdict (inl (stored, sound, is, comes)) on = each stored verdict comes on
+stored_never next bytes each verdict (inr (none, comes)) on = refused_never (refusal.Input input.Log) verdict comes on
+
+opening_never : (from : Option (List ℕ)) (next : PlainSession → Coming) → ((opening : PlainSession) → NeverGoesOn (next opening)) → NeverGoesOn (OfOpening from next)
+opening_never None next each = each first_session
+opening_never (Some name) next each =
+    file_never input.Log (ask_file name most_log) (OfStored (λ stored. next (session_of stored)))
+    (λ bytes. stored_never (λ stored. next (session_of stored)) bytes (λ stored. each (session_of stored)))
+
+script_never : (from log : Option (List ℕ)) (requests : Option (List Request)) → NeverGoesOn (OfScript from log requests)
+script_never from log None = refused_never (refusal.Input input.Script)
+script_never from log (Some requests) =
+    opening_never from (λ opening. Only (stamp_verdict opening log requests)) (λ opening. fine_never (stamp_verdict opening log requests).steps)
 
 program_never : (next : ProgramTree → Coming) (bytes : List ℕ) → ((tree : ProgramTree) → NeverGoesOn (next tree)) → NeverGoesOn (OfProgram next bytes)
 program_never next bytes each verdict (inl (tree, sound, comes)) on = each tree verdict comes on
@@ -88,23 +103,19 @@ persisted_never : (name : Option (List ℕ)) (next : PlainValue → Coming) → 
 persisted_never None next each = each nil
 persisted_never (Some name) next each = file_never input.Persisted (ask_file name most_json) (OfJson next) (λ bytes. json_never next bytes each)
 
-log_never : (next : List Entry → Coming) (bytes : List ℕ) → ((log : List Entry) → NeverGoesOn (next log)) → NeverGoesOn (OfLog next bytes)
-log_never next bytes each verdict (inl (log, legal, is, comes)) on = each log verdict comes on
-log_never next bytes each verdict (inr (none, comes)) on = refused_never (refusal.Input input.Log) verdict comes on
-
 recorded_never : (request : ReplayRequest) (text : List ℕ) (tree : ProgramTree) (log : List Entry) → NeverGoesOn (OfRecorded request text tree log)
 recorded_never request text tree log =
-    persisted_never request.persisted (λ v. OfFounded request text log (founded tree v)) (λ v. starts_never request.from request (founded tree v) (session_of request.name text v) log)
+    persisted_never request.persisted (λ v. OfFounded request text log (founded tree v)) (λ v. starts_never request.from request (founded tree v) (session_id_of request.name text v) log)
 
 tree_never : (request : ReplayRequest) (text : List ℕ) (tree : ProgramTree) → NeverGoesOn (OfTree request text tree)
 tree_never request text tree =
-    file_never input.Log (ask_file request.log most_log) (OfLog (OfRecorded request text tree))
-    (λ bytes. log_never (OfRecorded request text tree) bytes (recorded_never request text tree))
+    file_never input.Log (ask_file request.log most_log) (OfStored (λ stored. OfRecorded request text tree stored.log))
+    (λ bytes. stored_never (λ stored. OfRecorded request text tree stored.log) bytes (λ stored. recorded_never request text tree stored.log))
 
 words_never : (command : Option Command) → ¬ RunsOn command → NeverGoesOn (OfWords command)
 words_never None other = refused_never refusal.Usage
-words_never (Some (Stamp script log)) other =
-    file_never input.Script (ask_file script most_script) (λ bytes. OfScript log (script_of bytes)) (λ bytes. script_never log (script_of bytes))
+words_never (Some (Stamp script from log)) other =
+    file_never input.Script (ask_file script most_script) (λ bytes. OfScript from log (script_of bytes)) (λ bytes. script_never from log (script_of bytes))
 words_never (Some (Check program)) other =
     file_never input.Program (ask_file program most_program_bytes) (OfProgram (λ tree. Only (count_verdict tree)))
     (λ bytes. program_never (λ tree. Only (count_verdict tree)) bytes (λ tree. fine_never (count_verdict tree).steps))
@@ -139,7 +150,7 @@ on_net_goes_on ByNetFault on = absurd on
 -- what comes of another command than join and reflect does not go on with a net
 pub never_on_net : (command : Option Command) → ¬ UsesNet command → (verdict : Verdict) → Comes command verdict → ¬ IsOnNet verdict.closing
 never_on_net None other verdict comes on = never_goes_on None (λ runs. absurd runs) verdict comes (on_net_goes_on verdict.closing on)
-never_on_net (Some (Stamp script log)) other verdict comes on = never_goes_on (Some (Stamp script log)) (λ runs. absurd runs) verdict comes (on_net_goes_on verdict.closing on)
+never_on_net (Some (Stamp script from log)) other verdict comes on = never_goes_on (Some (Stamp script from log)) (λ runs. absurd runs) verdict comes (on_net_goes_on verdict.closing on)
 never_on_net (Some (Check program)) other verdict comes on = never_goes_on (Some (Check program)) (λ runs. absurd runs) verdict comes (on_net_goes_on verdict.closing on)
 never_on_net (Some (Replay request)) other verdict comes on = never_goes_on (Some (Replay request)) (λ runs. absurd runs) verdict comes (on_net_goes_on verdict.closing on)
 never_on_net (Some (Join request)) other verdict comes on = absurd (other tt)

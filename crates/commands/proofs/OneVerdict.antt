@@ -1,13 +1,15 @@
 -- One verdict comes of a command, as long as its steps were told the same.
 use Rattle.std.proofs.Common.{◌≡◌, ◌⊎◌, inl, inr, ℕ, Bool, true, false, encode_utf8_all, List, [], ◌∷◌, length, Option, Some, None, refl, sym, ap, subst, ◌∙◌}
 use Rattle.std.proofs.lemmas.Option.{same_Some}
+use Rattle.tea_base.specs.declared.entry.Entry.{Entry}
+use Rattle.session_log.specs.Stored.{PlainStored, IsStored, stored_spelling}
+use Rattle.session_log.specs.StoredReading.{stored_at}
+use Rattle.session_log.proofs.StoredCodec.{stored_codec}
 use Rattle.byte_fields.specs.Fields.{whole}
 use Rattle.byte_fields.proofs.Codecs.{whole_again}
-use Rattle.tea_base.specs.Legal.{IsLegal}
-use Rattle.tea_base.specs.declared.entry.Entry.{Entry}
-use Rattle.session_log.specs.Reading.{log_at}
-use Rattle.session_log.specs.Spelling.{log_spelling}
-use Rattle.session_log.proofs.LogCodec.{log_codec}
+use Rattle.reflector_core.specs.PlainSession.{PlainSession}
+use Rattle.reflector_core.specs.Play.{first_session}
+use Rattle.reflector_core.specs.Stored.{session_of}
 use Rattle.reflector_core.specs.declared.request.Request.{Request}
 use Rattle.model_tree.specs.Program.{Reading, a_program, no_program, too_large, IsReading}
 use Rattle.model_tree.specs.Tree.{ProgramTree}
@@ -41,7 +43,7 @@ use Rattle.command_outcome.specs.ProgramEnd.{IsLineOf, IsRefused, IsRefusedBy}
 use Rattle.model_tree.specs.Bounds.{most_program_bytes}
 use Rattle.tea_base.specs.Limits.{most_snapshot}
 use Rattle.commands.specs.Laws.{AreAlike, AreDoneAlike, IsOneVerdict, IsFunction}
-use Rattle.commands.specs.Verdict.{Closing, ByDrill, ByRefusal, ByReflecting, ByVisit, ByWant, Verdict, Coming, Free, OfAddress, OfFile, OfFounded, OfGiven, OfJoin, OfJson, OfLog, OfPersisted, OfProgram, OfRecorded, OfReflect, OfScript, OfSnapshot, OfTree, OfView, OfViewScript, OfWords, Only, Starts, before, ask_file, at_once, count_verdict, founded, reflection_of, resumed_verdict, session_of, stamp_verdict, visit_to, most_script, most_log}
+use Rattle.commands.specs.Verdict.{Closing, ByDrill, ByRefusal, ByReflecting, ByVisit, ByWant, Verdict, Coming, Free, OfAddress, OfFile, OfFounded, OfGiven, OfJoin, OfJson, OfPersisted, OfProgram, OfRecorded, OfReflect, OfScript, OfSnapshot, OfTree, OfView, OfViewScript, OfWords, Only, Starts, before, ask_file, at_once, count_verdict, founded, reflection_of, resumed_verdict, stamp_verdict, visit_to, most_script, most_log, OfOpening, OfServed, OfStored, session_id_of}
 
 -- what `model_lang::one_reading` says
 abbrev pub IsOneReading : Type 0
@@ -98,9 +100,26 @@ one_file at ask next one verdict other (given, (rest, is, a)) (told, (more, also
           (subst (λ (bytes : Option (List ℕ)). Free (OfGiven at bytes next) more) (sym same) b),
     )
 
-one_script : (log : Option (List ℕ)) (script : Option (List Request)) → IsOneVerdict (OfScript log script)
-one_script log None = one_only (at_once (ByRefusal (refusal.Input input.Script)))
-one_script log (Some requests) = one_only (stamp_verdict log requests)
+-- ---- stored sessions
+
+same_stored : (stored other : PlainStored) → IsStored stored → IsStored other → stored_spelling stored ≡ stored_spelling other → stored ≡ other
+same_stored stored other is is' same =
+    same_Some stored other (sym (whole_again stored_codec stored is) ∙ ap (whole stored_at) same ∙ whole_again stored_codec other is')
+
+one_stored : (next : PlainStored → Coming) → ((stored : PlainStored) → IsOneVerdict (next stored)) → (bytes : List ℕ) → IsOneVerdict (OfStored next bytes)
+one_stored next each bytes verdict other (inl (stored, is, spelled, a)) (inl (stored', is', spelled', b)) =
+    each stored verdict other a (subst (λ (s : PlainStored). next s other) (same_stored stored' stored is' is (sym spelled' ∙ spelled)) b)
+one_stored next each bytes verdict other (inl (stored, is, spelled, a)) (inr (none, b)) = absurd (none stored is spelled)
+one_stored next each bytes verdict other (inr (none, a)) (inl (stored, is, spelled, b)) = absurd (none stored is spelled)
+one_stored next each bytes verdict other (inr (none, a)) (inr (none', b)) = one_only (at_once (ByRefusal (refusal.Input input.Log))) verdict other a b
+
+one_opening : (from : Option (List ℕ)) (next : PlainSession → Coming) → ((opening : PlainSession) → IsOneVerdict (next opening)) → IsOneVerdict (OfOpening from next)
+one_opening None next each = each first_session
+one_opening (Some name) next each = one_file input.Log (ask_file name most_log) (OfStored (λ stored. next (session_of stored))) (one_stored (λ stored. next (session_of stored)) (λ stored. each (session_of stored)))
+
+one_script : (from log : Option (List ℕ)) (script : Option (List Request)) → IsOneVerdict (OfScript from log script)
+one_script from log None = one_only (at_once (ByRefusal (refusal.Input input.Script)))
+one_script from log (Some requests) = one_opening from (λ opening. Only (stamp_verdict opening log requests)) (λ opening. one_only (stamp_verdict opening log requests))
 
 -- ---- programs
 
@@ -170,17 +189,6 @@ one_persisted (Some name) next each = one_file input.Persisted (ask_file name mo
 
 -- ---- replay
 
-same_log : (bytes : List ℕ) (log other : List Entry) → IsLegal log → bytes ≡ log_spelling log → IsLegal other → bytes ≡ log_spelling other → other ≡ log
-same_log bytes log other legal spelled legal' spelled' =
-    same_Some other log (sym (whole_again log_codec other legal') ∙ ap (whole log_at) (sym spelled' ∙ spelled) ∙ whole_again log_codec log legal)
-
-one_log : (next : List Entry → Coming) → ((log : List Entry) → IsOneVerdict (next log)) → (bytes : List ℕ) → IsOneVerdict (OfLog next bytes)
-one_log next each bytes verdict other (inl (log, legal, spelled, a)) (inl (log', legal', spelled', b)) =
-    each log verdict other a (subst (λ (l : List Entry). next l other) (same_log bytes log log' legal spelled legal' spelled') b)
-one_log next each bytes verdict other (inl (log, legal, spelled, a)) (inr (none, b)) = absurd (none log legal spelled)
-one_log next each bytes verdict other (inr (none, a)) (inl (log, legal, spelled, b)) = absurd (none log legal spelled)
-one_log next each bytes verdict other (inr (none, a)) (inr (none', b)) = one_only (at_once (ByRefusal (refusal.Input input.Log))) verdict other a b
-
 same_world : (counts id bytes : List ℕ) (w v : WorldRecord) → IsSnapshot counts id bytes w → IsSnapshot counts id bytes v → v ≡ w
 same_world counts id bytes w v is is' =
     same_Some v w
@@ -201,10 +209,12 @@ one_start (Some from) request founding id log = one_file input.Snapshot (ask_fil
 
 one_recorded : (request : ReplayRequest) (text : List ℕ) (tree : ProgramTree) (log : List Entry) → IsOneVerdict (OfRecorded request text tree log)
 one_recorded request text tree log =
-    one_persisted request.persisted (λ v. OfFounded request text log (founded tree v)) (λ v. one_start request.from request (founded tree v) (session_of request.name text v) log)
+    one_persisted request.persisted (λ v. OfFounded request text log (founded tree v)) (λ v. one_start request.from request (founded tree v) (session_id_of request.name text v) log)
 
 one_tree : (request : ReplayRequest) (text : List ℕ) (tree : ProgramTree) → IsOneVerdict (OfTree request text tree)
-one_tree request text tree = one_file input.Log (ask_file request.log most_log) (OfLog (OfRecorded request text tree)) (one_log (OfRecorded request text tree) (one_recorded request text tree))
+one_tree request text tree =
+    one_file input.Log (ask_file request.log most_log) (OfStored (λ stored. OfRecorded request text tree stored.log))
+    (one_stored (λ stored. OfRecorded request text tree stored.log) (λ stored. one_recorded request text tree stored.log))
 
 -- ---- join
 
@@ -226,16 +236,22 @@ one_join request text tree = one_address (is_address (encode_utf8_all request.ad
 
 -- ---- reflect
 
+one_served : (request : ReflectRequest) (id : List ℕ) → IsOneVerdict (OfServed request id)
+one_served request id =
+    one_opening request.from (λ opening. Only (at_once (ByReflecting (reflection_of request id opening)))) (λ opening. one_only (at_once (ByReflecting (reflection_of request id opening))))
+
 one_reflect : (request : ReflectRequest) (text : List ℕ) → IsOneVerdict (OfReflect request text)
 one_reflect request text =
-    one_address (is_address (encode_utf8_all request.address)) (OfPersisted request.persisted (λ v. Only (at_once (ByReflecting (reflection_of request text v)))))
-    (one_persisted request.persisted (λ v. Only (at_once (ByReflecting (reflection_of request text v)))) (λ v. one_only (at_once (ByReflecting (reflection_of request text v)))))
+    let served : PlainValue → Coming = λ v. OfServed request (session_id_of request.name text v) in
+    one_address (is_address (encode_utf8_all request.address)) (OfPersisted request.persisted served)
+    (one_persisted request.persisted served (λ v. one_served request (session_id_of request.name text v)))
 
 -- ---- the commands
 
 one_words : IsOneReading → (command : Option Command) → IsOneVerdict (OfWords command)
 one_words one None = one_only (at_once (ByRefusal refusal.Usage))
-one_words one (Some (Stamp script log)) = one_file input.Script (ask_file script most_script) (λ bytes. OfScript log (script_of bytes)) (λ bytes. one_script log (script_of bytes))
+one_words one (Some (Stamp script from log)) =
+    one_file input.Script (ask_file script most_script) (λ bytes. OfScript from log (script_of bytes)) (λ bytes. one_script from log (script_of bytes))
 one_words one (Some (Check program)) =
     one_file input.Program (ask_file program most_program_bytes) (OfProgram (λ tree. Only (count_verdict tree))) (one_program one (λ tree. Only (count_verdict tree)) (λ tree. one_only (count_verdict tree)))
 one_words one (Some (Replay request)) =

@@ -12,7 +12,7 @@ use Rattle.command_outcome.specs.declared.outcome.Input.{Input}
 use Rattle.command_outcome.specs.declared.outcome.Input.TheVariants as input
 use Rattle.command_words.specs.declared.words.ReplayRequest.{ReplayRequest}
 use Rattle.persist_json.specs.JsonOf.{most_json}
-use Rattle.commands.specs.Verdict.{Coming, Free, OfFile, OfFounded, OfJson, OfPersisted, OfRecorded, Starts, Verdict, founded, session_of, ask_file}
+use Rattle.commands.specs.Verdict.{Coming, Free, OfFile, OfFounded, OfJson, OfPersisted, OfRecorded, Starts, Verdict, founded, session_id_of, ask_file}
 
 -- what a request asks for once its persisted value is known does not depend on where that is named
 abbrev pub renamed : Option (List ℕ) → ReplayRequest → ReplayRequest
@@ -25,7 +25,7 @@ starts_alike (Some from) name request founding id log verdict comes = comes
 
 pub founded_alike : (name : Option (List ℕ)) (request : ReplayRequest) (text : List ℕ) (log : List Entry) (founding : Founding) (verdict : Verdict)
     → OfFounded (renamed name request) text log founding verdict → OfFounded request text log founding verdict
-founded_alike name request text log founding verdict = starts_alike request.from name request founding (session_of request.name text founding.persisted) log verdict
+founded_alike name request text log founding verdict = starts_alike request.from name request founding (session_id_of request.name text founding.persisted) log verdict
 
 -- where each file's bytes lead on alike, so does the file
 pub file_alike : (at : Input) (ask : Ask) (one other : List ℕ → Coming) → ((bytes : List ℕ) (verdict : Verdict) → one bytes verdict → other bytes verdict)
@@ -57,10 +57,10 @@ recorded_without request other text tree log verdict named (inr comes) =
     inr (subst (λ (p : Option (List ℕ)). OfPersisted p asked verdict) (sym named) (founded_alike other request text log (founded tree nil) verdict comes))
 
 -- the program has its persisted value, and the session its id
-pub founded_so : (request : ReplayRequest) (text id : List ℕ) (log : List Entry) (founding asked : Founding) (verdict : Verdict) → founding ≡ asked → id ≡ session_of request.name text asked.persisted
+pub founded_so : (request : ReplayRequest) (text id : List ℕ) (log : List Entry) (founding asked : Founding) (verdict : Verdict) → founding ≡ asked → id ≡ session_id_of request.name text asked.persisted
     → Free (Starts request.from request founding id log) verdict → Free (OfFounded request text log asked) verdict
 founded_so request text id log founding asked verdict same is comes =
-    subst (λ (f : Founding). Free (Starts request.from request f (session_of request.name text asked.persisted) log) verdict) same
+    subst (λ (f : Founding). Free (Starts request.from request f (session_id_of request.name text asked.persisted) log) verdict) same
     (subst (λ (i : List ℕ). Free (Starts request.from request founding i log) verdict) is comes)
 
 -- ---- whatever follows the persisted value

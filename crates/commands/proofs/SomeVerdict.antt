@@ -2,6 +2,10 @@
 use Rattle.std.proofs.Common.{◌≡◌, inl, inr, ℕ, Bool, true, false, cond, nat_lt, encode_utf8_all, List, [], ◌∷◌, Option, Some, None, refl, sym, arith, subst}
 use Rattle.tea_base.specs.declared.entry.Entry.{Entry}
 use Rattle.reflector_core.specs.declared.request.Request.{Request}
+use Rattle.reflector_core.specs.PlainSession.{PlainSession}
+use Rattle.reflector_core.specs.Play.{first_session}
+use Rattle.reflector_core.specs.Stored.{session_of}
+use Rattle.session_log.specs.Stored.{PlainStored}
 use Rattle.model_tree.specs.Program.{Reading, a_program, no_program, too_large, IsReading, IsRead}
 use Rattle.model_tree.specs.Tree.{ProgramTree}
 use Rattle.model_solved.specs.Founding.{Founding}
@@ -21,7 +25,6 @@ use Rattle.command_words.specs.declared.words.ReplayRequest.{ReplayRequest}
 use Rattle.command_words.specs.declared.words.JoinRequest.{JoinRequest}
 use Rattle.command_words.specs.declared.words.ReflectRequest.{ReflectRequest}
 use Rattle.command_words.specs.declared.words.DrillRequest.{DrillRequest}
-use Rattle.command_reflect.specs.declared.reflection.Reflection.{Reflection}
 use Rattle.command_words.specs.declared.words.Command.{Command}
 use Rattle.command_words.specs.declared.words.Command.TheVariants.{Stamp, Check, Replay, Join, Reflect, Drill}
 use Rattle.command_outcome.specs.ProgramText.{check_line, counts_line, syntax_line, too_large_line}
@@ -32,7 +35,7 @@ use Rattle.model_tree.specs.Bounds.{most_program_bytes}
 use Rattle.persist_json.specs.JsonOf.{most_json}
 use Rattle.tea_base.specs.Limits.{most_snapshot}
 use Rattle.commands.specs.Laws.{AreGiven, IsOnlyWant, SomeVerdictComes}
-use Rattle.commands.specs.Verdict.{PlainVisit, Fine, ByDrill, ByRefusal, ByReflecting, ByVisit, ByWant, Coming, OfAddress, OfCommand, OfFile, OfFounded, OfGiven, OfJoin, OfJson, OfLog, OfPersisted, OfProgram, OfRecorded, OfReflect, OfScript, OfSnapshot, OfTree, OfView, OfViewScript, Only, Starts, ask_file, at_once, before, count_verdict, fine, founded, reflection_of, session_of, visit_to, most_script, most_log}
+use Rattle.commands.specs.Verdict.{PlainVisit, Fine, ByDrill, ByRefusal, ByReflecting, ByVisit, ByWant, Coming, OfAddress, OfCommand, OfFile, OfFounded, OfGiven, OfJoin, OfJson, OfPersisted, OfProgram, OfRecorded, OfReflect, OfScript, OfSnapshot, OfTree, OfView, OfViewScript, Only, Starts, ask_file, at_once, before, count_verdict, fine, founded, reflection_of, stamp_verdict, visit_to, most_script, most_log, PlainReflection, OfOpening, OfServed, OfStored, session_id_of}
 
 abbrev pub Told : Type 0
 Told = Ask → Option (List ℕ)
@@ -48,7 +51,7 @@ refused_not_want told coming why comes only = let want : ByRefusal why ≡ ByWan
 visit_not_want : (told : Told) (coming : Coming) (visit : PlainVisit) → coming (at_once (ByVisit visit)) → ¬ IsOnlyWant told coming
 visit_not_want told coming visit comes only = let want : ByVisit visit ≡ ByWant = only (at_once (ByVisit visit)) comes tt in absurd cc
 
-reflection_not_want : (told : Told) (coming : Coming) (reflection : Reflection) → coming (at_once (ByReflecting reflection)) → ¬ IsOnlyWant told coming
+reflection_not_want : (told : Told) (coming : Coming) (reflection : PlainReflection) → coming (at_once (ByReflecting reflection)) → ¬ IsOnlyWant told coming
 reflection_not_want told coming reflection comes only = let want : ByReflecting reflection ≡ ByWant = only (at_once (ByReflecting reflection)) comes tt in absurd cc
 
 drill_not_want : (told : Told) (coming : Coming) (request : DrillRequest) → coming (at_once (ByDrill request)) → ¬ IsOnlyWant told coming
@@ -71,11 +74,26 @@ file_not_want told at ask next each only =
     given_not_want told at (told ask) next each
     (λ rest comes given. only (before (Loads ask (told ask)) rest) (told ask, (rest, refl, inr comes)) (refl, given))
 
+-- ---- stored sessions
+
+stored_not_want : (told : Told) (next : PlainStored → Coming) (bytes : List ℕ) → ((stored : PlainStored) → ¬ IsOnlyWant told (next stored)) → ¬ IsOnlyWant told (OfStored next bytes)
+stored_not_want told next bytes each only =
+    refused_not_want told (OfStored next bytes) (refusal.Input input.Log)
+    (inr (λ stored sound is. each stored (λ verdict comes given. only verdict (inl (stored, sound, is, comes)) given), refl))
+    only
+
+opening_not_want : (told : Told) (from : Option (List ℕ)) (next : PlainSession → Coming) → ((opening : PlainSession) → ¬ IsOnlyWant told (next opening)) → ¬ IsOnlyWant told (OfOpening from next)
+opening_not_want told None next each = each first_session
+opening_not_want told (Some name) next each =
+    file_not_want told input.Log (ask_file name most_log) (OfStored (λ stored. next (session_of stored)))
+    (λ bytes. stored_not_want told (λ stored. next (session_of stored)) bytes (λ stored. each (session_of stored)))
+
 -- ---- stamp
 
-script_not_want : (told : Told) (log : Option (List ℕ)) (requests : Option (List Request)) → ¬ IsOnlyWant told (OfScript log requests)
-script_not_want told log None = refused_not_want told (OfScript log None) (refusal.Input input.Script) refl
-script_not_want told log (Some requests) = fine_not_want told (OfScript log (Some requests)) _ _ refl
+script_not_want : (told : Told) (from log : Option (List ℕ)) (requests : Option (List Request)) → ¬ IsOnlyWant told (OfScript from log requests)
+script_not_want told from log None = refused_not_want told (OfScript from log None) (refusal.Input input.Script) refl
+script_not_want told from log (Some requests) =
+    opening_not_want told from (λ opening. Only (stamp_verdict opening log requests)) (λ opening. fine_not_want told (Only (stamp_verdict opening log requests)) _ _ refl)
 
 -- ---- programs
 
@@ -130,20 +148,14 @@ starts_not_want told None request founding id log = fine_not_want told (Starts N
 starts_not_want told (Some from) request founding id log =
     file_not_want told input.Snapshot (ask_file from most_snapshot) (OfSnapshot request founding.tree id log) (snapshot_not_want told request founding.tree id log)
 
-log_not_want : (told : Told) (next : List Entry → Coming) (bytes : List ℕ) → ((log : List Entry) → ¬ IsOnlyWant told (next log)) → ¬ IsOnlyWant told (OfLog next bytes)
-log_not_want told next bytes each only =
-    refused_not_want told (OfLog next bytes) (refusal.Input input.Log)
-    (inr (λ log legal is. each log (λ verdict comes given. only verdict (inl (log, legal, is, comes)) given), refl))
-    only
-
 recorded_not_want : (told : Told) (request : ReplayRequest) (text : List ℕ) (tree : ProgramTree) (log : List Entry) → ¬ IsOnlyWant told (OfRecorded request text tree log)
 recorded_not_want told request text tree log =
-    persisted_not_want told request.persisted (λ v. OfFounded request text log (founded tree v)) (λ v. starts_not_want told request.from request (founded tree v) (session_of request.name text v) log)
+    persisted_not_want told request.persisted (λ v. OfFounded request text log (founded tree v)) (λ v. starts_not_want told request.from request (founded tree v) (session_id_of request.name text v) log)
 
 tree_not_want : (told : Told) (request : ReplayRequest) (text : List ℕ) (tree : ProgramTree) → ¬ IsOnlyWant told (OfTree request text tree)
 tree_not_want told request text tree =
-    file_not_want told input.Log (ask_file request.log most_log) (OfLog (OfRecorded request text tree))
-    (λ bytes. log_not_want told (OfRecorded request text tree) bytes (recorded_not_want told request text tree))
+    file_not_want told input.Log (ask_file request.log most_log) (OfStored (λ stored. OfRecorded request text tree stored.log))
+    (λ bytes. stored_not_want told (λ stored. OfRecorded request text tree stored.log) bytes (λ stored. recorded_not_want told request text tree stored.log))
 
 -- ---- join
 
@@ -165,17 +177,22 @@ join_not_want told request text tree =
 
 -- ---- reflect
 
+served_not_want : (told : Told) (request : ReflectRequest) (id : List ℕ) → ¬ IsOnlyWant told (OfServed request id)
+served_not_want told request id =
+    let reflects : PlainSession → Coming = λ opening. Only (at_once (ByReflecting (reflection_of request id opening))) in
+    opening_not_want told request.from reflects (λ opening. reflection_not_want told (reflects opening) (reflection_of request id opening) refl)
+
 reflect_not_want : (told : Told) (request : ReflectRequest) (text : List ℕ) → ¬ IsOnlyWant told (OfReflect request text)
 reflect_not_want told request text =
-    let reflects : PlainValue → Coming = λ v. Only (at_once (ByReflecting (reflection_of request text v))) in
-    address_not_want told (is_address (encode_utf8_all request.address)) (OfPersisted request.persisted reflects)
-    (persisted_not_want told request.persisted reflects (λ v. reflection_not_want told (reflects v) (reflection_of request text v) refl))
+    let served : PlainValue → Coming = λ v. OfServed request (session_id_of request.name text v) in
+    address_not_want told (is_address (encode_utf8_all request.address)) (OfPersisted request.persisted served)
+    (persisted_not_want told request.persisted served (λ v. served_not_want told request (session_id_of request.name text v)))
 
 -- ---- the commands
 
 command_not_want : IsSomeReading → (told : Told) (command : Command) → ¬ IsOnlyWant told (OfCommand command)
-command_not_want some told (Stamp script log) =
-    file_not_want told input.Script (ask_file script most_script) (λ bytes. OfScript log (script_of bytes)) (λ bytes. script_not_want told log (script_of bytes))
+command_not_want some told (Stamp script from log) =
+    file_not_want told input.Script (ask_file script most_script) (λ bytes. OfScript from log (script_of bytes)) (λ bytes. script_not_want told from log (script_of bytes))
 command_not_want some told (Check program) =
     file_not_want told input.Program (ask_file program most_program_bytes) _ (λ bytes. program_not_want some told _ bytes (λ tree. fine_not_want told (λ came. came ≡ count_verdict tree) [] (counts_line tree) refl))
 command_not_want some told (Replay request) =

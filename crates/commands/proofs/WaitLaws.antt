@@ -6,6 +6,7 @@ use Rattle.command_outcome.specs.declared.outcome.CommandRefusal.TheVariants as 
 use Rattle.commands.specs.declared.work.Next.{Next}
 use Rattle.commands.specs.declared.work.Waiting.{Waiting}
 use Rattle.commands.specs.declared.work.Waiting.TheVariants as waiting
+use Rattle.commands.specs.declared.stamp.StampWait.TheVariants as stamp_wait
 use Rattle.commands.specs.declared.recording.ReplayWait.TheVariants as replay_wait
 use Rattle.commands.specs.declared.visit.JoinWait.TheVariants as join_wait
 use Rattle.commands.specs.declared.reflection.ReflectWait.TheVariants as reflect_wait
@@ -21,7 +22,8 @@ refused_above wait rest comes = subst (λ (v : Verdict). Remains wait (before (L
 
 -- some file is left where one is waited for
 pub some_left : (wait : Waiting) → 0 < files_left wait
-some_left (waiting.Stamp script log) = omega arith
+some_left (waiting.Stamp (stamp_wait.Script script from log)) = omega arith
+some_left (waiting.Stamp (stamp_wait.Log wait)) = omega arith
 some_left (waiting.Check program) = omega arith
 some_left (waiting.Replay (replay_wait.Program request)) = omega arith
 some_left (waiting.Replay (replay_wait.Log wait)) = omega arith
@@ -32,6 +34,7 @@ some_left (waiting.Join (join_wait.Script wait)) = omega arith
 some_left (waiting.Join (join_wait.Value wait)) = omega arith
 some_left (waiting.Reflect (reflect_wait.Program request)) = omega arith
 some_left (waiting.Reflect (reflect_wait.Value wait)) = omega arith
+some_left (waiting.Reflect (reflect_wait.Log wait)) = omega arith
 
 -- where its bytes were handed over, it goes on
 pub handed_on : (wait : Waiting) (bytes : List ℕ) (step : Next) (rest : Verdict) → Leads step (Free (next_of wait bytes)) → ComesNext step rest → Remains wait (before (Loads (ask_of wait) (Some bytes)) rest)

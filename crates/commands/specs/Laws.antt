@@ -4,7 +4,8 @@ use Rattle.tea_base.specs.Legal.{IsLegal}
 use Rattle.tea_base.specs.Limits.{time_limit}
 use Rattle.tea_base.specs.declared.entry.Entry.{Entry}
 use Rattle.reflector_core.specs.declared.request.Request.{Request}
-use Rattle.reflector_core.specs.Play.{TellsItsEvents, after_all, first_session, replies_from}
+use Rattle.reflector_core.specs.PlainSession.{PlainSession, IsSoundSession}
+use Rattle.reflector_core.specs.Play.{TellsItsEvents, after_all, replies_from}
 use Rattle.model_solved.specs.Founding.{Founding, IsFounding}
 use Rattle.model_solved.specs.Methods.{field_counts}
 use Rattle.world_plain.specs.Valid.{Valid}
@@ -18,11 +19,11 @@ use Rattle.command_words.specs.declared.words.ReplayRequest.{ReplayRequest}
 use Rattle.command_words.specs.declared.words.Command.{Command}
 use Rattle.commands.specs.Verdict.{ByRefusal, ByWant, Closing, Coming, Comes, Verdict, resumed_verdict, world_verdict}
 
--- The log that a script leaves tells the events that were answered Stamped.
+-- The log that a script leaves tells the events of the log that it began with, and those that were answered Stamped.
 abbrev pub LogsTellTheirEvents : Type 0
 LogsTellTheirEvents =
-    (bytes : List ℕ) (requests : List Request) → script_of bytes ≡ Some requests
-    → TellsItsEvents requests (replies_from first_session requests) (after_all first_session requests).log
+    (bytes : List ℕ) (requests : List Request) (opening : PlainSession) → script_of bytes ≡ Some requests → IsSoundSession opening
+    → TellsItsEvents opening.log requests (replies_from opening requests) (after_all opening requests).log
 
 -- a snapshot of a world that follows the log leads to what the log leads to from its beginning
 abbrev pub SnapshotsAgree : Type 0

@@ -1,10 +1,10 @@
 -- What comes of a command: the steps that it does, one after the other, and how it is closed.
 use Rattle.std.specs.Prelude.{◌≡◌, ◌≢◌, ◌⊎◌, ℕ, ℤ, Bool, true, false, nat_lt, if◌then◌else◌, List, [], ◌∷◌, ◌++◌, encode_utf8_all, Option, Some, None}
-use Rattle.tea_base.specs.Legal.{IsLegal}
 use Rattle.tea_base.specs.declared.entry.Entry.{Entry}
 use Rattle.connection.specs.declared.ending.Ended.{Ended}
 use Rattle.reflector_core.specs.PlainSession.{PlainSession}
-use Rattle.session_log.specs.Spelling.{log_spelling}
+use Rattle.reflector_core.specs.Stored.{session_of, stored_of}
+use Rattle.session_log.specs.Stored.{PlainStored, IsStored, stored_spelling}
 use Rattle.reflector_core.specs.declared.request.Request.{Request}
 use Rattle.reflector_core.specs.Play.{first_session, after_all, replies_from}
 use Rattle.model_tree.specs.Bounds.{most_program_bytes}
@@ -31,7 +31,6 @@ use Rattle.command_words.specs.declared.words.ReplayRequest.{ReplayRequest}
 use Rattle.command_words.specs.declared.words.JoinRequest.{JoinRequest}
 use Rattle.command_words.specs.declared.words.ReflectRequest.{ReflectRequest}
 use Rattle.command_words.specs.declared.words.DrillRequest.{DrillRequest}
-use Rattle.command_reflect.specs.declared.reflection.Reflection.{Reflection}
 use Rattle.command_words.specs.declared.words.Command.{Command}
 use Rattle.command_words.specs.declared.words.Command.TheVariants.{Stamp, Check, Replay, Join, Reflect, Drill}
 use Rattle.command_words.specs.Address.{is_address}
@@ -55,6 +54,14 @@ pub record PlainVisit : Type 0 where
   pub address : List ℕ
   pub lines : List PlainLine
 
+-- what a reflector serves: the session's id, the session that goes on, the address, how many links it accepts, and where it puts the session
+pub record PlainReflection : Type 0 where
+  pub id : List ℕ
+  pub opening : PlainSession
+  pub address : List ℕ
+  pub connections : ℕ
+  pub log : List ℕ
+
 -- how a command is closed, behind all its steps
 pub data Closing : Type 0 where
   -- all went well
@@ -68,7 +75,7 @@ pub data Closing : Type 0 where
   -- the run goes on as this view's
   ByVisit : PlainVisit → Closing
   -- the run goes on as a reflector's, which serves this
-  ByReflecting : Reflection → Closing
+  ByReflecting : PlainReflection → Closing
   -- the run goes on as this drill
   ByDrill : DrillRequest → Closing
 
@@ -118,16 +125,34 @@ ask_file name limit = record { name = name; limit = limit }
 abbrev pub OfFile : Input → Ask → (List ℕ → Coming) → Coming
 OfFile at ask next verdict = (given : Option (List ℕ)) × Then (Loads ask given) (Free (OfGiven at given next)) verdict
 
+-- ---- stored sessions
+
+-- the bytes are the spelling of a stored session, or of none
+abbrev pub OfStored : (PlainStored → Coming) → List ℕ → Coming
+OfStored next bytes verdict =
+    ((stored : PlainStored) × IsStored stored × (bytes ≡ stored_spelling stored) × next stored verdict)
+    ⊎ (((stored : PlainStored) → IsStored stored → bytes ≢ stored_spelling stored) × Only (at_once (ByRefusal (refusal.Input input.Log))) verdict)
+
+-- the most bytes of a log
+abbrev pub most_log : ℕ
+most_log = 134217728
+
+-- where a log is named, the session that is stored there goes on, and else a first one begins
+abbrev pub OfOpening : Option (List ℕ) → (PlainSession → Coming) → Coming
+OfOpening None next = next first_session
+OfOpening (Some name) next = OfFile input.Log (ask_file name most_log) (OfStored (λ stored. next (session_of stored)))
+
 -- ---- stamp
 
--- a first session replies to the requests, and the spelling of its log after them is put
-abbrev pub stamp_verdict : Option (List ℕ) → List Request → Verdict
-stamp_verdict log requests =
-    fine (steps_of (optional_put log (log_spelling (after_all first_session requests).log)) (text_of (replies_from first_session requests)))
+-- the session replies to the requests, and it is put as it is stored after them
+abbrev pub stamp_verdict : PlainSession → Option (List ℕ) → List Request → Verdict
+stamp_verdict opening log requests =
+    fine (steps_of (optional_put log (stored_spelling (stored_of (after_all opening requests)))) (text_of (replies_from opening requests)))
 
-abbrev pub OfScript : Option (List ℕ) → Option (List Request) → Coming
-OfScript log None = Only (at_once (ByRefusal (refusal.Input input.Script)))
-OfScript log (Some requests) = Only (stamp_verdict log requests)
+-- once the script was read, the session begins
+abbrev pub OfScript : Option (List ℕ) → Option (List ℕ) → Option (List Request) → Coming
+OfScript from log None = Only (at_once (ByRefusal (refusal.Input input.Script)))
+OfScript from log (Some requests) = OfOpening from (λ opening. Only (stamp_verdict opening log requests))
 
 -- the most bytes of a script
 abbrev pub most_script : ℕ
@@ -152,8 +177,8 @@ abbrev pub founded : ProgramTree → PlainValue → Founding
 founded tree v = record { tree = tree; persisted = v }
 
 -- the id of the session of this name, this program's text and this persisted value
-abbrev pub session_of : List ℕ → List ℕ → PlainValue → List ℕ
-session_of name text v = sha256 (text_field name ++ text ++ persisted_bytes v)
+abbrev pub session_id_of : List ℕ → List ℕ → PlainValue → List ℕ
+session_id_of name text v = sha256 (text_field name ++ text ++ persisted_bytes v)
 
 -- the bytes are JSON of a value that can be saved, or of none
 abbrev pub OfJson : (PlainValue → Coming) → List ℕ → Coming
@@ -193,33 +218,23 @@ abbrev pub Starts : Option (List ℕ) → ReplayRequest → Founding → List �
 Starts None request founding id log = Only (world_verdict request (replay founding id log request.time).world)
 Starts (Some from) request founding id log = OfFile input.Snapshot (ask_file from most_snapshot) (OfSnapshot request founding.tree id log)
 
--- the bytes are the spelling of a legal log, or of none
-abbrev pub OfLog : (List Entry → Coming) → List ℕ → Coming
-OfLog next bytes verdict =
-    ((log : List Entry) × IsLegal log × (bytes ≡ log_spelling log) × next log verdict)
-    ⊎ (((log : List Entry) → IsLegal log → bytes ≢ log_spelling log) × Only (at_once (ByRefusal (refusal.Input input.Log))) verdict)
-
--- the most bytes of a log
-abbrev pub most_log : ℕ
-most_log = 134217728
-
 -- once the persisted value is known, the replay begins
 abbrev pub OfFounded : ReplayRequest → List ℕ → List Entry → Founding → Coming
-OfFounded request text log founding = Starts request.from request founding (session_of request.name text founding.persisted) log
+OfFounded request text log founding = Starts request.from request founding (session_id_of request.name text founding.persisted) log
 
 -- once the log was read, the persisted value is
 abbrev pub OfRecorded : ReplayRequest → List ℕ → ProgramTree → List Entry → Coming
 OfRecorded request text tree log = OfPersisted request.persisted (λ v. OfFounded request text log (founded tree v))
 
--- once the program was read, the log is
+-- once the program was read, the log of a stored session is
 abbrev pub OfTree : ReplayRequest → List ℕ → ProgramTree → Coming
-OfTree request text tree = OfFile input.Log (ask_file request.log most_log) (OfLog (OfRecorded request text tree))
+OfTree request text tree = OfFile input.Log (ask_file request.log most_log) (OfStored (λ stored. OfRecorded request text tree stored.log))
 
 -- ---- join
 
 abbrev pub visit_to : JoinRequest → List ℕ → List PlainLine → Founding → PlainVisit
 visit_to request text lines founding =
-    record { founding = founding; id = session_of request.name text founding.persisted; view = request.view; address = request.address; lines = lines }
+    record { founding = founding; id = session_id_of request.name text founding.persisted; view = request.view; address = request.address; lines = lines }
 
 -- what comes of a view's script, or of none: the persisted value is read, and then the view visits
 abbrev pub OfViewScript : JoinRequest → List ℕ → ProgramTree → Option (List PlainLine) → Coming
@@ -241,14 +256,19 @@ OfJoin request text tree = OfAddress (is_address (encode_utf8_all request.addres
 
 -- ---- reflect
 
-abbrev pub reflection_of : ReflectRequest → List ℕ → PlainValue → Reflection
-reflection_of request text v =
-    record { id = record { 0 = session_of request.name text v }; address = request.address; connections = request.connections; log = request.log }
+-- a reflector of the session of this id, which goes on from this one
+abbrev pub reflection_of : ReflectRequest → List ℕ → PlainSession → PlainReflection
+reflection_of request id opening =
+    record { id = id; opening = opening; address = request.address; connections = request.connections; log = request.log }
 
--- once the program was read, the address is checked, then the persisted value is read, and then the session is reflected
+-- once the id is known, the session begins, and is reflected
+abbrev pub OfServed : ReflectRequest → List ℕ → Coming
+OfServed request id = OfOpening request.from (λ opening. Only (at_once (ByReflecting (reflection_of request id opening))))
+
+-- once the program was read, the address is checked, then the persisted value is read, and then the session begins
 abbrev pub OfReflect : ReflectRequest → List ℕ → Coming
 OfReflect request text =
-    OfAddress (is_address (encode_utf8_all request.address)) (OfPersisted request.persisted (λ v. Only (at_once (ByReflecting (reflection_of request text v)))))
+    OfAddress (is_address (encode_utf8_all request.address)) (OfPersisted request.persisted (λ v. OfServed request (session_id_of request.name text v)))
 
 -- what comes of a session behind its reflector, whose net may have failed
 abbrev pub reflected_verdict : List ℕ → List Ended → PlainSession → Bool → Verdict
@@ -258,14 +278,14 @@ reflected_verdict log ends session net_failed =
 -- ---- drill
 
 -- what comes of a drill that has left this
-abbrev pub drilled_verdict : DrillRequest → List Entry → List (List ℕ) → ℤ → ℕ → Verdict
-drilled_verdict request log snapshots total agree = fine (drilled_steps request log snapshots total agree)
+abbrev pub drilled_verdict : DrillRequest → PlainSession → List (List ℕ) → ℤ → ℕ → Verdict
+drilled_verdict request session snapshots total agree = fine (drilled_steps request session snapshots total agree)
 
 -- ---- the commands
 
 -- what comes of a command: a row for each
 abbrev pub OfCommand : Command → Coming
-OfCommand (Stamp script log) = OfFile input.Script (ask_file script most_script) (λ bytes. OfScript log (script_of bytes))
+OfCommand (Stamp script from log) = OfFile input.Script (ask_file script most_script) (λ bytes. OfScript from log (script_of bytes))
 OfCommand (Check program) = OfFile input.Program (ask_file program most_program_bytes) (OfProgram (λ tree. Only (count_verdict tree)))
 OfCommand (Replay request) =
     OfFile input.Program (ask_file request.program most_program_bytes) (λ bytes. OfProgram (OfTree request bytes) bytes)

@@ -1,5 +1,5 @@
 -- What the parts of a command's work make of what comes.
-use Rattle.std.specs.Prelude.{◌≤◌, ℕ, ⊤, List, Option, Some}
+use Rattle.std.specs.Prelude.{◌≡◌, ◌≤◌, ℕ, ⊤, List, Option, Some}
 use Rattle.tea_base.specs.Limits.{most_snapshot}
 use Rattle.model_tree.specs.Bounds.{most_program_bytes}
 use Rattle.persist_json.specs.JsonOf.{most_json}
@@ -9,9 +9,14 @@ use Rattle.command_outcome.specs.declared.outcome.Input.{Input}
 use Rattle.command_outcome.specs.declared.outcome.Input.TheVariants as input
 use Rattle.command_words.specs.declared.words.Command.{Command}
 use Rattle.command_words.specs.declared.words.Command.TheVariants.{Join, Reflect, Drill}
+use Rattle.reflector_core.specs.PlainSession.{PlainSession}
+use Rattle.reflector_core.specs.Stored.{session_of}
+use Rattle.session_log.specs.Stored.{PlainStored, IsStored, stored_spelling}
+use Rattle.command_reflect.specs.declared.reflection.Reflection.{Reflection}
 use Rattle.commands.specs.declared.visit.VisitRequest.{VisitRequest}
 use Rattle.commands.specs.declared.work.Waiting.{Waiting}
 use Rattle.commands.specs.declared.work.Waiting.TheVariants as waiting
+use Rattle.commands.specs.declared.stamp.StampWait.TheVariants as stamp_wait
 use Rattle.commands.specs.declared.recording.ReplayWait.TheVariants as replay_wait
 use Rattle.commands.specs.declared.visit.JoinWait.TheVariants as join_wait
 use Rattle.commands.specs.declared.reflection.ReflectWait.TheVariants as reflect_wait
@@ -22,13 +27,14 @@ use Rattle.commands.specs.declared.work.Next.TheVariants as next
 use Rattle.view_script.specs.PlainLine.{plain_lines}
 use Rattle.command_words.specs.Bounds.{AreConnections, IsBounded, IsBoundedDrill, IsBoundedJoin, IsBoundedReflect}
 use Rattle.command_outcome.specs.Outcome.{steps_of}
-use Rattle.commands.specs.Verdict.{Verdict, PlainVisit, ByDrill, ByRefusal, ByReflecting, ByVisit, ByWant, Coming, Only, OfFile, OfFounded, OfJoin, OfJson, OfLog, OfProgram, OfRecorded, OfReflect, OfScript, OfSnapshot, OfTree, OfViewScript, ask_file, at_once, count_verdict, fine, founded, most_log, most_script, reflection_of, visit_to}
+use Rattle.commands.specs.Verdict.{Verdict, PlainReflection, PlainVisit, ByDrill, ByRefusal, ByReflecting, ByVisit, ByWant, Coming, Only, OfFile, OfFounded, OfJoin, OfJson, OfProgram, OfRecorded, OfReflect, OfScript, OfServed, OfSnapshot, OfStored, OfTree, OfViewScript, ask_file, at_once, count_verdict, fine, founded, most_log, most_script, reflection_of, session_id_of, stamp_verdict, visit_to}
 
 -- ---- a command that waits for a file
 
 -- which of the inputs is waited for
 abbrev pub input_of : Waiting → Input
-input_of (waiting.Stamp script log) = input.Script
+input_of (waiting.Stamp (stamp_wait.Script script from log)) = input.Script
+input_of (waiting.Stamp (stamp_wait.Log wait)) = input.Log
 input_of (waiting.Check program) = input.Program
 input_of (waiting.Replay (replay_wait.Program request)) = input.Program
 input_of (waiting.Replay (replay_wait.Log wait)) = input.Log
@@ -39,10 +45,12 @@ input_of (waiting.Join (join_wait.Script wait)) = input.Script
 input_of (waiting.Join (join_wait.Value wait)) = input.Persisted
 input_of (waiting.Reflect (reflect_wait.Program request)) = input.Program
 input_of (waiting.Reflect (reflect_wait.Value wait)) = input.Persisted
+input_of (waiting.Reflect (reflect_wait.Log wait)) = input.Log
 
 -- the name of its file
 abbrev pub file_of : Waiting → List ℕ
-file_of (waiting.Stamp script log) = script
+file_of (waiting.Stamp (stamp_wait.Script script from log)) = script
+file_of (waiting.Stamp (stamp_wait.Log wait)) = wait.from
 file_of (waiting.Check program) = program
 file_of (waiting.Replay (replay_wait.Program request)) = request.program
 file_of (waiting.Replay (replay_wait.Log wait)) = wait.request.log
@@ -53,6 +61,7 @@ file_of (waiting.Join (join_wait.Script wait)) = wait.request.script
 file_of (waiting.Join (join_wait.Value wait)) = wait.persisted
 file_of (waiting.Reflect (reflect_wait.Program request)) = request.program
 file_of (waiting.Reflect (reflect_wait.Value wait)) = wait.persisted
+file_of (waiting.Reflect (reflect_wait.Log wait)) = wait.from
 
 -- the most bytes of an input
 abbrev pub most_bytes : Input → ℕ
@@ -71,10 +80,11 @@ ask_of wait = ask_file (file_of wait) (most_bytes (input_of wait))
 
 -- what comes of its bytes
 abbrev pub next_of : Waiting → List ℕ → Coming
-next_of (waiting.Stamp script log) bytes = OfScript log (script_of bytes)
+next_of (waiting.Stamp (stamp_wait.Script script from log)) bytes = OfScript from log (script_of bytes)
+next_of (waiting.Stamp (stamp_wait.Log wait)) bytes = OfStored (λ stored. Only (stamp_verdict (session_of stored) wait.log wait.requests)) bytes
 next_of (waiting.Check program) bytes = OfProgram (λ tree. Only (count_verdict tree)) bytes
 next_of (waiting.Replay (replay_wait.Program request)) bytes = OfProgram (OfTree request bytes) bytes
-next_of (waiting.Replay (replay_wait.Log wait)) bytes = OfLog (OfRecorded wait.request wait.text (checked_tree wait.program)) bytes
+next_of (waiting.Replay (replay_wait.Log wait)) bytes = OfStored (λ stored. OfRecorded wait.request wait.text (checked_tree wait.program) stored.log) bytes
 next_of (waiting.Replay (replay_wait.Value wait)) bytes =
     let read = wait.read in
     OfJson (λ v. OfFounded read.request read.text read.log.entries (founded (checked_tree read.program) v)) bytes
@@ -86,7 +96,9 @@ next_of (waiting.Join (join_wait.Value wait)) bytes =
     let read = wait.read in
     OfJson (λ v. Only (at_once (ByVisit (visit_to read.request read.text (plain_lines wait.script) (founded (checked_tree read.program) v))))) bytes
 next_of (waiting.Reflect (reflect_wait.Program request)) bytes = OfProgram (λ tree. OfReflect request bytes) bytes
-next_of (waiting.Reflect (reflect_wait.Value wait)) bytes = OfJson (λ v. Only (at_once (ByReflecting (reflection_of wait.request wait.text v)))) bytes
+next_of (waiting.Reflect (reflect_wait.Value wait)) bytes = OfJson (λ v. OfServed wait.request (session_id_of wait.request.name wait.text v)) bytes
+next_of (waiting.Reflect (reflect_wait.Log wait)) bytes =
+    OfStored (λ stored. Only (at_once (ByReflecting (reflection_of wait.request wait.id.0 (session_of stored))))) bytes
 
 -- what comes of the files that are read from here on
 abbrev pub Remains : Waiting → Coming
@@ -94,7 +106,8 @@ Remains wait = OfFile (input_of wait) (ask_of wait) (next_of wait)
 
 -- so many files are still read at most
 abbrev pub files_left : Waiting → ℕ
-files_left (waiting.Stamp script log) = 1
+files_left (waiting.Stamp (stamp_wait.Script script from log)) = 2
+files_left (waiting.Stamp (stamp_wait.Log wait)) = 1
 files_left (waiting.Check program) = 1
 files_left (waiting.Replay (replay_wait.Program request)) = 4
 files_left (waiting.Replay (replay_wait.Log wait)) = 3
@@ -103,12 +116,13 @@ files_left (waiting.Replay (replay_wait.Snapshot wait)) = 1
 files_left (waiting.Join (join_wait.Program request)) = 3
 files_left (waiting.Join (join_wait.Script wait)) = 2
 files_left (waiting.Join (join_wait.Value wait)) = 1
-files_left (waiting.Reflect (reflect_wait.Program request)) = 2
-files_left (waiting.Reflect (reflect_wait.Value wait)) = 1
+files_left (waiting.Reflect (reflect_wait.Program request)) = 3
+files_left (waiting.Reflect (reflect_wait.Value wait)) = 2
+files_left (waiting.Reflect (reflect_wait.Log wait)) = 1
 
 -- its words are within their bounds
 abbrev pub IsBoundedWait : Waiting → Type 0
-IsBoundedWait (waiting.Stamp script log) = ⊤
+IsBoundedWait (waiting.Stamp wait) = ⊤
 IsBoundedWait (waiting.Check program) = ⊤
 IsBoundedWait (waiting.Replay (replay_wait.Program request)) = IsBounded request
 IsBoundedWait (waiting.Replay (replay_wait.Log wait)) = IsBounded wait.request
@@ -119,6 +133,7 @@ IsBoundedWait (waiting.Join (join_wait.Script wait)) = IsBoundedJoin wait.reques
 IsBoundedWait (waiting.Join (join_wait.Value wait)) = IsBoundedJoin wait.read.request
 IsBoundedWait (waiting.Reflect (reflect_wait.Program request)) = IsBoundedReflect request
 IsBoundedWait (waiting.Reflect (reflect_wait.Value wait)) = IsBoundedReflect wait.request
+IsBoundedWait (waiting.Reflect (reflect_wait.Log wait)) = IsBoundedReflect wait.request
 
 -- the visit that is asked for
 abbrev pub visit_of : VisitRequest → PlainVisit
@@ -130,13 +145,27 @@ visit_of request = record {
   lines = plain_lines request.script;
 }
 
+-- the reflection that is asked for
+abbrev pub plain_reflection : Reflection → PlainReflection
+plain_reflection reflection = record {
+  id = reflection.id.0;
+  opening = reflection.opening.plain;
+  address = reflection.address;
+  connections = reflection.connections;
+  log = reflection.log;
+}
+
+-- the session that goes on from the one that is stored in these bytes
+abbrev pub IsStoredIn : List ℕ → PlainSession → Type 0
+IsStoredIn bytes session = (stored : PlainStored) × IsStored stored × (bytes ≡ stored_spelling stored) × (session ≡ session_of stored)
+
 -- what comes of a command that does this next
 abbrev pub ComesNext : Next → Coming
 ComesNext (next.Reads wait) = Remains wait
 ComesNext (next.Refuses refusal) = Only (at_once (ByRefusal refusal))
 ComesNext (next.Gives outcome) = Only (fine (steps_of outcome.files outcome.text))
 ComesNext (next.Visits request) = Only (at_once (ByVisit (visit_of request)))
-ComesNext (next.Reflects reflection) = Only (at_once (ByReflecting reflection))
+ComesNext (next.Reflects reflection) = Only (at_once (ByReflecting (plain_reflection reflection)))
 ComesNext (next.Drills request) = Only (at_once (ByDrill request))
 ComesNext next.WantOfMemory = Only (at_once ByWant)
 

@@ -19,7 +19,7 @@ pub fn some_verdict()
     one_reading();
 }
 
-/// The log that a script leaves has each event that was answered Stamped, once and in order.
+/// The log that a script leaves has the events of the log that it began with, and then each event that was answered Stamped, once and in order.
 pub fn logs_tell_their_events()
     ensures { LogsTellTheirEvents }
 {}

@@ -10,6 +10,7 @@
 
 mod check;
 mod laws;
+mod opening;
 mod recording;
 mod reflection;
 mod stamp;
@@ -18,6 +19,7 @@ mod work;
 
 pub use laws::{logs_tell_their_events, one_verdict, snapshots_agree, some_verdict};
 pub use recording::{LogWait, ReadReplay, ReplayValueWait, ReplayWait, SnapshotWait};
-pub use reflection::{ReflectValueWait, ReflectWait};
+pub use reflection::{ReflectLogWait, ReflectValueWait, ReflectWait};
+pub use stamp::{StampLogWait, StampWait};
 pub use visit::{JoinValueWait, JoinWait, ScriptWait, VisitRequest};
 pub use work::{Next, Waiting};

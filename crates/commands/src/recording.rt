@@ -10,7 +10,7 @@ ghost use Rattle.world_plain.specs.Valid.{Valid};
 ghost use Rattle.world_plain.specs.World.{world_record};
 ghost use Rattle.command_words.specs.Bounds.{IsBounded};
 ghost use Rattle.command_outcome.specs.Outcome.{optional_put, steps_of};
-ghost use Rattle.commands.specs.Verdict.{Free, OfFounded, OfJson, OfLog, OfProgram, OfRecorded, OfSnapshot, OfTree, Only, Starts, fine, founded, resumed_verdict, world_verdict};
+ghost use Rattle.commands.specs.Verdict.{Free, OfFounded, OfJson, OfProgram, OfRecorded, OfSnapshot, OfStored, OfTree, Only, Starts, fine, founded, resumed_verdict, world_verdict};
 ghost use Rattle.command_replay.specs.Replays.{world_at};
 ghost use Rattle.commands.specs.Work.{IsBoundedNext, IsBoundedWait, Leads, file_of, files_left, input_of, next_of, reads_left};
 ghost use Rattle.commands.specs.declared.work.Waiting.TheVariants as waiting;
@@ -24,7 +24,7 @@ use command_words::ReplayRequest;
 use model_solved::Checked;
 use model_value::Value;
 use persist_json::{JsonFault, from_json};
-use session_log::{Log, LogFault, decode};
+use session_log::{Log, LogFault, Stored, decode_stored};
 use snapshot_codec::{SnapFault, session_id, unsnap};
 use std::alloc::Global;
 use tea_base::{Blob, List, Text, WantOfMemory};
@@ -210,7 +210,7 @@ fn record(alloc: Global, mut read: ReadReplay) -> Next
 /// What comes of a log's bytes.
 fn take_log(alloc: Global, wait: LogWait, bytes: &[u8]) -> Next
     requires { IsBounded wait.request }
-    ensures leads { Leads result (Free (OfLog (OfRecorded wait.request wait.text (checked_tree wait.program)) bytes.now)) }
+    ensures leads { Leads result (Free (OfStored (λ stored. OfRecorded wait.request wait.text (checked_tree wait.program) stored.log) bytes.now)) }
     ensures bounded { IsBoundedNext result }
     ensures fewer { reads_left result < 3 }
 {
@@ -219,10 +219,8 @@ fn take_log(alloc: Global, wait: LogWait, bytes: &[u8]) -> Next
         program,
         text,
     } = wait;
-    match decode(alloc, bytes) {
-        Ok(log) => {
-            // What it holds is a log, by its rules.
-            let _entries = log.len();
+    match decode_stored(alloc, bytes) {
+        Ok(Stored { log, .. }) => {
             let read = ReadReplay {
                 request,
                 program,

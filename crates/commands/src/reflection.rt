@@ -1,21 +1,25 @@
 //! What comes of the files that the command `reflect` reads.
 ghost use Rattle.std.specs.Prelude.{◌≡◌, ◌<◌, IfOk};
 ghost use Rattle.command_words.specs.Bounds.{IsBoundedReflect};
+ghost use Rattle.reflector_core.specs.Stored.{session_of};
 ghost use Rattle.model_value.specs.Plain.{InBounds};
 ghost use Rattle.model_value.specs.View.{plain};
-ghost use Rattle.commands.specs.Verdict.{ByReflecting, Free, OfJson, OfPersisted, OfProgram, OfReflect, Only, at_once, reflection_of};
+ghost use Rattle.commands.specs.Verdict.{ByReflecting, Free, OfJson, OfPersisted, OfProgram, OfReflect, OfServed, OfStored, Only, at_once, reflection_of, session_id_of};
 ghost use Rattle.commands.specs.Work.{IsBoundedNext, IsBoundedWait, Leads, file_of, files_left, input_of, next_of, reads_left};
 ghost use Rattle.commands.specs.declared.work.Waiting.TheVariants as waiting;
 
+use crate::opening::read_opening;
 use crate::work::{Next, Waiting};
 use command_outcome::{CommandRefusal, Input, ProgramFault, read_program};
 use command_reflect::Reflection;
 use command_words::{ReflectRequest, is_address};
 use model_value::Value;
 use persist_json::{JsonFault, from_json};
+use reflector_core::Session;
+use session_log::LogFault;
 use snapshot_codec::session_id;
 use std::alloc::Global;
-use tea_base::{Blob, Text, WantOfMemory};
+use tea_base::{Blob, SessionId, Text, WantOfMemory};
 
 /// A reflector that has its program and its address, and waits for its persisted value.
 #[derive(Drop)]
@@ -26,6 +30,15 @@ pub struct ReflectValueWait {
     pub text: Blob,
 }
 
+/// A reflector that has its program, its address and its persisted value, and waits for the log of the session that goes on.
+#[derive(Drop)]
+pub struct ReflectLogWait {
+    pub from: Text,
+    pub request: ReflectRequest,
+    /// The session's id.
+    pub id: SessionId,
+}
+
 /// A reflector that waits for a file.
 #[derive(Drop)]
 pub enum ReflectWait {
@@ -33,30 +46,59 @@ pub enum ReflectWait {
     Program(ReflectRequest),
     /// It has read its program, and has a persisted value.
     Value(ReflectValueWait),
+    /// It knows its session's id, and goes on from a log.
+    Log(ReflectLogWait),
 }
 
-/// The session that is to be reflected, once its persisted value is known.
-fn reflect(request: ReflectRequest, text: &Blob, persisted: &Value) -> Next
+/// The session that is to be reflected.
+fn reflect(request: ReflectRequest, id: SessionId, opening: Session) -> Next
     requires words { IsBoundedReflect request }
-    requires bounds { InBounds (plain persisted.now) }
-    ensures leads { Leads result (Only (at_once (ByReflecting (reflection_of request text.now (plain persisted.now))))) }
+    ensures leads { Leads result (Only (at_once (ByReflecting (reflection_of request id.0 opening.plain)))) }
     ensures bounded { IsBoundedNext result }
     ensures fewer { reads_left result < 1 }
 {
     Next::Reflects(Reflection {
-        id: session_id(&request.name, text.bytes(), persisted),
+        id,
+        opening,
         address: request.address,
         connections: request.connections,
         log: request.log,
     })
 }
 
-/// What comes of a reflector that has its program and its address: its persisted value is read, where it has one.
-fn begin(mut request: ReflectRequest, text: Blob) -> Next
+/// What comes of a reflector that knows its session's id: a first session begins, or the log of the one that goes on is read.
+fn open(alloc: Global, mut request: ReflectRequest, id: SessionId) -> Next
     requires { IsBoundedReflect request }
-    ensures leads { Leads result (OfPersisted request.persisted (λ v. Only (at_once (ByReflecting (reflection_of request text v))))) }
+    ensures leads { Leads result (OfServed request id.0) }
     ensures bounded { IsBoundedNext result }
     ensures fewer { reads_left result < 2 }
+{
+    match request.from.take() {
+        Some(from) => {
+            Next::Reads(Waiting::Reflect(ReflectWait::Log(ReflectLogWait { from, request, id })))
+        }
+        None => reflect(request, id, Session::new(alloc)),
+    }
+}
+
+/// What comes of a reflector whose persisted value is known.
+fn found(alloc: Global, request: ReflectRequest, text: &Blob, persisted: &Value) -> Next
+    requires words { IsBoundedReflect request }
+    requires bounds { InBounds (plain persisted.now) }
+    ensures leads { Leads result (OfServed request (session_id_of request.name text.now (plain persisted.now))) }
+    ensures bounded { IsBoundedNext result }
+    ensures fewer { reads_left result < 2 }
+{
+    let id = session_id(&request.name, text.bytes(), persisted);
+    open(alloc, request, id)
+}
+
+/// What comes of a reflector that has its program and its address: its persisted value is read, where it has one.
+fn begin(alloc: Global, mut request: ReflectRequest, text: Blob) -> Next
+    requires { IsBoundedReflect request }
+    ensures leads { Leads result (OfPersisted request.persisted (λ v. OfServed request (session_id_of request.name text v))) }
+    ensures bounded { IsBoundedNext result }
+    ensures fewer { reads_left result < 3 }
 {
     match request.persisted.take() {
         Some(persisted) => Next::Reads(Waiting::Reflect(ReflectWait::Value(ReflectValueWait {
@@ -64,7 +106,7 @@ fn begin(mut request: ReflectRequest, text: Blob) -> Next
             request,
             text,
         }))),
-        None => reflect(request, &text, &Value::Nil),
+        None => found(alloc, request, &text, &Value::Nil),
     }
 }
 
@@ -73,12 +115,12 @@ fn answer_address(alloc: Global, request: ReflectRequest, text: Blob) -> Result<
     requires { IsBoundedReflect request }
     ensures leads { IfOk result (λ step. Leads step (OfReflect request text)) }
     ensures bounded { IfOk result IsBoundedNext }
-    ensures fewer { IfOk result (λ step. reads_left step < 2) }
+    ensures fewer { IfOk result (λ step. reads_left step < 3) }
 {
     if !is_address(alloc, request.address.as_str())? {
         return Ok(Next::Refuses(CommandRefusal::Input(Input::Address)));
     }
-    Ok(begin(request, text))
+    Ok(begin(alloc, request, text))
 }
 
 /// The same, by what is done next where memory is wanted.
@@ -86,7 +128,7 @@ fn take_address(alloc: Global, request: ReflectRequest, text: Blob) -> Next
     requires { IsBoundedReflect request }
     ensures leads { Leads result (Free (OfReflect request text)) }
     ensures bounded { IsBoundedNext result }
-    ensures fewer { reads_left result < 2 }
+    ensures fewer { reads_left result < 3 }
 {
     match answer_address(alloc, request, text) {
         Ok(next) => next,
@@ -99,7 +141,7 @@ fn take_program(alloc: Global, request: ReflectRequest, text: Blob) -> Next
     requires { IsBoundedReflect request }
     ensures leads { Leads result (Free (OfProgram (λ tree. OfReflect request text) text)) }
     ensures bounded { IsBoundedNext result }
-    ensures fewer { reads_left result < 2 }
+    ensures fewer { reads_left result < 3 }
 {
     match read_program(alloc, text.bytes()) {
         Ok(_) => take_address(alloc, request, text),
@@ -111,14 +153,33 @@ fn take_program(alloc: Global, request: ReflectRequest, text: Blob) -> Next
 /// What comes of the bytes of a persisted value.
 fn take_value(alloc: Global, wait: ReflectValueWait, bytes: &[u8]) -> Next
     requires { IsBoundedReflect wait.request }
-    ensures leads { Leads result (Free (OfJson (λ v. Only (at_once (ByReflecting (reflection_of wait.request wait.text v)))) bytes.now)) }
+    ensures leads { Leads result (Free (OfJson (λ v. OfServed wait.request (session_id_of wait.request.name wait.text v)) bytes.now)) }
+    ensures bounded { IsBoundedNext result }
+    ensures fewer { reads_left result < 2 }
+{
+    let ReflectValueWait {
+        persisted: _,
+        request,
+        text,
+    } = wait;
+    match from_json(alloc, bytes) {
+        Ok(value) => found(alloc, request, &text, &value),
+        Err(JsonFault::BadJson) => Next::Refuses(CommandRefusal::Input(Input::Persisted)),
+        Err(JsonFault::WantOfMemory) => Next::WantOfMemory,
+    }
+}
+
+/// What comes of the bytes of the log.
+fn take_log(alloc: Global, wait: ReflectLogWait, bytes: &[u8]) -> Next
+    requires { IsBoundedReflect wait.request }
+    ensures leads { Leads result (Free (OfStored (λ stored. Only (at_once (ByReflecting (reflection_of wait.request wait.id.0 (session_of stored))))) bytes.now)) }
     ensures bounded { IsBoundedNext result }
     ensures fewer { reads_left result < 1 }
 {
-    match from_json(alloc, bytes) {
-        Ok(value) => reflect(wait.request, &wait.text, &value),
-        Err(JsonFault::BadJson) => Next::Refuses(CommandRefusal::Input(Input::Persisted)),
-        Err(JsonFault::WantOfMemory) => Next::WantOfMemory,
+    match read_opening(alloc, bytes) {
+        Ok(opening) => reflect(wait.request, wait.id, opening),
+        Err(LogFault::BadLog) => Next::Refuses(CommandRefusal::Input(Input::Log)),
+        Err(LogFault::WantOfMemory) => Next::WantOfMemory,
     }
 }
 
@@ -130,6 +191,7 @@ impl ReflectWait {
         match self {
             ReflectWait::Program(request) => &request.program,
             ReflectWait::Value(wait) => &wait.persisted,
+            ReflectWait::Log(wait) => &wait.from,
         }
     }
 
@@ -140,6 +202,7 @@ impl ReflectWait {
         match self {
             ReflectWait::Program(_) => Input::Program,
             ReflectWait::Value(_) => Input::Persisted,
+            ReflectWait::Log(_) => Input::Log,
         }
     }
 
@@ -153,6 +216,7 @@ impl ReflectWait {
         match self {
             ReflectWait::Program(request) => take_program(alloc, request, bytes),
             ReflectWait::Value(wait) => take_value(alloc, wait, bytes.bytes()),
+            ReflectWait::Log(wait) => take_log(alloc, wait, bytes.bytes()),
         }
     }
 }

@@ -11,7 +11,7 @@ ghost use Rattle.commands.specs.declared.work.Next.TheVariants as next;
 use crate::check::check;
 use crate::recording::ReplayWait;
 use crate::reflection::ReflectWait;
-use crate::stamp::stamp;
+use crate::stamp::StampWait;
 use crate::visit::{JoinWait, VisitRequest};
 use command_outcome::{CommandRefusal, Input, Outcome};
 use command_reflect::Reflection;
@@ -24,8 +24,7 @@ use tea_base::{Blob, MOST_SNAPSHOT, Text};
 /// A command that waits for the bytes of a file.
 #[derive(Drop)]
 pub enum Waiting {
-    /// A stamp that has read nothing yet.
-    Stamp { script: Text, log: Option<Text> },
+    Stamp(StampWait),
     /// A check that has read nothing yet.
     Check { program: Text },
     Replay(ReplayWait),
@@ -65,7 +64,9 @@ impl Next {
         ensures bounded { IsBoundedNext result }
     {
         match command {
-            Some(Command::Stamp { script, log }) => Next::Reads(Waiting::Stamp { script, log }),
+            Some(Command::Stamp { script, from, log }) => {
+                Next::Reads(Waiting::Stamp(StampWait::Script { script, from, log }))
+            }
             Some(Command::Check { program }) => Next::Reads(Waiting::Check { program }),
             Some(Command::Replay(request)) => {
                 Next::Reads(Waiting::Replay(ReplayWait::Program(request)))
@@ -86,7 +87,7 @@ impl Waiting {
         ensures { result.now ≡ (ask_of self.now).name }
     {
         match self {
-            Waiting::Stamp { script, .. } => script,
+            Waiting::Stamp(wait) => wait.name(),
             Waiting::Check { program } => program,
             Waiting::Replay(wait) => wait.name(),
             Waiting::Join(wait) => wait.name(),
@@ -99,7 +100,7 @@ impl Waiting {
         ensures { result ≡ input_of self.now }
     {
         match self {
-            Waiting::Stamp { .. } => Input::Script,
+            Waiting::Stamp(wait) => wait.input(),
             Waiting::Check { .. } => Input::Program,
             Waiting::Replay(wait) => wait.input(),
             Waiting::Join(wait) => wait.input(),
@@ -130,10 +131,7 @@ impl Waiting {
         ensures fewer { reads_left result < files_left self }
     {
         match self {
-            Waiting::Stamp {
-                script: _script,
-                log,
-            } => stamp(alloc, log, bytes.bytes()),
+            Waiting::Stamp(wait) => wait.take(alloc, bytes),
             Waiting::Check { program: _program } => check(alloc, bytes.bytes()),
             Waiting::Replay(wait) => wait.take(alloc, bytes),
             Waiting::Join(wait) => wait.take(alloc, bytes),

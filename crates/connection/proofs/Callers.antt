@@ -5,12 +5,11 @@ use Rattle.tea_base.specs.declared.want.WantOfMemory.{WantOfMemory}
 use Rattle.reflector_core.specs.PlainSession.{PlainSession, IsSoundSession}
 use Rattle.reflector_core.specs.Answer.{answer}
 use Rattle.reflector_core.specs.Growth.{GrowsTo}
-use Rattle.reflector_core.specs.Play.{first_session}
 use Rattle.reflector_core.specs.declared.request.Reply.{Reply}
 use Rattle.reflector_core.specs.declared.request.Request.{Request}
 use Rattle.session_lock.specs.declared.knowledge.Item.{Item}
 use Rattle.session_lock.specs.declared.knowledge.Item.TheVariants.{Did, Void}
-use Rattle.session_lock.specs.History.{after_item, calls_of, play, play_from, IsSoundThrough}
+use Rattle.session_lock.specs.History.{after_item, calls_of, play_from, IsSoundThrough}
 use Rattle.session_lock.specs.Passes.{PassState, caller, Grew, Replied, Voided}
 use Rattle.session_lock.proofs.Histories.{history_grows, play_snoc, saw_each, sound_end, sound_first}
 use Rattle.session_lock.specs.Trusts.{Allowing, MayBeAsked, TrustAllows}
@@ -59,51 +58,55 @@ exchanges_none s c (Void who ∷ xs) none =
     ap (λ (l : List Exchange). l ++ exchanges_from s c xs) both.0 ∙ exchanges_none s c xs both.1
 
 -- what others do behind it changes none
-pub exchanges_same : (history more : List Item) (c : ℕ) → calls_of (c ∷ []) more ≡ [] → exchanges_in (history ++ more) c ≡ exchanges_in history c
-exchanges_same history more c none =
-    exchanges_both first_session c history more
-    ∙ (ap (λ (l : List Exchange). exchanges_in history c ++ l) (exchanges_none (play history) c more none) ∙ append-nil (exchanges_in history c))
+pub exchanges_same : (s : PlainSession) (history more : List Item) (c : ℕ) → calls_of (c ∷ []) more ≡ [] → exchanges_in s (history ++ more) c ≡ exchanges_in s history c
+exchanges_same s history more c none =
+    exchanges_both s c history more
+    ∙ (ap (λ (l : List Exchange). exchanges_in s history c ++ l) (exchanges_none (play_from s history) c more none) ∙ append-nil (exchanges_in s history c))
 
 -- ---- what was seen
 
-pub sees_still : (seen : List Item) → SeesOn seen seen
-sees_still seen = record { rest = []; grew = append-nil seen; sound = inl refl }
+pub sees_still : (a : PassState) → SeesOn a a
+sees_still a = record { opening = refl; rest = []; grew = append-nil a.seen; sound = inl refl }
 
-pub sees_then : (a b c : List Item) → SeesOn a b → SeesOn b c → SeesOn a c
+pub sees_then : (a b c : PassState) → SeesOn a b → SeesOn b c → SeesOn a c
 sees_then a b c f g = record {
+  opening = g.opening ∙ f.opening;
   rest = f.rest ++ g.rest;
-  grew = sym (append_assoc a f.rest g.rest) ∙ (ap (λ (l : List Item). l ++ g.rest) f.grew ∙ g.grew);
+  grew = sym (append_assoc a.seen f.rest g.rest) ∙ (ap (λ (l : List Item). l ++ g.rest) f.grew ∙ g.grew);
   sound = sound_on g.sound f.sound;
 }
   where
-    sound_on : ((g.rest ≡ []) ⊎ IsSoundThrough first_session c) → ((f.rest ≡ []) ⊎ IsSoundThrough first_session b) → (f.rest ++ g.rest ≡ []) ⊎ IsSoundThrough first_session c
+    sound_on : ((g.rest ≡ []) ⊎ IsSoundThrough c.opening c.seen) → ((f.rest ≡ []) ⊎ IsSoundThrough b.opening b.seen) → (f.rest ++ g.rest ≡ []) ⊎ IsSoundThrough c.opening c.seen
     sound_on (inr sound) first = inr sound
     sound_on (inl none) (inl still) = inl (ap (λ (l : List Item). l ++ g.rest) still ∙ none)
-    sound_on (inl none) (inr sound) = inr (subst (IsSoundThrough first_session) (sym (append-nil b) ∙ (ap (λ (l : List Item). b ++ l) (sym none) ∙ g.grew)) sound)
+    sound_on (inl none) (inr sound) =
+        let same : b.seen ≡ c.seen = sym (append-nil b.seen) ∙ (ap (λ (l : List Item). b.seen ++ l) (sym none) ∙ g.grew) in
+        inr (subst (λ (x : PlainSession × List Item). IsSoundThrough x.0 x.1) (λ i. (sym g.opening i, same i)) sound)
 
 -- ---- one call
 
 -- what a call leaves
 record Adds (before after : PassState) (history : List Item) (item : Item) : Type 0 where
-  asked : exchanges_in after.seen (caller after) ≡ exchanges_in before.seen (caller before) ++ exchanges_from (play history) (caller before) (item ∷ [])
-  at : GrowsTo (play before.seen) (play history)
-  grows : GrowsTo (play before.seen) (play after.seen)
-  same : play after.seen ≡ after_item (play history) item
+  asked : exchanges_in after.opening after.seen (caller after) ≡ exchanges_in before.opening before.seen (caller before) ++ exchanges_from (play_from before.opening history) (caller before) (item ∷ [])
+  at : GrowsTo (play_from before.opening before.seen) (play_from before.opening history)
+  grows : GrowsTo (play_from before.opening before.seen) (play_from after.opening after.seen)
+  same : play_from after.opening after.seen ≡ after_item (play_from before.opening history) item
 
 adds : (before after : PassState) (history : List Item) (item : Item) → Grew before after history item → Adds before after history item
 adds before after history item g =
-    let seen : exchanges_in history (caller before) ≡ exchanges_in before.seen (caller before) =
-    ap (λ (h : List Item). exchanges_in h (caller before)) (sym g.saw.1)
-    ∙ exchanges_same before.seen g.saw.0 (caller before) (saw_each before.callers [] g.saw.0 (g.saw.0, refl, g.saw.2) (caller before) g.mine) in
+    let seen : exchanges_in before.opening history (caller before) ≡ exchanges_in before.opening before.seen (caller before) =
+    ap (λ (h : List Item). exchanges_in before.opening h (caller before)) (sym g.saw.1)
+    ∙ exchanges_same before.opening before.seen g.saw.0 (caller before) (saw_each before.callers [] g.saw.0 (g.saw.0, refl, g.saw.2) (caller before) g.mine) in
+    let opens : after.opening ≡ before.opening = ap (λ (p : PassState). p.opening) g.same in
     let whole : (before.seen ++ g.saw.0) ++ item ∷ [] ≡ after.seen = ap (λ (h : List Item). h ++ item ∷ []) g.saw.1 ∙ sym (ap (λ (p : PassState). p.seen) g.same) in
     record {
       asked =
-          ap (λ (p : PassState). exchanges_in p.seen (caller p)) g.same
-          ∙ (exchanges_both first_session (caller before) history (item ∷ [])
-          ∙ ap (λ (l : List Exchange). l ++ exchanges_from (play history) (caller before) (item ∷ [])) seen);
-      at = subst (λ (h : List Item). GrowsTo (play before.seen) (play h)) g.saw.1 (history_grows before.seen g.saw.0);
-      grows = subst (λ (h : List Item). GrowsTo (play before.seen) (play h)) (sym (append_assoc before.seen g.saw.0 (item ∷ [])) ∙ whole) (history_grows before.seen (g.saw.0 ++ item ∷ []));
-      same = ap (λ (p : PassState). play p.seen) g.same ∙ play_snoc history item;
+          ap (λ (p : PassState). exchanges_in p.opening p.seen (caller p)) g.same
+          ∙ (exchanges_both before.opening (caller before) history (item ∷ [])
+          ∙ ap (λ (l : List Exchange). l ++ exchanges_from (play_from before.opening history) (caller before) (item ∷ [])) seen);
+      at = subst (λ (h : List Item). GrowsTo (play_from before.opening before.seen) (play_from before.opening h)) g.saw.1 (history_grows before.opening before.seen g.saw.0);
+      grows = subst (λ (x : PlainSession × List Item). GrowsTo (play_from before.opening before.seen) (play_from x.0 x.1)) (λ i. (sym opens i, (sym (append_assoc before.seen g.saw.0 (item ∷ [])) ∙ whole) i)) (history_grows before.opening before.seen (g.saw.0 ++ item ∷ []));
+      same = ap (λ (p : PassState). play_from p.opening p.seen) g.same ∙ play_snoc before.opening history item;
     }
 
 own_did : (s : PlainSession) (c : ℕ) (request : Request) → exchanges_from s c (Did c request ∷ []) ≡ Answered request (answer s request).reply ∷ []
@@ -117,42 +120,43 @@ abbrev pub Called : (PlainSession → Type 0) → PassState → PassState → Re
 Called IsTrusted before after request r = MatchResult r (λ given. Replied IsTrusted before after request given) (λ _. Voided IsTrusted before after request)
 
 pub asked_so : (IsTrusted : PlainSession → Type 0) (before after : PassState) (request : Request) (r : Result Reply WantOfMemory) → Called IsTrusted before after request r
-    → exchanges_in after.seen (caller after) ≡ exchanges_in before.seen (caller before) ++ exchange_of request r ∷ []
+    → exchanges_in after.opening after.seen (caller after) ≡ exchanges_in before.opening before.seen (caller before) ++ exchange_of request r ∷ []
 asked_so IsTrusted before after request (Ok given) told =
     (adds before after told.history (Did (caller before) request) told.grew).asked
-    ∙ ap (λ (l : List Exchange). exchanges_in before.seen (caller before) ++ l)
-    (own_did (play told.history) (caller before) request ∙ ap (λ (r : Reply). Answered request r ∷ []) (sym told.replies))
+    ∙ ap (λ (l : List Exchange). exchanges_in before.opening before.seen (caller before) ++ l)
+    (own_did (play_from before.opening told.history) (caller before) request ∙ ap (λ (r : Reply). Answered request r ∷ []) (sym told.replies))
 asked_so IsTrusted before after request (Err want) told =
     (adds before after told.history (Void (caller before)) told.grew).asked
-    ∙ ap (λ (l : List Exchange). exchanges_in before.seen (caller before) ++ l) (own_void (play told.history) (caller before))
+    ∙ ap (λ (l : List Exchange). exchanges_in before.opening before.seen (caller before) ++ l) (own_void (play_from before.opening told.history) (caller before))
 
 pub grows_so : (IsTrusted : PlainSession → Type 0) (before after : PassState) (request : Request) (r : Result Reply WantOfMemory) → Called IsTrusted before after request r
-    → GrowsTo (play before.seen) (play after.seen)
+    → GrowsTo (play_from before.opening before.seen) (play_from after.opening after.seen)
 grows_so IsTrusted before after request (Ok given) told = (adds before after told.history (Did (caller before) request) told.grew).grows
 grows_so IsTrusted before after request (Err want) told = (adds before after told.history (Void (caller before)) told.grew).grows
 
-sees_by : (before after : PassState) (history : List Item) (item : Item) → Grew before after history item → IsSoundThrough first_session after.seen → SeesOn before.seen after.seen
+sees_by : (before after : PassState) (history : List Item) (item : Item) → Grew before after history item → IsSoundThrough before.opening after.seen → SeesOn before after
 sees_by before after history item g sound = record {
+  opening = ap (λ (p : PassState). p.opening) g.same;
   rest = g.saw.0 ++ item ∷ [];
   grew = sym (append_assoc before.seen g.saw.0 (item ∷ [])) ∙ (ap (λ (h : List Item). h ++ item ∷ []) g.saw.1 ∙ sym (ap (λ (p : PassState). p.seen) g.same));
-  sound = inr sound;
+  sound = inr (subst (λ (o : PlainSession). IsSoundThrough o after.seen) (sym (ap (λ (p : PassState). p.opening) g.same)) sound);
 }
 
-pub sees_so : (IsTrusted : PlainSession → Type 0) (before after : PassState) (request : Request) (r : Result Reply WantOfMemory) → Called IsTrusted before after request r → IsSoundThrough first_session after.seen
-    → SeesOn before.seen after.seen
+pub sees_so : (IsTrusted : PlainSession → Type 0) (before after : PassState) (request : Request) (r : Result Reply WantOfMemory) → Called IsTrusted before after request r → IsSoundThrough before.opening after.seen
+    → SeesOn before after
 sees_so IsTrusted before after request (Ok given) told sound = sees_by before after told.history (Did (caller before) request) told.grew sound
 sees_so IsTrusted before after request (Err want) told sound = sees_by before after told.history (Void (caller before)) told.grew sound
 
 -- the session at the place of the call is sound, as all of what was seen tells
-sound_before : (before after : PassState) (history : List Item) (item : Item) → Grew before after history item → IsSoundThrough first_session after.seen → IsSoundSession (play history)
+sound_before : (before after : PassState) (history : List Item) (item : Item) → Grew before after history item → IsSoundThrough before.opening after.seen → IsSoundSession (play_from before.opening history)
 sound_before before after history item g sound =
-    sound_end first_session history (sound_first first_session history (item ∷ []) (subst (IsSoundThrough first_session) (ap (λ (p : PassState). p.seen) g.same) sound))
+    sound_end before.opening history (sound_first before.opening history (item ∷ []) (subst (IsSoundThrough before.opening) (ap (λ (p : PassState). p.seen) g.same) sound))
 
-pub answered_so : (IsTrusted : PlainSession → Type 0) (before after : PassState) (request : Request) (r : Result Reply WantOfMemory) → Called IsTrusted before after request r → IsSoundThrough first_session after.seen
-    → IfOk r (λ given. (at : PlainSession) × IsAnsweredAt (play before.seen) at (play after.seen) request given)
+pub answered_so : (IsTrusted : PlainSession → Type 0) (before after : PassState) (request : Request) (r : Result Reply WantOfMemory) → Called IsTrusted before after request r → IsSoundThrough before.opening after.seen
+    → IfOk r (λ given. (at : PlainSession) × IsAnsweredAt (play_from before.opening before.seen) at (play_from after.opening after.seen) request given)
 answered_so IsTrusted before after request (Ok given) told sound =
     let added = adds before after told.history (Did (caller before) request) told.grew in (
-      play told.history,
+      play_from before.opening told.history,
       record {
         sound = sound_before before after told.history (Did (caller before) request) told.grew sound;
         grows = added.at;

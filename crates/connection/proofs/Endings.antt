@@ -26,6 +26,7 @@ use Rattle.join_sync.specs.Requests.{IsJoin, IsOfFrame, act_on, first_request}
 use Rattle.join_sync.proofs.Replies.{request_fits}
 use Rattle.system_plain.specs.ConnectionLine.{unread_frame}
 use Rattle.system_plain.specs.Steps.{answer_frames}
+use Rattle.reflector_core.specs.PlainSession.{PlainSession}
 use Rattle.session_lock.specs.declared.knowledge.Item.{Item}
 use Rattle.tea_io.specs.declared.link.Heard.{Heard}
 use Rattle.tea_io.specs.Links.{most_quiets}
@@ -248,6 +249,6 @@ walk_asked id (event ∷ events) p asked h =
     (walk_asked id events first.phase (asked ++ first.asked) (step_asked id p event asked h))
 
 -- what a whole talk asked tells how it ended
-pub talk_ends : (gives : ℕ → Type 0) (id : SessionId) (history : List Item) (c : ℕ) (said : List Heard) (sent : List (List ℕ)) (how : Ended) → Talk gives id history c said sent how → EndsExactly how (exchanges_in history c)
-talk_ends gives id history c said sent how talk =
+pub talk_ends : (gives : ℕ → Type 0) (id : SessionId) (opening : PlainSession) (history : List Item) (c : ℕ) (said : List Heard) (sent : List (List ℕ)) (how : Ended) → Talk gives id opening history c said sent how → EndsExactly how (exchanges_in opening history c)
+talk_ends gives id opening history c said sent how talk =
     subst (EndsExactly how) (sym talk.asked) (subst (AskedTo (talk_walk id (Opening 0) talk.events).asked) talk.ends (walk_asked id talk.events (Opening 0) [] refl))

@@ -13,7 +13,6 @@ use Rattle.wire_frames.specs.declared.frame.ClientFrame.{ClientFrame}
 use Rattle.wire_frames.specs.declared.frame.ServerFrame.{ServerFrame}
 use Rattle.reflector_core.specs.PlainSession.{PlainSession}
 use Rattle.reflector_core.specs.Answer.{answer}
-use Rattle.reflector_core.specs.Play.{first_session}
 use Rattle.reflector_core.specs.declared.request.Reply.{Reply}
 use Rattle.reflector_core.specs.declared.request.Reply.TheVariants as reply
 use Rattle.reflector_core.specs.declared.request.Refusal.{Refusal}
@@ -21,7 +20,7 @@ use Rattle.reflector_core.specs.declared.request.Refusal.TheVariants as refusal
 use Rattle.reflector_core.specs.declared.request.Request.{Request}
 use Rattle.reflector_core.specs.declared.request.Request.TheVariants as request
 use Rattle.session_lock.specs.declared.knowledge.Item.{Item}
-use Rattle.session_lock.specs.History.{play, play_from, IsSoundThrough}
+use Rattle.session_lock.specs.History.{play_from, IsSoundThrough}
 use Rattle.session_lock.proofs.Histories.{sound_start}
 use Rattle.join_sync.specs.declared.act.Act.{Act}
 use Rattle.join_sync.specs.declared.act.Act.TheVariants.{Call, Answer}
@@ -433,25 +432,25 @@ serves id [] caller final how p l history given sent r beside =
 serves id (event ∷ events) caller final how p l history given sent r beside = on id p event events caller final how l history given sent (serves id events caller final how) r beside
 
 -- the line of a whole talk
-talk_line : (gives : ℕ → Type 0) (id : SessionId) (history : List Item) (caller : ℕ) (heard : List Heard) (sent : List (List ℕ)) (how : Ended) → IsSoundThrough first_session history
-    → (talk : Talk gives id history caller heard sent how) → IsLine id (first_line first_session) (play history) (frames_of (heard_in talk.events)) (talk_walk id (Opening 0) talk.events).sent
-talk_line gives id history caller heard sent how sound talk =
-    serves id talk.events caller (play history) how (Opening 0) (first_line first_session) history [] []
+talk_line : (gives : ℕ → Type 0) (id : SessionId) (opening : PlainSession) (history : List Item) (caller : ℕ) (heard : List Heard) (sent : List (List ℕ)) (how : Ended) → IsSoundThrough opening history
+    → (talk : Talk gives id opening history caller heard sent how) → IsLine id (first_line opening) (play_from opening history) (frames_of (heard_in talk.events)) (talk_walk id (Opening 0) talk.events).sent
+talk_line gives id opening history caller heard sent how sound talk =
+    serves id talk.events caller (play_from opening history) how (Opening 0) (first_line opening) history [] []
     (record { sound = sound; ends = refl; asked = talk.asked; over = talk.ends }) (record { at = refl; clear = refl; given_is = refl; sent_is = refl })
 
-pub talk_served : (gives : ℕ → Type 0) (id : SessionId) (history : List Item) (caller : ℕ) (heard : List Heard) (sent : List (List ℕ)) (how : Ended) → IsSoundThrough first_session history
-    → Talk gives id history caller heard sent how → IsTalkServed (play history).log heard sent
-talk_served gives id history caller heard sent how sound talk =
+pub talk_served : (gives : ℕ → Type 0) (id : SessionId) (opening : PlainSession) (history : List Item) (caller : ℕ) (heard : List Heard) (sent : List (List ℕ)) (how : Ended) → IsSoundThrough opening history
+    → Talk gives id opening history caller heard sent how → IsTalkServed (play_from opening history).log heard sent
+talk_served gives id opening history caller heard sent how sound talk =
     let frames = (talk_walk id (Opening 0) talk.events).sent in
-    let h = talk_line gives id history caller heard sent how sound talk in
-    let last = after_turns id (first_line first_session) h.turns in
-    let all : Served (play history).log last.given last.sent = subst (λ (s : PlainSession). Served s.log last.given last.sent) h.ends (served_by id first_session h.turns h.sound) in
-    let front = served_front (play history).log last.given h.unheard frames h.unsent (subst (λ (s : List ServerFrame). Served (play history).log last.given s) h.sent_is all) in
+    let h = talk_line gives id opening history caller heard sent how sound talk in
+    let last = after_turns id (first_line opening) h.turns in
+    let all : Served (play_from opening history).log last.given last.sent = subst (λ (s : PlainSession). Served s.log last.given last.sent) h.ends (served_by id opening h.turns h.sound) in
+    let front = served_front (play_from opening history).log last.given h.unheard frames h.unsent (subst (λ (s : List ServerFrame). Served (play_from opening history).log last.given s) h.sent_is all) in
     record {
       frames = frames;
       spelling = talk.told;
       spelled = talk.spelled;
       served =
-          subst (λ (x : List Heard). Served (play history).log (frames_of x) frames) (sym talk.said)
-          (subst (λ (g : List (Option ClientFrame)). Served (play history).log g frames) (sym h.given_is) front);
+          subst (λ (x : List Heard). Served (play_from opening history).log (frames_of x) frames) (sym talk.said)
+          (subst (λ (g : List (Option ClientFrame)). Served (play_from opening history).log g frames) (sym h.given_is) front);
     }

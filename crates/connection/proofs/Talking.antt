@@ -31,6 +31,7 @@ use Rattle.join_sync.specs.Answers.{answer_frame, first_cursor, join_answer}
 use Rattle.join_sync.specs.Requests.{act_on, first_request}
 use Rattle.system_plain.specs.Steps.{answer_frames, joined_view}
 use Rattle.reflector_core.specs.declared.request.Request.{Request}
+use Rattle.reflector_core.specs.PlainSession.{PlainSession}
 use Rattle.session_lock.specs.declared.knowledge.Item.{Item}
 use Rattle.session_lock.specs.History.{calls_of}
 use Rattle.session_lock.specs.Passes.{PassState, caller}
@@ -96,7 +97,7 @@ talks_still gives id p a = record {
   events = [];
   ends = refl;
   asked = sym (append-nil (asked_by a.pass));
-  sees = sees_still a.pass.seen;
+  sees = sees_still a.pass;
   heard = sym (with_more_none a.link.heard);
   sent = sym (with_more_none a.link.sent);
   counts = refl;
@@ -118,7 +119,7 @@ talks_then gives id p q r a b c f g =
           g.asked
           ∙ (ap (λ (l : List Exchange). l ++ (talk_walk id q g.events).asked) f.asked
           ∙ (append_assoc (asked_by a.pass) (talk_walk id p f.events).asked (talk_walk id q g.events).asked ∙ ap (λ (l : List Exchange). asked_by a.pass ++ l) (sym asked)));
-      sees = sees_then a.pass.seen b.pass.seen c.pass.seen f.sees g.sees;
+      sees = sees_then a.pass b.pass c.pass f.sees g.sees;
       heard =
           g.heard
           ∙ (ap (λ (l : Option (List Heard)). with_more l (heard_in g.events)) f.heard
@@ -148,7 +149,7 @@ then_either gives id (Err halt) to p q a b c f g = talks_then gives id p q (halt
 -- ---- one event
 
 pub talks_by : (gives : ℕ → Type 0) (id : SessionId) (e : TalkEvent) (p : TalkPhase) (a b : Account)
-    → asked_by b.pass ≡ asked_by a.pass ++ (talk_step id p e).asked → SeesOn a.pass.seen b.pass.seen → b.link.heard ≡ with_more a.link.heard (heard_by e)
+    → asked_by b.pass ≡ asked_by a.pass ++ (talk_step id p e).asked → SeesOn a.pass b.pass → b.link.heard ≡ with_more a.link.heard (heard_by e)
     → b.link.sent ≡ with_more a.link.sent (map server_spelling (talk_step id p e).sent) → EventCounts e a.link.counts b.link.counts
     → AllByRecursion IsServerFrame (talk_step id p e).sent → AllByRecursion (IsAskedInTime gives) (talk_step id p e).asked
     → TalksOn gives id p (talk_step id p e).phase a b
@@ -169,19 +170,19 @@ pub talks_inwardly : (gives : ℕ → Type 0) (id : SessionId) (e : TalkEvent) (
     → EventCounts e a.link.counts a.link.counts → TalksOn gives id p (talk_step id p e).phase a a
 talks_inwardly gives id e p a none nothing quiet counts =
     talks_by gives id e p a a
-    (sym (append-nil (asked_by a.pass)) ∙ ap (λ (l : List Exchange). asked_by a.pass ++ l) (sym none)) (sees_still a.pass.seen)
+    (sym (append-nil (asked_by a.pass)) ∙ ap (λ (l : List Exchange). asked_by a.pass ++ l) (sym none)) (sees_still a.pass)
     (sym (with_more_none a.link.heard) ∙ ap (λ (l : List Heard). with_more a.link.heard l) (sym quiet))
     (sym (with_more_none a.link.sent) ∙ ap (λ (l : List ServerFrame). with_more a.link.sent (map server_spelling l)) (sym nothing))
     counts (subst (AllByRecursion IsServerFrame) (sym nothing) tt) (subst (AllByRecursion (IsAskedInTime gives)) (sym none) tt)
 
 -- a call was made
 pub talks_asking : (gives : ℕ → Type 0) (id : SessionId) (e : TalkEvent) (p : TalkPhase) (exchange : Exchange) (a b : PassState) (link : LinkAccount)
-    → exchanges_in b.seen (caller b) ≡ exchanges_in a.seen (caller a) ++ exchange ∷ [] → SeesOn a.seen b.seen → (talk_step id p e).asked ≡ exchange ∷ [] → (talk_step id p e).sent ≡ [] → heard_by e ≡ []
+    → exchanges_in b.opening b.seen (caller b) ≡ exchanges_in a.opening a.seen (caller a) ++ exchange ∷ [] → SeesOn a b → (talk_step id p e).asked ≡ exchange ∷ [] → (talk_step id p e).sent ≡ [] → heard_by e ≡ []
     → EventCounts e link.counts link.counts → IsAskedInTime gives exchange
     → TalksOn gives id p (talk_step id p e).phase (account a link) (account b link)
 talks_asking gives id e p exchange a b link grew sees one nothing quiet counts timely =
     talks_by gives id e p (account a link) (account b link)
-    (grew ∙ ap (λ (l : List Exchange). exchanges_in a.seen (caller a) ++ l) (sym one)) sees
+    (grew ∙ ap (λ (l : List Exchange). exchanges_in a.opening a.seen (caller a) ++ l) (sym one)) sees
     (sym (with_more_none link.heard) ∙ ap (λ (l : List Heard). with_more link.heard l) (sym quiet))
     (sym (with_more_none link.sent) ∙ ap (λ (l : List ServerFrame). with_more link.sent (map server_spelling l)) (sym nothing))
     counts (subst (AllByRecursion IsServerFrame) (sym nothing) tt) (subst (AllByRecursion (IsAskedInTime gives)) (sym one) (timely, tt))
@@ -205,7 +206,7 @@ pub sends_on : (gives : ℕ → Type 0) (id : SessionId) (r : Result (Unit {0}) 
     → TalksOn gives id (Sending frame rest next fails wants) (phase_behind r (sending_phase rest next fails wants) fails wants) (account pass a) (account pass b)
 sends_on gives id (Ok done) frame rest next fails wants pass a b s =
     talks_by gives id Sends (Sending frame rest next fails wants) (account pass a) (account pass b)
-    (sym (append-nil (asked_by pass))) (sees_still pass.seen) (s.heard ∙ sym (with_more_none a.heard)) s.sent.1 s.later (s.sent.0, tt) tt
+    (sym (append-nil (asked_by pass))) (sees_still pass) (s.heard ∙ sym (with_more_none a.heard)) s.sent.1 s.later (s.sent.0, tt) tt
 sends_on gives id (Err fault.Failed) frame rest next fails wants pass a b s = fails_on s.sent
   where
     counts : NoneFalls a.counts b.counts × Rose a.counts.faults b.counts.faults
@@ -215,13 +216,13 @@ sends_on gives id (Err fault.Failed) frame rest next fails wants pass a b s = fa
         → TalksOn gives id (Sending frame rest next fails wants) fails (account pass a) (account pass b)
     fails_on (inl same) =
         talks_by gives id FailsToSend (Sending frame rest next fails wants) (account pass a) (account pass b)
-        (sym (append-nil (asked_by pass))) (sees_still pass.seen) (s.heard ∙ sym (with_more_none a.heard)) (same ∙ sym (with_more_none a.sent)) counts tt tt
+        (sym (append-nil (asked_by pass))) (sees_still pass) (s.heard ∙ sym (with_more_none a.heard)) (same ∙ sym (with_more_none a.sent)) counts tt tt
     fails_on (inr went) =
         talks_by gives id Loses (Sending frame rest next fails wants) (account pass a) (account pass b)
-        (sym (append-nil (asked_by pass))) (sees_still pass.seen) (s.heard ∙ sym (with_more_none a.heard)) went.1 counts (went.0, tt) tt
+        (sym (append-nil (asked_by pass))) (sees_still pass) (s.heard ∙ sym (with_more_none a.heard)) went.1 counts (went.0, tt) tt
 sends_on gives id (Err fault.WantOfMemory) frame rest next fails wants pass a b s =
     talks_by gives id Wants (Sending frame rest next fails wants) (account pass a) (account pass b)
-    (sym (append-nil (asked_by pass))) (sees_still pass.seen) (s.heard ∙ sym (with_more_none a.heard)) (s.sent ∙ sym (with_more_none a.sent)) s.later tt tt
+    (sym (append-nil (asked_by pass))) (sees_still pass) (s.heard ∙ sym (with_more_none a.heard)) (s.sent ∙ sym (with_more_none a.sent)) s.later tt tt
 
 -- the last frame
 pub sends_last : (gives : ℕ → Type 0) (id : SessionId) (r : Result (Unit {0}) LinkFault) (frame : ServerFrame) (how : Ended) (wants : TalkPhase) (pass : PassState) (a b : LinkAccount) → Sent a b frame r
@@ -240,13 +241,13 @@ pub hears_in : (gives : ℕ → Type 0) (id : SessionId) (cursor : Cursor) (quie
     → TalksOn gives id (Hearing cursor quiets) (hearing cursor quiets what) (account pass a) (account pass b)
 hears_in gives id cursor quiets what pass a b h =
     talks_by gives id (Hears what) (Hearing cursor quiets) (account pass a) (account pass b)
-    (sym (append-nil (asked_by pass))) (sees_still pass.seen) h.heard (h.sent ∙ sym (with_more_none a.sent)) (h.later, h.cause) tt tt
+    (sym (append-nil (asked_by pass))) (sees_still pass) h.heard (h.sent ∙ sym (with_more_none a.sent)) (h.later, h.cause) tt tt
 
 pub hears_first : (gives : ℕ → Type 0) (id : SessionId) (quiets : ℕ) (what : Heard) (pass : PassState) (a b : LinkAccount) → HeardOnce a b what
     → TalksOn gives id (Opening quiets) (opening quiets what) (account pass a) (account pass b)
 hears_first gives id quiets what pass a b h =
     talks_by gives id (Hears what) (Opening quiets) (account pass a) (account pass b)
-    (sym (append-nil (asked_by pass))) (sees_still pass.seen) h.heard (h.sent ∙ sym (with_more_none a.sent)) (h.later, h.cause) tt tt
+    (sym (append-nil (asked_by pass))) (sees_still pass) h.heard (h.sent ∙ sym (with_more_none a.sent)) (h.later, h.cause) tt tt
 
 -- a row of Quiets that is not at its end
 pub opening_row_is : (quiets : ℕ) → quiets < most_quiets → opening_row quiets ≡ Opening quiets
@@ -272,10 +273,10 @@ hearing_row_over cursor quiets is = rw (eq-eqb quiets most_quiets is) refl
 -- ---- whole talks
 
 -- what others do behind it changes no talk
-pub talk_grows : (gives : ℕ → Type 0) (id : SessionId) (history more : List Item) (c : ℕ) (heard : List Heard) (sent : List (List ℕ)) (how : Ended) → calls_of (c ∷ []) more ≡ [] → Talk gives id history c heard sent how
-    → Talk gives id (history ++ more) c heard sent how
-talk_grows gives id history more c heard sent how none talk =
-    let same : exchanges_in (history ++ more) c ≡ exchanges_in history c = exchanges_same history more c none in
+pub talk_grows : (gives : ℕ → Type 0) (id : SessionId) (opening : PlainSession) (history more : List Item) (c : ℕ) (heard : List Heard) (sent : List (List ℕ)) (how : Ended) → calls_of (c ∷ []) more ≡ [] → Talk gives id opening history c heard sent how
+    → Talk gives id opening (history ++ more) c heard sent how
+talk_grows gives id opening history more c heard sent how none talk =
+    let same : exchanges_in opening (history ++ more) c ≡ exchanges_in opening history c = exchanges_same opening history more c none in
     record {
       events = talk.events;
       ends = talk.ends;
@@ -350,14 +351,14 @@ hands_out gives id cursor new given quiets frames r a b frames_is new_is told =
     (subst (λ (fs : List ServerFrame). TalksOrHalts gives id (telling_phase cursor fs behind) (λ _. behind) r a b) frames_is (told behind))
 
 pub asks_leave : (gives : ℕ → Type 0) (id : SessionId) (r : Result Reply WantOfMemory) (cursor : Cursor) (now : ℕ) (how : Ended) (a b : PassState) (link : LinkAccount) → gives now
-    → exchanges_in b.seen (caller b) ≡ exchanges_in a.seen (caller a) ++ exchange_of (Leave cursor.view cursor.joined now) r ∷ [] → SeesOn a.seen b.seen → TalksOn gives id (Leaving cursor how) (Over how) (account a link) (account b link)
+    → exchanges_in b.opening b.seen (caller b) ≡ exchanges_in a.opening a.seen (caller a) ++ exchange_of (Leave cursor.view cursor.joined now) r ∷ [] → SeesOn a b → TalksOn gives id (Leaving cursor how) (Over how) (account a link) (account b link)
 asks_leave gives id (Ok given) cursor now how a b link timely grew sees =
     talks_asking gives id (MakesAt now given) (Leaving cursor how) (Answered (Leave cursor.view cursor.joined now) given) a b link grew sees refl refl refl (none_falls link.counts) timely
 asks_leave gives id (Err want) cursor now how a b link timely grew sees = talks_asking gives id Misses (Leaving cursor how) Unanswered a b link grew sees refl refl refl (none_falls link.counts) tt
 
 -- a call that is due is made; whether its time is one that the clock may give, only a request of its own time asks
 pub asks_join : {T : Type 0} (gives : ℕ → Type 0) (id : SessionId) (request : Request) (given : Reply) (made : Option Cursor) (frame : ServerFrame) (r : Result T Halt) (to : T → TalkPhase) (a b : PassState) (link new : LinkAccount)
-    → exchanges_in b.seen (caller b) ≡ exchanges_in a.seen (caller a) ++ Answered request given ∷ [] → SeesOn a.seen b.seen → IsAskedInTime gives (Answered request given) → made ≡ first_cursor (joined_view request) given → Some frame ≡ join_answer given
+    → exchanges_in b.opening b.seen (caller b) ≡ exchanges_in a.opening a.seen (caller a) ++ Answered request given ∷ [] → SeesOn a b → IsAskedInTime gives (Answered request given) → made ≡ first_cursor (joined_view request) given → Some frame ≡ join_answer given
     → TalksOrHalts gives id (greeted_phase made (Some frame)) to r (account b link) (account b new) → TalksOrHalts gives id (Joining request) to r (account a link) (account b new)
 asks_join gives id request given made frame r to a b link new grew sees timely cursor_is frame_is rest =
     then_either gives id r to (Joining request) (join_phase request given) (account a link) (account b link) (account b new)
@@ -366,7 +367,7 @@ asks_join gives id request given made frame r to a b link new grew sees timely c
     (subst (λ (o : Option Cursor). TalksOrHalts gives id (greeted_phase o (Some frame)) to r (account b link) (account b new)) cursor_is rest))
 
 pub asks_frame : {T : Type 0} (gives : ℕ → Type 0) (id : SessionId) (cursor : Cursor) (request : Request) (given : Reply) (end : Option Ended) (frame : Option ServerFrame) (r : Result T Halt) (to : T → TalkPhase) (a b : PassState) (link new : LinkAccount)
-    → exchanges_in b.seen (caller b) ≡ exchanges_in a.seen (caller a) ++ Answered request given ∷ [] → SeesOn a.seen b.seen → IsAskedInTime gives (Answered request given) → end ≡ end_in given → frame ≡ answer_frame request given
+    → exchanges_in b.opening b.seen (caller b) ≡ exchanges_in a.opening a.seen (caller a) ++ Answered request given ∷ [] → SeesOn a b → IsAskedInTime gives (Answered request given) → end ≡ end_in given → frame ≡ answer_frame request given
     → TalksOrHalts gives id (answered_by cursor end (answer_frames frame)) to r (account b link) (account b new) → TalksOrHalts gives id (Asking cursor request) to r (account a link) (account b new)
 asks_frame gives id cursor request given end frame r to a b link new grew sees timely end_is frame_is rest =
     then_either gives id r to (Asking cursor request) (reply_phase cursor request given) (account a link) (account b link) (account b new)
@@ -375,19 +376,19 @@ asks_frame gives id cursor request given end frame r to a b link new grew sees t
     (subst (λ (o : Option Ended). TalksOrHalts gives id (answered_by cursor o (answer_frames frame)) to r (account b link) (account b new)) end_is rest))
 
 pub asks_pull : {T : Type 0} (gives : ℕ → Type 0) (id : SessionId) (cursor : Cursor) (quiets : ℕ) (given : Reply) (r : Result T Halt) (to : T → TalkPhase) (a b : PassState) (link new : LinkAccount)
-    → exchanges_in b.seen (caller b) ≡ exchanges_in a.seen (caller a) ++ Answered (Pull cursor.after most_pulled) given ∷ [] → SeesOn a.seen b.seen
+    → exchanges_in b.opening b.seen (caller b) ≡ exchanges_in a.opening a.seen (caller a) ++ Answered (Pull cursor.after most_pulled) given ∷ [] → SeesOn a b
     → TalksOrHalts gives id (pulled_phase cursor quiets given) to r (account b link) (account b new) → TalksOrHalts gives id (Pulling cursor quiets) to r (account a link) (account b new)
 asks_pull gives id cursor quiets given r to a b link new grew sees rest =
     then_either gives id r to (Pulling cursor quiets) (pulled_phase cursor quiets given) (account a link) (account b link) (account b new)
     (talks_asking gives id (MakesRequest given) (Pulling cursor quiets) (Answered (Pull cursor.after most_pulled) given) a b link grew sees refl refl refl (none_falls link.counts) tt) rest
 
 pub asks_tick : (gives : ℕ → Type 0) (id : SessionId) (cursor : Cursor) (quiets now : ℕ) (given : Reply) (a b : PassState) (link : LinkAccount) → gives now
-    → exchanges_in b.seen (caller b) ≡ exchanges_in a.seen (caller a) ++ Answered (Tick now) given ∷ [] → SeesOn a.seen b.seen → TalksOn gives id (Ticking cursor quiets) (Pulling cursor quiets) (account a link) (account b link)
+    → exchanges_in b.opening b.seen (caller b) ≡ exchanges_in a.opening a.seen (caller a) ++ Answered (Tick now) given ∷ [] → SeesOn a b → TalksOn gives id (Ticking cursor quiets) (Pulling cursor quiets) (account a link) (account b link)
 asks_tick gives id cursor quiets now given a b link timely grew sees =
     talks_asking gives id (MakesAt now given) (Ticking cursor quiets) (Answered (Tick now) given) a b link grew sees refl refl refl (none_falls link.counts) timely
 
 -- a call that is due finds no memory
-pub asks_nothing : (gives : ℕ → Type 0) (id : SessionId) (p q : TalkPhase) (a b : PassState) (link : LinkAccount) → exchanges_in b.seen (caller b) ≡ exchanges_in a.seen (caller a) ++ Unanswered ∷ [] → SeesOn a.seen b.seen
+pub asks_nothing : (gives : ℕ → Type 0) (id : SessionId) (p q : TalkPhase) (a b : PassState) (link : LinkAccount) → exchanges_in b.opening b.seen (caller b) ≡ exchanges_in a.opening a.seen (caller a) ++ Unanswered ∷ [] → SeesOn a b
     → (talk_step id p Misses).asked ≡ Unanswered ∷ [] → (talk_step id p Misses).sent ≡ [] → (talk_step id p Misses).phase ≡ q → TalksOn gives id p q (account a link) (account b link)
 asks_nothing gives id p q a b link grew sees one nothing is =
     talks_to gives id p (talk_step id p Misses).phase q (account a link) (account b link) (sym is) (talks_asking gives id Misses p Unanswered a b link grew sees one nothing refl (none_falls link.counts) tt)

@@ -13,8 +13,9 @@ use Rattle.wire_frames.specs.declared.frame.ServerFrame.{ServerFrame}
 use Rattle.wire_frames.specs.declared.frame.ServerFrame.TheVariants.{Sync, Recv, Tick, Done, Snapped, Refused, Alive}
 use Rattle.reflector_core.specs.Play.{first_session}
 use Rattle.reflector_core.proofs.SoundLaws.{IsSoundSession-first}
+use Rattle.reflector_core.specs.PlainSession.{PlainSession}
 use Rattle.session_lock.specs.declared.knowledge.Item.{Item}
-use Rattle.session_lock.specs.History.{calls_of, play}
+use Rattle.session_lock.specs.History.{calls_of, play_from}
 use Rattle.session_lock.specs.Passes.{PassState, caller}
 use Rattle.connection.specs.declared.ending.Ended.{Ended}
 use Rattle.connection.specs.Exchanges.{Exchange, exchanges_in, IsAskedInTime}
@@ -48,41 +49,41 @@ served_none log given (Snapped time ∷ frames) served = absurd served
 served_none log given (Alive ∷ frames) served = absurd served
 
 -- it is a talk of no history at all
-asks_none : (gives : ℕ → Type 0) (id : SessionId) (history : List Item) (c : ℕ) (heard : List Heard) (sent : List (List ℕ)) (how : Ended) → exchanges_in history c ≡ []
-    → Talk gives id history c heard sent how → Talk gives id [] c heard sent how
-asks_none gives id history c heard sent how none talk =
+asks_none : (gives : ℕ → Type 0) (id : SessionId) (opening : PlainSession) (history : List Item) (c : ℕ) (heard : List Heard) (sent : List (List ℕ)) (how : Ended) → exchanges_in opening history c ≡ []
+    → Talk gives id opening history c heard sent how → Talk gives id first_session [] c heard sent how
+asks_none gives id opening history c heard sent how none talk =
     record { events = talk.events; ends = talk.ends; asked = sym none ∙ talk.asked; said = talk.said; told = talk.told; spelled = talk.spelled; timely = tt }
 
-silent_served : (gives : ℕ → Type 0) (id : SessionId) (history : List Item) (c : ℕ) (heard : List Heard) (sent : List (List ℕ)) (how : Ended) (log : List Entry) → exchanges_in history c ≡ []
-    → Talk gives id history c heard sent how → IsTalkServed log heard sent
-silent_served gives id history c heard sent how log none talk =
-    let first = talk_served gives id [] c heard sent how IsSoundSession-first (asks_none gives id history c heard sent how none talk) in
+silent_served : (gives : ℕ → Type 0) (id : SessionId) (opening : PlainSession) (history : List Item) (c : ℕ) (heard : List Heard) (sent : List (List ℕ)) (how : Ended) (log : List Entry) → exchanges_in opening history c ≡ []
+    → Talk gives id opening history c heard sent how → IsTalkServed log heard sent
+silent_served gives id opening history c heard sent how log none talk =
+    let first = talk_served gives id first_session [] c heard sent how IsSoundSession-first (asks_none gives id opening history c heard sent how none talk) in
     record { frames = first.frames; spelling = first.spelling; spelled = first.spelled; served = served_none log (frames_of heard) first.frames first.served }
 
 -- ---- a talk of a pass
 
-still_none : (before now : PassState) (s : SeesOn before.seen now.seen) → calls_of (caller before ∷ []) before.seen ≡ [] → now ≡ record before { seen = now.seen } → s.rest ≡ [] → exchanges_in now.seen (caller now) ≡ []
+still_none : (before now : PassState) (s : SeesOn before now) → calls_of (caller before ∷ []) before.seen ≡ [] → now ≡ record before { seen = now.seen } → s.rest ≡ [] → exchanges_in now.opening now.seen (caller now) ≡ []
 still_none before now s fresh kept none =
     let same : now.seen ≡ before.seen = sym s.grew ∙ (ap (λ (l : List Item). before.seen ++ l) none ∙ append-nil before.seen) in
-    ap (λ (p : PassState). exchanges_in p.seen (caller p)) kept
-    ∙ (ap (λ (h : List Item). exchanges_in h (caller before)) same ∙ exchanges_none first_session (caller before) before.seen fresh)
+    ap (λ (p : PassState). exchanges_in p.opening p.seen (caller p)) kept
+    ∙ (ap (λ (h : List Item). exchanges_in before.opening h (caller before)) same ∙ exchanges_none before.opening (caller before) before.seen fresh)
 
 pass_served : (gives : ℕ → Type 0) (id : SessionId) (before now : PassState) (heard : List Heard) (sent : List (List ℕ)) (how : Ended) → calls_of (caller before ∷ []) before.seen ≡ [] → now ≡ record before { seen = now.seen }
-    → SeesOn before.seen now.seen → Talk gives id now.seen (caller now) heard sent how → IsTalkServed (play now.seen).log heard sent
+    → SeesOn before now → Talk gives id now.opening now.seen (caller now) heard sent how → IsTalkServed (play_from now.opening now.seen).log heard sent
 pass_served gives id before now heard sent how fresh kept sees talk = elim sees.sound [
-  | inl none ↦ silent_served gives id now.seen (caller now) heard sent how (play now.seen).log (still_none before now sees fresh kept none) talk
-  | inr sound ↦ talk_served gives id now.seen (caller now) heard sent how sound talk
+  | inl none ↦ silent_served gives id now.opening now.seen (caller now) heard sent how (play_from now.opening now.seen).log (still_none before now sees fresh kept none) talk
+  | inr sound ↦ talk_served gives id now.opening now.seen (caller now) heard sent how sound talk
 ]
 
 -- a caller that had asked nothing talks from the first frame to its end
 pub talks_whole : (gives : ℕ → Type 0) (id : SessionId) (before now : PassState) (old new : LinkAccount) (how : Ended) → calls_of (caller before ∷ []) before.seen ≡ [] → now ≡ record before { seen = now.seen }
     → TalksOn gives id (Opening 0) (Over how) (account before old) (account now new) → HasTalked gives id now old new how
 talks_whole gives id before now old new how fresh kept talk =
-    let asked : exchanges_in now.seen (caller now) ≡ (talk_walk id (Opening 0) talk.events).asked =
-    talk.asked ∙ ap (λ (l : List Exchange). l ++ (talk_walk id (Opening 0) talk.events).asked) (exchanges_none first_session (caller before) before.seen fresh) in
+    let asked : exchanges_in now.opening now.seen (caller now) ≡ (talk_walk id (Opening 0) talk.events).asked =
+    talk.asked ∙ ap (λ (l : List Exchange). l ++ (talk_walk id (Opening 0) talk.events).asked) (exchanges_none before.opening (caller before) before.seen fresh) in
     let heard : List Heard = heard_in talk.events in
     let sent : List (List ℕ) = map server_spelling (talk_walk id (Opening 0) talk.events).sent in
-    let whole : Talk gives id now.seen (caller now) heard sent how = record {
+    let whole : Talk gives id now.opening now.seen (caller now) heard sent how = record {
       events = talk.events;
       ends = talk.ends;
       asked = asked;

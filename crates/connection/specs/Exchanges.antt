@@ -2,7 +2,6 @@
 use Rattle.std.specs.Prelude.{ℕ, eqb, List, [], ◌∷◌, ◌++◌, if◌then◌else◌}
 use Rattle.reflector_core.specs.PlainSession.{PlainSession}
 use Rattle.reflector_core.specs.Answer.{answer}
-use Rattle.reflector_core.specs.Play.{first_session}
 use Rattle.reflector_core.specs.declared.request.Request.{Request}
 use Rattle.reflector_core.specs.declared.request.Request.TheVariants.{Join, Send, Tick, Leave, Offer, Pull}
 use Rattle.reflector_core.specs.declared.request.Reply.{Reply}
@@ -24,9 +23,9 @@ abbrev pub exchanges_from : PlainSession → ℕ → List Item → List Exchange
 exchanges_from s caller [] = []
 exchanges_from s caller (item ∷ items) = exchange_in s caller item ++ exchanges_from (after_item s item) caller items
 
--- those of the caller in the history, each with the reply at its place
-abbrev pub exchanges_in : List Item → ℕ → List Exchange
-exchanges_in history caller = exchanges_from first_session caller history
+-- those of the caller in the history behind an opening, each with the reply at its place
+abbrev pub exchanges_in : PlainSession → List Item → ℕ → List Exchange
+exchanges_in opening history caller = exchanges_from opening caller history
 
 -- the time that a request carries is one that the clock may give
 abbrev pub IsAskedInTime : (ℕ → Type 0) → Exchange → Type 0

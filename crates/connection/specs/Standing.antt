@@ -5,11 +5,11 @@ use Rattle.wire_frames.specs.Served.{Place}
 use Rattle.reflector_core.specs.PlainSession.{PlainSession, IsSoundSession}
 use Rattle.reflector_core.specs.Answer.{answer}
 use Rattle.reflector_core.specs.Growth.{GrowsTo}
-use Rattle.reflector_core.specs.Play.{first_session}
 use Rattle.reflector_core.specs.declared.request.Request.{Request}
 use Rattle.reflector_core.specs.declared.request.Reply.{Reply}
 use Rattle.session_lock.specs.declared.knowledge.Item.{Item}
 use Rattle.session_lock.specs.History.{IsSoundThrough}
+use Rattle.session_lock.specs.Passes.{PassState}
 use Rattle.join_sync.specs.declared.cursor.Cursor.{Cursor}
 use Rattle.join_sync.specs.Standing.{StandsAt}
 use Rattle.connection.specs.Exchanges.{Exchange, Answered, Unanswered}
@@ -19,11 +19,12 @@ abbrev pub exchange_of : Request → Result Reply WantOfMemory → Exchange
 exchange_of request (Ok given) = Answered request given
 exchange_of request (Err want) = Unanswered
 
--- What was seen only grew. Where it did, the session was sound at each place of it.
-pub record SeesOn (before after : List Item) : Type 0 where
+-- What a pass has seen only grew, behind the same opening. Where it did, the session was sound at each place of it.
+pub record SeesOn (before after : PassState) : Type 0 where
+  pub opening : after.opening ≡ before.opening
   pub rest : List Item
-  pub grew : before ++ rest ≡ after
-  pub sound : (rest ≡ []) ⊎ IsSoundThrough first_session after
+  pub grew : before.seen ++ rest ≡ after.seen
+  pub sound : (rest ≡ []) ⊎ IsSoundThrough after.opening after.seen
 
 -- a sound session on the way, from the one before to the one now, gave the reply
 pub record IsAnsweredAt (before at now : PlainSession) (request : Request) (given : Reply) : Type 0 where

@@ -10,8 +10,9 @@ use Rattle.tea_io.specs.declared.link.LinkFault.TheVariants.{Failed, WantOfMemor
 use Rattle.wire_frames.specs.declared.frame.ServerFrame.{ServerFrame}
 use Rattle.wire_frames.specs.Frames.{IsServerFrame}
 use Rattle.wire_frames.specs.Spelling.{server_spelling}
+use Rattle.reflector_core.specs.PlainSession.{PlainSession}
 use Rattle.session_lock.specs.declared.knowledge.Item.{Item}
-use Rattle.session_lock.specs.History.{play}
+use Rattle.session_lock.specs.History.{play_from}
 use Rattle.session_lock.specs.Passes.{PassState, caller}
 use Rattle.connection.specs.declared.ending.Ended.{Ended}
 use Rattle.connection.specs.declared.ending.Halt.{Halt}
@@ -22,14 +23,14 @@ use Rattle.connection.specs.Phases.{TalkPhase, Opening, Over, TalkEvent, Hears, 
 
 -- A talk from its first frame to its end: what the caller asked in the history, what the link was heard to say and was sent. Some events
 -- lead to just these, each frame that was sent has a spelling, and each time that was asked with is one that the clock may give.
-pub record Talk (gives : ℕ → Type 0) (id : SessionId) (history : List Item) (caller : ℕ) (heard : List Heard) (sent : List (List ℕ)) (how : Ended) : Type 0 where
+pub record Talk (gives : ℕ → Type 0) (id : SessionId) (opening : PlainSession) (history : List Item) (caller : ℕ) (heard : List Heard) (sent : List (List ℕ)) (how : Ended) : Type 0 where
   pub events : List TalkEvent
   pub ends : (talk_walk id (Opening 0) events).phase ≡ Over how
-  pub asked : exchanges_in history caller ≡ (talk_walk id (Opening 0) events).asked
+  pub asked : exchanges_in opening history caller ≡ (talk_walk id (Opening 0) events).asked
   pub said : heard ≡ heard_in events
   pub told : sent ≡ map server_spelling (talk_walk id (Opening 0) events).sent
   pub spelled : AllByRecursion IsServerFrame (talk_walk id (Opening 0) events).sent
-  pub timely : AllByRecursion (IsAskedInTime gives) (exchanges_in history caller)
+  pub timely : AllByRecursion (IsAskedInTime gives) (exchanges_in opening history caller)
 
 -- ---- what a link tells
 
@@ -58,11 +59,11 @@ EventsCount (event ∷ events) before now = (mid : Counts) × EventCounts event 
 pub record HasTalked (gives : ℕ → Type 0) (id : SessionId) (pass : PassState) (old new : LinkAccount) (how : Ended) : Type 0 where
   pub heard : List Heard
   pub sent : List (List ℕ)
-  pub talk : Talk gives id pass.seen (caller pass) heard sent how
+  pub talk : Talk gives id pass.opening pass.seen (caller pass) heard sent how
   pub tells_heard : new.heard ≡ with_more old.heard heard
   pub tells_sent : new.sent ≡ with_more old.sent sent
   pub counts : EventsCount talk.events old.counts new.counts
-  pub served : IsTalkServed (play pass.seen).log heard sent
+  pub served : IsTalkServed (play_from pass.opening pass.seen).log heard sent
 
 -- ---- a part of a talk
 
@@ -76,14 +77,14 @@ account pass link = record { pass = pass; link = link }
 
 -- what its own caller has asked
 abbrev pub asked_by : PassState → List Exchange
-asked_by pass = exchanges_in pass.seen (caller pass)
+asked_by pass = exchanges_in pass.opening pass.seen (caller pass)
 
 -- from one phase to another by events that add just this; what the link does not tell is left open
 pub record TalksOn (gives : ℕ → Type 0) (id : SessionId) (from to : TalkPhase) (before now : Account) : Type 0 where
   pub events : List TalkEvent
   pub ends : (talk_walk id from events).phase ≡ to
   pub asked : asked_by now.pass ≡ asked_by before.pass ++ (talk_walk id from events).asked
-  pub sees : SeesOn before.pass.seen now.pass.seen
+  pub sees : SeesOn before.pass now.pass
   pub heard : now.link.heard ≡ with_more before.link.heard (heard_in events)
   pub sent : now.link.sent ≡ with_more before.link.sent (map server_spelling (talk_walk id from events).sent)
   pub counts : EventsCount events before.link.counts now.link.counts

@@ -2,7 +2,7 @@
 ghost use Rattle.std.specs.Prelude.{◌≡◌, ◌++◌, ◌∷◌, [], IfOk};
 ghost use Rattle.reflector_core.specs.PlainSession.{PlainSession};
 ghost use Rattle.reflector_core.specs.Growth.{GrowsTo, is_offer};
-ghost use Rattle.session_lock.specs.History.{play};
+ghost use Rattle.session_lock.specs.History.{play_from};
 ghost use Rattle.session_lock.specs.Passes.{caller};
 ghost use Rattle.connection.specs.Exchanges.{exchanges_in};
 ghost use Rattle.connection.specs.Standing.{IsAnsweredAt, SeesOn, exchange_of};
@@ -46,10 +46,10 @@ pub fn ask<C: Clock, R: Wait>(
 ) -> Result<Reply, WantOfMemory>
     requires session { pass.old.session ≡ service.now.shared.now.session }
     ensures kept { pass.new ≡ record pass.old { seen = pass.new.seen } }
-    ensures asked { exchanges_in pass.new.seen (caller pass.new) ≡ exchanges_in pass.old.seen (caller pass.old) ++ exchange_of request.now result ∷ [] }
-    ensures sees { SeesOn pass.old.seen pass.new.seen }
-    ensures grows { GrowsTo (play pass.old.seen) (play pass.new.seen) }
-    ensures reply { IfOk result (λ given. (at : PlainSession) × IsAnsweredAt (play pass.old.seen) at (play pass.new.seen) request.now given) }
+    ensures asked { exchanges_in pass.new.opening pass.new.seen (caller pass.new) ≡ exchanges_in pass.old.opening pass.old.seen (caller pass.old) ++ exchange_of request.now result ∷ [] }
+    ensures sees { SeesOn pass.old pass.new }
+    ensures grows { GrowsTo (play_from pass.old.opening pass.old.seen) (play_from pass.new.opening pass.new.seen) }
+    ensures reply { IfOk result (λ given. (at : PlainSession) × IsAnsweredAt (play_from pass.old.opening pass.old.seen) at (play_from pass.new.opening pass.new.seen) request.now given) }
 {
     if is_offer(request) {
         service.shared.offer(service.rt, pass, request)

@@ -1,6 +1,6 @@
 //! The first frame of a connection.
 ghost use Rattle.std.specs.Prelude.{◌≡◌, ℕ, List, Option, Some, IfOk, MatchResult};
-ghost use Rattle.session_lock.specs.History.{play};
+ghost use Rattle.session_lock.specs.History.{play_from};
 ghost use Rattle.session_lock.specs.Passes.{PassState};
 ghost use Rattle.byte_fields.specs.Fields.{whole};
 ghost use Rattle.wire_frames.specs.Reading.{client_at};
@@ -92,7 +92,7 @@ fn join<C: Clock, R: Wait, L: Link>(
     requires join { IsJoin request.now }
     requires timely { (given : Reply) → IsAskedInTime (C.gives service.now.clock.now) (Answered request.now given) }
     ensures kept { pass.new ≡ record pass.old { seen = pass.new.seen } }
-    ensures standing { IfOk result (λ cursor. IsStanding (play pass.new.seen) cursor) }
+    ensures standing { IfOk result (λ cursor. IsStanding (play_from pass.new.opening pass.new.seen) cursor) }
     ensures talk { TalksOrHalts (C.gives service.now.clock.now) service.now.id
         (Joining request.now) (λ cursor. Ticking cursor 0) result
         (account pass.old (link_account L.heard L.sent L.counts link.old)) (account pass.new (link_account L.heard L.sent L.counts link.new)) }
@@ -114,7 +114,7 @@ fn enter<C: Clock, R: Wait, L: Link>(
 ) -> Result<Cursor, Halt>
     requires session { pass.old.session ≡ service.now.shared.now.session }
     ensures kept { pass.new ≡ record pass.old { seen = pass.new.seen } }
-    ensures standing { IfOk result (λ cursor. IsStanding (play pass.new.seen) cursor) }
+    ensures standing { IfOk result (λ cursor. IsStanding (play_from pass.new.opening pass.new.seen) cursor) }
     ensures talk { (bytes : List ℕ) → whole client_at bytes ≡ Some frame.now → TalksOrHalts (C.gives service.now.clock.now) service.now.id
         (Beginning bytes) (λ cursor. Ticking cursor 0) result
         (account pass.old (link_account L.heard L.sent L.counts link.old)) (account pass.new (link_account L.heard L.sent L.counts link.new)) }
@@ -135,7 +135,7 @@ pub fn begin<C: Clock, R: Wait, L: Link>(
 ) -> Result<Cursor, Halt>
     requires session { pass.old.session ≡ service.now.shared.now.session }
     ensures kept { pass.new ≡ record pass.old { seen = pass.new.seen } }
-    ensures standing { IfOk result (λ cursor. IsStanding (play pass.new.seen) cursor) }
+    ensures standing { IfOk result (λ cursor. IsStanding (play_from pass.new.opening pass.new.seen) cursor) }
     ensures talk { TalksOrHalts (C.gives service.now.clock.now) service.now.id
         (Beginning bytes.now) (λ cursor. Ticking cursor 0) result
         (account pass.old (link_account L.heard L.sent L.counts link.old)) (account pass.new (link_account L.heard L.sent L.counts link.new)) }

@@ -74,7 +74,7 @@ pub fn serve_connection<L: Link, C: Clock, R: Wait>(
     ensures kept { pass.new ≡ record pass.old { seen = pass.new.seen } }
     ensures later { (rest : List Item) × (pass.old.seen ++ rest ≡ pass.new.seen) }
     ensures talk { HasTalked (C.gives clock.now) id pass.new (link_account L.heard L.sent L.counts link.old) (link_account L.heard L.sent L.counts link.new) result }
-    ensures exactly { EndsExactly result (exchanges_in pass.new.seen (caller pass.new)) }
+    ensures exactly { EndsExactly result (exchanges_in pass.new.opening pass.new.seen (caller pass.new)) }
     ensures cause { IsCauseCounted (L.counts link.old) (L.counts link.new) result }
 {
     let service = Service {

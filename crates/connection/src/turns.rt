@@ -5,7 +5,7 @@ ghost use Rattle.tea_io.specs.Links.{most_quiets};
 ghost use Rattle.wire_frames.specs.Reading.{client_at};
 ghost use Rattle.wire_frames.specs.declared.frame.ServerFrame.{ServerFrame};
 ghost use Rattle.reflector_core.specs.Growth.{GrowsTo};
-ghost use Rattle.session_lock.specs.History.{play};
+ghost use Rattle.session_lock.specs.History.{play_from};
 ghost use Rattle.session_lock.specs.Passes.{PassState};
 ghost use Rattle.join_sync.specs.Requests.{IsOfFrame};
 ghost use Rattle.connection.specs.declared.ending.Ended.{Ended};
@@ -73,7 +73,7 @@ fn make<C: Clock, R: Wait, L: Link>(
     requires frame { IsOfFrame request.now }
     requires timely { (given : Reply) → IsAskedInTime (C.gives service.now.clock.now) (Answered request.now given) }
     ensures kept { pass.new ≡ record pass.old { seen = pass.new.seen } }
-    ensures grows { GrowsTo (play pass.old.seen) (play pass.new.seen) }
+    ensures grows { GrowsTo (play_from pass.old.opening pass.old.seen) (play_from pass.new.opening pass.new.seen) }
     ensures talk { TalksOrHalts (C.gives service.now.clock.now) service.now.id
         (Asking cursor.now request.now) (λ _. Ticking cursor.now 0) result
         (account pass.old (link_account L.heard L.sent L.counts link.old)) (account pass.new (link_account L.heard L.sent L.counts link.new)) }
@@ -96,7 +96,7 @@ fn act<C: Clock, R: Wait, L: Link>(
 ) -> Result<(), Halt>
     requires session { pass.old.session ≡ service.now.shared.now.session }
     ensures kept { pass.new ≡ record pass.old { seen = pass.new.seen } }
-    ensures grows { GrowsTo (play pass.old.seen) (play pass.new.seen) }
+    ensures grows { GrowsTo (play_from pass.old.opening pass.old.seen) (play_from pass.new.opening pass.new.seen) }
     ensures talk { (bytes : List ℕ) → whole client_at bytes ≡ Some frame → TalksOrHalts (C.gives service.now.clock.now) service.now.id
         (Taking cursor.now bytes) (λ _. Ticking cursor.now 0) result
         (account pass.old (link_account L.heard L.sent L.counts link.old)) (account pass.new (link_account L.heard L.sent L.counts link.new)) }
@@ -118,7 +118,7 @@ fn take<C: Clock, R: Wait, L: Link>(
 ) -> Result<(), Halt>
     requires session { pass.old.session ≡ service.now.shared.now.session }
     ensures kept { pass.new ≡ record pass.old { seen = pass.new.seen } }
-    ensures grows { GrowsTo (play pass.old.seen) (play pass.new.seen) }
+    ensures grows { GrowsTo (play_from pass.old.opening pass.old.seen) (play_from pass.new.opening pass.new.seen) }
     ensures talk { TalksOrHalts (C.gives service.now.clock.now) service.now.id
         (Taking cursor.now bytes.now) (λ _. Ticking cursor.now 0) result
         (account pass.old (link_account L.heard L.sent L.counts link.old)) (account pass.new (link_account L.heard L.sent L.counts link.new)) }
@@ -141,7 +141,7 @@ fn receive<C: Clock, R: Wait, L: Link>(
     requires session { pass.old.session ≡ service.now.shared.now.session }
     requires row { quiets < most_quiets }
     ensures kept { pass.new ≡ record pass.old { seen = pass.new.seen } }
-    ensures grows { GrowsTo (play pass.old.seen) (play pass.new.seen) }
+    ensures grows { GrowsTo (play_from pass.old.opening pass.old.seen) (play_from pass.new.opening pass.new.seen) }
     ensures row { IfOk result (λ row. row < most_quiets) }
     ensures talk { TalksOrHalts (C.gives service.now.clock.now) service.now.id
         (Hearing cursor.now quiets) (λ row. Ticking cursor.now row) result
@@ -179,7 +179,7 @@ fn tick<C: Clock, R: Wait>(
 ) -> Result<(), Halt>
     requires session { pass.old.session ≡ service.now.shared.now.session }
     ensures kept { pass.new ≡ record pass.old { seen = pass.new.seen } }
-    ensures grows { GrowsTo (play pass.old.seen) (play pass.new.seen) }
+    ensures grows { GrowsTo (play_from pass.old.opening pass.old.seen) (play_from pass.new.opening pass.new.seen) }
     ensures talk { (quiets : ℕ) (link : LinkAccount) → TalksOrHalts (C.gives service.now.clock.now) service.now.id
         (Ticking cursor.now quiets) (λ _. Pulling cursor.now quiets) result (account pass.old link) (account pass.new link) }
 {
@@ -219,9 +219,9 @@ fn pull<C: Clock, R: Wait, L: Link>(
     cursor: &mut Cursor,
 ) -> Result<(), Halt>
     requires session { pass.old.session ≡ service.now.shared.now.session }
-    requires standing { IsStanding (play pass.old.seen) cursor.old }
+    requires standing { IsStanding (play_from pass.old.opening pass.old.seen) cursor.old }
     ensures kept { pass.new ≡ record pass.old { seen = pass.new.seen } }
-    ensures standing { IfOk result (λ _. IsStanding (play pass.new.seen) cursor.new) }
+    ensures standing { IfOk result (λ _. IsStanding (play_from pass.new.opening pass.new.seen) cursor.new) }
     ensures talk { (quiets : ℕ) → TalksOrHalts (C.gives service.now.clock.now) service.now.id
         (Pulling cursor.old quiets) (λ _. Hearing cursor.new quiets) result
         (account pass.old (link_account L.heard L.sent L.counts link.old)) (account pass.new (link_account L.heard L.sent L.counts link.new)) }
@@ -249,10 +249,10 @@ fn turn<C: Clock, R: Wait, L: Link>(
     quiets: u32,
 ) -> Result<u32, Halt>
     requires session { pass.old.session ≡ service.now.shared.now.session }
-    requires standing { IsStanding (play pass.old.seen) cursor.old }
+    requires standing { IsStanding (play_from pass.old.opening pass.old.seen) cursor.old }
     requires row { quiets < most_quiets }
     ensures kept { pass.new ≡ record pass.old { seen = pass.new.seen } }
-    ensures standing { IfOk result (λ _. IsStanding (play pass.new.seen) cursor.new) }
+    ensures standing { IfOk result (λ _. IsStanding (play_from pass.new.opening pass.new.seen) cursor.new) }
     ensures row { IfOk result (λ row. row < most_quiets) }
     ensures talk { TalksOrHalts (C.gives service.now.clock.now) service.now.id
         (Ticking cursor.old quiets) (λ row. Ticking cursor.new row) result
@@ -280,7 +280,7 @@ pub fn converse<C: Clock, R: Wait, L: Link>(
     first: Cursor,
 ) -> Halt
     requires session { pass.old.session ≡ service.now.shared.now.session }
-    requires standing { IsStanding (play pass.old.seen) first }
+    requires standing { IsStanding (play_from pass.old.opening pass.old.seen) first }
     ensures kept { pass.new ≡ record pass.old { seen = pass.new.seen } }
     ensures talk { TalksOn (C.gives service.now.clock.now) service.now.id (Ticking first 0) (halt_phase result)
         (account pass.old (link_account L.heard L.sent L.counts link.old)) (account pass.new (link_account L.heard L.sent L.counts link.new)) }

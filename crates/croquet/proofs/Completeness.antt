@@ -9,22 +9,22 @@ use Rattle.command_words.specs.declared.words.Command.{Command}
 use Rattle.command_words.specs.declared.words.Command.TheVariants.{Join}
 use Rattle.command_words.specs.declared.words.DrillRequest.{DrillRequest}
 use Rattle.connection.specs.declared.ending.Ended.{Ended}
-use Rattle.session_log.specs.Spelling.{log_spelling}
+use Rattle.session_log.specs.Stored.{stored_spelling}
 use Rattle.snapshot_codec.specs.Spelling.{world_spelling}
 use Rattle.world.specs.Worlds.{replay}
 use Rattle.reflector_core.specs.PlainSession.{PlainSession}
+use Rattle.reflector_core.specs.Stored.{stored_of}
 use Rattle.reflect_server.specs.Reflects.{CountsFailure}
 use Rattle.reflect_server.specs.declared.reflection.Reflected.{Reflected}
 use Rattle.reflect_server.specs.declared.reflection.ServeFault.{ServeFault}
 use Rattle.reflect_server.specs.declared.reflection.ServeFault.TheVariants as serve_fault
-use Rattle.command_reflect.specs.declared.reflection.Reflection.{Reflection}
 use Rattle.command_reflect.specs.ReflectedSteps.{reflected_steps, reflected_text}
 use Rattle.command_drill.specs.DrilledSteps.{drilled_line, drilled_steps, snapshot_puts}
 use Rattle.drill.specs.Drill.{drill_id}
 use Rattle.drill.specs.Ending.{root_total}
 use Rattle.drill.specs.declared.report.DrillReport.{DrillReport}
 use Rattle.commands.specs.Laws.{AreAlike, IsFunction, TellsPlace}
-use Rattle.commands.specs.Verdict.{ByDrill, ByReflecting, ByVisit, ByWant, Closing, Coming, Comes, Fine, Free, OfWords, Only, PlainVisit, Verdict, fine, reflected_verdict}
+use Rattle.commands.specs.Verdict.{ByDrill, ByReflecting, ByVisit, ByWant, Closing, Coming, Comes, Fine, Free, OfWords, Only, PlainReflection, PlainVisit, Verdict, fine, reflected_verdict}
 use Rattle.croquet.specs.declared.status.Status.{Status}
 use Rattle.croquet.specs.Complete.{HasRightInput, IsByPeer, IsComplete, IsDone, IsDueOf, NoLinkFailed, NoneFailed}
 use Rattle.croquet.specs.Drills.{OfDrilled}
@@ -55,11 +55,11 @@ free_alike steps verdict gives (inr is) = subst (λ (v : Verdict). AreAlike step
 
 -- what is put and printed of a session that was reflected, and of a drill
 reflected_gives : (log : List ℕ) (ends : List Ended) (session : PlainSession) → IsGiving (reflected_steps log ends session)
-reflected_gives log ends session = giving (record { name = log; bytes = log_spelling session.log } ∷ []) (reflected_text ends session)
+reflected_gives log ends session = giving (record { name = log; bytes = stored_spelling (stored_of session) } ∷ []) (reflected_text ends session)
 
-drilled_gives : (request : DrillRequest) (log : List Entry) (snapshots : List (List ℕ)) (total : ℤ) (agree : ℕ) → IsGiving (drilled_steps request log snapshots total agree)
-drilled_gives request log snapshots total agree =
-    giving (record { name = request.log; bytes = log_spelling log } ∷ snapshot_puts request.snapshots 1 snapshots) (drilled_line request (length log) total agree)
+drilled_gives : (request : DrillRequest) (session : PlainSession) (snapshots : List (List ℕ)) (total : ℤ) (agree : ℕ) → IsGiving (drilled_steps request session snapshots total agree)
+drilled_gives request session snapshots total agree =
+    giving (record { name = request.log; bytes = stored_spelling (stored_of session) } ∷ snapshot_puts request.snapshots 1 snapshots) (drilled_line request (length session.log) total agree)
 
 module _ {F W N L : Type 0} (files : FilesTell F) (out : OutputTells W) (net : NetTells N L) (links : LinksTell L) where
   -- ---- by steps
@@ -175,7 +175,7 @@ module _ {F W N L : Type 0} (files : FilesTell F) (out : OutputTells W) (net : N
         done_giving (reflected_steps log ends session) coming served new result ran (reflected_gives log ends session) (leads ran.course.verdict ran.course.comes) (none_behind later is)
 
     answered
-        : (reflection : Reflection) (answer : Result Reflected ServeFault) → ServesNet gives (outside_tells files out net links) reflection answer ready served
+        : (reflection : PlainReflection) (answer : Result Reflected ServeFault) → ServesNet gives (outside_tells files out net links) reflection answer ready served
         → (ran : RanBySteps (outside_tells files out net links) (OfReflected reflection.log answer) served new result) → CountsStay files out net served new → IsDone result
     answered reflection (Ok reflected) serves ran last =
         told reflection.log reflected.ends reflected.session.plain reflected.net_failed (OfReflected reflection.log (Ok reflected)) (λ v comes. comes) serves.0.faults serves.1 ran last
@@ -197,11 +197,11 @@ module _ {F W N L : Type 0} (files : FilesTell F) (out : OutputTells W) (net : N
       → OfDrilled gives request answer ran.course.verdict → NoneFailed files out net old new → IsDone result
   drilled gives request (Ok report) old new result ran (inl want) none = done_giving [] (OfDrilled gives request (Ok report)) old new result ran tt (inl want) none
   drilled gives request (Ok report) old new result ran (inr is) none =
-      let log = report.session.plain.log in
-      let w = (replay is.has.founding drill_id log report.session.plain.horizon).world in
+      let session = report.session.plain in
+      let w = (replay is.has.founding drill_id session.log session.horizon).world in
       let snapshots = replicate request.views (world_spelling w) in
-      done_giving (drilled_steps request log snapshots (root_total w) request.views) (OfDrilled gives request (Ok report)) old new result ran
-      (drilled_gives request log snapshots (root_total w) request.views) (inr is.is) none
+      done_giving (drilled_steps request session snapshots (root_total w) request.views) (OfDrilled gives request (Ok report)) old new result ran
+      (drilled_gives request session snapshots (root_total w) request.views) (inr is.is) none
   drilled gives request (Err wanting) old new result ran is none = done_giving [] (OfDrilled gives request (Err wanting)) old new result ran tt (inl is) none
 
   as_drill

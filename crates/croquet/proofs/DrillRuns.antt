@@ -26,7 +26,7 @@ use Rattle.croquet.proofs.VisitRuns.{ran_beside}
 -- what a drill puts was put and its line printed, or this was cut
 pub ran_drilled
     : {F W : Type 0} (files : FilesTell F) (out : OutputTells W) (request : DrillRequest) (report : DrillReport) (steps : List Step) (f f' : F) (w w' : W) (result : Status)
-    → steps ≡ drilled_steps request report.session.plain.log (map snapshot_of report.replicas) report.total report.agree
+    → steps ≡ drilled_steps request report.session.plain (map snapshot_of report.replicas) report.total report.agree
     → DoesAll files out steps (Silent status.Ok) f w f' w' result → RanSo files out (OfReport request (Ok report)) f w f' w' result
 ran_drilled files out request report steps f f' w w' result same does =
     ran_leading files out (Only (fine steps)) (OfReport request (Ok report)) f f' w w' result (λ verdict is. inr (is ∙ ap fine same)) (ran_done files out steps f f' w w' result does)
@@ -42,8 +42,8 @@ snapshots_agree s founding id view (r ∷ replicas) are =
 
 -- so what comes of a report comes of the replay
 agreed : (gives : ℕ → Type 0) (request : DrillRequest) (report : DrillReport) (has : HasDrilled gives (drill_size request) report)
-    → drilled_verdict request report.session.plain.log (map snapshot_of report.replicas) report.total report.agree
-    ≡ agreed_verdict request report.session.plain.log (replay has.founding drill_id report.session.plain.log report.session.plain.horizon).world
+    → drilled_verdict request report.session.plain (map snapshot_of report.replicas) report.total report.agree
+    ≡ agreed_verdict request report.session.plain (replay has.founding drill_id report.session.plain.log report.session.plain.horizon).world
 agreed gives request report has =
     rw (snapshots_agree report.session.plain has.founding drill_id 1 report.replicas has.replicas, has.number, has.total, has.agree) refl
 

@@ -5,15 +5,15 @@ use Rattle.tea_io.specs.declared.net.NetCall.TheVariants.{Listen}
 use Rattle.connection.specs.declared.ending.Ended.{Ended}
 use Rattle.reflector_core.specs.PlainSession.{PlainSession}
 use Rattle.reflect_server.specs.Reflects.{Reflects}
+use Rattle.reflect_server.specs.Opening.{gives_later}
 use Rattle.reflect_server.specs.declared.reflection.Reflected.{Reflected}
 use Rattle.reflect_server.specs.declared.reflection.ServeFault.{ServeFault}
 use Rattle.reflect_server.specs.declared.reflection.ServeFault.TheVariants.{ListenFault, WantOfMemory}
 use Rattle.run_steps.specs.Steps.{Step}
 use Rattle.run_steps.specs.Outside.{Acts, FilesTell, OutputTells, NetTells, LinksTell, desk, desk_tells, outside, outside_tells}
 use Rattle.run_steps.proofs.Beside.{all_beside_net}
-use Rattle.command_reflect.specs.declared.reflection.Reflection.{Reflection}
 use Rattle.command_reflect.specs.ReflectedSteps.{reflected_steps}
-use Rattle.commands.specs.Verdict.{ByNetFault, ByReflecting, ByWant, Coming, Fine, Free, Only, reflected_verdict}
+use Rattle.commands.specs.Verdict.{ByNetFault, ByReflecting, ByWant, Coming, Fine, Free, Only, PlainReflection, reflected_verdict}
 use Rattle.croquet.specs.declared.status.Status.{Status}
 use Rattle.croquet.specs.Calls.{fault_ending, reflected_ending}
 use Rattle.croquet.specs.Run.{Concludes, Ending, on_net_fault, OutOfMemory, OfReflected, RanAsReflector, Reaches, TellsEnding}
@@ -63,10 +63,10 @@ ran_failed files out log WantOfMemory f w w' result told = ran_closed files out 
 
 -- a command that goes on as a reflector's run
 pub ran_reflecting
-    : {F W N L : Type 0} (gives : ℕ → Type 0) (files : FilesTell F) (out : OutputTells W) (net : NetTells N L) (links : LinksTell L) (coming : Coming) (reflection : Reflection) (answer : Result Reflected ServeFault)
+    : {F W N L : Type 0} (gives : ℕ → Type 0) (files : FilesTell F) (out : OutputTells W) (net : NetTells N L) (links : LinksTell L) (coming : Coming) (reflection : PlainReflection) (answer : Result Reflected ServeFault)
     (f mid f' : F) (w next w' : W) (n n' : N) (result : Status)
     → Reaches (desk_tells files out) coming (ByReflecting reflection) (desk f w) (desk mid next)
-    → Reflects gives reflection.id net links (Listen reflection.address ∷ []) reflection.connections n n' answer
+    → Reflects (gives_later gives reflection.opening.horizon) (record { 0 = reflection.id }) reflection.opening net links (Listen reflection.address ∷ []) reflection.connections n n' answer
     → RanSo files out (OfReflected reflection.log answer) mid next f' w' result
     → RanAsReflector gives (outside_tells files out net links) coming (outside f w n None) (outside f' w' n' None) result
 ran_reflecting gives files out net links coming reflection answer f mid f' w next w' n n' result reached reflects ran = record {

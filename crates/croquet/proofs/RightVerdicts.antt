@@ -1,10 +1,11 @@
 -- The verdict that is due where the inputs of a command are right.
 use Rattle.std.proofs.Common.{◌≡◌, inl, inr, ℕ, Bool, true, List, [], ◌∷◌, encode_utf8_all, Option, Some, None, refl, sym, subst}
-use Rattle.tea_base.specs.Legal.{IsLegal}
 use Rattle.tea_base.specs.declared.entry.Entry.{Entry}
-use Rattle.session_log.specs.Spelling.{log_spelling}
+use Rattle.session_log.specs.Stored.{PlainStored, IsStored, stored_spelling}
 use Rattle.reflector_core.specs.declared.request.Request.{Request}
+use Rattle.reflector_core.specs.PlainSession.{PlainSession}
 use Rattle.reflector_core.specs.Play.{after_all, first_session, replies_from}
+use Rattle.reflector_core.specs.Stored.{session_of, stored_of}
 use Rattle.model_tree.specs.Tree.{ProgramTree}
 use Rattle.world.specs.Worlds.{field_counts, replay, replay_on}
 use Rattle.model_value.specs.Plain.{PlainValue}
@@ -32,9 +33,9 @@ use Rattle.command_words.specs.declared.words.Command.{Command}
 use Rattle.command_words.specs.declared.words.Command.TheVariants.{Stamp, Check, Replay, Join, Reflect, Drill}
 use Rattle.model_tree.specs.Bounds.{most_program_bytes}
 use Rattle.tea_base.specs.Limits.{most_snapshot}
-use Rattle.commands.specs.Verdict.{ByDrill, ByReflecting, ByVisit, Closing, Coming, Fine, OfAddress, OfFile, OfJoin, OfLog, OfProgram, OfReflect, OfScript, OfSnapshot, OfTree, OfView, OfViewScript, OfWords, Only, Starts, Verdict, OfFounded, OfJson, OfPersisted, OfRecorded, ask_file, at_once, before, count_verdict, fine, founded, most_script, reflection_of, session_of, stamp_verdict, visit_to, world_puts, most_log}
+use Rattle.commands.specs.Verdict.{ByDrill, ByReflecting, ByVisit, Closing, Coming, Fine, OfAddress, OfFile, OfJoin, OfOpening, OfProgram, OfReflect, OfScript, OfServed, OfSnapshot, OfStored, OfTree, OfView, OfViewScript, OfWords, Only, Starts, Verdict, OfFounded, OfJson, OfPersisted, OfRecorded, ask_file, at_once, before, count_verdict, fine, founded, most_script, reflection_of, session_id_of, stamp_verdict, visit_to, world_puts, most_log}
 use Rattle.commands.proofs.Agreement.{late_verdict}
-use Rattle.croquet.specs.Complete.{HasRightInput, HoldsFile, HoldsPersisted, HoldsProgram, HoldsRecording, HoldsStart, IsJsonText, IsLogText, IsScriptText, IsSnapshotUntil, IsProgramText, IsViewScriptText, NamesAddress, persisted_in}
+use Rattle.croquet.specs.Complete.{HasRightInput, HoldsFile, HoldsOpening, HoldsPersisted, HoldsProgram, HoldsRecording, HoldsStart, IsJsonText, IsScriptText, IsSnapshotUntil, IsStoredText, IsProgramText, IsViewScriptText, NamesAddress, persisted_in}
 use Rattle.croquet.proofs.RightSteps.{AreRight, GivesHeld, IsGiving, giving_are_right}
 
 -- what is put and printed is put and printed alone
@@ -81,18 +82,17 @@ module _ (held : List ℕ → Content) where
     closing = right.closing;
   }
 
-  script_right : (log : Option (List ℕ)) (script : Option (List Request)) (requests : List Request) → script ≡ Some requests → ComesRight held ClosesWell (OfScript log script)
-  script_right log script requests is =
-      fine_right (optional_put log (log_spelling (after_all first_session requests).log)) (text_of (replies_from first_session requests)) (OfScript log script)
-      (subst (λ (s : Option (List Request)). OfScript log s (stamp_verdict log requests)) (sym is) refl)
+  stamp_right : (log : Option (List ℕ)) (requests : List Request) (opening : PlainSession) → ComesRight held ClosesWell (Only (stamp_verdict opening log requests))
+  stamp_right log requests opening =
+      fine_right (optional_put log (stored_spelling (stored_of (after_all opening requests)))) (text_of (replies_from opening requests)) (Only (stamp_verdict opening log requests)) refl
 
   program_right : (Closes : Closing → Type 0) (next : ProgramTree → Coming) (bytes : List ℕ) (tree : ProgramTree) → IsFaultless bytes tree → ComesRight held Closes (next tree) → ComesRight held Closes (OfProgram next bytes)
   program_right Closes next bytes tree faultless right =
       record { verdict = right.verdict; comes = inl (tree, faultless, right.comes); reads = right.reads; closing = right.closing }
 
-  log_right : (Closes : Closing → Type 0) (next : List Entry → Coming) (bytes : List ℕ) (log : List Entry) → IsLegal log → bytes ≡ log_spelling log → ComesRight held Closes (next log) → ComesRight held Closes (OfLog next bytes)
-  log_right Closes next bytes log legal spelled right =
-      record { verdict = right.verdict; comes = inl (log, legal, spelled, right.comes); reads = right.reads; closing = right.closing }
+  stored_right : (Closes : Closing → Type 0) (next : PlainStored → Coming) (bytes : List ℕ) (stored : PlainStored) → IsStored stored → bytes ≡ stored_spelling stored → ComesRight held Closes (next stored) → ComesRight held Closes (OfStored next bytes)
+  stored_right Closes next bytes stored is spelled right =
+      record { verdict = right.verdict; comes = inl (stored, is, spelled, right.comes); reads = right.reads; closing = right.closing }
 
   json_right : (Closes : Closing → Type 0) (next : PlainValue → Coming) (bytes : List ℕ) (v : PlainValue) → IsJsonOf bytes v → ComesRight held Closes (next v) → ComesRight held Closes (OfJson next bytes)
   json_right Closes next bytes v is right =
@@ -122,6 +122,19 @@ module _ {F : Type 0} (files : FilesTell F) (old : F) where
   persisted_right Closes (Some name) holds next right =
       read_right Closes input.Persisted (ask_file name most_json) (OfJson next) IsJsonText holds (json_right (files.held old) Closes next holds.bytes holds.right.0 holds.right.1 right)
 
+  opening_right : (Closes : Closing → Type 0) (from : Option (List ℕ)) (next : PlainSession → Coming) → HoldsOpening files old from → ((opening : PlainSession) → ComesRight (files.held old) Closes (next opening))
+      → ComesRight (files.held old) Closes (OfOpening from next)
+  opening_right Closes None next holds right = right first_session
+  opening_right Closes (Some name) next holds right =
+      let next_stored : PlainStored → Coming = λ stored. next (session_of stored) in
+      read_right Closes input.Log (ask_file name most_log) (OfStored next_stored) IsStoredText holds
+      (stored_right (files.held old) Closes next_stored holds.bytes holds.right.0 holds.right.1 holds.right.2 (right (session_of holds.right.0)))
+
+  script_right : (from log : Option (List ℕ)) (script : Option (List Request)) (requests : List Request) → script ≡ Some requests → HoldsOpening files old from → ComesRight (files.held old) ClosesWell (OfScript from log script)
+  script_right from log script requests is opening =
+      subst (λ (s : Option (List Request)). ComesRight (files.held old) ClosesWell (OfScript from log s)) (sym is)
+      (opening_right ClosesWell from (λ opening. Only (stamp_verdict opening log requests)) opening (stamp_right (files.held old) log requests))
+
   snapshot_right : (request : ReplayRequest) (tree : ProgramTree) (id : List ℕ) (log : List Entry) (bytes : List ℕ) → IsSnapshotUntil request.time (field_counts tree) id bytes → ComesRight (files.held old) ClosesWell (OfSnapshot request tree id log bytes)
   snapshot_right request tree id log bytes (start, is, early) =
       let w = (replay_on tree start log request.time).world in
@@ -140,22 +153,25 @@ module _ {F : Type 0} (files : FilesTell F) (old : F) where
   recording_right request recording =
       let program = recording.program in
       let tree = program.right.0 in
-      let log = recording.log.right.0 in
+      let stored = recording.log.right.0 in
+      let next : PlainStored → Coming = λ stored. OfRecorded request program.bytes tree stored.log in
       let v = persisted_in files old request.persisted recording.persisted in
       read_program ClosesWell request.program program (λ bytes tree. OfTree request bytes tree)
-      (read_right ClosesWell input.Log (ask_file request.log most_log) (OfLog (OfRecorded request program.bytes tree)) IsLogText recording.log
-      (log_right (files.held old) ClosesWell (OfRecorded request program.bytes tree) recording.log.bytes log recording.log.right.1 recording.log.right.2
-      (persisted_right ClosesWell request.persisted recording.persisted (λ v. OfFounded request program.bytes log (founded tree v))
-      (start_right request.from request (founded tree v) (session_of request.name program.bytes v) log recording.start))))
+      (read_right ClosesWell input.Log (ask_file request.log most_log) (OfStored next) IsStoredText recording.log
+      (stored_right (files.held old) ClosesWell next recording.log.bytes stored recording.log.right.1 recording.log.right.2
+      (persisted_right ClosesWell request.persisted recording.persisted (λ v. OfFounded request program.bytes stored.log (founded tree v))
+      (start_right request.from request (founded tree v) (session_id_of request.name program.bytes v) stored.log recording.start))))
 
-  reflect_right : (request : ReflectRequest) → HoldsProgram files old request.program → NamesAddress request.address → HoldsPersisted files old request.persisted → ComesRight (files.held old) ClosesWell (OfWords (Some (Reflect request)))
-  reflect_right request program address persisted =
-      let reflection = reflection_of request program.bytes (persisted_in files old request.persisted persisted) in
-      let next : PlainValue → Coming = λ v. Only (at_once (ByReflecting (reflection_of request program.bytes v))) in
+  reflect_right : (request : ReflectRequest) → HoldsProgram files old request.program → NamesAddress request.address → HoldsPersisted files old request.persisted → HoldsOpening files old request.from
+      → ComesRight (files.held old) ClosesWell (OfWords (Some (Reflect request)))
+  reflect_right request program address persisted opening =
+      let id = session_id_of request.name program.bytes (persisted_in files old request.persisted persisted) in
+      let next : PlainValue → Coming = λ v. OfServed request (session_id_of request.name program.bytes v) in
       read_program ClosesWell request.program program (λ bytes tree. OfReflect request bytes)
       (address_right (files.held old) ClosesWell (is_address (encode_utf8_all request.address)) (OfPersisted request.persisted next) address
       (persisted_right ClosesWell request.persisted persisted next
-      (closed_right (files.held old) ClosesWell (ByReflecting reflection) (Only (at_once (ByReflecting reflection))) tt refl)))
+      (opening_right ClosesWell request.from (λ opening. Only (at_once (ByReflecting (reflection_of request id opening)))) opening
+      (λ opening. closed_right (files.held old) ClosesWell (ByReflecting (reflection_of request id opening)) (Only (at_once (ByReflecting (reflection_of request id opening)))) tt refl))))
 
   view_script_right : (request : JoinRequest) (text : List ℕ) (tree : ProgramTree) (script : Option (List PlainLine)) (lines : List PlainLine) → script ≡ Some lines → HoldsPersisted files old request.persisted
       → ComesRight (files.held old) ClosesByVisit (OfViewScript request text tree script)
@@ -179,12 +195,12 @@ module _ {F : Type 0} (files : FilesTell F) (old : F) where
   -- what comes of a command whose inputs are right
   pub words_right : (command : Option Command) → HasRightInput files old command → ComesRight (files.held old) (ClosesRight command) (OfWords command)
   words_right None never = absurd never
-  words_right (Some (Stamp script log)) right =
-      read_right ClosesWell input.Script (ask_file script most_script) (λ bytes. OfScript log (script_of bytes)) IsScriptText right
-      (script_right (files.held old) log (script_of right.bytes) right.right.0 right.right.1)
+  words_right (Some (Stamp script from log)) right =
+      read_right ClosesWell input.Script (ask_file script most_script) (λ bytes. OfScript from log (script_of bytes)) IsScriptText right.0
+      (script_right from log (script_of right.0.bytes) right.0.right.0 right.0.right.1 right.1)
   words_right (Some (Check program)) right =
       read_program ClosesWell program right (λ bytes tree. Only (count_verdict tree)) (fine_right (files.held old) [] (counts_line right.right.0) (Only (count_verdict right.right.0)) refl)
   words_right (Some (Replay request)) right = recording_right request right
-  words_right (Some (Reflect request)) right = reflect_right request right.0 right.1 right.2
+  words_right (Some (Reflect request)) right = reflect_right request right.0 right.1 right.2 right.3
   words_right (Some (Drill request)) right = closed_right (files.held old) ClosesWell (ByDrill request) (OfWords (Some (Drill request))) tt refl
   words_right (Some (Join request)) right = join_right request right.0 right.1 right.2 right.3

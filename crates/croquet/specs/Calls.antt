@@ -14,7 +14,7 @@ use Rattle.command_outcome.specs.declared.outcome.Put.{Put}
 use Rattle.command_words.specs.declared.words.DrillRequest.{DrillRequest}
 use Rattle.command_words.specs.Bounds.{AreConnections, IsBoundedDrill}
 use Rattle.commands.specs.Verdict.{ByDrill, ByReflecting, ByVisit, ByWant, Coming, Free, Only, PlainVisit, at_once, drilled_verdict}
-use Rattle.commands.specs.Work.{visit_of}
+use Rattle.commands.specs.Work.{plain_reflection, visit_of}
 use Rattle.croquet.specs.declared.status.Status.{Status}
 use Rattle.croquet.specs.declared.status.Status.TheVariants as status
 use Rattle.croquet.specs.declared.top.Turn.{Turn}
@@ -59,14 +59,14 @@ snapshot_of r = world_spelling r.plain.world
 -- what comes of a drill's report
 abbrev pub OfReport : DrillRequest → Result DrillReport WantOfMemory → Coming
 OfReport request (Ok report) =
-    Free (Only (drilled_verdict request report.session.plain.log (map snapshot_of report.replicas) report.total report.agree))
+    Free (Only (drilled_verdict request report.session.plain (map snapshot_of report.replicas) report.total report.agree))
 OfReport request (Err wanting) = Only (at_once ByWant)
 
 -- a command is over, or its run goes on as a view's, a reflector's, or a drill
 abbrev pub Turns : {F W N L : Type 0} → OutsideTells F W N L → Turn → Coming → Outside F W N L → Outside F W N L → Type 0
 Turns tells (turn.Over result) coming old new = RanBySteps tells coming old new result
 Turns tells (turn.Visits request) coming old new = Reaches tells coming (ByVisit (visit_of request)) old new
-Turns tells (turn.Reflects reflection) coming old new = Reaches tells coming (ByReflecting reflection) old new
+Turns tells (turn.Reflects reflection) coming old new = Reaches tells coming (ByReflecting (plain_reflection reflection)) old new
 Turns tells (turn.Drills request) coming old new = Reaches tells coming (ByDrill request) old new
 
 -- a command is over

@@ -1,9 +1,8 @@
 -- A command whose inputs are right, and no call of which has failed, is done, or runs out of memory.
 use Rattle.std.specs.Prelude.{◌≡◌, ◌≢◌, ◌⊎◌, ℕ, ⊤, ◌≤◌, true, List, length, encode_utf8_all, Option, Some, None}
-use Rattle.tea_base.specs.Legal.{IsLegal}
 use Rattle.tea_base.specs.Limits.{most_snapshot}
 use Rattle.tea_base.specs.declared.entry.Entry.{Entry}
-use Rattle.session_log.specs.Spelling.{log_spelling}
+use Rattle.session_log.specs.Stored.{PlainStored, IsStored, stored_spelling}
 use Rattle.reflector_core.specs.declared.request.Request.{Request}
 use Rattle.model_tree.specs.Bounds.{most_program_bytes}
 use Rattle.model_tree.specs.Tree.{ProgramTree}
@@ -25,7 +24,7 @@ use Rattle.command_words.specs.declared.words.Command.{Command}
 use Rattle.command_words.specs.declared.words.Command.TheVariants.{Stamp, Check, Replay, Join, Reflect, Drill}
 use Rattle.command_stamp.specs.Script.{script_of}
 use Rattle.command_outcome.specs.ProgramEnd.{IsFaultless}
-use Rattle.commands.specs.Verdict.{ByVisit, Closing, Comes, PlainVisit, most_log, most_script, session_of}
+use Rattle.commands.specs.Verdict.{ByVisit, Closing, Comes, PlainVisit, most_log, most_script, session_id_of}
 use Rattle.croquet.specs.Run.{RanBySteps}
 use Rattle.croquet.specs.declared.status.Status.{Status}
 use Rattle.croquet.specs.declared.status.Status.TheVariants as status
@@ -49,8 +48,9 @@ IsViewScriptText bytes = (lines : List PlainLine) × (view_script_of bytes ≡ S
 abbrev pub IsProgramText : List ℕ → Type 0
 IsProgramText bytes = (tree : ProgramTree) × IsFaultless bytes tree
 
-abbrev pub IsLogText : List ℕ → Type 0
-IsLogText bytes = (log : List Entry) × IsLegal log × (bytes ≡ log_spelling log)
+-- a stored session
+abbrev pub IsStoredText : List ℕ → Type 0
+IsStoredText bytes = (stored : PlainStored) × IsStored stored × (bytes ≡ stored_spelling stored)
 
 -- the snapshot of a world that is valid for a program with so many fields in each class, is of the session of this id, and has at most this time
 abbrev pub IsSnapshotUntil : ℕ → List ℕ → List ℕ → List ℕ → Type 0
@@ -78,12 +78,17 @@ abbrev pub persisted_in : {F : Type 0} (files : FilesTell F) (old : F) (name : O
 persisted_in files old None holds = nil
 persisted_in files old (Some name) holds = holds.right.0
 
+-- the session that goes on, if a name for it is given
+abbrev pub HoldsOpening : {F : Type 0} → FilesTell F → F → Option (List ℕ) → Type 0
+HoldsOpening files old None = ⊤
+HoldsOpening files old (Some name) = HoldsFile files old name most_log IsStoredText
+
 -- the files of a replay
 pub record HoldsRecording {F : Type 0} (files : FilesTell F) (old : F) (request : ReplayRequest) : Type 0 where
   pub program : HoldsProgram files old request.program
-  pub log : HoldsFile files old request.log most_log IsLogText
+  pub log : HoldsFile files old request.log most_log IsStoredText
   pub persisted : HoldsPersisted files old request.persisted
-  pub start : HoldsStart files old request.from (IsSnapshotUntil request.time (field_counts program.right.0) (session_of request.name program.bytes (persisted_in files old request.persisted persisted)))
+  pub start : HoldsStart files old request.from (IsSnapshotUntil request.time (field_counts program.right.0) (session_id_of request.name program.bytes (persisted_in files old request.persisted persisted)))
 
 -- a word is the address of a net
 abbrev pub NamesAddress : List ℕ → Type 0
@@ -92,12 +97,13 @@ NamesAddress word = is_address (encode_utf8_all word) ≡ true
 -- the inputs of a command are right: a row for each; words that are refused have none
 abbrev pub HasRightInput : {F : Type 0} → FilesTell F → F → Option Command → Type 0
 HasRightInput files old None = ⊥
-HasRightInput files old (Some (Stamp script log)) = HoldsFile files old script most_script IsScriptText
+HasRightInput files old (Some (Stamp script from log)) = HoldsFile files old script most_script IsScriptText × HoldsOpening files old from
 HasRightInput files old (Some (Check program)) = HoldsProgram files old program
 HasRightInput files old (Some (Replay request)) = HoldsRecording files old request
 HasRightInput files old (Some (Join request)) =
     HoldsProgram files old request.program × NamesAddress request.address × HoldsFile files old request.script most_script IsViewScriptText × HoldsPersisted files old request.persisted
-HasRightInput files old (Some (Reflect request)) = HoldsProgram files old request.program × NamesAddress request.address × HoldsPersisted files old request.persisted
+HasRightInput files old (Some (Reflect request)) =
+    HoldsProgram files old request.program × NamesAddress request.address × HoldsPersisted files old request.persisted × HoldsOpening files old request.from
 -- a drill reads no file
 HasRightInput files old (Some (Drill request)) = ⊤
 

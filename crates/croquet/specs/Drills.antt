@@ -1,6 +1,6 @@
 -- What comes of a drill's answer.
 use Rattle.std.specs.Prelude.{◌≡◌, ℕ, List, replicate, Result, Ok, Err}
-use Rattle.tea_base.specs.declared.entry.Entry.{Entry}
+use Rattle.reflector_core.specs.PlainSession.{PlainSession}
 use Rattle.tea_base.specs.declared.want.WantOfMemory.{WantOfMemory}
 use Rattle.world_plain.specs.World.{WorldRecord}
 use Rattle.world.specs.Worlds.{replay}
@@ -15,14 +15,14 @@ use Rattle.commands.specs.Verdict.{ByWant, Coming, Free, Only, Verdict, at_once,
 abbrev pub drill_size : DrillRequest → Size
 drill_size request = record { seed = request.seed; views = request.views; events = request.events }
 
--- what comes of a drill whose views have all come to this world: the log is put, and the snapshot of the world for each view
-abbrev pub agreed_verdict : DrillRequest → List Entry → WorldRecord → Verdict
-agreed_verdict request log w = drilled_verdict request log (replicate request.views (world_spelling w)) (root_total w) request.views
+-- what comes of a drill whose views have all come to this world: the session is put as it is stored, and the snapshot of the world for each view
+abbrev pub agreed_verdict : DrillRequest → PlainSession → WorldRecord → Verdict
+agreed_verdict request session w = drilled_verdict request session (replicate request.views (world_spelling w)) (root_total w) request.views
 
 -- the views of a drill have all come to the replay of its log to the horizon
 pub record IsDrilled (gives : ℕ → Type 0) (request : DrillRequest) (report : DrillReport) (verdict : Verdict) : Type 0 where
   pub has : HasDrilled gives (drill_size request) report
-  pub is : verdict ≡ agreed_verdict request report.session.plain.log (replay has.founding drill_id report.session.plain.log report.session.plain.horizon).world
+  pub is : verdict ≡ agreed_verdict request report.session.plain (replay has.founding drill_id report.session.plain.log report.session.plain.horizon).world
 
 -- what comes of the answer
 abbrev pub OfDrilled : (ℕ → Type 0) → DrillRequest → Result DrillReport WantOfMemory → Coming

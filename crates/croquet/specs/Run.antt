@@ -7,6 +7,7 @@ use Rattle.tea_io.specs.declared.net.NetCall.TheVariants.{Listen}
 use Rattle.drill.specs.declared.report.DrillReport.{DrillReport}
 use Rattle.drill.specs.Drill.{HasDrilled}
 use Rattle.reflect_server.specs.Reflects.{Reflects}
+use Rattle.reflect_server.specs.Opening.{gives_later}
 use Rattle.reflect_server.specs.declared.reflection.Reflected.{Reflected}
 use Rattle.reflect_server.specs.declared.reflection.ServeFault.{ServeFault}
 use Rattle.reflect_server.specs.declared.reflection.ServeFault.TheVariants as serve_fault
@@ -20,9 +21,8 @@ use Rattle.command_outcome.specs.declared.outcome.Input.{Input}
 use Rattle.command_outcome.specs.declared.outcome.Input.TheVariants as input
 use Rattle.command_outcome.specs.declared.outcome.CommandRefusal.{CommandRefusal}
 use Rattle.command_outcome.specs.declared.outcome.CommandRefusal.TheVariants as refusal
-use Rattle.command_reflect.specs.declared.reflection.Reflection.{Reflection}
 use Rattle.command_words.specs.declared.words.DrillRequest.{DrillRequest}
-use Rattle.commands.specs.Verdict.{Closing, Fine, ByRefusal, ByWant, ByNetFault, ByVisit, ByReflecting, ByDrill, Verdict, PlainVisit, Coming, Free, Only, at_once, reflected_verdict}
+use Rattle.commands.specs.Verdict.{Closing, Fine, ByRefusal, ByWant, ByNetFault, ByVisit, ByReflecting, ByDrill, Verdict, PlainReflection, PlainVisit, Coming, Free, Only, at_once, reflected_verdict}
 use Rattle.croquet.specs.Drills.{OfDrilled, drill_size}
 use Rattle.croquet.specs.declared.status.Status.{Status}
 use Rattle.croquet.specs.declared.status.Status.TheVariants as status
@@ -174,15 +174,15 @@ pub record Reaches {F W N L : Type 0} (tells : OutsideTells F W N L) (coming : C
   pub comes : coming (record { steps = steps; closing = closing })
   pub acts : Acts tells steps None old new
 
--- a reflector has done this to the net, by a clock that may give these values, and answers so; nothing else moves
+-- a reflector of this session has done this to the net, by a clock that may give these values, counted from the session's horizon, and answers so; nothing else moves
 abbrev pub ServesNet
-    : (ℕ → Type 0) → {F W N L : Type 0} → OutsideTells F W N L → Reflection → Result Reflected ServeFault → Outside F W N L → Outside F W N L
+    : (ℕ → Type 0) → {F W N L : Type 0} → OutsideTells F W N L → PlainReflection → Result Reflected ServeFault → Outside F W N L → Outside F W N L
     → Type 0
 ServesNet gives tells reflection answer old new =
-    OnPart tells.net (λ net. OnPart tells.links (λ links. Reflects gives reflection.id net links (Listen reflection.address ∷ []) reflection.connections old.net new.net answer))
+    OnPart tells.net (λ net. OnPart tells.links (λ links. Reflects (gives_later gives reflection.opening.horizon) (record { 0 = reflection.id }) reflection.opening net links (Listen reflection.address ∷ []) reflection.connections old.net new.net answer))
     × (new ≡ record old { net = new.net })
 
--- what comes of a reflector's answer: the log of its session is put under this name, and its text is printed, also where the net failed
+-- what comes of a reflector's answer: its session is put under this name as it is stored, and its text is printed, also where the net failed
 abbrev pub OfReflected : List ℕ → Result Reflected ServeFault → Coming
 OfReflected log (Ok reflected) = Free (Only (reflected_verdict log reflected.ends reflected.session.plain reflected.net_failed))
 OfReflected log (Err serve_fault.ListenFault) = Only (at_once ByNetFault)
@@ -190,7 +190,7 @@ OfReflected log (Err serve_fault.WantOfMemory) = Only (at_once ByWant)
 
 -- a command has done its steps, a reflector has served the net, and what comes of its answer is done
 pub record RanAsReflector (gives : ℕ → Type 0) {F W N L : Type 0} (tells : OutsideTells F W N L) (coming : Coming) (old new : Outside F W N L) (result : Status) : Type 0 where
-  pub reflection : Reflection
+  pub reflection : PlainReflection
   pub ready : Outside F W N L
   pub reaches : Reaches tells coming (ByReflecting reflection) old ready
   pub answer : Result Reflected ServeFault

@@ -38,7 +38,7 @@ fn outcome_of(
     report: DrillReport,
 ) -> Result<Outcome, WantOfMemory>
     ensures { IfOk result (λ outcome. steps_of outcome.files outcome.text
-        ≡ drilled_steps request report.session.plain.log (map snapshot_of report.replicas) report.total report.agree) }
+        ≡ drilled_steps request report.session.plain (map snapshot_of report.replicas) report.total report.agree) }
 {
     let DrillReport {
         session,

@@ -7,6 +7,7 @@ ghost use Rattle.command_words.specs.Bounds.{UsesNet};
 ghost use Rattle.commands.specs.Laws.{IsFunction, LogsTellTheirEvents, SnapshotsAgree, SomeVerdictComes};
 ghost use Rattle.commands.specs.Verdict.{Comes};
 ghost use Rattle.commands.specs.Work.{ComesNext, IsBoundedNext, ask_of, RunsOn};
+ghost use Rattle.reflect_server.specs.Opening.{gives_later};
 ghost use Rattle.view_follows.specs.SessionsReplay.{EndsViews, OfViewSessions};
 ghost use Rattle.view_follows.specs.ViewsReplay.{VisitsEndInReplay};
 ghost use Rattle.view_shell.specs.OneRun.{IsOneRun};
@@ -122,7 +123,7 @@ pub fn croquet<
 ) -> (N, Status)
     // There are steps and an end that come of the words, and what was read, put, printed, heard and sent is what they give, up to
     // the place where the run was cut, and then the last line. Behind the steps of `reflect` its reflector serves the net, and more
-    // steps and an end come of what it answers. Of `drill` the log is put, and of each view the snapshot of the log's replay.
+    // steps and an end come of what it answers. Of `drill` the session is put, and of each view the snapshot of the log's replay.
     ensures ran { Ran (C.gives clock.now) (outside_tells (files_tell F.held F.asked F.faults F.wants) (output_tells W.written W.faults W.wants)
         (net_tells N.coming N.over N.asked N.faults N.lent N.link_counts)
         (links_tell N.Conn.coming N.Conn.heard N.Conn.sent N.Conn.counts))
@@ -140,11 +141,12 @@ pub fn croquet<
     ensures view { IsOneRun }
     // A view's run that is done printed last the line of the replay of the log, where one legal log served its links, with honest bases.
     ensures replays { VisitsEndInReplay }
-    // In a session of a reflector whose only clients are views each view that is done printed last the line of the replay of the log.
-    ensures views { OfViewSessions (C.gives clock.now) (links_tell N.Conn.coming N.Conn.heard N.Conn.sent N.Conn.counts) EndsViews }
+    // In a new session of a reflector whose only clients are views each view that is done printed last the line of the replay of the log.
+    ensures views { OfViewSessions (gives_later (C.gives clock.now) 0) (links_tell N.Conn.coming N.Conn.heard N.Conn.sent N.Conn.counts) EndsViews }
     // Some verdict comes that is not want of memory, whatever the files give.
     ensures some { SomeVerdictComes }
-    // The log that a script leaves has each event that was answered Stamped, once and in order.
+    // The log that a script leaves has the events of the log that it began with, and then each event that was answered Stamped, once and in
+    // order.
     ensures events { LogsTellTheirEvents }
     // No command but `join` and `reflect` has a net.
     ensures net { ¬ UsesNet (command_of words.now) → result.0 ≡ net }
@@ -168,6 +170,7 @@ pub fn croquet<
         Turn::Reflects(reflection) => {
             let Reflection {
                 id,
+                opening,
                 address,
                 connections,
                 log,
@@ -179,7 +182,7 @@ pub fn croquet<
                 clock,
                 gate,
             };
-            let (net, answer) = reflect(rt, alloc, &server, net);
+            let (net, answer) = reflect(rt, alloc, &server, opening, net);
             let status = tell_reflected(alloc, log, answer, files, out);
             (net, status)
         }

@@ -6,6 +6,7 @@ use Rattle.reflector_core.specs.declared.request.Reply.{Reply}
 use Rattle.join_sync.specs.declared.cursor.Cursor.{Cursor}
 use Rattle.join_sync.specs.Batches.{most_pulled, next_cursor}
 use Rattle.session_lock.specs.Passes.{PassState, SharedState}
+use Rattle.reflector_core.specs.Play.{first_session}
 use Rattle.connection.specs.Exchanges.{Exchange, exchanges_in}
 use Rattle.drill.specs.declared.trust.TrustReplay.{TrustReplay}
 use Rattle.drill.specs.Turns.{HasPulled, HasRead}
@@ -36,14 +37,14 @@ turn_made view (suc made) cursor calls some after =
     subst (λ (before : ℕ). AfterReading (AfterEvent view (suc made) (AfterTurns view before)) cursor calls) last after
 
 pub turn_read
-    : (view number : ℕ) (before after : PassState) (old new : Cursor) → 1 ≤ number → AfterEvent view number (AfterTurns view (number - 1)) old (exchanges_in before.seen view) → HasRead view before after old new
-    → AfterTurns view number new (exchanges_in after.seen view)
+    : (view number : ℕ) (before after : PassState) (old new : Cursor) → 1 ≤ number → AfterEvent view number (AfterTurns view (number - 1)) old (exchanges_in first_session before.seen view) → HasRead view before after old new
+    → AfterTurns view number new (exchanges_in first_session after.seen view)
 turn_read view number before after old new some event read =
-    turn_made view number new (exchanges_in after.seen view) some
-    (reading_from (λ cursor calls. (cursor ≡ old) × (calls ≡ exchanges_in before.seen view)) (AfterEvent view number (AfterTurns view (number - 1)))
+    turn_made view number new (exchanges_in first_session after.seen view) some
+    (reading_from (λ cursor calls. (cursor ≡ old) × (calls ≡ exchanges_in first_session before.seen view)) (AfterEvent view number (AfterTurns view (number - 1)))
     (λ cursor calls at. subst (λ (cursor : Cursor). AfterEvent view number (AfterTurns view (number - 1)) cursor calls) (sym at.0)
     (subst (AfterEvent view number (AfterTurns view (number - 1)) old) (sym at.1) event))
-    new (exchanges_in after.seen view) read)
+    new (exchanges_in first_session after.seen view) read)
 
 -- ---- pulls
 
@@ -51,18 +52,18 @@ pub has_pulled
     : (gives : ℕ → Type 0) (views : ℕ) (shared : SharedState TrustReplay) (view : ℕ) (before after : PassState) (cursor next : Cursor) (given : Reply) (last : Bool)
     → HasAsked gives views shared view before after (request.Pull cursor.after most_pulled) given → next ≡ next_cursor cursor given → has_tick given ≡ last → HasPulled view before after cursor next last
 has_pulled gives views shared view before after cursor next given last asked is told =
-    (exchanges_in before.seen view, request.Pull cursor.after most_pulled, given, asked.exchanged, refl, (refl, is, sym told))
+    (exchanges_in first_session before.seen view, request.Pull cursor.after most_pulled, given, asked.exchanged, refl, (refl, is, sym told))
 
 -- so many batches since a worker's pass was so, and its cursor this
 abbrev pub PullsSince : ℕ → PassState → PassState → Cursor → Cursor → ℕ → Type 0
-PullsSince view before after old new count = AfterPulls count (λ cursor calls. (cursor ≡ old) × (calls ≡ exchanges_in before.seen view)) new (exchanges_in after.seen view)
+PullsSince view before after old new count = AfterPulls count (λ cursor calls. (cursor ≡ old) × (calls ≡ exchanges_in first_session before.seen view)) new (exchanges_in first_session after.seen view)
 
 module _ (view count : ℕ) (before mid after : PassState) (old cursor next : Cursor) (since : PullsSince view before mid old cursor count) where
   one_pull : (last : Bool) → HasPulled view mid after cursor next last
-      → FollowedBy (AfterPulls count (λ at calls. (at ≡ old) × (calls ≡ exchanges_in before.seen view)) cursor) (AsksPull cursor next last) (exchanges_in after.seen view)
+      → FollowedBy (AfterPulls count (λ at calls. (at ≡ old) × (calls ≡ exchanges_in first_session before.seen view)) cursor) (AsksPull cursor next last) (exchanges_in first_session after.seen view)
   one_pull last pulled =
-      then_from (λ calls. calls ≡ exchanges_in mid.seen view) (AfterPulls count (λ at calls. (at ≡ old) × (calls ≡ exchanges_in before.seen view)) cursor) (AsksPull cursor next last)
-      (λ calls is. subst (AfterPulls count (λ at calls. (at ≡ old) × (calls ≡ exchanges_in before.seen view)) cursor) (sym is) since) (exchanges_in after.seen view) pulled
+      then_from (λ calls. calls ≡ exchanges_in first_session mid.seen view) (AfterPulls count (λ at calls. (at ≡ old) × (calls ≡ exchanges_in first_session before.seen view)) cursor) (AsksPull cursor next last)
+      (λ calls is. subst (AfterPulls count (λ at calls. (at ≡ old) × (calls ≡ exchanges_in first_session before.seen view)) cursor) (sym is) since) (exchanges_in first_session after.seen view) pulled
 
   pub pulls_on : HasPulled view mid after cursor next false → PullsSince view before after old next (count + 1)
   pulls_on pulled =

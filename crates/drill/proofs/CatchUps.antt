@@ -60,7 +60,7 @@ module _ (gives : ℕ → Type 0) (size : Size) (shared : SharedState TrustRepla
         kept = same ∙ ap (λ (r : ReplicaView). record w { pass = new.pass; replica = r }) replica;
         come = omega arith;
         left = inl refl;
-        calls = (exchanges_in w.pass.seen w.view, request.Tick now, given, asked.exchanged, (refl, refl), (now, refl));
+        calls = (exchanges_in first_session w.pass.seen w.view, request.Tick now, given, asked.exchanged, (refl, refl), (now, refl));
       }
 
   pub more_on : (first w new : Worker) (start old next : Cursor) → w.view ≡ first.view → HasTakenMore gives size.views first w start old → HasTakenMore gives size.views w new old next → HasTakenMore gives size.views first new start next

@@ -131,7 +131,7 @@ module _ (gives : ℕ → Type 0) (size : Size) (shared : SharedState TrustRepla
       subst (λ (v : ℕ). HasFinished s v (own size.seed v size.events)) one.1 left.done.ends.finished
 
   -- the calls of each view are those of its worker
-  pub all_called : (view : ℕ) → IsOfDrill size.views view → AreCallsOf view size.events (exchanges_in keeper.seen view)
+  pub all_called : (view : ℕ) → IsOfDrill size.views view → AreCallsOf view size.events (exchanges_in first_session keeper.seen view)
   all_called view of =
       let found_one = found view of in
       let one = found_one.0 in
@@ -139,8 +139,8 @@ module _ (gives : ℕ → Type 0) (size : Size) (shared : SharedState TrustRepla
       let seen = one.worker.pass.seen in
       let saw = found_one.2.1 in
       let first : IsDrillHistory gives size.views seen = history_first gives size.views seen saw.0 (subst (IsDrillHistory gives size.views) (sym saw.1) whole) in
-      let same : exchanges_in seen own ≡ exchanges_in keeper.seen own = sym (exchanges_same seen saw.0 own saw.2) ∙ ap (λ (history : List Item). exchanges_in history own) saw.1 in
-      subst (λ (view : ℕ). AreCallsOf view size.events (exchanges_in keeper.seen view)) found_one.1 (subst (AreCallsOf own size.events) same (found_one.2.0.calls first))
+      let same : exchanges_in first_session seen own ≡ exchanges_in first_session keeper.seen own = sym (exchanges_same first_session seen saw.0 own saw.2) ∙ ap (λ (history : List Item). exchanges_in first_session history own) saw.1 in
+      subst (λ (view : ℕ). AreCallsOf view size.events (exchanges_in first_session keeper.seen view)) found_one.1 (subst (AreCallsOf own size.events) same (found_one.2.0.calls first))
 
   pub all_drilled : Drilled size.seed size.views size.events s.log s.horizon
   all_drilled = drilled size.seed size.views size.events s finished

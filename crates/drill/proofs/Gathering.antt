@@ -57,7 +57,7 @@ saw_on callers old new (one ∷ rest) saw among all =
 module _ (shared : SharedState TrustReplay) where
   pub gathers_none : (made : ℕ) (keeper : PassState) → keeper ≡ keeper_after shared made → GathersWorkers shared [] keeper
   gathers_none made keeper is =
-      subst (GathersWorkers shared []) (sym is) (record { same = refl; callers = refl; idle = refl; saw = tt })
+      subst (GathersWorkers shared []) (sym is) (record { same = refl; opening = refl; callers = refl; idle = refl; saw = tt })
 
   pub gathers_more : (ended : List Finished) (one : Finished) (old new : PassState) → GathersWorkers shared ended old → HasPass shared one → Merged old one.worker.pass new
       → GathersWorkers shared (ended ++ one ∷ []) new
@@ -66,6 +66,7 @@ module _ (shared : SharedState TrustReplay) where
       let first : has 0 old.callers ≡ true = ap (has 0) callers ∙ has_own 0 (views_of ended) in
       record {
         same = ap (λ (p : PassState). p.session) merged.same ∙ gathers.same;
+        opening = ap (λ (p : PassState). p.opening) merged.same ∙ gathers.opening;
         callers =
             ap (λ (p : PassState). p.callers) merged.same
             ∙ ap (λ (ns : List ℕ). ns ++ one.worker.pass.callers) callers

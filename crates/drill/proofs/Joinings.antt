@@ -80,14 +80,14 @@ module _ (gives : ℕ → Type 0) (size : Size) (shared : SharedState TrustRepla
   nothing_before whole =
       apart gives size.views w.view [] w.pass.seen whole (subst (λ (callers : List ℕ). calls_of callers w.pass.seen ≡ []) first.worker.callers first.calls)
 
-  no_calls : exchanges_in w.pass.seen w.view ≡ []
+  no_calls : exchanges_in first_session w.pass.seen w.view ≡ []
   no_calls =
       exchanges_none first_session w.view w.pass.seen (subst (λ (callers : List ℕ). calls_of callers w.pass.seen ≡ []) first.worker.callers first.calls)
 
   -- it has made one call
-  asks_first : (opened : Option Cursor) → HasJoined gives size.views shared w new Fresh opened → FollowedBy (λ calls. calls ≡ []) (AsksJoin w.view 0 opened) (exchanges_in new.pass.seen w.view)
+  asks_first : (opened : Option Cursor) → HasJoined gives size.views shared w new Fresh opened → FollowedBy (λ calls. calls ≡ []) (AsksJoin w.view 0 opened) (exchanges_in first_session new.pass.seen w.view)
   asks_first opened has =
-      (exchanges_in w.pass.seen w.view, Join w.view has.now want.Fresh, has.reply, has.asked.exchanged, no_calls, (has.now, want.Fresh, inl (omega arith, refl), refl, has.opened))
+      (exchanges_in first_session w.pass.seen w.view, Join w.view has.now want.Fresh, has.reply, has.asked.exchanged, no_calls, (has.now, want.Fresh, inl (omega arith, refl), refl, has.opened))
 
   call : (how : How) (cursor : Option Cursor) → (has : HasJoined gives size.views shared w new how cursor)
       → HasCalled gives size.views w.view w.pass new.pass (Join w.view has.now (join_want (worlds_of w.replica) w.replica.plain how)) has.asked.history
@@ -137,7 +137,7 @@ module _ (gives : ℕ → Type 0) (size : Size) (shared : SharedState TrustRepla
   pub first_joined : (cursor : Cursor) → HasJoined gives size.views shared w new Fresh (Some cursor) → IsWorkerReady gives size shared new cursor 0
   first_joined cursor has = record {
     worker = worker;
-    calls = subst (λ (view : ℕ). AfterTurns view 0 cursor (exchanges_in new.pass.seen view)) (sym view_kept) (asks_first (Some cursor) has);
+    calls = subst (λ (view : ℕ). AfterTurns view 0 cursor (exchanges_in first_session new.pass.seen view)) (sym view_kept) (asks_first (Some cursor) has);
     few = omega (arith, few_asked Fresh (Some cursor) has);
     works = has.taken.works;
     connection = cursor_of w.view has.reply cursor has.opened ∙ sym view_kept;
@@ -188,6 +188,6 @@ module _ (gives : ℕ → Type 0) (size : Size) (shared : SharedState TrustRepla
     few = omega (arith, few_asked Fresh None has);
     catches = tt;
     ends = λ whole. ends_if has whole (comes None has whole);
-    calls = λ whole. subst (λ (view : ℕ). AreCallsOf view size.events (exchanges_in new.pass.seen view)) (sym view_kept) (inl (asks_first None has));
+    calls = λ whole. subst (λ (view : ℕ). AreCallsOf view size.events (exchanges_in first_session new.pass.seen view)) (sym view_kept) (inl (asks_first None has));
     late = λ whole refused. late_if has whole (comes None has whole);
   }

@@ -46,7 +46,7 @@ module _ (gives : ℕ → Type 0) (size : Size) (shared : SharedState TrustRepla
   few_asked few = omega (arith, few, call.few)
 
   -- it is its last call
-  leaves_last : MayLeave w.view size.events cursor (calls_made w) → AreCallsOf w.view size.events (exchanges_in p.seen w.view)
+  leaves_last : MayLeave w.view size.events cursor (calls_made w) → AreCallsOf w.view size.events (exchanges_in first_session p.seen w.view)
   leaves_last may = inr (cursor, (calls_made w, Leave w.view cursor.joined now, reply, asked.exchanged, may, (now, refl)))
 
   leaves : IsDrillHistory gives size.views p.seen → IsHereBy (play w.pass.seen).log w.view cursor.joined

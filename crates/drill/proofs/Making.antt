@@ -109,6 +109,7 @@ module _ (gives : ℕ → Type 0) (size : Size) (prepared : DrillSession) (made 
   is_worker : IsWorker gives size prepared.shared w
   is_worker = record {
     session = ap (λ (p : PassState). p.session) is.pass.same ∙ ap (λ (p : PassState). p.session) is.kept;
+    opening = ap (λ (p : PassState). p.opening) is.pass.same ∙ ap (λ (p : PassState). p.opening) is.kept;
     callers = own_number;
     numbers = is.numbers;
     named = (omega (arith, is.view), omega (arith, is.view, is.next));

@@ -6,7 +6,6 @@ use Rattle.world_plain.specs.World.{WorldRecord}
 use Rattle.snapshot_codec.specs.Answer.{IsSnapshot}
 use Rattle.snapshot_codec.proofs.Sizes.{IsSmall-valid, world_spelling-le}
 use Rattle.reflector_core.specs.PlainSession.{PlainSession}
-use Rattle.reflector_core.specs.Play.{first_session}
 use Rattle.reflector_core.specs.declared.request.Request.TheVariants.{Offer}
 use Rattle.reflector_core.specs.declared.request.Reply.{Reply}
 use Rattle.session_lock.specs.History.{IsSoundThrough}
@@ -47,7 +46,7 @@ snapshot_small counts id bytes w is =
 pub has_offered
     : (gives : ℕ → Type 0) (size : Size) (shared : SharedState TrustReplay) (w : Worker) (after : PassState) (cursor : Cursor) (time : ℕ) (bytes : List ℕ) (reply : Reply) (counts id : List ℕ)
     → time ≡ w.replica.plain.world.time → IsWorker gives size shared w → IsSnapshot counts id bytes w.replica.plain.world
-    → Replied (IsTrustedReplay shared) w.pass after (Offer w.view cursor.joined time bytes) reply → IsSoundThrough first_session after.seen
+    → Replied (IsTrustedReplay shared) w.pass after (Offer w.view cursor.joined time bytes) reply → IsSoundThrough w.pass.opening after.seen
     → HasOffered gives size.views shared w (record w { pass = after }) cursor
 has_offered gives size shared w after cursor time bytes reply counts id is worker snapshot replied sound = record {
   bytes = bytes;

@@ -13,6 +13,7 @@ use Rattle.session_lock.specs.History.{play}
 use Rattle.session_lock.specs.Passes.{SharedState, own_calls}
 use Rattle.join_sync.specs.declared.cursor.Cursor.{Cursor}
 use Rattle.join_sync.specs.Answers.{first_cursor}
+use Rattle.reflector_core.specs.Play.{first_session}
 use Rattle.connection.specs.Exchanges.{exchanges_in}
 use Rattle.model_solved.specs.Founding.{founding_of, IsFounding}
 use Rattle.replica_plain.specs.declared.how.How.{How}
@@ -108,7 +109,7 @@ module _ (gives : ℕ → Type 0) (size : Size) (shared : SharedState TrustRepla
       → FollowedBy (AfterDrop new.view number payload (AfterTurns new.view (number - 1)) cursor) (AsksJoin new.view number opened) (calls_made new)
   asks_again opened has =
       let want = join_want (worlds_of w.replica) w.replica.plain how in
-      subst (λ (view : ℕ). FollowedBy (AfterDrop view number payload (AfterTurns view (number - 1)) cursor) (AsksJoin view number opened) (exchanges_in new.pass.seen view)) (sym view_kept)
+      subst (λ (view : ℕ). FollowedBy (AfterDrop view number payload (AfterTurns view (number - 1)) cursor) (AsksJoin view number opened) (exchanges_in first_session new.pass.seen view)) (sym view_kept)
       (calls_made w, Join w.view has.now want, has.reply, has.asked.exchanged, lost.calls, (has.now, want, lost.wants, refl, has.opened))
 
   -- its Sync is taken

@@ -10,6 +10,7 @@ use Rattle.replica_plain.specs.PlainReplica.{PlainReplica}
 use Rattle.replica_plain.specs.Worlds.{Worlds}
 use Rattle.replica_plain.specs.Taking.{Taken, acknowledges, faults, out_of_order, take_done, taken, takes, when_synced}
 use Rattle.replica_plain.specs.declared.fault.ReplicaFault.TheVariants as cause
+use Rattle.reflector_core.specs.Play.{first_session}
 use Rattle.connection.specs.Exchanges.{exchanges_in}
 use Rattle.replica.specs.View.{ReplicaView, with_plain, worlds_of}
 use Rattle.drill.specs.declared.trust.TrustReplay.{TrustReplay}
@@ -113,7 +114,7 @@ module _ (gives : ℕ → Type 0) (size : Size) (shared : SharedState TrustRepla
       let view : new.view ≡ w.view = ap (λ (one : Worker). one.view) source in
       record {
         worker = worker;
-        calls = subst (λ (view : ℕ). AfterTurns view number next (exchanges_in new.pass.seen view)) (sym view) (turn_read w.view number w.pass new.pass cursor next settled.turn settled.calls read);
+        calls = subst (λ (view : ℕ). AfterTurns view number next (exchanges_in first_session new.pass.seen view)) (sym view) (turn_read w.view number w.pass new.pass cursor next settled.turn settled.calls read);
         few = omega (arith, more.passed.asked, settled.few);
         works = more.works;
         connection = more.connection.view ∙ settled.connection ∙ sym view;

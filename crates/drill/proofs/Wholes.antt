@@ -61,7 +61,7 @@ module _ (gives : ℕ → Type 0) (size : Size) (shared : SharedState TrustRepla
   same = apart gives size.views view one.worker.pass.seen rest whole none
 
   grows : GrowsTo old new
-  grows = history_grows one.worker.pass.seen rest
+  grows = history_grows first_session one.worker.pass.seen rest
 
   same_done : done_by view new.log ≡ done_by view old.log
   same_done = ap (λ (es : List Entry). map (λ (e : Entry). e.what) es) same

@@ -53,7 +53,7 @@ pub record PlaysDrill (gives : ℕ → Type 0) (size : Size) (s : PlainSession) 
   pub play : s ≡ play history
   pub sound : IsSoundThrough first_session history
   pub asked : AllByRecursion (IsAskedInDrill gives size.views) history
-  pub calls : (view : ℕ) → IsOfDrill size.views view → AreCallsOf view size.events (exchanges_in history view)
+  pub calls : (view : ℕ) → IsOfDrill size.views view → AreCallsOf view size.events (exchanges_in first_session history view)
 
 -- each entry is of a view of the drill, and the horizon is at most the length of the log beyond 0 or a value of the clock
 pub record HasDrillEntries (gives : ℕ → Type 0) (views : ℕ) (s : PlainSession) : Type 0 where

@@ -6,6 +6,7 @@ use Rattle.model_solved.specs.Founding.{founding_of}
 use Rattle.session_lock.specs.History.{Saw, calls_of}
 use Rattle.session_lock.specs.Passes.{PassState, SharedState, first_pass, numbers_held}
 use Rattle.reflector_core.specs.PlainSession.{PlainSession}
+use Rattle.reflector_core.specs.Play.{first_session}
 use Rattle.replica.specs.View.{ReplicaView}
 use Rattle.drill.specs.declared.size.Size.{Size}
 use Rattle.drill.specs.declared.trust.TrustReplay.{TrustReplay}
@@ -50,7 +51,7 @@ pub record AllAnswer (gives : ℕ → Type 0) (size : Size) (shared : SharedStat
 
 -- the pass that is kept, once so many passes of one caller were split off it
 abbrev pub keeper_after : SharedState TrustReplay → ℕ → PassState
-keeper_after shared made = record (first_pass shared.session) { spare = record { first = made + 1; count = 4294967295 - made } ∷ [] }
+keeper_after shared made = record (first_pass shared.session first_session) { spare = record { first = made + 1; count = 4294967295 - made } ∷ [] }
 
 -- a pass of the session that calls by its view's number
 pub record HasPass (shared : SharedState TrustReplay) (one : Finished) : Type 0 where
@@ -61,6 +62,7 @@ pub record HasPass (shared : SharedState TrustReplay) (one : Finished) : Type 0 
 -- Caller 0 has made no call. The other callers are the views of those that have ended, and their calls are those that each has made.
 pub record GathersWorkers (shared : SharedState TrustReplay) (ended : List Finished) (pass : PassState) : Type 0 where
   pub same : pass.session ≡ shared.session
+  pub opening : pass.opening ≡ first_session
   pub callers : pass.callers ≡ 0 ∷ views_of ended
   pub idle : calls_of (0 ∷ []) pass.seen ≡ []
   pub saw : AllByRecursion (λ one. Saw (one.worker.view ∷ []) one.worker.pass.seen pass.seen) ended

@@ -14,6 +14,7 @@ use Rattle.join_sync.specs.Answers.{first_cursor}
 use Rattle.join_sync.specs.Batches.{most_pulled}
 use Rattle.session_lock.specs.History.{play}
 use Rattle.session_lock.specs.Passes.{PassState, SharedState, own_calls}
+use Rattle.reflector_core.specs.Play.{first_session}
 use Rattle.connection.specs.Exchanges.{Exchange, exchanges_in}
 use Rattle.seeded_random.specs.Draw.{word_of, state_after, number_below}
 use Rattle.replica_plain.specs.declared.how.How.{How}
@@ -123,11 +124,11 @@ pub record HasTakenMore (gives : ℕ → Type 0) (views : ℕ) (before after : W
 
 -- its pass has made one call, the Pull of the next batch
 abbrev pub HasPulled : ℕ → PassState → PassState → Cursor → Cursor → Bool → Type 0
-HasPulled view before after old new last = FollowedBy (λ calls. calls ≡ exchanges_in before.seen view) (AsksPull old new last) (exchanges_in after.seen view)
+HasPulled view before after old new last = FollowedBy (λ calls. calls ≡ exchanges_in first_session before.seen view) (AsksPull old new last) (exchanges_in first_session after.seen view)
 
 -- its pass has made a Tick, and Pulls up to the end of the log
 abbrev pub HasRead : ℕ → PassState → PassState → Cursor → Cursor → Type 0
-HasRead view before after old new = AfterReading (λ cursor calls. (cursor ≡ old) × (calls ≡ exchanges_in before.seen view)) new (exchanges_in after.seen view)
+HasRead view before after old new = AfterReading (λ cursor calls. (cursor ≡ old) × (calls ≡ exchanges_in first_session before.seen view)) new (exchanges_in first_session after.seen view)
 
 -- the whole log, or as many entries of it as a Pull asks for
 abbrev pub HasCome : PlainSession → ReplicaView → Cursor → Cursor → Bool → Type 0
@@ -145,7 +146,7 @@ pub record HasOffered (gives : ℕ → Type 0) (views : ℕ) (shared : SharedSta
 
 -- what it has asked, and what it was replied
 abbrev pub calls_made : Worker → List Exchange
-calls_made w = exchanges_in w.pass.seen w.view
+calls_made w = exchanges_in first_session w.pass.seen w.view
 
 -- What the view has done, behind so many turns, if nobody but the drill's workers has called. Its last event is not later than its replica's
 -- world.

@@ -30,6 +30,7 @@ IsTrustedReplay shared s = IsTrusted (λ trust id log horizon time bytes. Allows
 -- Its pass is one of the drill's session, and calls by the view's number, as the view may. Its replica is the view's.
 pub record IsWorker (gives : ℕ → Type 0) (size : Size) (shared : SharedState TrustReplay) (w : Worker) : Type 0 where
   pub session : w.pass.session ≡ shared.session
+  pub opening : w.pass.opening ≡ first_session
   pub callers : w.pass.callers ≡ w.view ∷ []
   pub numbers : numbers_held w.pass ≡ 1
   pub named : IsOfDrill size.views w.view
@@ -59,7 +60,7 @@ pub record HasAsked (gives : ℕ → Type 0) (views : ℕ) (shared : SharedState
   pub session : play after.seen ≡ (answer (play history) request).session
   pub replies : reply ≡ (answer (play history) request).reply
   pub own : own_calls after ≡ own_calls before ++ Did view request ∷ []
-  pub exchanged : exchanges_in after.seen view ≡ exchanges_in before.seen view ++ Answered request reply ∷ []
+  pub exchanged : exchanges_in first_session after.seen view ≡ exchanges_in first_session before.seen view ++ Answered request reply ∷ []
   pub first : IsDrillHistory gives views after.seen → IsDrillHistory gives views history
 
 -- The view's worker has called, and put nothing into the log.

@@ -2,6 +2,7 @@
 ghost use Rattle.std.specs.Prelude.{◌≡◌, ◌+◌, ◌*◌, ◌≤◌, ◌++◌, ◌∷◌, [], All, IfOk, IsOkAnd, OnOk, map, vec_len};
 ghost use Rattle.std.specs.List.{AllZip};
 ghost use Rattle.std.specs.Thread.{IsSync};
+ghost use Rattle.reflector_core.specs.Play.{first_session};
 ghost use Rattle.session_lock.specs.Passes.{first_pass, numbers_held};
 ghost use Rattle.run_steps.specs.Limits.{most_drill_events, most_drill_views};
 ghost use Rattle.drill.specs.Drill.{HasDrilled};
@@ -132,7 +133,7 @@ struct DrillSession {
 /// All that is made before the workers, and the session's first pass.
 fn prepare(alloc: Global) -> Result<(DrillSession, Pass), WantOfMemory>
     ensures prepared { IfOk result (λ made. IsDrillSession made.0) }
-    ensures keeper { IfOk result (λ made. made.1 ≡ first_pass made.0.shared.session) }
+    ensures keeper { IfOk result (λ made. made.1 ≡ first_pass made.0.shared.session first_session) }
 {
     let name = Text::copy(alloc, NAME)?;
     let program = Arc::new(alloc, drill_program(alloc)?)?;
@@ -167,7 +168,7 @@ fn make_workers<C: Clock, G, R: Wait>(
     requires prepared { IsDrillSession prepared.now }
     requires shared { hall.now.shared.now ≡ prepared.now.shared }
     requires size { IsOfSize hall.now.size }
-    requires keeper { keeper.old ≡ first_pass hall.now.shared.now.session }
+    requires keeper { keeper.old ≡ first_pass hall.now.shared.now.session first_session }
     ensures first { IfOk result (λ workers. All (IsFirst (C.gives hall.now.clock.now) hall.now.size hall.now.shared.now) workers.items) }
     ensures views { IfOk result (λ workers. views_of_workers workers.items ≡ numbers_from 1 hall.now.size.views) }
     ensures keeper { OnOk result (keeper.new ≡ keeper_after hall.now.shared.now hall.now.size.views) }

@@ -29,7 +29,6 @@ use Rattle.session_lock.specs.declared.knowledge.Item.{Item}
 use Rattle.session_lock.specs.declared.knowledge.Item.TheVariants.{Did, Void}
 use Rattle.session_lock.specs.History.{after_item}
 use Rattle.reflector_core.specs.PlainSession.{PlainSession}
-use Rattle.reflector_core.specs.Play.{first_session}
 use Rattle.connection.specs.declared.ending.Ended.{Ended}
 use Rattle.connection.specs.declared.ending.Ended.TheVariants as ended
 use Rattle.connection.specs.Exchanges.{Exchange, Answered, Unanswered, exchanges_from, exchanges_in}
@@ -317,9 +316,9 @@ void_from s c (Did who request ∷ rest) is =
 void_from s c (Void who ∷ rest) is = missed_both (eqb who c) (exchanges_from s c rest) (has_void c rest) (void_from s c rest) is
 
 -- who still holds a view behind its talk has found no memory
-pub talk_holds : (gives : ℕ → Type 0) (id : SessionId) (history : List Item) (c : ℕ) (said : List Heard) (sent : List (List ℕ)) (how : Ended) (v j : ℕ) → Talk gives id history c said sent how
-    → holds v j (exchanges_in history c) ≡ true → has_void c history ≡ true
-talk_holds gives id history c said sent how v j talk held =
+pub talk_holds : (gives : ℕ → Type 0) (id : SessionId) (opening : PlainSession) (history : List Item) (c : ℕ) (said : List Heard) (sent : List (List ℕ)) (how : Ended) (v j : ℕ) → Talk gives id opening history c said sent how
+    → holds v j (exchanges_in opening history c) ≡ true → has_void c history ≡ true
+talk_holds gives id opening history c said sent how v j talk held =
     let out : IsOut (talk_walk id (Opening 0) talk.events).asked =
     subst (HeldIn (talk_walk id (Opening 0) talk.events).asked) talk.ends (walk_held id talk.events (Opening 0) [] refl) in
-    void_from first_session c history (subst (λ (l : List Exchange). missed_some l ≡ true) (sym talk.asked) (out v j (subst (λ (l : List Exchange). holds v j l ≡ true) talk.asked held)))
+    void_from opening c history (subst (λ (l : List Exchange). missed_some l ≡ true) (sym talk.asked) (out v j (subst (λ (l : List Exchange). holds v j l ≡ true) talk.asked held)))

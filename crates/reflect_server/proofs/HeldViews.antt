@@ -13,7 +13,6 @@ use Rattle.std.specs.Str.{bytes_eq}
 use Rattle.reflector_core.specs.PlainSession.{PlainSession}
 use Rattle.reflector_core.specs.Answer.{SessionOutcome, answer, stamp, is_ahead, is_closed, is_older, is_stale, repeats, append_entry, joins, stamps, reply_length, log_full, base_time_or_zero}
 use Rattle.tea_base.specs.Readings.{event_payload}
-use Rattle.reflector_core.specs.Play.{first_session}
 use Rattle.reflector_core.specs.declared.request.Request.{Request}
 use Rattle.reflector_core.specs.declared.request.Request.TheVariants.{Join, Send, Tick, Leave, Offer, Pull}
 use Rattle.reflector_core.specs.declared.request.Reply.{Reply}
@@ -22,9 +21,9 @@ use Rattle.reflector_core.specs.declared.request.Refusal.TheVariants.{Stale, Too
 use Rattle.wire_frames.specs.declared.start.Want.{Want}
 use Rattle.session_lock.specs.declared.knowledge.Item.{Item}
 use Rattle.session_lock.specs.declared.knowledge.Item.TheVariants.{Did, Void}
-use Rattle.session_lock.specs.History.{after_item, play, play_from}
-use Rattle.connection.specs.Exchanges.{Exchange, Answered, Unanswered, exchange_in, exchanges_from, exchanges_in}
-use Rattle.reflect_server.specs.Views.{opens_view, closes_view, ends_view, holds, holds_on}
+use Rattle.session_lock.specs.History.{after_item, play_from}
+use Rattle.connection.specs.Exchanges.{Exchange, Answered, Unanswered, exchange_in, exchanges_from}
+use Rattle.reflect_server.specs.Views.{opens_view, closes_view, ends_view, holds_in, holds_on, opens_with}
 
 -- ---- tests
 
@@ -197,51 +196,60 @@ or_true true = refl
 or_true false = refl
 
 -- an exchange that does not give the view up
-holds_still : (view joined : ℕ) (asked : List Exchange) (own : Bool) (exchange : Exchange) → holds view joined asked ≡ true → closes_view view joined exchange ≡ false
-    → holds view joined (asked ++ (if own then exchange ∷ [] else [])) ≡ true
-holds_still view joined asked true exchange held stays =
-    holds_behind view joined false asked (exchange ∷ [])
+holds_still : (view joined : ℕ) (first : Bool) (asked : List Exchange) (own : Bool) (exchange : Exchange) → holds_on view joined first asked ≡ true → closes_view view joined exchange ≡ false
+    → holds_on view joined first (asked ++ (if own then exchange ∷ [] else [])) ≡ true
+holds_still view joined first asked true exchange held stays =
+    holds_behind view joined first asked (exchange ∷ [])
     ∙ (ap (λ (b : Bool). opens_view view joined exchange || (b && not (closes_view view joined exchange))) held
     ∙ (ap (λ (b : Bool). opens_view view joined exchange || not b) stays ∙ or_true (opens_view view joined exchange)))
-holds_still view joined asked false exchange held stays = ap (holds view joined) (append-nil asked) ∙ held
+holds_still view joined first asked false exchange held stays = ap (holds_on view joined first) (append-nil asked) ∙ held
 
 -- an exchange that joins it
-holds_now : (view joined : ℕ) (asked : List Exchange) (exchange : Exchange) → opens_view view joined exchange ≡ true → holds view joined (asked ++ exchange ∷ []) ≡ true
-holds_now view joined asked exchange joins =
-    holds_behind view joined false asked (exchange ∷ [])
-    ∙ ap (λ (b : Bool). b || (holds view joined asked && not (closes_view view joined exchange))) joins
+holds_now : (view joined : ℕ) (first : Bool) (asked : List Exchange) (exchange : Exchange) → opens_view view joined exchange ≡ true → holds_on view joined first (asked ++ exchange ∷ []) ≡ true
+holds_now view joined first asked exchange joins =
+    holds_behind view joined first asked (exchange ∷ [])
+    ∙ ap (λ (b : Bool). b || (holds_on view joined first asked && not (closes_view view joined exchange))) joins
 
--- each view that is here is held by someone
-abbrev AreHeld : PlainSession → (ℕ → List Exchange) → Type 0
-AreHeld s asked = (v : ℕ) → is_here s.log v ≡ true → (c : ℕ) × (holds v (current s.log v) (asked c) ≡ true)
+-- who holds a view by a Join before any exchange
+abbrev Holding : Type 0
+Holding = ℕ → ℕ → ℕ → Bool
 
-item_held : (s : PlainSession) (asked : ℕ → List Exchange) (x : Item) → AreHeld s asked → AreHeld (after_item s x) (λ c. asked c ++ exchange_in s c x)
-item_held s asked (Void who) held v here =
-    let before = held v here in (before.0, holds_still v (current s.log v) (asked before.0) (eqb who before.0) Unanswered before.1 refl)
-item_held s asked (Did who request) held v here = by (request_stands s v request here)
+-- each view that is here is held by someone, who held it at first or by an exchange
+abbrev AreHeld : Holding → PlainSession → (ℕ → List Exchange) → Type 0
+AreHeld first s asked = (v : ℕ) → is_here s.log v ≡ true → (c : ℕ) × (holds_on v (current s.log v) (first c v (current s.log v)) (asked c) ≡ true)
+
+item_held : (first : Holding) (s : PlainSession) (asked : ℕ → List Exchange) (x : Item) → AreHeld first s asked → AreHeld first (after_item s x) (λ c. asked c ++ exchange_in s c x)
+item_held first s asked (Void who) held v here =
+    let before = held v here in (before.0, holds_still v (current s.log v) (first before.0 v (current s.log v)) (asked before.0) (eqb who before.0) Unanswered before.1 refl)
+item_held first s asked (Did who request) held v here = by (request_stands s v request here)
   where
     by : ((is_here s.log v ≡ true) × (current (answer s request).session.log v ≡ current s.log v) × (closes_view v (current s.log v) (Answered request (answer s request).reply) ≡ false))
         ⊎ (opens_view v (current (answer s request).session.log v) (Answered request (answer s request).reply) ≡ true)
-        → (c : ℕ) × (holds v (current (answer s request).session.log v) (asked c ++ exchange_in s c (Did who request)) ≡ true)
+        → (c : ℕ) × (holds_on v (current (answer s request).session.log v) (first c v (current (answer s request).session.log v)) (asked c ++ exchange_in s c (Did who request)) ≡ true)
     by (inl kept) =
         let before = held v kept.0 in (
           before.0,
-          subst (λ (n : ℕ). holds v n (asked before.0 ++ exchange_in s before.0 (Did who request)) ≡ true) (sym kept.1)
-              (holds_still v (current s.log v) (asked before.0) (eqb who before.0) (Answered request (answer s request).reply) before.1 kept.2),
+          subst (λ (n : ℕ). holds_on v n (first before.0 v n) (asked before.0 ++ exchange_in s before.0 (Did who request)) ≡ true) (sym kept.1)
+              (holds_still v (current s.log v) (first before.0 v (current s.log v)) (asked before.0) (eqb who before.0) (Answered request (answer s request).reply) before.1 kept.2),
         )
     by (inr joins) = (
       who,
-      ap (λ (b : Bool). holds v (current (answer s request).session.log v) (asked who ++ (if b then Answered request (answer s request).reply ∷ [] else []))) (eq-eqb who who refl)
-          ∙ holds_now v (current (answer s request).session.log v) (asked who) (Answered request (answer s request).reply) joins,
+      ap (λ (b : Bool). holds_on v (current (answer s request).session.log v) (first who v (current (answer s request).session.log v)) (asked who ++ (if b then Answered request (answer s request).reply ∷ [] else []))) (eq-eqb who who refl)
+          ∙ holds_now v (current (answer s request).session.log v) (first who v (current (answer s request).session.log v)) (asked who) (Answered request (answer s request).reply) joins,
     )
 
-items_held : (s : PlainSession) (asked : ℕ → List Exchange) (items : List Item) → AreHeld s asked → AreHeld (play_from s items) (λ c. asked c ++ exchanges_from s c items)
-items_held s asked [] held v here = let before = held v here in (before.0, ap (holds v (current s.log v)) (append-nil (asked before.0)) ∙ before.1)
-items_held s asked (x ∷ xs) held v here =
-    let last = items_held (after_item s x) (λ c. asked c ++ exchange_in s c x) xs (item_held s asked x held) v here in (
+items_held : (first : Holding) (s : PlainSession) (asked : ℕ → List Exchange) (items : List Item) → AreHeld first s asked → AreHeld first (play_from s items) (λ c. asked c ++ exchanges_from s c items)
+items_held first s asked [] held v here =
+    let before = held v here in (before.0, ap (holds_on v (current s.log v) (first before.0 v (current s.log v))) (append-nil (asked before.0)) ∙ before.1)
+items_held first s asked (x ∷ xs) held v here =
+    let last = items_held first (after_item s x) (λ c. asked c ++ exchange_in s c x) xs (item_held first s asked x held) v here in (
       last.0,
-      ap (holds v (current (play_from (after_item s x) xs).log v)) (sym (append_assoc (asked last.0) (exchange_in s last.0 x) (exchanges_from (after_item s x) last.0 xs))) ∙ last.1,
+      ap (holds_on v (current (play_from (after_item s x) xs).log v) (first last.0 v (current (play_from (after_item s x) xs).log v))) (sym (append_assoc (asked last.0) (exchange_in s last.0 x) (exchanges_from (after_item s x) last.0 xs))) ∙ last.1,
     )
 
-pub held_by_someone : (history : List Item) (v : ℕ) → is_here (play history).log v ≡ true → (c : ℕ) × (holds v (current (play history).log v) (exchanges_in history c) ≡ true)
-held_by_someone history v here = items_held first_session (λ c. []) history (λ w never. absurd (cc (never))) v here
+-- those of the opening session are the opener's at first
+pub held_by_someone : (opening : PlainSession) (opener : ℕ) (history : List Item) (v : ℕ) → is_here (play_from opening history).log v ≡ true
+    → (c : ℕ) × (holds_in opening opener history c v (current (play_from opening history).log v) ≡ true)
+held_by_someone opening opener history v here =
+    items_held (opens_with opening opener) opening (λ c. []) history
+    (λ w was. (opener, both_true (eq-eqb opener opener refl) (both_true was (eq-eqb (current opening.log w) (current opening.log w) refl)))) v here

@@ -6,3 +6,4 @@ pub mod Reflections
 pub mod HeldViews
 pub mod HeldTalks
 pub mod StayingViews
+pub mod OpeningLaws

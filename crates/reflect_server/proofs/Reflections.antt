@@ -1,6 +1,7 @@
 -- What comes of a reflector, from what was accepted, given back and closed.
-use Rattle.std.proofs.Common.{◌≡◌, inl, inr, ℕ, ◌+◌, ◌≤◌, Bool, true, false, ◌&&◌, leb, ltb, if◌then◌else◌, List, [], ◌∷◌, length, vec_len, Option, Some, None, Result, Ok, Err, refl, sym, ap, ◌∙◌, subst, arith}
+use Rattle.std.proofs.Common.{◌≡◌, inl, inr, ℕ, ◌+◌, ◌≤◌, Bool, true, false, ◌&&◌, ◌||◌, eqb, leb, ltb, if◌then◌else◌, List, [], ◌∷◌, ◌++◌, length, vec_len, Option, Some, None, Result, Ok, Err, refl, sym, ap, ◌∙◌, subst, arith}
 use Rattle.std.specs.List.{AllByRecursion}
+use Rattle.std.proofs.lemmas.Bool.{eqb-true}
 use Rattle.std.proofs.lemmas.List.{length-map}
 use Rattle.tea_base.specs.declared.entry.SessionId.{SessionId}
 use Rattle.tea_io.specs.Told.{with_more}
@@ -14,15 +15,15 @@ use Rattle.run_steps.specs.Outside.{LinksTell, NetTells}
 use Rattle.reflector_core.specs.PlainSession.{PlainSession}
 use Rattle.reflector_core.specs.SessionState.{SessionState}
 use Rattle.reflector_core.specs.Play.{first_session, replies_from, TellsItsEvents}
-use Rattle.reflector_core.proofs.SoundLaws.{IsSoundSession-first}
 use Rattle.session_lock.specs.declared.knowledge.Item.{Item}
-use Rattle.session_lock.specs.History.{caller_of, calls_of, has, play, history_requests, IsSoundThrough}
-use Rattle.session_lock.specs.Passes.{PassState, own_calls, HoldsEach}
+use Rattle.session_lock.specs.History.{play_from, caller_of, calls_of, has, history_requests, IsSoundThrough}
+use Rattle.session_lock.specs.Passes.{PassState, caller, own_calls, HoldsEach}
 use Rattle.session_lock.specs.Rules.{all_numbers}
-use Rattle.session_lock.proofs.Histories.{has_own, none_among, none_behind}
+use Rattle.session_lock.proofs.Histories.{calls_append, has_own, none_among, none_behind, nothing_first, sound_start}
 use Rattle.connection.specs.declared.ending.Ended.{Ended}
 use Rattle.connection.proofs.TalkLines.{talk_served}
 use Rattle.connection.proofs.Talking.{with_more_none, with_more_twice}
+use Rattle.reflect_server.specs.Opening.{AreHere, AreLeavesOf, BeginsWithLeaves, HasOpened, gives_later}
 use Rattle.reflect_server.specs.Connections.{ServedConnection, HasTalk, IsHistoryOf, AreServed, accepted_links, callers_of, returned_links}
 use Rattle.reflect_server.specs.Passes.{Gathers}
 use Rattle.reflect_server.specs.Rounds.{Accepts, GoesRound, TakesAll, AsksAccepts, accepts, accepts_more, CountsStop, CountsLinks, links_of, ended_of, served_back, with_links}
@@ -36,6 +37,7 @@ use Rattle.reflect_server.specs.declared.accepting.ServedLink.{ServedLink}
 use Rattle.reflect_server.proofs.GivingBack.{ends_of_round, links_of_round, round_length}
 use Rattle.reflect_server.specs.Views.{StaysByVoid}
 use Rattle.reflect_server.proofs.StayingViews.{stays_by_void}
+use Rattle.reflect_server.proofs.PassLaws.{or_first}
 use Rattle.reflect_server.proofs.RoundLaws.{takes_same}
 
 -- ---- nobody else
@@ -48,7 +50,7 @@ none_first x xs none =
     absurd (cc (e))
 
 -- where nobody else has made a call, the calls of these are all
-all_calls : (callers : List ℕ) (history : List Item) → ((n : ℕ) → has n callers ≡ false → calls_of (n ∷ []) history ≡ []) → calls_of callers history ≡ history
+pub all_calls : (callers : List ℕ) (history : List Item) → ((n : ℕ) → has n callers ≡ false → calls_of (n ∷ []) history ≡ []) → calls_of callers history ≡ history
 all_calls callers [] others = refl
 all_calls callers (x ∷ xs) others =
     step (has (caller_of x) callers) refl
@@ -59,7 +61,7 @@ all_calls callers (x ∷ xs) others =
     step false is rest = none_first x xs (others (caller_of x) is)
 
 -- where the calls of these are all, nobody else has made one
-none_else : (callers : List ℕ) (history : List Item) (n : ℕ) → calls_of callers history ≡ history → has n callers ≡ false → calls_of (n ∷ []) history ≡ []
+pub none_else : (callers : List ℕ) (history : List Item) (n : ℕ) → calls_of callers history ≡ history → has n callers ≡ false → calls_of (n ∷ []) history ≡ []
 none_else callers history n whole other = ap (calls_of (n ∷ [])) (sym whole) ∙ none_among callers n history other
 
 one_at_most : (b : Bool) → (if b then 1 else 0) ≤ 1
@@ -69,37 +71,94 @@ one_at_most false = omega arith
 -- ---- the history
 
 -- what the last pass tells, with which the session is closed
-pub record IsClosedBy (keeper : PassState) (session : PlainSession) : Type 0 where
-  pub play : session ≡ play keeper.seen
+pub record IsClosedAt (keeper : PassState) (session : PlainSession) : Type 0 where
+  pub play : session ≡ play_from keeper.opening keeper.seen
   pub calls : own_calls keeper ≡ keeper.seen
   pub numbers : HoldsEach keeper
-  pub sound : IsSoundThrough first_session keeper.seen
-  pub events : TellsItsEvents (history_requests keeper.seen) (replies_from first_session (history_requests keeper.seen)) session.log
+  pub sound : IsSoundThrough keeper.opening keeper.seen
+  pub events : TellsItsEvents keeper.opening.log (history_requests keeper.seen) (replies_from keeper.opening (history_requests keeper.seen)) session.log
 
-pub plays_of : (keeper : PassState) (session : PlainSession) → IsClosedBy keeper session → Plays keeper.seen session
-plays_of keeper session closed = record { play = closed.play; sound = closed.sound; events = closed.events }
+-- the same of a session that began so
+pub record IsClosedBy (opening : PlainSession) (keeper : PassState) (session : PlainSession) : Type 0 where
+  pub plays : Plays opening keeper.seen session
+  pub calls : own_calls keeper ≡ keeper.seen
+  pub numbers : HoldsEach keeper
 
-module _ (gives : ℕ → Type 0) (id : SessionId) {L : Type 0} (links : LinksTell L) where
-  pub history_of : (before keeper : PassState) (session : PlainSession) (count : ℕ) (connections : List (ServedConnection L))
-      → Gathers gives id links before count connections keeper → IsClosedBy keeper session → IsHistoryOf gives id links connections keeper.seen
-  history_of before keeper session count connections gathers closed = record {
+closed_by : (opening : PlainSession) (keeper : PassState) (session : PlainSession) → keeper.opening ≡ opening → IsClosedAt keeper session → IsClosedBy opening keeper session
+closed_by opening keeper session is closed = record {
+  plays = subst (λ (o : PlainSession). Plays o keeper.seen session) is (record { play = closed.play; sound = closed.sound; events = closed.events });
+  calls = closed.calls;
+  numbers = closed.numbers;
+}
+
+module _ (gives : ℕ → Type 0) (id : SessionId) {L : Type 0} (links : LinksTell L) (before keeper : PassState) (session : PlainSession) (count : ℕ) (connections : List (ServedConnection L))
+    (opened : HasOpened gives before.opening before) (gathers : Gathers gives id links before count connections keeper) (closed : IsClosedBy before.opening keeper session) where
+  -- whose calls are not these has none
+  others : (n : ℕ) → has n (caller before ∷ callers_of connections) ≡ false → (b : Bool) → has n keeper.callers ≡ b → calls_of (n ∷ []) keeper.seen ≡ []
+  others n other true own = gathers.calls n own other
+  others n other false own = none_else keeper.callers keeper.seen n closed.calls own
+
+  -- what the opener had seen was its own calls
+  only_own : (n : ℕ) → has n (caller before ∷ []) ≡ false → (b : Bool) → has n (callers_of connections) ≡ b → calls_of (n ∷ []) before.seen ≡ []
+  only_own n other true own = gathers.new n own
+  only_own n other false own =
+      let neither : has n (caller before ∷ callers_of connections) ≡ false = ap (λ (b : Bool). b || has n (callers_of connections)) (or_first (eqb n (caller before)) false other) ∙ own in
+      nothing_first (calls_of (n ∷ []) before.seen) (calls_of (n ∷ []) gathers.saw.0)
+      (sym (calls_append (n ∷ []) before.seen gathers.saw.0) ∙ (ap (calls_of (n ∷ [])) gathers.saw.1 ∙ others n neither (has n keeper.callers) refl))
+
+  begun : own_calls before ≡ before.seen
+  begun =
+      ap (λ (cs : List ℕ). calls_of cs before.seen) opened.one
+      ∙ all_calls (caller before ∷ []) before.seen (λ n other. only_own n other (has n (callers_of connections)) refl)
+
+  pub leaves_of : BeginsWithLeaves gives before.opening (caller before) keeper.seen
+  leaves_of = record {
+    views = opened.views;
+    here = opened.here;
+    leaves = before.seen;
+    made = subst (AreLeavesOf gives (caller before) opened.views) begun opened.made;
+    rest = gathers.saw.0;
+    first = gathers.saw.1;
+    others = gathers.saw.2;
+  }
+
+  pub history_of : IsHistoryOf gives id before.opening links connections (caller before) keeper.seen
+  history_of = record {
+    leaves = leaves_of;
     talks = gathers.talks;
     apart = λ n. omega (arith, gathers.callers n, closed.numbers n, one_at_most (leb 0 n && ltb n (0 + all_numbers)));
-    whole = all_calls (callers_of connections) keeper.seen (λ n other. others n other (has n keeper.callers) refl);
+    whole = all_calls (caller before ∷ callers_of connections) keeper.seen (λ n other. others n other (has n keeper.callers) refl);
   }
-    where
-      others : (n : ℕ) → has n (callers_of connections) ≡ false → (b : Bool) → has n keeper.callers ≡ b → calls_of (n ∷ []) keeper.seen ≡ []
-      others n other true own = gathers.calls n own other
-      others n other false own = none_else keeper.callers keeper.seen n closed.calls own
 
-  -- each connection was sent what the log serves it
-  pub all_served : (history : List Item) (connections : List (ServedConnection L)) → IsSoundThrough first_session history
-      → AllByRecursion (HasTalk gives id links history) connections → AreServed (play history).log connections
-  all_served history [] sound talks = tt
-  all_served history (one ∷ rest) sound talks = (
-    talk_served gives id history one.caller one.heard one.sent one.ended sound talks.0.talk,
-    all_served history rest sound talks.1,
-  )
+-- in a new session nobody was here, so only the connections have called
+pub only_connections : (gives : ℕ → Type 0) (id : SessionId) {L : Type 0} (links : LinksTell L) (connections : List (ServedConnection L)) (opener : ℕ) (history : List Item)
+    → IsHistoryOf gives id first_session links connections opener history → calls_of (callers_of connections) history ≡ history
+only_connections gives id links connections opener history talks =
+    all_calls (callers_of connections) history (λ n other. others n other (eqb n opener) refl)
+  where
+    nobody : (views : List (ℕ × ℕ)) (leaves : List Item) → AreHere [] views → AreLeavesOf gives opener views leaves → leaves ≡ []
+    nobody [] [] here made = refl
+    nobody [] (x ∷ xs) here made = absurd made
+    nobody (one ∷ views) leaves here made = absurd (cc (here.0.1))
+
+    none_opened : calls_of (opener ∷ []) history ≡ []
+    none_opened =
+        let first = nobody talks.leaves.views talks.leaves.leaves talks.leaves.here talks.leaves.made in
+        let all : talks.leaves.rest ≡ history = sym (ap (λ (l : List Item). l ++ talks.leaves.rest) first) ∙ talks.leaves.first in
+        sym (ap (calls_of (opener ∷ [])) all) ∙ talks.leaves.others
+
+    others : (n : ℕ) → has n (callers_of connections) ≡ false → (b : Bool) → eqb n opener ≡ b → calls_of (n ∷ []) history ≡ []
+    others n other true is = ap (λ (m : ℕ). calls_of (m ∷ []) history) (eqb-true n opener is) ∙ none_opened
+    others n other false is = none_else (opener ∷ callers_of connections) history n talks.whole (ap (λ (b : Bool). b || has n (callers_of connections)) is ∙ other)
+
+-- each connection was sent what the log serves it
+all_served : (gives : ℕ → Type 0) (id : SessionId) (opening : PlainSession) {L : Type 0} (links : LinksTell L) (history : List Item) (connections : List (ServedConnection L)) → IsSoundThrough opening history
+    → AllByRecursion (HasTalk gives id opening links history) connections → AreServed (play_from opening history).log connections
+all_served gives id opening links history [] sound talks = tt
+all_served gives id opening links history (one ∷ rest) sound talks = (
+  talk_served gives id opening history one.caller one.heard one.sent one.ended sound talks.0.talk,
+  all_served gives id opening links history rest sound talks.1,
+)
 
 -- ---- the net
 
@@ -145,18 +204,20 @@ stop_later before now (Some WantOfMemory) counts = counts
 module _ (gives : ℕ → Type 0) (id : SessionId) {N L : Type 0} (tells : NetTells N L) (links : LinksTell L) (count : ℕ) (before mid : Round N L) (now : N) where
   -- what is left when all links were served
   pub record Ends (session : PlainSession) : Type 0 where
+    pub opened : HasOpened gives before.keeper.opening before.keeper
     pub round : GoesRound gives id tells links count before mid
     pub returns : Returns tells links mid.net now mid.served.items (vec_len mid.served)
     pub length : vec_len mid.served ≡ length mid.served.items
-    pub closed : IsClosedBy mid.keeper session
+    pub closed : IsClosedBy before.keeper.opening mid.keeper session
 
-  pub ends_when : (session : PlainSession) (made : ℕ) → made ≡ count → GoesRound gives id tells links made before mid → vec_len mid.served ≡ length mid.served.items
-      → Returns tells links mid.net now mid.served.items (vec_len mid.served) → IsClosedBy mid.keeper session → Ends session
-  ends_when session made is round length returns closed = record {
+  pub ends_when : (session : PlainSession) (made : ℕ) → made ≡ count → HasOpened gives before.keeper.opening before.keeper → GoesRound gives id tells links made before mid → vec_len mid.served ≡ length mid.served.items
+      → Returns tells links mid.net now mid.served.items (vec_len mid.served) → IsClosedAt mid.keeper session → Ends session
+  ends_when session made is opened round length returns closed = record {
+    opened = opened;
     round = subst (λ (n : ℕ). GoesRound gives id tells links n before mid) is round;
     returns = returns;
     length = length;
-    closed = closed;
+    closed = closed_by before.keeper.opening mid.keeper session round.passes.opening closed;
   }
 
   net_of : (session : PlainSession) (ends : Ends session) → ReturnsLinks tells links before.net now ends.round.connections
@@ -164,9 +225,21 @@ module _ (gives : ℕ → Type 0) (id : SessionId) {N L : Type 0} (tells : NetTe
       gives_back tells links before.net mid.net now mid.served.items ends.round.connections mid.stopped ends.round.net ends.round.served
       (subst (Returns tells links mid.net now mid.served.items) ends.length ends.returns)
 
+  history_when : (session : PlainSession) (ends : Ends session) → IsHistoryOf gives id before.keeper.opening links ends.round.connections (caller before.keeper) mid.keeper.seen
+  history_when session ends = history_of gives id links before.keeper mid.keeper session count ends.round.connections ends.opened ends.round.passes ends.closed
+
+  served_when : (session : PlainSession) (ends : Ends session) → AreServed (play_from before.keeper.opening mid.keeper.seen).log ends.round.connections
+  served_when session ends = all_served gives id before.keeper.opening links mid.keeper.seen ends.round.connections ends.closed.plays.sound ends.round.passes.talks
+
+  stays_when : (session : PlainSession) (ends : Ends session) → StaysByVoid before.keeper.opening (caller before.keeper) (callers_of ends.round.connections) mid.keeper.seen (play_from before.keeper.opening mid.keeper.seen).log
+  stays_when session ends =
+      let history = history_when session ends in
+      stays_by_void gives id before.keeper.opening links mid.keeper.seen (caller before.keeper) ends.round.connections (sound_start before.keeper.opening mid.keeper.seen ends.closed.plays.sound).legal history.leaves
+      ends.round.passes.talks (λ n other. none_else (caller before.keeper ∷ callers_of ends.round.connections) mid.keeper.seen n history.whole other)
+
   reflected_as : (reflected : Reflected) (ends : Ends reflected.session.plain) → tells.asked now ≡ with_more (tells.asked before.net) (accepts_for (accepted_links ends.round.connections) reflected.net_failed)
       → CountsFailure (tells.faults before.net) (tells.faults now) reflected.net_failed → CountsConnections (length ends.round.connections) count reflected.net_failed
-      → reflected.ends ≡ ended_of mid.served.items → HasReflected gives id tells links [] count before.net now reflected
+      → reflected.ends ≡ ended_of mid.served.items → HasReflected gives id before.keeper.opening tells links [] count before.net now reflected
   reflected_as reflected ends asked faults number ended = record {
     connections = ends.round.connections;
     history = mid.keeper.seen;
@@ -175,16 +248,13 @@ module _ (gives : ℕ → Type 0) (id : SessionId) {N L : Type 0} (tells : NetTe
     faults = faults;
     number = number;
     ends = ended ∙ ends_of_round mid.served.items ends.round.connections ends.round.served;
-    talks = history_of gives id links before.keeper mid.keeper reflected.session.plain count ends.round.connections ends.round.passes ends.closed;
-    session = plays_of mid.keeper reflected.session.plain ends.closed;
-    served =
-        subst (λ (s : PlainSession). AreServed s.log ends.round.connections) (sym ends.closed.play)
-        (all_served gives id links mid.keeper.seen ends.round.connections ends.closed.sound ends.round.passes.talks);
+    opener = caller before.keeper;
+    talks = history_when reflected.session.plain ends;
+    session = ends.closed.plays;
+    served = subst (λ (s : PlainSession). AreServed s.log ends.round.connections) (sym ends.closed.plays.play) (served_when reflected.session.plain ends);
     stays =
-        subst (λ (s : PlainSession). StaysByVoid (callers_of ends.round.connections) mid.keeper.seen s.log) (sym ends.closed.play)
-        (stays_by_void gives id links mid.keeper.seen ends.round.connections ends.round.passes.talks (λ n other.
-        none_else (callers_of ends.round.connections) mid.keeper.seen n
-        (history_of gives id links before.keeper mid.keeper reflected.session.plain count ends.round.connections ends.round.passes ends.closed).whole other));
+        subst (λ (s : PlainSession). StaysByVoid before.keeper.opening (caller before.keeper) (callers_of ends.round.connections) mid.keeper.seen s.log) (sym ends.closed.plays.play)
+        (stays_when reflected.session.plain ends);
   }
 
   asks_now : (stopped : Option NetFault) (links_now : List L) (back : tells.asked now ≡ tells.asked mid.net) → AsksAccepts (tells.asked before.net) (tells.asked mid.net) links_now stopped
@@ -197,7 +267,7 @@ module _ (gives : ℕ → Type 0) (id : SessionId) {N L : Type 0} (tells : NetTe
 
   -- all links were served
   reflected_all : (reflected : Reflected) → mid.stopped ≡ None → reflected.net_failed ≡ false → reflected.ends ≡ ended_of mid.served.items → Ends reflected.session.plain
-      → HasReflected gives id tells links [] count before.net now reflected
+      → HasReflected gives id before.keeper.opening tells links [] count before.net now reflected
   reflected_all reflected going fine ended ends =
       let asks = subst (AsksAccepts _ _ (accepted_links ends.round.connections)) going (asks_now mid.stopped (accepted_links ends.round.connections) ends.returns.asked ends.round.net.asked) in
       let counts = subst (CountsStop _ _) going (faults_now mid.stopped ends.returns.faults ends.round.net.faults) in
@@ -209,7 +279,7 @@ module _ (gives : ℕ → Type 0) (id : SessionId) {N L : Type 0} (tells : NetTe
 
   -- the net failed
   reflected_some : (reflected : Reflected) → mid.stopped ≡ Some Failed → reflected.net_failed ≡ true → reflected.ends ≡ ended_of mid.served.items → Ends reflected.session.plain
-      → HasReflected gives id tells links [] count before.net now reflected
+      → HasReflected gives id before.keeper.opening tells links [] count before.net now reflected
   reflected_some reflected stopped failed ended ends =
       let asks = subst (AsksAccepts _ _ (accepted_links ends.round.connections)) stopped (asks_now mid.stopped (accepted_links ends.round.connections) ends.returns.asked ends.round.net.asked) in
       let counts = subst (CountsStop _ _) stopped (faults_now mid.stopped ends.returns.faults ends.round.net.faults) in
@@ -224,32 +294,35 @@ module _ (gives : ℕ → Type 0) (id : SessionId) {N L : Type 0} (tells : NetTe
   wanted_asks before now links (inr more) = inr (inr more)
 
   -- memory was wanted
-  wanted : (session : PlainSession) → mid.stopped ≡ Some WantOfMemory → Ends session → HasWanted gives id tells links [] count before.net now
+  wanted : (session : PlainSession) → mid.stopped ≡ Some WantOfMemory → Ends session → HasWanted gives id before.keeper.opening tells links [] count before.net now
   wanted session stopped ends = record {
     connections = ends.round.connections;
-    history = mid.keeper.seen;
     net = net_of session ends;
     asked =
         wanted_asks (tells.asked before.net) (tells.asked now) (accepted_links ends.round.connections)
         (subst (AsksAccepts _ _ (accepted_links ends.round.connections)) stopped (asks_now mid.stopped (accepted_links ends.round.connections) ends.returns.asked ends.round.net.asked));
     number = subst (CountsLinks (length ends.round.connections) count) stopped ends.round.number;
-    talks = history_of gives id links before.keeper mid.keeper session count ends.round.connections ends.round.passes ends.closed;
-    sound = ends.closed.sound;
-    served = all_served gives id links mid.keeper.seen ends.round.connections ends.closed.sound ends.round.passes.talks;
+    served = inr (record {
+      history = mid.keeper.seen;
+      opener = caller before.keeper;
+      talks = history_when session ends;
+      sound = ends.closed.plays.sound;
+      served = served_when session ends;
+    });
     faults = stop_later (tells.faults before.net) (tells.faults now) mid.stopped (faults_now mid.stopped ends.returns.faults ends.round.net.faults);
   }
 
   -- by what stopped the net
   pub reflects_so : (session : SessionState) (ended : List Ended) (stopped : Option NetFault) → mid.stopped ≡ stopped → ended ≡ ended_of mid.served.items → Ends session.plain
-      → Reflects gives id tells links [] count before.net now (answer_for session ended stopped)
+      → Reflects gives id before.keeper.opening tells links [] count before.net now (answer_for session ended stopped)
   reflects_so session ended None is all ends = reflected_all (record { session = session; ends = ended; net_failed = false }) is refl all ends
   reflects_so session ended (Some Failed) is all ends = reflected_some (record { session = session; ends = ended; net_failed = true }) is refl all ends
   reflects_so session ended (Some WantOfMemory) is all ends = wanted session.plain is ends
 
   pub reflects_when : (session : SessionState) (ended : List Ended) (result : Result Reflected ServeFault) → result ≡ answer_for session ended mid.stopped
-      → ended ≡ ended_of mid.served.items → Ends session.plain → Reflects gives id tells links [] count before.net now result
+      → ended ≡ ended_of mid.served.items → Ends session.plain → Reflects gives id before.keeper.opening tells links [] count before.net now result
   reflects_when session ended result is all ends =
-      subst (Reflects gives id tells links [] count before.net now) (sym is) (reflects_so session ended mid.stopped refl all ends)
+      subst (Reflects gives id before.keeper.opening tells links [] count before.net now) (sym is) (reflects_so session ended mid.stopped refl all ends)
 
 -- ---- before a link is accepted
 
@@ -261,11 +334,7 @@ listen_asks address before now (Err Failed) more = inr (inl more)
 listen_asks address before now (Err WantOfMemory) (inl same) = inl (refl, same)
 listen_asks address before now (Err WantOfMemory) (inr more) = inr (inl more)
 
-module _ (gives : ℕ → Type 0) (id : SessionId) {N L : Type 0} (tells : NetTells N L) (links : LinksTell L) where
-  -- nothing was called
-  nothing_called : IsHistoryOf gives id links [] []
-  nothing_called = record { talks = tt; apart = λ n. omega arith; whole = refl }
-
+module _ (gives : ℕ → Type 0) (id : SessionId) (opening : PlainSession) {N L : Type 0} (tells : NetTells N L) (links : LinksTell L) where
   -- the net listens, or fails to
   pub record Listens {T : Type 0} (address : List ℕ) (result : Result T NetFault) (before now : N) : Type 0 where
     pub coming : tells.coming now ≡ tells.coming before
@@ -277,16 +346,13 @@ module _ (gives : ℕ → Type 0) (id : SessionId) {N L : Type 0} (tells : NetTe
 
   -- memory was wanted before, or while the net was to listen
   pub wanted_before : (calls : List NetCall) (count : ℕ) (before now : N) → 1 ≤ count → AsksUntilWant {L = L} (tells.asked before) (tells.asked now) calls [] → tells.coming now ≡ tells.coming before → tells.over now ≡ tells.over before → tells.lent now ≡ tells.lent before
-      → tells.link_counts now ≡ tells.link_counts before → tells.faults before ≤ tells.faults now → HasWanted gives id tells links calls count before now
+      → tells.link_counts now ≡ tells.link_counts before → tells.faults before ≤ tells.faults now → HasWanted gives id opening tells links calls count before now
   wanted_before calls count before now some asked coming over lent counts faults = record {
     connections = [];
-    history = [];
     net = nothing_back tells links before now coming over lent counts;
     asked = asked;
     number = some;
-    talks = nothing_called;
-    sound = IsSoundSession-first;
-    served = tt;
+    served = inl refl;
     faults = faults;
   }
 
@@ -318,7 +384,7 @@ module _ (gives : ℕ → Type 0) (id : SessionId) {N L : Type 0} (tells : NetTe
 
   -- what came of it once the net listened
   pub reflects_behind : {T : Type 0} (address : List ℕ) (value : T) (count : ℕ) (before mid now : N) (result : Result Reflected ServeFault) → Listens address (Ok value) before mid
-      → Reflects gives id tells links [] count mid now result → Reflects gives id tells links (Listen address ∷ []) count before now result
+      → Reflects gives id opening tells links [] count mid now result → Reflects gives id opening tells links (Listen address ∷ []) count before now result
   reflects_behind address value count before mid now (Ok reflected) listens told = record {
     connections = told.connections;
     history = told.history;
@@ -327,6 +393,7 @@ module _ (gives : ℕ → Type 0) (id : SessionId) {N L : Type 0} (tells : NetTe
     faults = failure_later (tells.faults before) (tells.faults mid) (tells.faults now) reflected.net_failed listens.cause.later told.faults;
     number = told.number;
     ends = told.ends;
+    opener = told.opener;
     talks = told.talks;
     session = told.session;
     served = told.served;
@@ -339,12 +406,16 @@ module _ (gives : ℕ → Type 0) (id : SessionId) {N L : Type 0} (tells : NetTe
   }
   reflects_behind address value count before mid now (Err serve_fault.WantOfMemory) listens told = record {
     connections = told.connections;
-    history = told.history;
     net = listened_back address value before mid now told.connections listens told.net;
     asked = wanted_behind address (tells.asked before) (tells.asked mid) (tells.asked now) (accepted_links told.connections) listens.asked told.asked;
     number = told.number;
-    talks = told.talks;
-    sound = told.sound;
     served = told.served;
     faults = omega (arith, told.faults, listens.cause.later);
   }
+
+-- the same, said of the session that began
+pub reflects_of : (gives : ℕ → Type 0) (id : SessionId) (since begun : ℕ) (opening first : PlainSession) {N L : Type 0} (tells : NetTells N L) (links : LinksTell L) (calls : List NetCall) (count : ℕ) (before now : N) (result : Result Reflected ServeFault)
+    → since ≡ begun → opening ≡ first → Reflects (gives_later gives since) id opening tells links calls count before now result → Reflects (gives_later gives begun) id first tells links calls count before now result
+reflects_of gives id since begun opening first tells links calls count before now result time is told =
+    subst (λ (o : PlainSession). Reflects (gives_later gives begun) id o tells links calls count before now result) is
+    (subst (λ (n : ℕ). Reflects (gives_later gives n) id opening tells links calls count before now result) time told)

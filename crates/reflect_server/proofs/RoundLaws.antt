@@ -1,5 +1,6 @@
 -- Rounds: none that is left, one that is stopped, and one link more.
-use Rattle.std.proofs.Common.{◌≡◌, ◌⊎◌, inl, inr, ℕ, ◌+◌, ◌≤◌, ◌<◌, List, [], ◌∷◌, ◌++◌, length, map, Option, Some, None, Ok, Err, refl, sym, ap, ◌∙◌, subst, arith}
+use Rattle.std.proofs.Common.{◌≡◌, ◌⊎◌, inl, inr, ℕ, ◌+◌, ◌≤◌, ◌<◌, true, eqb, List, [], ◌∷◌, ◌++◌, length, map, Option, Some, None, Ok, Err, refl, sym, ap, ◌∙◌, subst, arith}
+use Rattle.std.proofs.lemmas.Bool.{eqb-true}
 use Rattle.std.proofs.lemmas.List.{reverse-append}
 use Rattle.tea_base.specs.declared.entry.SessionId.{SessionId}
 use Rattle.tea_io.specs.Told.{with_more, TakesFirst}
@@ -10,19 +11,19 @@ use Rattle.tea_io.specs.declared.net.NetCall.TheVariants.{Accept}
 use Rattle.tea_io.specs.declared.net.NetFault.{NetFault}
 use Rattle.tea_io.specs.declared.net.NetFault.TheVariants.{Failed, WantOfMemory}
 use Rattle.run_steps.specs.Outside.{LinksTell, NetTells}
-use Rattle.atomic_table.specs.Seated.{TableId}
-use Rattle.session_lock.specs.History.{has}
+use Rattle.session_lock.specs.History.{has, calls_of}
 use Rattle.session_lock.specs.Numbers.{times}
 use Rattle.session_lock.specs.Passes.{PassState, caller, numbers_held, Merged}
+use Rattle.session_lock.proofs.Histories.{saw_trans}
 use Rattle.session_lock.proofs.Ranges.{times_append}
 use Rattle.connection.proofs.Talking.{with_more_none, with_more_twice}
 use Rattle.reflect_server.specs.declared.accepting.Round.{Round}
 use Rattle.reflect_server.specs.declared.accepting.ServedLink.{ServedLink}
 use Rattle.reflect_server.specs.Connections.{ServedConnection, accepted_links, callers_of}
-use Rattle.reflect_server.specs.Passes.{Gathers, IsFresh, HasNotCalled}
+use Rattle.reflect_server.specs.Passes.{Gathers, IsFresh, Keeps}
 use Rattle.reflect_server.specs.Rounds.{TakesAll, AsksAccepts, CountsStop, CountsLinks, Accepts, Serves, GoesRound, accepts, accepts_more, served_of}
-use Rattle.reflect_server.proofs.PassLaws.{called_alone, called_merged, not_behind, not_first, one_caller}
-use Rattle.reflect_server.proofs.TalkLaws.{connection_of, has_some, served_talks, talk_stays, talks_stay, times_first}
+use Rattle.reflect_server.proofs.PassLaws.{called_alone, called_merged, fresh_before, has_some, keeps_caller, not_behind, not_first, not_second, one_caller, or_both, saw_one, times_behind, times_first}
+use Rattle.reflect_server.proofs.TalkLaws.{connection_of, served_talks, talk_stays, talks_stay}
 
 -- ---- links to come
 
@@ -65,16 +66,27 @@ links_more : (links all count more : ℕ) (stopped : Option NetFault) → all �
 links_more links all count more None both is number = omega arith
 links_more links all count more (Some fault) both is number = omega arith
 
+-- none of these callers had made a call in what was seen, nor this one
+new_more : (before : PassState) (one n : ℕ) (callers : List ℕ) → ((m : ℕ) → has m callers ≡ true → calls_of (m ∷ []) before.seen ≡ []) → calls_of (one ∷ []) before.seen ≡ []
+    → has n (one ∷ callers) ≡ true → calls_of (n ∷ []) before.seen ≡ []
+new_more before one n callers others mine own =
+    elim (or_both (eqb n one) (has n callers) own) [
+      | inl is ↦ subst (λ (m : ℕ). calls_of (m ∷ []) before.seen ≡ []) (sym (eqb-true n one is)) mine
+      | inr is ↦ others n is
+    ]
+
 -- ---- rounds
 
 module _ (gives : ℕ → Type 0) (id : SessionId) {N L : Type 0} (tells : NetTells N L) (links : LinksTell L) where
-  gathers_none : (table : TableId) (before now : PassState) (count : ℕ) → before.session ≡ table → HasNotCalled table now → numbers_held now ≡ numbers_held before + count
-      → Gathers gives id links before count [] now
-  gathers_none table before now count at idle numbers = record {
-    session = idle.session ∙ sym at;
+  gathers_none : (before now : PassState) (count : ℕ) → Keeps before now → numbers_held now ≡ numbers_held before + count → Gathers gives id links before count [] now
+  gathers_none before now count keeps numbers = record {
+    session = keeps.session;
+    opening = keeps.opening;
     numbers = numbers;
-    callers = λ n. omega arith;
-    calls = idle.calls;
+    callers = keeps.callers;
+    calls = keeps.calls;
+    saw = keeps.saw;
+    new = λ n own. absurd (cc (own));
     talks = tt;
   }
 
@@ -89,12 +101,12 @@ module _ (gives : ℕ → Type 0) (id : SessionId) {N L : Type 0} (tells : NetTe
   }
 
   -- no pass is left
-  pub round_none : (table : TableId) (round : Round N L) (count : ℕ) → HasNotCalled table round.keeper → round.served.items ≡ [] → round.stopped ≡ None → count ≡ 0
+  pub round_none : (round : Round N L) (count : ℕ) → Keeps round.keeper round.keeper → round.served.items ≡ [] → round.stopped ≡ None → count ≡ 0
       → GoesRound gives id tells links count round round
-  round_none table round count idle empty going none = record {
+  round_none round count keeps empty going none = record {
     connections = [];
     net = subst (Accepts tells round.net round.net []) (sym going) (accepts_none round.net);
-    passes = gathers_none table round.keeper round.keeper count idle.session idle (omega arith);
+    passes = gathers_none round.keeper round.keeper count keeps (omega arith);
     served = empty;
     number = subst (CountsLinks 0 count) (sym going) (sym none);
   }
@@ -128,15 +140,15 @@ module _ (gives : ℕ → Type 0) (id : SessionId) {N L : Type 0} (tells : NetTe
   }
 
   -- no link more is accepted
-  pub round_stopped : (table : TableId) (before now : Round N L) (net : N) (count : ℕ) (fault : NetFault) → before.keeper.session ≡ table → before.served.items ≡ []
-      → 0 < count → Missed before.net net fault → HasNotCalled table now.keeper → numbers_held now.keeper ≡ numbers_held before.keeper + count
+  pub round_stopped : (before now : Round N L) (net : N) (count : ℕ) (fault : NetFault) → before.served.items ≡ []
+      → 0 < count → Missed before.net net fault → Keeps before.keeper now.keeper → numbers_held now.keeper ≡ numbers_held before.keeper + count
       → now.net ≡ net → now.served ≡ before.served → now.stopped ≡ Some fault → GoesRound gives id tells links count before now
-  round_stopped table before now net count fault at empty some missed idle numbers net_is served_is stopped_is = record {
+  round_stopped before now net count fault empty some missed keeps numbers net_is served_is stopped_is = record {
     connections = [];
     net =
         subst (λ (n : N). Accepts tells before.net n [] now.stopped) (sym net_is)
         (subst (Accepts tells before.net net []) (sym stopped_is) (missed_accepts before.net net fault missed));
-    passes = gathers_none table before.keeper now.keeper count at idle numbers;
+    passes = gathers_none before.keeper now.keeper count keeps numbers;
     served = ap (λ v. v.items) served_is ∙ empty;
     number = subst (CountsLinks 0 count) (sym stopped_is) some;
   }
@@ -163,42 +175,50 @@ module _ (gives : ℕ → Type 0) (id : SessionId) {N L : Type 0} (tells : NetTe
   }
 
   -- a pass that has served a link is merged into the one that is kept
-  gathers_more : (table : TableId) (before kept fresh pass now : PassState) (count : ℕ) (link : L) (one : ServedLink L) (connections : List (ServedConnection L)) → IsFresh table fresh
+  gathers_more : (before kept fresh pass now : PassState) (count : ℕ) (link : L) (one : ServedLink L) (connections : List (ServedConnection L)) → IsFresh before fresh
       → links.counts link ≡ no_counts → (served : Serves gives id links fresh link pass one) → Gathers gives id links before count connections kept → Merged kept pass now
       → numbers_held now ≡ numbers_held kept + numbers_held pass
-      → Gathers gives id links before (count + 1) (connection_of gives id links link pass one served.talk.heard served.talk.sent ∷ connections) now
-  gathers_more table before kept fresh pass now count link one connections is_fresh new served gathers merged numbers =
-      let first = connection_of gives id links link pass one served.talk.heard served.talk.sent in
+      → Gathers gives id links before (count + 1) (connection_of gives id before.opening links link pass one served.talk.heard served.talk.sent ∷ connections) now
+  gathers_more before kept fresh pass now count link one connections is_fresh new served gathers merged numbers =
+      let first = connection_of gives id before.opening links link pass one served.talk.heard served.talk.sent in
       let callers : now.callers ≡ kept.callers ++ pass.callers = ap (λ (p : PassState). p.callers) merged.same in
+      let mine : caller pass ≡ caller fresh = ap caller served.kept in
       let alone : pass.callers ≡ caller pass ∷ [] = one_caller pass (caller fresh) (ap (λ (p : PassState). p.callers) served.kept ∙ is_fresh.one) in
       let held : numbers_held pass ≡ 1 = ap numbers_held served.kept ∙ is_fresh.numbers in
       record {
         session = ap (λ (p : PassState). p.session) merged.same ∙ gathers.session;
+        opening = ap (λ (p : PassState). p.opening) merged.same ∙ gathers.opening;
         numbers = omega (arith, numbers, held, gathers.numbers);
         callers = λ n.
             let both : times n now.callers ≡ times n kept.callers + times n (caller pass ∷ []) =
             ap (times n) (callers ∙ ap (λ (l : List ℕ). kept.callers ++ l) alone) ∙ times_append n kept.callers (caller pass ∷ []) in
             omega (arith, both, gathers.callers n);
         calls =
-            called_merged kept pass now (callers_of connections) (caller pass ∷ []) (caller pass ∷ callers_of connections) merged gathers.calls
+            called_merged kept pass now (caller before ∷ callers_of connections) (caller pass ∷ []) (caller before ∷ caller pass ∷ callers_of connections) merged gathers.calls
             (called_alone pass (caller pass) alone)
-            (λ n other. not_behind n (caller pass) (callers_of connections) other)
-            (λ n other. not_first n (caller pass) (callers_of connections) other);
+            (λ n other. not_second n (caller before) (caller pass) (callers_of connections) other)
+            (λ n other. not_first n (caller pass) (callers_of connections) (not_behind n (caller before) (caller pass ∷ callers_of connections) other));
+        saw =
+            saw_trans (caller before ∷ []) before.seen kept.seen now.seen gathers.saw
+            (saw_one kept.callers (caller before) kept.seen now.seen merged.saw (keeps_caller before kept (callers_of connections) gathers.callers));
+        new = λ n own. new_more before (caller pass) n (callers_of connections) gathers.new
+            (subst (λ (m : ℕ). calls_of (m ∷ []) before.seen ≡ []) (sym mine) (fresh_before before fresh is_fresh)) own;
         talks = (
-          talk_stays gives id links pass.callers pass.seen now.seen first merged.saw_other
+          talk_stays gives id before.opening links pass.callers pass.seen now.seen first merged.saw_other
               (ap (has (caller pass)) alone ∙ has_some (caller pass) (caller pass ∷ []) (times_first (caller pass) []))
-              (served_talks gives id links fresh link pass one new served),
-          talks_stay gives id links kept.callers kept.seen now.seen connections merged.saw gathers.callers gathers.talks,
+              (served_talks gives id before.opening links fresh link pass one is_fresh.opening new served),
+          talks_stay gives id before.opening links kept.callers kept.seen now.seen connections merged.saw
+              (λ n. omega (arith, times_behind n (caller before) (callers_of connections), gathers.callers n)) gathers.talks,
         );
       }
 
   -- one link more was accepted, and served beside the rest
-  pub round_more : (table : TableId) (before between rest now : Round N L) (fresh pass : PassState) (count more : ℕ) (link : L) (one : ServedLink L) → IsFresh table fresh
+  pub round_more : (before between rest now : Round N L) (fresh pass : PassState) (count more : ℕ) (link : L) (one : ServedLink L) → IsFresh between.keeper fresh
       → between.keeper ≡ before.keeper → more ≡ count + 1 → Gave before.net between.net link → Serves gives id links fresh link pass one
       → GoesRound gives id tells links count between rest → Merged rest.keeper pass now.keeper → numbers_held now.keeper ≡ numbers_held rest.keeper + numbers_held pass
       → now.served.items ≡ rest.served.items ++ one ∷ [] → now.net ≡ rest.net → now.stopped ≡ rest.stopped → GoesRound gives id tells links more before now
-  round_more table before between rest now fresh pass count more link one is_fresh keeper_is more_is gave served round merged numbers served_is net_is stopped_is =
-      let first = connection_of gives id links link pass one served.talk.heard served.talk.sent in record {
+  round_more before between rest now fresh pass count more link one is_fresh keeper_is more_is gave served round merged numbers served_is net_is stopped_is =
+      let first = connection_of gives id between.keeper.opening links link pass one served.talk.heard served.talk.sent in record {
         connections = first ∷ round.connections;
         net =
             subst (λ (n : N). Accepts tells before.net n (link ∷ accepted_links round.connections) now.stopped) (sym net_is)
@@ -207,7 +227,7 @@ module _ (gives : ℕ → Type 0) (id : SessionId) {N L : Type 0} (tells : NetTe
         passes =
             subst (λ (n : ℕ). Gathers gives id links before.keeper n (first ∷ round.connections) now.keeper) (sym more_is)
             (subst (λ (p : PassState). Gathers gives id links p (count + 1) (first ∷ round.connections) now.keeper) keeper_is
-            (gathers_more table between.keeper rest.keeper fresh pass now.keeper count link one round.connections is_fresh gave.new served round.passes merged numbers));
+            (gathers_more between.keeper rest.keeper fresh pass now.keeper count link one round.connections is_fresh gave.new served round.passes merged numbers));
         served =
             served_is
             ∙ (ap (λ (l : List (ServedLink L)). l ++ one ∷ []) round.served

@@ -1,5 +1,5 @@
 -- Connections that were served, and their talks in one history.
-use Rattle.std.specs.Prelude.{◌≡◌, ℕ, ◌≤◌, List, map}
+use Rattle.std.specs.Prelude.{◌≡◌, ℕ, ◌≤◌, List, ◌∷◌, map}
 use Rattle.std.specs.List.{AllByRecursion}
 use Rattle.tea_base.specs.declared.entry.Entry.{Entry}
 use Rattle.tea_base.specs.declared.entry.SessionId.{SessionId}
@@ -7,6 +7,7 @@ use Rattle.tea_io.specs.Told.{with_more}
 use Rattle.tea_io.specs.Links.{no_counts}
 use Rattle.tea_io.specs.declared.link.Heard.{Heard}
 use Rattle.run_steps.specs.Outside.{LinksTell}
+use Rattle.reflector_core.specs.PlainSession.{PlainSession}
 use Rattle.session_lock.specs.declared.knowledge.Item.{Item}
 use Rattle.session_lock.specs.History.{calls_of}
 use Rattle.session_lock.specs.Numbers.{times}
@@ -15,6 +16,7 @@ use Rattle.connection.specs.Causes.{EndsExactly, IsCauseCounted}
 use Rattle.connection.specs.Exchanges.{exchanges_in}
 use Rattle.connection.specs.Talk.{Talk, LinkAccount, link_account}
 use Rattle.connection.specs.TalkServed.{IsTalkServed}
+use Rattle.reflect_server.specs.Opening.{BeginsWithLeaves}
 
 -- a connection: its link as it was accepted and as it was given back, its caller, what it was heard to say and was sent, and how it ended
 pub record ServedConnection (L : Type 0) : Type 0 where
@@ -42,11 +44,11 @@ ends_of connections = map (λ one. one.ended) connections
 
 -- The connection has its talk in the history, and its link tells just that it was heard and sent in it. It ended by what its caller was
 -- answered, or by what its link has counted.
-pub record HasTalk (gives : ℕ → Type 0) (id : SessionId) {L : Type 0} (links : LinksTell L) (history : List Item) (one : ServedConnection L) : Type 0 where
-  pub talk : Talk gives id history one.caller one.heard one.sent one.ended
+pub record HasTalk (gives : ℕ → Type 0) (id : SessionId) (opening : PlainSession) {L : Type 0} (links : LinksTell L) (history : List Item) (one : ServedConnection L) : Type 0 where
+  pub talk : Talk gives id opening history one.caller one.heard one.sent one.ended
   pub heard : links.heard one.returned ≡ with_more (links.heard one.accepted) one.heard
   pub sent : links.sent one.returned ≡ with_more (links.sent one.accepted) one.sent
-  pub exactly : EndsExactly one.ended (exchanges_in history one.caller)
+  pub exactly : EndsExactly one.ended (exchanges_in opening history one.caller)
   pub new : links.counts one.accepted ≡ no_counts
   pub cause : IsCauseCounted no_counts (links.counts one.returned) one.ended
 
@@ -54,11 +56,13 @@ pub record HasTalk (gives : ℕ → Type 0) (id : SessionId) {L : Type 0} (links
 abbrev pub HaveOwnNumbers : List ℕ → Type 0
 HaveOwnNumbers numbers = (n : ℕ) → times n numbers ≤ 1
 
--- each connection has its talk in the history, with a caller of its own, and nobody else called
-pub record IsHistoryOf (gives : ℕ → Type 0) (id : SessionId) {L : Type 0} (links : LinksTell L) (connections : List (ServedConnection L)) (history : List Item) : Type 0 where
-  pub talks : AllByRecursion (HasTalk gives id links history) connections
-  pub apart : HaveOwnNumbers (callers_of connections)
-  pub whole : calls_of (callers_of connections) history ≡ history
+-- The history begins with the opening Leaves of one caller. After them each connection has its talk in it, with a caller of
+-- its own, and nobody else called.
+pub record IsHistoryOf (gives : ℕ → Type 0) (id : SessionId) (opening : PlainSession) {L : Type 0} (links : LinksTell L) (connections : List (ServedConnection L)) (opener : ℕ) (history : List Item) : Type 0 where
+  pub leaves : BeginsWithLeaves gives opening opener history
+  pub talks : AllByRecursion (HasTalk gives id opening links history) connections
+  pub apart : HaveOwnNumbers (opener ∷ callers_of connections)
+  pub whole : calls_of (opener ∷ callers_of connections) history ≡ history
 
 -- what each was sent is what the log serves it
 abbrev pub AreServed : {L : Type 0} → List Entry → List (ServedConnection L) → Type 0

@@ -1,3 +1,4 @@
+pub mod Opening
 pub mod Connections
 pub mod Passes
 pub mod Rounds

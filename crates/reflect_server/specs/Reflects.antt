@@ -10,18 +10,19 @@ use Rattle.tea_io.specs.declared.net.NetFault.TheVariants as fault
 use Rattle.connection.specs.declared.ending.Ended.{Ended}
 use Rattle.reflector_core.specs.SessionState.{SessionState}
 use Rattle.reflector_core.specs.PlainSession.{PlainSession}
-use Rattle.reflector_core.specs.Play.{first_session, replies_from, TellsItsEvents}
+use Rattle.reflector_core.specs.Play.{replies_from, TellsItsEvents}
 use Rattle.session_lock.specs.declared.knowledge.Item.{Item}
 use Rattle.session_lock.specs.Passes.{numbers_held}
 use Rattle.session_lock.specs.Rules.{all_numbers}
-use Rattle.session_lock.specs.History.{play, history_requests, IsSoundThrough}
+use Rattle.session_lock.specs.History.{play_from, history_requests, IsSoundThrough}
 use Rattle.reflect_server.specs.declared.reflection.Reflected.{Reflected}
 use Rattle.reflect_server.specs.declared.reflection.ServeFault.{ServeFault}
 use Rattle.reflect_server.specs.declared.reflection.ServeFault.TheVariants.{ListenFault, WantOfMemory}
+use Rattle.reflect_server.specs.Opening.{HasOpened}
 use Rattle.reflect_server.specs.Connections.{ServedConnection, IsHistoryOf, AreServed, accepted_links, returned_links, ends_of, callers_of}
 use Rattle.reflect_server.specs.Views.{StaysByVoid}
 use Rattle.reflect_server.specs.Rounds.{TakesAll, accepts, accepts_more, with_links}
-use Rattle.reflect_server.specs.Passes.{IsFresh, HasNotCalled}
+use Rattle.reflect_server.specs.Passes.{IsFresh, Keeps}
 use Rattle.reflect_server.specs.declared.reflecting.Prepared.{Prepared}
 
 -- the links that the net gave were all given back, in the order in which they were accepted
@@ -46,14 +47,15 @@ abbrev pub CountsConnections : ℕ → ℕ → Bool → Type 0
 CountsConnections links connections true = links < connections
 CountsConnections links connections false = links ≡ connections
 
--- the session is the play of the history, which was sound at each place; its log has the events that were answered Stamped, and no others
-pub record Plays (history : List Item) (session : PlainSession) : Type 0 where
-  pub play : session ≡ play history
-  pub sound : IsSoundThrough first_session history
-  pub events : TellsItsEvents (history_requests history) (replies_from first_session (history_requests history)) session.log
+-- The session is the play of the history from the opening session on, which was sound at each place. Its log has the events of the opening
+-- session and, after them, those that were answered Stamped, and no others.
+pub record Plays (opening : PlainSession) (history : List Item) (session : PlainSession) : Type 0 where
+  pub play : session ≡ play_from opening history
+  pub sound : IsSoundThrough opening history
+  pub events : TellsItsEvents opening.log (history_requests history) (replies_from opening (history_requests history)) session.log
 
 -- what was reflected, behind these first calls of the net
-pub record HasReflected (gives : ℕ → Type 0) (id : SessionId) {N L : Type 0} (tells : NetTells N L) (links : LinksTell L) (calls : List NetCall) (count : ℕ) (before now : N) (reflected : Reflected) : Type 0 where
+pub record HasReflected (gives : ℕ → Type 0) (id : SessionId) (opening : PlainSession) {N L : Type 0} (tells : NetTells N L) (links : LinksTell L) (calls : List NetCall) (count : ℕ) (before now : N) (reflected : Reflected) : Type 0 where
   pub connections : List (ServedConnection L)
   pub history : List Item
   pub net : ReturnsLinks tells links before now connections
@@ -61,10 +63,11 @@ pub record HasReflected (gives : ℕ → Type 0) (id : SessionId) {N L : Type 0}
   pub faults : CountsFailure (tells.faults before) (tells.faults now) reflected.net_failed
   pub number : CountsConnections (length connections) count reflected.net_failed
   pub ends : reflected.ends ≡ ends_of connections
-  pub talks : IsHistoryOf gives id links connections history
-  pub session : Plays history reflected.session.plain
+  pub opener : ℕ
+  pub talks : IsHistoryOf gives id opening links connections opener history
+  pub session : Plays opening history reflected.session.plain
   pub served : AreServed reflected.session.plain.log connections
-  pub stays : StaysByVoid (callers_of connections) history reflected.session.plain.log
+  pub stays : StaysByVoid opening opener (callers_of connections) history reflected.session.plain.log
 
 -- the net did not listen
 pub record HasNotListened {N L : Type 0} (tells : NetTells N L) (links : LinksTell L) (calls : List NetCall) (before now : N) : Type 0 where
@@ -78,23 +81,28 @@ abbrev pub AsksUntilWant : {L : Type 0} → Option (List NetCall) → Option (Li
 AsksUntilWant before now calls links =
     ((links ≡ []) × (now ≡ before)) ⊎ ((now ≡ with_more before (calls ++ accepts links)) ⊎ (now ≡ with_more before (calls ++ accepts_more links)))
 
--- No memory was found. Those links that were accepted, fewer than there were to be, were served to their ends, and given back.
-pub record HasWanted (gives : ℕ → Type 0) (id : SessionId) {N L : Type 0} (tells : NetTells N L) (links : LinksTell L) (calls : List NetCall) (count : ℕ) (before now : N) : Type 0 where
-  pub connections : List (ServedConnection L)
+-- links were served to their ends, with their talks in one history
+pub record HasServed (gives : ℕ → Type 0) (id : SessionId) (opening : PlainSession) {L : Type 0} (links : LinksTell L) (connections : List (ServedConnection L)) : Type 0 where
   pub history : List Item
+  pub opener : ℕ
+  pub talks : IsHistoryOf gives id opening links connections opener history
+  pub sound : IsSoundThrough opening history
+  pub served : AreServed (play_from opening history).log connections
+
+-- No memory was found. Those links that were accepted, fewer than there were to be, were served to their ends, and given back.
+pub record HasWanted (gives : ℕ → Type 0) (id : SessionId) (opening : PlainSession) {N L : Type 0} (tells : NetTells N L) (links : LinksTell L) (calls : List NetCall) (count : ℕ) (before now : N) : Type 0 where
+  pub connections : List (ServedConnection L)
   pub net : ReturnsLinks tells links before now connections
   pub asked : AsksUntilWant (tells.asked before) (tells.asked now) calls (accepted_links connections)
   pub number : length connections < count
-  pub talks : IsHistoryOf gives id links connections history
-  pub sound : IsSoundThrough first_session history
-  pub served : AreServed (play history).log connections
+  pub served : (connections ≡ []) ⊎ HasServed gives id opening links connections
   pub faults : tells.faults before ≤ tells.faults now
 
 abbrev pub Reflects
-    : (ℕ → Type 0) → SessionId → {N L : Type 0} → NetTells N L → LinksTell L → List NetCall → ℕ → N → N → Result Reflected ServeFault → Type 0
-Reflects gives id tells links calls count before now (Ok reflected) = HasReflected gives id tells links calls count before now reflected
-Reflects gives id tells links calls count before now (Err ListenFault) = HasNotListened tells links calls before now
-Reflects gives id tells links calls count before now (Err WantOfMemory) = HasWanted gives id tells links calls count before now
+    : (ℕ → Type 0) → SessionId → PlainSession → {N L : Type 0} → NetTells N L → LinksTell L → List NetCall → ℕ → N → N → Result Reflected ServeFault → Type 0
+Reflects gives id opening tells links calls count before now (Ok reflected) = HasReflected gives id opening tells links calls count before now reflected
+Reflects gives id opening tells links calls count before now (Err ListenFault) = HasNotListened tells links calls before now
+Reflects gives id opening tells links calls count before now (Err WantOfMemory) = HasWanted gives id opening tells links calls count before now
 
 -- what is answered, by what stopped the net
 abbrev pub answer_for : SessionState → List Ended → Option NetFault → Result Reflected ServeFault
@@ -104,10 +112,13 @@ answer_for session ends (Some fault.WantOfMemory) = Err WantOfMemory
 
 -- ---- what is made before
 
--- the first pass and one for each connection, which hold all numbers and have made no call, and room for what comes back
-pub record IsPrepared {L : Type 0} (count : ℕ) (prepared : Prepared L) : Type 0 where
-  pub keeper : HasNotCalled prepared.shared.session prepared.keeper
-  pub passes : All (IsFresh prepared.shared.session) prepared.passes.items
+-- The first pass and one for each connection, which hold all numbers, and room for what comes back. The first pass has opened the session, and
+-- the others were split off it then.
+pub record IsPrepared (gives : ℕ → Type 0) {L : Type 0} (count : ℕ) (prepared : Prepared L) : Type 0 where
+  pub session : prepared.keeper.session ≡ prepared.shared.session
+  pub opened : HasOpened gives prepared.keeper.opening prepared.keeper
+  pub keeper : Keeps prepared.keeper prepared.keeper
+  pub passes : All (IsFresh prepared.keeper) prepared.passes.items
   pub number : vec_len prepared.passes ≡ count
   pub numbers : numbers_held prepared.keeper + count ≡ all_numbers
   pub none_served : prepared.served.items ≡ []

@@ -71,7 +71,7 @@ with_links counts sum (link ∷ links) = with_links counts (plus sum (counts lin
 pub record Serves (gives : ℕ → Type 0) (id : SessionId) {L : Type 0} (links : LinksTell L) (before : PassState) (link : L) (pass : PassState) (one : ServedLink L) : Type 0 where
   pub kept : pass ≡ record before { seen = pass.seen }
   pub talk : HasTalked gives id pass (account_in links link) (account_in links one.link) one.ended
-  pub exactly : EndsExactly one.ended (exchanges_in pass.seen (caller pass))
+  pub exactly : EndsExactly one.ended (exchanges_in pass.opening pass.seen (caller pass))
   pub cause : IsCauseCounted (links.counts link) (links.counts one.link) one.ended
 
 -- what a thread has of a connection that has ended

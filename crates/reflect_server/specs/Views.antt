@@ -2,6 +2,7 @@
 use Rattle.std.specs.Prelude.{◌≡◌, ℕ, ◌==◌, Bool, true, false, not, ◌&&◌, ◌||◌, List, [], ◌∷◌, eqb}
 use Rattle.tea_base.specs.declared.entry.Entry.{Entry}
 use Rattle.tea_base.specs.Readings.{current, is_here}
+use Rattle.reflector_core.specs.PlainSession.{PlainSession}
 use Rattle.reflector_core.specs.declared.request.Request.TheVariants.{Join, Send, Leave, Offer}
 use Rattle.reflector_core.specs.declared.request.Reply.{Reply}
 use Rattle.reflector_core.specs.declared.request.Reply.TheVariants.{Joined, Left, Refused}
@@ -43,8 +44,17 @@ has_void caller [] = false
 has_void caller (Did who request ∷ rest) = has_void caller rest
 has_void caller (Void who ∷ rest) = eqb who caller || has_void caller rest
 
+-- the caller holds the view by this Join after its exchanges; the views of the opening session are the opener's at first
+abbrev pub opens_with : PlainSession → ℕ → ℕ → ℕ → ℕ → Bool
+opens_with opening opener caller view joined =
+    (caller == opener) && (is_here opening.log view && (joined == current opening.log view))
+
+abbrev pub holds_in : PlainSession → ℕ → List Item → ℕ → ℕ → ℕ → Bool
+holds_in opening opener history caller view joined =
+    holds_on view joined (opens_with opening opener caller view joined) (exchanges_in opening history caller)
+
 -- a view that is here is held by one of the callers, by its last Join, and this caller once found no memory
-abbrev pub StaysByVoid : List ℕ → List Item → List Entry → Type 0
-StaysByVoid callers history log =
+abbrev pub StaysByVoid : PlainSession → ℕ → List ℕ → List Item → List Entry → Type 0
+StaysByVoid opening opener callers history log =
     (view : ℕ) → is_here log view ≡ true
-    → (caller : ℕ) × (has caller callers ≡ true) × (holds view (current log view) (exchanges_in history caller) ≡ true) × (has_void caller history ≡ true)
+    → (caller : ℕ) × (has caller (opener ∷ callers) ≡ true) × (holds_in opening opener history caller view (current log view) ≡ true) × (has_void caller history ≡ true)

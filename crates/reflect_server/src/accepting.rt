@@ -2,10 +2,13 @@
 ghost use Rattle.std.specs.Prelude.{◌≡◌, ◌+◌, ◌<◌, ◌≤◌, ◌^◌, ◌++◌, ◌∷◌, [], All, Some, None, vec_len, vec_capacity};
 ghost use Rattle.std.specs.Thread.{IsSync};
 ghost use Rattle.run_steps.specs.Outside.{links_tell, net_tells};
-ghost use Rattle.session_lock.specs.Passes.{Merged, numbers_held};
-ghost use Rattle.reflect_server.specs.Passes.{IsFresh, HasNotCalled};
+ghost use Rattle.session_lock.specs.History.{calls_of};
+ghost use Rattle.session_lock.specs.Passes.{Merged, caller, numbers_held};
+ghost use Rattle.reflect_server.specs.Opening.{gives_later};
+ghost use Rattle.reflect_server.specs.Passes.{IsFresh, Keeps};
 ghost use Rattle.reflect_server.specs.Rounds.{GoesRound, Serves};
 
+use crate::opening::LaterClock;
 use crate::passes::merge_all;
 use crate::reflection::Server;
 use connection::{Ended, serve_connection};
@@ -31,13 +34,14 @@ pub struct Round<N: Drop, L: Link + Drop> {
     pub stopped: Option<NetFault>,
 }
 
-/// What each thread is given.
+/// What each thread is given. It asks by the server's clock, so much later.
 #[derive(Drop)]
 pub struct Post<'a, C: Clock, G: Gate, R: Wait> {
     pub rt: &'a R,
     pub alloc: Global,
     pub shared: &'a SharedSession<TrustAll>,
     pub server: &'a Server<'a, C, G>,
+    pub since: u64,
 }
 
 /// Serves one link, once the gate is passed.
@@ -47,10 +51,15 @@ fn serve_one<L: Link + Drop, C: Clock, G: Gate, R: Wait>(
     mut link: L,
     worker: u32,
 ) -> (Pass, ServedLink<L>)
-    requires fresh { IsFresh post.now.shared.now.session pass }
-    ensures { Serves (C.gives post.now.server.now.clock.now) post.now.server.now.id (links_tell L.coming L.heard L.sent L.counts) pass link result.0 result.1 }
+    requires session { pass.session ≡ post.now.shared.now.session }
+    requires fresh { calls_of (caller pass ∷ []) pass.seen ≡ [] }
+    ensures { Serves (gives_later (C.gives post.now.server.now.clock.now) post.now.since) post.now.server.now.id (links_tell L.coming L.heard L.sent L.counts) pass link result.0 result.1 }
 {
     let server = post.server;
+    let clock = LaterClock {
+        clock: server.clock,
+        since: post.since,
+    };
     server.gate.pass(worker, 1);
     let ended = serve_connection(
         post.rt,
@@ -59,7 +68,7 @@ fn serve_one<L: Link + Drop, C: Clock, G: Gate, R: Wait>(
         &mut pass,
         server.id,
         &mut link,
-        server.clock,
+        &clock,
     );
     (pass, ServedLink { link, ended })
 }
@@ -92,9 +101,10 @@ fn stop<N: Drop, L: Link + Drop>(
     passes: Vec<Pass>,
     fault: NetFault,
 ) -> Round<N, L>
-    requires keeper { HasNotCalled shared.now.session round.keeper }
-    requires passes { All (IsFresh shared.now.session) passes.items }
-    ensures keeper { HasNotCalled shared.now.session result.keeper }
+    requires session { round.keeper.session ≡ shared.now.session }
+    requires keeper { Keeps round.keeper round.keeper }
+    requires passes { All (IsFresh round.keeper) passes.items }
+    ensures keeper { Keeps round.keeper result.keeper }
     ensures numbers { numbers_held result.keeper ≡ numbers_held round.keeper + vec_len passes }
     ensures rest { (result.net ≡ round.net) × (result.served ≡ round.served) × (result.stopped ≡ Some fault) }
 {
@@ -110,13 +120,14 @@ pub fn accept_all<N: Net + Drop, C: Clock + Sync, G: Gate + Sync, R: Threads + W
     mut passes: Vec<Pass>,
     worker: u32,
 ) -> Round<N, N::Conn>
-    requires keeper { HasNotCalled post.now.shared.now.session round.keeper }
-    requires passes { All (IsFresh post.now.shared.now.session) passes.items }
+    requires session { round.keeper.session ≡ post.now.shared.now.session }
+    requires keeper { Keeps round.keeper round.keeper }
+    requires passes { All (IsFresh round.keeper) passes.items }
     requires few { vec_len passes + worker < 2 ^ 32 }
     requires room { vec_len passes ≤ vec_capacity round.served }
     requires begins { (round.served.items ≡ []) × (round.stopped ≡ None) }
     ensures room { vec_capacity result.served ≡ vec_capacity round.served }
-    ensures round { GoesRound (C.gives post.now.server.now.clock.now) post.now.server.now.id
+    ensures round { GoesRound (gives_later (C.gives post.now.server.now.clock.now) post.now.since) post.now.server.now.id
         (net_tells N.coming N.over N.asked N.faults N.lent N.link_counts) (links_tell N.Conn.coming N.Conn.heard N.Conn.sent N.Conn.counts)
         (vec_len passes) round result }
 {
@@ -133,14 +144,14 @@ pub fn accept_all<N: Net + Drop, C: Clock + Sync, G: Gate + Sync, R: Threads + W
     let ((pass, one), round) = join(
         post.rt,
         || -> (Pass, ServedLink<N::Conn>)
-            requires { IsSync R.row × IsFresh post.now.shared.now.session pass }
-            ensures { Serves (C.gives post.entry.now.server.now.clock.now) post.entry.now.server.now.id (links_tell N.Conn.coming N.Conn.heard N.Conn.sent N.Conn.counts) pass link result.0 result.1 }
+            requires { IsSync R.row × (pass.session ≡ post.now.shared.now.session) × (calls_of (caller pass ∷ []) pass.seen ≡ []) }
+            ensures { Serves (gives_later (C.gives post.entry.now.server.now.clock.now) post.entry.now.since) post.entry.now.server.now.id (links_tell N.Conn.coming N.Conn.heard N.Conn.sent N.Conn.counts) pass link result.0 result.1 }
         { serve_one(post, pass, link, worker) },
         || -> Round<N, N::Conn>
-            requires { IsSync R.row × HasNotCalled post.now.shared.now.session round.keeper × All (IsFresh post.now.shared.now.session) passes.items
+            requires { IsSync R.row × (round.keeper.session ≡ post.now.shared.now.session) × Keeps round.keeper round.keeper × All (IsFresh round.keeper) passes.items
                 × (vec_len passes + worker + 1 < 2 ^ 32) × (vec_len passes ≤ vec_capacity round.served) × (round.served.items ≡ []) × (round.stopped ≡ None) }
             ensures room { vec_capacity result.served ≡ vec_capacity round.served }
-            ensures round { GoesRound (C.gives post.entry.now.server.now.clock.now) post.entry.now.server.now.id
+            ensures round { GoesRound (gives_later (C.gives post.entry.now.server.now.clock.now) post.entry.now.since) post.entry.now.server.now.id
                 (net_tells N.coming N.over N.asked N.faults N.lent N.link_counts) (links_tell N.Conn.coming N.Conn.heard N.Conn.sent N.Conn.counts)
                 (vec_len passes) round result }
         { accept_all(post, round, passes, worker + 1) },

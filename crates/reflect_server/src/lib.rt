@@ -4,6 +4,7 @@
 #![tactic(auto)]
 
 mod accepting;
+mod opening;
 mod passes;
 mod reflecting;
 mod reflection;

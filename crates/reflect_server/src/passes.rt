@@ -2,7 +2,7 @@
 ghost use Rattle.std.specs.Prelude.{◌≡◌, ◌+◌, ◌≤◌, All, IfOk, vec_len};
 ghost use Rattle.session_lock.specs.Numbers.{count_of};
 ghost use Rattle.session_lock.specs.Passes.{numbers_held};
-ghost use Rattle.reflect_server.specs.Passes.{IsFresh, HasNotCalled};
+ghost use Rattle.reflect_server.specs.Passes.{IsFresh, Keeps};
 
 use session_lock::{Pass, SharedSession, TrustAll};
 use std::alloc::Global;
@@ -15,10 +15,10 @@ pub fn split_all(
     keeper: &mut Pass,
     count: u32,
 ) -> Result<Vec<Pass>, WantOfMemory>
-    requires keeper { HasNotCalled shared.now.session keeper.old }
+    requires session { keeper.old.session ≡ shared.now.session }
     requires enough { count ≤ count_of keeper.old.spare }
-    ensures keeper { HasNotCalled shared.now.session keeper.new }
-    ensures passes { IfOk result (λ passes. All (IsFresh shared.now.session) passes.items) }
+    ensures keeper { keeper.new ≡ record keeper.old { spare = keeper.new.spare } }
+    ensures passes { IfOk result (λ passes. All (IsFresh keeper.old) passes.items) }
     ensures count { IfOk result (λ passes. vec_len passes ≡ count) }
     ensures numbers { IfOk result (λ passes. numbers_held keeper.new + count ≡ numbers_held keeper.old) }
 {
@@ -32,9 +32,10 @@ pub fn split_all(
 
 /// Merges passes that have served no link into the one that is kept.
 pub fn merge_all(shared: &SharedSession<TrustAll>, mut keeper: Pass, mut passes: Vec<Pass>) -> Pass
-    requires keeper { HasNotCalled shared.now.session keeper }
-    requires passes { All (IsFresh shared.now.session) passes.items }
-    ensures keeper { HasNotCalled shared.now.session result }
+    requires session { keeper.session ≡ shared.now.session }
+    requires keeper { Keeps keeper keeper }
+    requires passes { All (IsFresh keeper) passes.items }
+    ensures keeper { Keeps keeper result }
     ensures numbers { numbers_held result ≡ numbers_held keeper + vec_len passes }
 {
     while let Some(pass) = passes.pop() {

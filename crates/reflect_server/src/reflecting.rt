@@ -4,10 +4,12 @@ ghost use Rattle.run_steps.specs.Limits.{most_connections};
 ghost use Rattle.run_steps.specs.Outside.{links_tell, net_tells};
 ghost use Rattle.tea_io.specs.Told.{with_more};
 ghost use Rattle.tea_io.specs.declared.net.NetCall.TheVariants.{Listen};
+ghost use Rattle.reflect_server.specs.Opening.{gives_later};
 ghost use Rattle.reflect_server.specs.Rounds.{ended_of, links_of, with_links};
 ghost use Rattle.reflect_server.specs.Reflects.{IsPrepared, Reflects, answer_for};
 
 use crate::accepting::{Post, Round, ServedLink, accept_all};
+use crate::opening::{LaterClock, open_session};
 use crate::passes::split_all;
 use crate::reflection::{Ends, Reflected, ServeFault, Server};
 use connection::Ended;
@@ -19,9 +21,11 @@ use std::thread::Threads;
 use tea_base::{List, SessionId, WantOfMemory};
 use tea_io::{Clock, Gate, Link, Net, NetFault};
 
-/// All that is made before a net is asked: the shared session, its first pass, one more for each connection, and room for what comes back.
+/// All that is made before a net is asked: the shared session, the pass that opened it, one more for each connection, and room for what comes
+/// back. `since` is the horizon that the session had, in microseconds.
 #[derive(Drop)]
 struct Prepared<L: Link + Drop> {
+    since: u64,
     shared: SharedSession<TrustAll>,
     keeper: Pass,
     passes: Vec<Pass>,
@@ -29,22 +33,29 @@ struct Prepared<L: Link + Drop> {
     ends: Vec<Ended>,
 }
 
-fn prepare<L: Link + Drop>(
+fn prepare<L: Link + Drop, C: Clock, G: Gate, R: Wait>(
+    rt: &R,
     alloc: Global,
-    id: SessionId,
-    connections: u32,
+    server: &Server<'_, C, G>,
+    opening: Session,
 ) -> Result<Prepared<L>, WantOfMemory>
-    requires { connections ≤ most_connections }
-    ensures { IfOk result (λ prepared. IsPrepared connections prepared) }
+    requires { server.now.connections ≤ most_connections }
+    ensures since { IfOk result (λ prepared. prepared.since ≡ opening.plain.horizon) }
+    ensures begins { IfOk result (λ prepared. prepared.keeper.opening ≡ opening.plain) }
+    ensures prepared { IfOk result (λ prepared.
+        IsPrepared (gives_later (C.gives server.now.clock.now) prepared.since) server.now.connections prepared) }
 {
-    let served = Vec::with_capacity(alloc, connections as usize)?;
-    let ends = Vec::with_capacity(alloc, connections as usize)?;
-    let Ok((shared, mut keeper)) = SharedSession::new(alloc, id, Session::new(alloc), TrustAll)
-    else {
-        return Err(WantOfMemory);
+    let served = Vec::with_capacity(alloc, server.connections as usize)?;
+    let ends = Vec::with_capacity(alloc, server.connections as usize)?;
+    let since = opening.horizon();
+    let clock = LaterClock {
+        clock: server.clock,
+        since,
     };
-    let passes = split_all(alloc, &shared, &mut keeper, connections)?;
+    let (shared, mut keeper) = open_session(rt, alloc, server.id, opening, &clock)?;
+    let passes = split_all(alloc, &shared, &mut keeper, server.connections)?;
     Ok(Prepared {
+        since,
         shared,
         keeper,
         passes,
@@ -101,12 +112,13 @@ fn serve_all<N: Net + Drop, C: Clock + Sync, G: Gate + Sync, R: Threads + Wait +
     prepared: Prepared<N::Conn>,
 ) -> (N, Result<Reflected, ServeFault>)
     requires connections { server.now.connections ≤ most_connections }
-    requires prepared { IsPrepared server.now.connections prepared }
-    ensures { Reflects (C.gives server.now.clock.now) server.now.id
+    requires prepared { IsPrepared (gives_later (C.gives server.now.clock.now) prepared.since) server.now.connections prepared }
+    ensures { Reflects (gives_later (C.gives server.now.clock.now) prepared.since) server.now.id prepared.keeper.opening
         (net_tells N.coming N.over N.asked N.faults N.lent N.link_counts) (links_tell N.Conn.coming N.Conn.heard N.Conn.sent N.Conn.counts)
         [] server.now.connections net result.0 result.1 }
 {
     let Prepared {
+        since,
         shared,
         keeper,
         passes,
@@ -118,6 +130,7 @@ fn serve_all<N: Net + Drop, C: Clock + Sync, G: Gate + Sync, R: Threads + Wait +
         alloc,
         shared: &shared,
         server,
+        since,
     };
     let round = Round {
         net,
@@ -136,19 +149,21 @@ fn serve_all<N: Net + Drop, C: Clock + Sync, G: Gate + Sync, R: Threads + Wait +
     (net, answer(session, ends, stopped))
 }
 
-/// Reflects a new session to so many links of a net.
+/// Reflects a session to so many links of a net. First each view that is here in it is made to leave, in rising order. The session is asked at
+/// the clock's times after the horizon that it had, so its times never go back.
 pub fn reflect<N: Net + Drop, C: Clock + Sync, G: Gate + Sync, R: Threads + Wait + Sync>(
     rt: &R,
     alloc: Global,
     server: &Server<'_, C, G>,
+    opening: Session,
     mut net: N,
 ) -> (N, Result<Reflected, ServeFault>)
     requires { (1 ≤ server.now.connections) × (server.now.connections ≤ most_connections) }
-    ensures { Reflects (C.gives server.now.clock.now) server.now.id
+    ensures { Reflects (gives_later (C.gives server.now.clock.now) opening.plain.horizon) server.now.id opening.plain
         (net_tells N.coming N.over N.asked N.faults N.lent N.link_counts) (links_tell N.Conn.coming N.Conn.heard N.Conn.sent N.Conn.counts)
         (Listen server.now.address.now ∷ []) server.now.connections net result.0 result.1 }
 {
-    let Ok(prepared) = prepare(alloc, server.id, server.connections) else {
+    let Ok(prepared) = prepare(rt, alloc, server, opening) else {
         return (net, Err(ServeFault::WantOfMemory));
     };
     match net.listen(server.address) {

@@ -6,6 +6,7 @@ use crate::links::{FIRST_SEND, LEAVE, link_of};
 use connection::Ended;
 use held_gate::HeldGate;
 use reflect_server::{Reflected, ServeFault, Server, reflect};
+use reflector_core::Session;
 use std::alloc::Global;
 use std::sync::Wait;
 use std::test::Fail;
@@ -16,7 +17,7 @@ use tea_io::{FixedClock, Gate, MemLinks, MemNet};
 /// What was served, or why nothing was.
 type Outcome = Result<Reflected, ServeFault>;
 
-/// Reflects to two links of a net, at time 0.
+/// Reflects a new session to two links of a net, at time 0.
 fn reflect_at_0<G: Gate + Sync, R: Threads + Wait + Sync>(
     rt: &R,
     alloc: Global,
@@ -31,7 +32,7 @@ fn reflect_at_0<G: Gate + Sync, R: Threads + Wait + Sync>(
         clock: &FixedClock { at: 0 },
         gate,
     };
-    Ok(reflect(rt, alloc, &server, net))
+    Ok(reflect(rt, alloc, &server, Session::new(alloc), net))
 }
 
 /// A link of the view 7, which sends, and one of the view 8, which leaves.

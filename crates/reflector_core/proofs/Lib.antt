@@ -5,3 +5,5 @@ pub mod SoundLaws
 pub mod GrowthLaws
 pub mod PreparedLaws
 pub mod NotedLaws
+pub mod StoredLaws
+pub mod NextHereLaws

@@ -9,7 +9,7 @@ use Rattle.tea_base.proofs.LogLaws.{events-push, TimesRise-legal, sent-events, E
 use Rattle.session_log.specs.LogState.{next_entry}
 use Rattle.reflector_core.specs.PlainSession.{PlainSession, IsSoundSession}
 use Rattle.reflector_core.specs.Answer.{answer, send_event, join, leave, offer, pull, append_entry, repeats, stamp}
-use Rattle.reflector_core.specs.Play.{first_session, after_all, replies_from, stamped_events, stamped_event_of, stamped_event, TellsItsEvents}
+use Rattle.reflector_core.specs.Play.{after_all, replies_from, stamped_events, stamped_event_of, stamped_event, TellsItsEvents}
 use Rattle.wire_frames.specs.declared.start.Want.{Want}
 use Rattle.reflector_core.specs.declared.request.Request.{Request}
 use Rattle.reflector_core.specs.declared.request.Request.TheVariants.{Join, Send, Tick, Leave, Offer, Pull}
@@ -72,13 +72,13 @@ events-after_all s [] = sym (append-nil (events s.log))
 events-after_all s (request ∷ rest) =
     rw (events-after_all (answer s request).session rest, events-answer s request) (append_assoc (events s.log) (stamped_event_of request (answer s request).reply) (stamped_events rest (replies_from (answer s request).session rest)))
 
-pub TellsItsEvents-all : (s : PlainSession) (requests : List Request) (replies : List Reply) → IsSoundSession s → replies ≡ replies_from first_session requests → s ≡ after_all first_session requests → TellsItsEvents requests replies s.log
-TellsItsEvents-all s requests replies sound replied played =
-    let told : events s.log ≡ stamped_events requests replies = rw (replied, played) (events-after_all first_session requests) in
+pub TellsItsEvents-all : (opening s : PlainSession) (requests : List Request) (replies : List Reply) → IsSoundSession s → replies ≡ replies_from opening requests → s ≡ after_all opening requests → TellsItsEvents opening.log requests replies s.log
+TellsItsEvents-all opening s requests replies sound replied played =
+    let told : events s.log ≡ events opening.log ++ stamped_events requests replies = rw (replied, played) (events-after_all opening requests) in
     record {
       legal = sound.legal;
       times = TimesRise-legal s.log sound.legal;
-      events = told;
       senders = λ view. sent-events s.log view ∙ ap (filter (λ (entry : Entry). entry.view == view)) told;
+      events = told;
       numbers = EachCountsItsEvents-legal s.log sound.legal;
     }

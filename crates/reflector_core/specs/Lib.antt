@@ -5,3 +5,5 @@ pub mod Growth
 pub mod SessionState
 pub mod Kept
 pub mod Prepared
+pub mod Stored
+pub mod NextHere

@@ -1,8 +1,10 @@
 //! The laws of how a session goes on. They hold of each session, sound or not.
 ghost use Rattle.std.specs.Prelude.{◌≡◌, ◌≤◌, ◌⊎◌, ℕ, false, List, Some};
-ghost use Rattle.reflector_core.specs.PlainSession.{PlainSession};
+ghost use Rattle.reflector_core.specs.PlainSession.{PlainSession, IsSoundSession};
 ghost use Rattle.reflector_core.specs.Answer.{answer, offer};
 ghost use Rattle.reflector_core.specs.Play.{after_all};
+ghost use Rattle.session_log.specs.Stored.{PlainStored, IsStored};
+ghost use Rattle.reflector_core.specs.Stored.{session_of, stored_of};
 ghost use Rattle.reflector_core.specs.Growth.{GrowsTo, is_offer};
 ghost use Rattle.reflector_core.specs.declared.request.Request.{Request};
 ghost use Rattle.reflector_core.specs.SessionState.{SessionState};
@@ -30,4 +32,13 @@ pub fn offers_change_what_is_kept()
 pub fn prepared_calls_are_answered()
     ensures { (s : SessionState) (calls bytes : ℕ) → calls ≤ s.ready_entries → bytes ≤ s.ready_bytes →
         AnswersPrepared s calls bytes }
+{}
+
+/// What is stored of a sound session is a stored session, and the session that goes on from it is this one. The session
+/// that goes on from a stored one is sound, and what is stored of it is the same.
+pub fn a_stored_session_comes_back()
+    ensures stored { (s : PlainSession) → IsSoundSession s → IsStored (stored_of s) }
+    ensures session { (s : PlainSession) → session_of (stored_of s) ≡ s }
+    ensures sound { (s : PlainStored) → IsStored s → IsSoundSession (session_of s) }
+    ensures same { (s : PlainStored) → stored_of (session_of s) ≡ s }
 {}

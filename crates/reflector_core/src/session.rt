@@ -12,6 +12,7 @@ mod entries;
 mod events;
 mod presence;
 mod readings;
+mod resuming;
 mod room;
 mod snapshots;
 mod times;

@@ -1,5 +1,5 @@
 -- A pass that holds all numbers, where the lock is closed.
-use Rattle.std.proofs.Common.{◌≡◌, ℕ, zero, suc, ◌+◌, ◌≢◌, Bool, true, false, ◌||◌, eqb, List, [], ◌∷◌, length, if◌then◌else◌, sym, refl, ap, ◌∙◌, subst, arith}
+use Rattle.std.proofs.Common.{◌≡◌, ℕ, zero, suc, ◌+◌, ◌<◌, ◌≢◌, Bool, true, false, ◌||◌, eqb, List, [], ◌∷◌, length, if◌then◌else◌, sym, refl, ap, ◌∙◌, subst, arith}
 use Rattle.std.proofs.lemmas.Bool.Decides.{nat_tests}
 use mathlib.Core.Logic.{dite}
 use mathlib.Core.Option.{some, some-injective}
@@ -7,15 +7,14 @@ use native.Mathlib.Decide.{ℕ_discrete}
 use lib.ListN.{get_elem?}
 use Rattle.atomic_table.specs.Table.{State, Seen, Final, opening}
 use Rattle.reflector_core.specs.PlainSession.{PlainSession, IsSoundSession}
-use Rattle.reflector_core.proofs.SoundLaws.{IsSoundSession-first}
 use Rattle.reflector_core.proofs.PlayLaws.{TellsItsEvents-all}
-use Rattle.reflector_core.specs.Play.{first_session, replies_from, TellsItsEvents}
+use Rattle.reflector_core.specs.Play.{replies_from, TellsItsEvents}
 use Rattle.reflector_core.specs.declared.request.Request.{Request}
 use Rattle.session_lock.specs.declared.knowledge.Item.{Item}
 use Rattle.session_lock.specs.declared.knowledge.Knowledge.{Knowledge}
-use Rattle.session_lock.specs.History.{has, caller_of, calls_of, Saw, play, history_requests, IsSoundThrough}
+use Rattle.session_lock.specs.History.{has, caller_of, calls_of, Saw, play_from, history_requests, IsSoundThrough}
 use Rattle.session_lock.specs.Numbers.{times, one_between}
-use Rattle.session_lock.specs.Rules.{all_numbers, views_total, has_ticket, one_if, is_holding, calls_as, holds_number, number_count, Every, PartsFit, HoldsInTurn, SpentHoldsNothing, PlaysWell, IsInOrder, Locks, first_knowledge, no_part}
+use Rattle.session_lock.specs.Rules.{all_numbers, views_total, has_ticket, one_if, is_holding, calls_as, holds_number, number_count, Every, PartsFit, KnowsOpening, HoldsInTurn, SpentHoldsNothing, PlaysWell, IsInOrder, Locks, first_knowledge, no_part}
 use Rattle.session_lock.proofs.Totals.{total_two, total_none, total_only}
 use Rattle.session_lock.proofs.Ranges.{none_in}
 use Rattle.session_lock.proofs.Histories.{has_own, none_behind, sound_end, play_requests}
@@ -62,7 +61,12 @@ module _ (Trusted : PlainSession → Type 0) (history : List Item) (s : State Pl
       (λ is. ap (λ (u : Knowledge). u.seen) (sym (same_view t.0 t.1 t.2 is)) ∙ t.3)
       (λ ne. let none_held = others_none t.0 t.1 t.2 ne in let some_held = t.4 in absurd (omega (arith, none_held, some_held)))
 
-  pub at_home : s.homes ≡ some (play history) ∷ []
+  pub its_opening : k.opening ≡ v.opening
+  its_opening = let t = k.told in sym (k.opened id v at (dite (ℕ_discrete t.0 id)
+      (λ is. subst (λ (u : Knowledge). 0 < length u.callers) (same_view t.0 t.1 t.2 is) t.4)
+      (λ ne. let none_held = others_none t.0 t.1 t.2 ne in let some_held = t.4 in absurd (omega (arith, none_held, some_held)))))
+
+  pub at_home : s.homes ≡ some (play_from k.opening history) ∷ []
   at_home = k.home (total_none is_holding s.views (λ j u e. dite (ℕ_discrete j id)
       (λ is. ap (λ (z : Knowledge). one_if z.holding) (same_view j u e is) ∙ ap one_if free)
       (λ ne. not_holding Trusted u.holding (λ holds. let none_held = others_none j u e ne in let some_held = (k.turn j u e holds).1 in absurd (omega (arith, none_held, some_held))))))
@@ -77,56 +81,60 @@ module _ (Trusted : PlainSession → Type 0) (history : List Item) (s : State Pl
   holds_each n = sym (total_only (holds_number n) s.views id v at (λ j u atj ne. no_numbers n u (others_none j u atj ne))) ∙ k.numbers n
 
 pub closed : (Trusted : PlainSession → Type 0) (id : ℕ) (v : Knowledge) (words : List ℕ) (slots : List PlainSession) (x : PlainSession) → Final (Seen (Locks Trusted) id v) words slots → number_count v ≡ all_numbers → v.holding ≡ false → get_elem? slots 0 ≡ some x
-    → (x ≡ play v.seen) × (calls_of v.callers v.seen ≡ v.seen) × PlaysWell Trusted v.seen × ((n : ℕ) → holds_number n v ≡ one_between 0 all_numbers n)
+    → (x ≡ play_from v.opening v.seen) × (calls_of v.callers v.seen ≡ v.seen) × PlaysWell Trusted v.opening v.seen × ((n : ℕ) → holds_number n v ≡ one_between 0 all_numbers n)
 closed Trusted id v words slots x f whole free is =
     let s = f.0 in
     let history : List Item = f.1.0.0 in
     let k : IsInOrder Trusted history s = f.1.0.1 in
     let at : get_elem? s.views id ≡ some v = f.1.1 in
     let seen : v.seen ≡ history = all_seen Trusted history s k id v at whole free in
-    let there : get_elem? slots 0 ≡ some (play history) = f.4 0 (play history) (ap (λ (l : List (mathlib.Core.Option.Option PlainSession)). get_elem? l 0) (at_home Trusted history s k id v at whole free)) in (
-      some-injective x (play history) (sym is ∙ there) ∙ ap play (sym seen),
+    let same : k.opening ≡ v.opening = its_opening Trusted history s k id v at whole free in
+    let there : get_elem? slots 0 ≡ some (play_from k.opening history) = f.4 0 (play_from k.opening history) (ap (λ (l : List (mathlib.Core.Option.Option PlainSession)). get_elem? l 0) (at_home Trusted history s k id v at whole free)) in (
+      some-injective x (play_from k.opening history) (sym is ∙ there) ∙ (λ i. play_from (same i) (sym seen i)),
       ap (calls_of v.callers) seen ∙ (all_own Trusted history s k id v at whole free ∙ sym seen),
-      subst (PlaysWell Trusted) (sym seen) (k.trusted, k.sound),
+      subst (λ (z : PlainSession × List Item). PlaysWell Trusted z.0 z.1) (λ i. (same i, sym seen i)) (k.trusted, k.sound),
       holds_each Trusted history s k id v at whole free,
     )
 
 -- what the log of a session that is a play has of its events
-pub plays_events : (s : PlainSession) (history : List Item) → s ≡ play history → IsSoundThrough first_session history → TellsItsEvents (history_requests history) (replies_from first_session (history_requests history)) s.log
-plays_events s history is sound =
+pub plays_events : (s opening : PlainSession) (history : List Item) → s ≡ play_from opening history → IsSoundThrough opening history → TellsItsEvents opening.log (history_requests history) (replies_from opening (history_requests history)) s.log
+plays_events s opening history is sound =
     let requests : List Request = history_requests history in
-    TellsItsEvents-all s requests (replies_from first_session requests) (subst IsSoundSession (sym is) (sound_end first_session history sound)) refl (is ∙ play_requests first_session history)
+    TellsItsEvents-all opening s requests (replies_from opening requests) (subst IsSoundSession (sym is) (sound_end opening history sound)) refl (is ∙ play_requests opening history)
 
 every_one : (P : Knowledge → Type 0) (v : Knowledge) → P v → Every P (v ∷ [])
 every_one P v p zero u e = subst P (some-injective v u e) p
 every_one P v p (suc j) u e = absurd (mathlib.Core.Option.some-ne-none u (sym e))
 
-first_numbers : (n : ℕ) → views_total (holds_number n) (first_knowledge ∷ []) ≡ one_between 0 all_numbers n
-first_numbers n = grind (arith, nat_tests)
+module _ (o : PlainSession) where
+  first_numbers : (n : ℕ) → views_total (holds_number n) (first_knowledge o ∷ []) ≡ one_between 0 all_numbers n
+  first_numbers n = grind (arith, nat_tests)
 
-no_tickets : (t : ℕ) → views_total (has_ticket t) (first_knowledge ∷ []) ≡ one_between 0 0 t
-no_tickets t = grind (arith, nat_tests)
+  no_tickets : (t : ℕ) → views_total (has_ticket t) (first_knowledge o ∷ []) ≡ one_between 0 0 t
+  no_tickets t = grind (arith, nat_tests)
 
-pub opens : (Trusted : PlainSession → Type 0) (slots : List PlainSession) → slots ≡ first_session ∷ [] → Trusted first_session → Locks Trusted (opening (0 ∷ 0 ∷ []) slots first_knowledge)
-opens Trusted slots e at_first = subst (λ (l : List PlainSession). Locks Trusted (opening (0 ∷ 0 ∷ []) l first_knowledge)) (sym e) (
-  [],
-  record {
-    next = 0;
-    words = refl;
-    room = omega arith;
-    order = omega arith;
-    tickets = no_tickets;
-    numbers = first_numbers;
-    whole = omega arith;
-    seen = every_one (λ u. Saw u.callers u.seen []) first_knowledge ([], refl, refl);
-    parts = every_one (PartsFit []) first_knowledge (part_none [] first_knowledge no_part refl, part_none [] first_knowledge no_part refl);
-    told = (0, first_knowledge, refl, refl, omega arith);
-    called = λ n none_of. refl;
-    turn = every_one (HoldsInTurn 0) first_knowledge (λ h. absurd (cc (h)));
-    spent = every_one SpentHoldsNothing first_knowledge (has_callers first_knowledge (omega arith));
-    trusted = at_first;
-    sound = IsSoundSession-first;
-    home = λ nobody. refl;
-    away = λ one. absurd (omega (arith, one));
-  },
-)
+  pub opens : (Trusted : PlainSession → Type 0) (slots : List PlainSession) → slots ≡ o ∷ [] → Trusted o → IsSoundSession o → Locks Trusted (opening (0 ∷ 0 ∷ []) slots (first_knowledge o))
+  opens Trusted slots e at_first o_sound = subst (λ (l : List PlainSession). Locks Trusted (opening (0 ∷ 0 ∷ []) l (first_knowledge o))) (sym e) (
+    [],
+    record {
+      opening = o;
+      opened = every_one (KnowsOpening o) (first_knowledge o) (λ _. refl);
+      next = 0;
+      words = refl;
+      room = omega arith;
+      order = omega arith;
+      tickets = no_tickets;
+      numbers = first_numbers;
+      whole = omega arith;
+      seen = every_one (λ u. Saw u.callers u.seen []) (first_knowledge o) ([], refl, refl);
+      parts = every_one (PartsFit []) (first_knowledge o) (part_none [] (first_knowledge o) no_part refl, part_none [] (first_knowledge o) no_part refl);
+      told = (0, first_knowledge o, refl, refl, omega arith);
+      called = λ n none_of. refl;
+      turn = every_one (HoldsInTurn 0) (first_knowledge o) (λ h. absurd (cc (h)));
+      spent = every_one SpentHoldsNothing (first_knowledge o) (has_callers (first_knowledge o) (omega arith));
+      trusted = at_first;
+      sound = o_sound;
+      home = λ nobody. refl;
+      away = λ one. absurd (omega (arith, one));
+    },
+  )

@@ -13,7 +13,7 @@ use Rattle.reflector_core.specs.Play.{first_session}
 use Rattle.session_lock.specs.declared.knowledge.Item.{Item}
 use Rattle.session_lock.specs.declared.knowledge.Item.TheVariants.{Did, Void}
 use Rattle.session_lock.specs.declared.knowledge.Knowledge.{Knowledge}
-use Rattle.session_lock.specs.History.{caller_of, after_item, play, has, calls_of, Saw}
+use Rattle.session_lock.specs.History.{caller_of, after_item, play_from, has, calls_of, Saw}
 use Rattle.session_lock.specs.Rules.{Locks, HoldsOnce, holds_number, knows, no_part, longer}
 use Rattle.session_lock.specs.Steps.{M, HasCounted, Finishes, AnswersRequest, Fails, with_ticket, with_turn, join_left, split_left, split_right}
 use Rattle.session_lock.specs.Passes.{SharedState, shared_state, PassState, pass_state, Grew, Replied, Voided, Caught, Given, Merged, HeldOnce, UsedNoSpare, times_held, caller, numbers_held}
@@ -24,8 +24,8 @@ use Rattle.session_lock.proofs.Shares.{same_numbers, first_is_spare, left_size, 
 use Rattle.session_lock.proofs.StepLaws.{finishes_me}
 
 -- a pass of a shared session has a seat of its table
-pub fits : {T : Type 0} (z y : TableId) (v : Knowledge) (key : SessionId × T) (p : PassState) (shared : SharedState T) → pass_state z v ≡ p → p.session ≡ shared.session → shared_state y key ≡ shared → z ≡ y
-fits {T} z y v key p shared is same looks = ap (λ (q : PassState). q.session) is ∙ (same ∙ sym (ap (λ (s : SharedState T). s.session) looks))
+pub fits : {T K : Type 0} (z y : TableId) (v : Knowledge) (key : SessionId × T × K) (p : PassState) (shared : SharedState T) → pass_state z v ≡ p → p.session ≡ shared.session → shared_state y key ≡ shared → z ≡ y
+fits {T} {K} z y v key p shared is same looks = ap (λ (q : PassState). q.session) is ∙ (same ∙ sym (ap (λ (s : SharedState T). s.session) looks))
 
 pub caught : (Trusted : PlainSession → Type 0) (z z' : TableId) (m m' : M) (p : PassState) (found : ℕ) → pass_state z m.0 ≡ p → z' ≡ z → HasCounted Trusted m found m' → Caught Trusted p (pass_state z' m'.0)
 caught Trusted z z' m m' p found view table (history, len, saw, is, well) =
@@ -33,11 +33,11 @@ caught Trusted z z' m m' p found view table (history, len, saw, is, well) =
 
 -- the call of a view's own caller
 grew : (z : TableId) (v : Knowledge) (history : List Item) (item : ℕ → Item) (c : ℕ) (others : List ℕ) → v.callers ≡ c ∷ others → Saw v.callers v.seen history → ((n : ℕ) → caller_of (item n) ≡ n)
-    → Grew (pass_state z v) (pass_state z (knows v.callers v.spare (history ++ item c ∷ []))) history (item (slice_index v.callers 0))
+    → Grew (pass_state z v) (pass_state z (knows v.opening v.callers v.spare (history ++ item c ∷ []))) history (item (slice_index v.callers 0))
 grew z v history item c others mine saw by =
     let first : c ≡ slice_index v.callers 0 = sym (ap (λ (l : List ℕ). slice_index l 0) mine) in
     let own : has c v.callers ≡ true = ap (has c) mine ∙ has_own c others in
-    let told : Grew (pass_state z v) (pass_state z (knows v.callers v.spare (history ++ item c ∷ []))) history (item c) =
+    let told : Grew (pass_state z v) (pass_state z (knows v.opening v.callers v.spare (history ++ item c ∷ []))) history (item c) =
     record {
       saw = saw;
       same = refl;
@@ -45,24 +45,24 @@ grew z v history item c others mine saw by =
       mine = ap (λ (n : ℕ). has n v.callers) (sym first) ∙ own;
     }
     in
-    subst (λ (n : ℕ). Grew (pass_state z v) (pass_state z (knows v.callers v.spare (history ++ item c ∷ []))) history (item n)) first told
+    subst (λ (n : ℕ). Grew (pass_state z v) (pass_state z (knows v.opening v.callers v.spare (history ++ item c ∷ []))) history (item n)) first told
 
-pub replied : (Trusted : PlainSession → Type 0) (z : TableId) (v : Knowledge) (m : M) (request : Request) (reply : Reply) → AnswersRequest Trusted v m request reply → Trusted (play m.0.seen) → Replied Trusted (pass_state z v) (pass_state z m.0) request reply
+pub replied : (Trusted : PlainSession → Type 0) (z : TableId) (v : Knowledge) (m : M) (request : Request) (reply : Reply) → AnswersRequest Trusted v m request reply → Trusted (play_from v.opening m.0.seen) → Replied Trusted (pass_state z v) (pass_state z m.0) request reply
 replied Trusted z v m request reply (history, c, others, mine, saw, is, gives, trusted) after_it =
-    let told : Replied Trusted (pass_state z v) (pass_state z (knows v.callers v.spare (history ++ Did c request ∷ []))) request reply =
-    record { history = history; grew = grew z v history (λ (n : ℕ). Did n request) c others mine saw (λ n. refl); replies = gives; trusted = trusted; trusted_after = subst (λ (k : M). Trusted (play k.0.seen)) is after_it }
+    let told : Replied Trusted (pass_state z v) (pass_state z (knows v.opening v.callers v.spare (history ++ Did c request ∷ []))) request reply =
+    record { history = history; grew = grew z v history (λ (n : ℕ). Did n request) c others mine saw (λ n. refl); replies = gives; trusted = trusted; trusted_after = subst (λ (k : M). Trusted (play_from v.opening k.0.seen)) is after_it }
     in
     subst (λ (k : M). Replied Trusted (pass_state z v) (pass_state z k.0) request reply) (sym is) told
 
-pub voided : (Trusted : PlainSession → Type 0) (z : TableId) (v : Knowledge) (m : M) (request : Request) → Fails v m request → Trusted (play m.0.seen) → Voided Trusted (pass_state z v) (pass_state z m.0) request
+pub voided : (Trusted : PlainSession → Type 0) (z : TableId) (v : Knowledge) (m : M) (request : Request) → Fails v m request → Trusted (play_from v.opening m.0.seen) → Voided Trusted (pass_state z v) (pass_state z m.0) request
 voided Trusted z v m request (history, c, others, mine, saw, is, due) after_it =
-    let told : Voided Trusted (pass_state z v) (pass_state z (knows v.callers v.spare (history ++ Void c ∷ []))) request =
-    record { history = history; grew = grew z v history (λ (n : ℕ). Void n) c others mine saw (λ n. refl); due = due; trusted_after = subst (λ (k : M). Trusted (play k.0.seen)) is after_it }
+    let told : Voided Trusted (pass_state z v) (pass_state z (knows v.opening v.callers v.spare (history ++ Void c ∷ []))) request =
+    record { history = history; grew = grew z v history (λ (n : ℕ). Void n) c others mine saw (λ n. refl); due = due; trusted_after = subst (λ (k : M). Trusted (play_from v.opening k.0.seen)) is after_it }
     in
     subst (λ (k : M). Voided Trusted (pass_state z v) (pass_state z k.0) request) (sym is) told
 
 pub told_call : (Trusted : PlainSession → Type 0) (r : Result Reply WantOfMemory) (z z' : TableId) (v : Knowledge) (m : M) (p : PassState) (request : Request) → pass_state z v ≡ p → z' ≡ z
-    → MatchResult r (λ reply. AnswersRequest Trusted v m request reply) (λ _. Fails v m request) → Trusted (play m.0.seen) → MatchResult r (λ reply. Replied Trusted p (pass_state z' m.0) request reply) (λ _. Voided Trusted p (pass_state z' m.0) request)
+    → MatchResult r (λ reply. AnswersRequest Trusted v m request reply) (λ _. Fails v m request) → Trusted (play_from v.opening m.0.seen) → MatchResult r (λ reply. Replied Trusted p (pass_state z' m.0) request reply) (λ _. Voided Trusted p (pass_state z' m.0) request)
 told_call Trusted (Ok reply) z z' v m p request view table h after_it = subst (λ (t : PassState × TableId). Replied Trusted t.0 (pass_state t.1 m.0) request reply) (λ i. (view i, sym table i)) (replied Trusted z v m request reply h after_it)
 told_call Trusted (Err want) z z' v m p request view table h after_it = subst (λ (t : PassState × TableId). Voided Trusted t.0 (pass_state t.1 m.0) request) (λ i. (view i, sym table i)) (voided Trusted z v m request h after_it)
 
@@ -70,23 +70,24 @@ pub call_kept : (Trusted : PlainSession → Type 0) (r : Result Reply WantOfMemo
 call_kept Trusted (Ok reply) p q request h = let e = h.grew.same in e ∙ ap (λ (l : List Item). record p { seen = l }) (sym (ap (λ (s : PassState). s.seen) e))
 call_kept Trusted (Err want) p q request h = let e = h.grew.same in e ∙ ap (λ (l : List Item). record p { seen = l }) (sym (ap (λ (s : PassState). s.seen) e))
 
--- the seat after the work: it holds the ticket, has seen the whole history, and has the session in hand
-worked : (m₀ m₁ m₂ m₃ : M) (ticket : ℕ) (history : List Item) (y : PlainSession) → m₁ ≡ (with_ticket m₀.0 ticket, m₀.1) → m₂ ≡ (with_turn m₁.0 history, (0, play history) ∷ []) → m₃ ≡ (m₂.0, (0, y) ∷ [])
-    → m₃ ≡ (with_turn (with_ticket m₀.0 ticket) history, (0, y) ∷ [])
-worked m₀ m₁ m₂ m₃ ticket history y e₁ e₂ e₃ = e₃ ∙ ap (λ (v : Knowledge). (v, (0, y) ∷ [])) (ap (λ (m : M). m.0) e₂ ∙ ap (λ (m : M). with_turn m.0 history) e₁)
-
+-- what the seat knows after the work: it holds the ticket, has seen the whole history, and has the session in hand
 module _ (Trusted Told : PlainSession → Type 0) (tells : (s : PlainSession) → Trusted s → Told s) (slots id : ℕ) (m₀ m₁ m₂ m₃ : M) (ticket : ℕ) (history : List Item) (session y : PlainSession) (request : Request) (c : ℕ) (others : List ℕ) (one : slots ≡ 1) (no_kept : m₀.0.kept ≡ no_part) (no_other : m₀.0.other ≡ no_part) (mine : m₀.0.callers ≡ c ∷ others)
-    (e₁ : m₁ ≡ (with_ticket m₀.0 ticket, m₀.1)) (len : length history ≡ ticket) (e₂ : m₂ ≡ (with_turn m₁.0 history, (0, play history) ∷ [])) (in_hand : m₂.1 ≡ (0, session) ∷ []) (e₃ : m₃ ≡ (m₂.0, (0, y) ∷ [])) (y_sound : IsSoundSession y) where
-  abbrev pub the_session : session ≡ play history
-  the_session = let e : (0, session) ∷ [] ≡ (0, play history) ∷ [] = sym in_hand ∙ ap (λ (m : M). m.1) e₂ in ap (λ (l : List (ℕ × PlainSession)). (Rattle.std.proofs.Common.get_or l 0 (0, first_session)).1) e
+    (e₁ : m₁ ≡ (with_ticket m₀.0 ticket, m₀.1)) (len : length history ≡ ticket) (e₂ : m₂ ≡ (with_turn m₁.0 history, (0, play_from m₁.0.opening history) ∷ [])) (in_hand : m₂.1 ≡ (0, session) ∷ []) (e₃ : m₃ ≡ (m₂.0, (0, y) ∷ [])) (y_sound : IsSoundSession y) where
+  abbrev pub the_play : PlainSession
+  the_play = play_from m₁.0.opening history
 
-  ends : (item : ℕ → Item) → caller_of (item c) ≡ c → y ≡ after_item (play history) (item c) → (IsSoundSession (play history) → IsSoundSession (after_item (play history) (item c)) → Trusted (play history) → Trusted (after_item (play history) (item c)))
+  abbrev pub the_session : session ≡ the_play
+  the_session = let e : (0, session) ∷ [] ≡ (0, the_play) ∷ [] = sym in_hand ∙ ap (λ (m : M). m.1) e₂ in ap (λ (l : List (ℕ × PlainSession)). (Rattle.std.proofs.Common.get_or l 0 (0, first_session)).1) e
+
+  ends : (item : ℕ → Item) → caller_of (item c) ≡ c → y ≡ after_item the_play (item c) → (IsSoundSession the_play → IsSoundSession (after_item the_play (item c)) → Trusted the_play → Trusted (after_item the_play (item c)))
       → Allows (Locks Trusted) slots id m₃ 1 (λ n. (n + 1) % 2 ^ 64) (Finishes Told item (step slots 1 1 0 none) m₃)
-  ends item by is stays = let told = worked m₀ m₁ m₂ m₃ ticket history y e₁ e₂ e₃ in
+  ends item by is stays =
+      let told : m₃ ≡ (with_turn m₁.0 history, (0, y) ∷ []) = e₃ ∙ ap (λ (m : M). (m.0, (0, y) ∷ [])) e₂ in
       subst (λ (m : M). Allows (Locks Trusted) slots id m 1 (λ n. (n + 1) % 2 ^ 64) (Finishes Told item (step slots 1 1 0 none) m)) (sym told)
-      (finishes_me Trusted Told tells slots id (with_turn (with_ticket m₀.0 ticket) history, (0, y) ∷ []) y item c others one refl mine by refl (ap (λ (n : ℕ). Some n) (sym len)) no_kept no_other is y_sound stays)
+      (finishes_me Trusted Told tells slots id (with_turn m₁.0 history, (0, y) ∷ []) y item c others one refl (ap (λ (m : M). m.0.callers) e₁ ∙ mine) by refl (ap (λ (m : M). m.0.ticket) e₁ ∙ ap (λ (n : ℕ). Some n) (sym len))
+      (ap (λ (m : M). m.0.kept) e₁ ∙ no_kept) (ap (λ (m : M). m.0.other) e₁ ∙ no_other) is y_sound stays)
 
-  pub ends_did : (reply : Reply) → with_reply y reply ≡ answer session request → (IsSoundSession (play history) → IsSoundSession (answer (play history) request).session → Trusted (play history) → Trusted (answer (play history) request).session) → Allows (Locks Trusted) slots id m₃ 1 (λ n. (n + 1) % 2 ^ 64) (Finishes Told (λ caller. Did caller request) (step slots 1 1 0 none) m₃)
+  pub ends_did : (reply : Reply) → with_reply y reply ≡ answer session request → (IsSoundSession the_play → IsSoundSession (answer the_play request).session → Trusted the_play → Trusted (answer the_play request).session) → Allows (Locks Trusted) slots id m₃ 1 (λ n. (n + 1) % 2 ^ 64) (Finishes Told (λ caller. Did caller request) (step slots 1 1 0 none) m₃)
   ends_did reply is stays = ends (λ caller. Did caller request) refl (ap (λ (o : SessionOutcome). o.session) is ∙ ap (λ (s : PlainSession). (answer s request).session) the_session) stays
 
   pub ends_void : y ≡ session → Allows (Locks Trusted) slots id m₃ 1 (λ n. (n + 1) % 2 ^ 64) (Finishes Told (λ caller. Void caller) (step slots 1 1 0 none) m₃)

@@ -8,18 +8,18 @@ use Rattle.session_lock.specs.declared.knowledge.Item.{Item}
 use Rattle.reflector_core.specs.PlainSession.{PlainSession, IsSoundSession}
 use Rattle.session_lock.specs.declared.knowledge.Item.TheVariants.{Did, Void}
 use Rattle.reflector_core.specs.Answer.{answer}
-use Rattle.reflector_core.specs.Play.{first_session, after_all}
+use Rattle.reflector_core.specs.Play.{after_all}
 use Rattle.reflector_core.specs.Growth.{GrowsTo}
 use Rattle.reflector_core.proofs.GrowthLaws.{GrowsTo-after_all}
 use Rattle.session_lock.specs.Numbers.{times}
-use Rattle.session_lock.specs.History.{caller_of, after_item, play, play_from, has, calls_of, SameCallsOfEach, Saw, history_requests, IsSoundThrough}
+use Rattle.session_lock.specs.History.{caller_of, after_item, play_from, has, calls_of, SameCallsOfEach, Saw, history_requests, IsSoundThrough}
 
 pub play_from_append : (s : PlainSession) (xs ys : List Item) → play_from s (xs ++ ys) ≡ play_from (play_from s xs) ys
 play_from_append s [] ys = refl
 play_from_append s (x ∷ xs) ys = play_from_append (after_item s x) xs ys
 
-pub play_snoc : (history : List Item) (x : Item) → play (history ++ x ∷ []) ≡ after_item (play history) x
-play_snoc history x = play_from_append first_session history (x ∷ [])
+pub play_snoc : (s : PlainSession) (history : List Item) (x : Item) → play_from s (history ++ x ∷ []) ≡ after_item (play_from s history) x
+play_snoc s history x = play_from_append s history (x ∷ [])
 
 -- a Void changes nothing
 pub play_requests : (s : PlainSession) (xs : List Item) → play_from s xs ≡ after_all s (history_requests xs)
@@ -28,9 +28,9 @@ play_requests s (Did caller request ∷ xs) = play_requests (answer s request).s
 play_requests s (Void caller ∷ xs) = play_requests s xs
 
 -- the log of a beginning grows
-pub history_grows : (beginning rest : List Item) → GrowsTo (play beginning) (play (beginning ++ rest))
-history_grows beginning rest =
-    subst (GrowsTo (play beginning)) (sym (play_from_append first_session beginning rest ∙ play_requests (play beginning) rest)) (GrowsTo-after_all (play beginning) (history_requests rest))
+pub history_grows : (s : PlainSession) (beginning rest : List Item) → GrowsTo (play_from s beginning) (play_from s (beginning ++ rest))
+history_grows s beginning rest =
+    subst (GrowsTo (play_from s beginning)) (sym (play_from_append s beginning rest ∙ play_requests (play_from s beginning) rest)) (GrowsTo-after_all (play_from s beginning) (history_requests rest))
 
 -- soundness all the way: one item more, its start and end, a beginning, and what is left behind that
 pub sound_more : (s : PlainSession) (xs : List Item) (x : Item) → IsSoundThrough s xs → IsSoundSession (after_item (play_from s xs) x) → IsSoundThrough s (xs ++ x ∷ [])

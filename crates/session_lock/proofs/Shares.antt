@@ -13,7 +13,7 @@ use Rattle.session_lock.specs.declared.knowledge.Range.{Range}
 use Rattle.session_lock.specs.declared.knowledge.Knowledge.{Knowledge}
 use Rattle.session_lock.specs.History.{calls_of, Saw}
 use Rattle.session_lock.specs.Numbers.{in_ranges, count_of, take_numbers, drop_numbers, first_of_ranges}
-use Rattle.session_lock.specs.Rules.{views_total, is_ticket, has_ticket, one_if, is_holding, calls_as, holds_number, number_count, Every, HoldsInTurn, SpentHoldsNothing, PartsFit, no_part, IsSeenWhole, Locks}
+use Rattle.session_lock.specs.Rules.{views_total, is_ticket, has_ticket, one_if, is_holding, calls_as, holds_number, number_count, Every, HoldsInTurn, SpentHoldsNothing, PartsFit, KnowsOpening, no_part, IsSeenWhole, Locks}
 use Rattle.session_lock.specs.Steps.{split_left, split_right, join_left, join_right}
 use Rattle.session_lock.proofs.Totals.{total_set, total_snoc, every_set, every_snoc}
 use Rattle.session_lock.proofs.Ranges.{cut, cut_count, taken_count, first_out, in_ranges_append, count_append, times_append}
@@ -23,6 +23,10 @@ use Rattle.session_lock.proofs.StepLaws.{set_at, set_other, told_set, no_caller,
 -- who made no call saw as much as all
 saw_new : (n : ℕ) (cs : List ℕ) (seen history : List Item) → Saw cs seen history → calls_of (n ∷ []) history ≡ [] → Saw (n ∷ []) seen history
 saw_new n cs seen history p none = (p.0, p.1, nothing_left (calls_of (n ∷ []) seen) (calls_of (n ∷ []) p.0) (sym (calls_append (n ∷ []) seen p.0) ∙ (ap (calls_of (n ∷ [])) p.1 ∙ none)))
+
+some_of : (l : List ℕ) → (l ≡ [] → ⊥) → 0 < length l
+some_of [] not = absurd (not refl)
+some_of (x ∷ xs) not = omega arith
 
 module _ (n : ℕ) (v : Knowledge) (n_some : 0 < n) (enough : n ≤ count_of v.spare) where
   abbrev pub the_taken : List Range
@@ -53,9 +57,12 @@ module _ (n : ℕ) (v : Knowledge) (n_some : 0 < n) (enough : n ≤ count_of v.s
       let r : Knowledge = split_right n v in
       let first : ℕ = first_of_ranges the_taken in
       let both : (f : Knowledge → ℕ) → views_total f (set s.views id l ++ r ∷ []) + f v ≡ views_total f s.views + (f l + f r) = λ f. (let a = total_set f s.views id v l at in let b = total_snoc f (set s.views id l) r in omega (arith, a, b)) in
+      let caller_is : 0 < length v.callers = some_of v.callers (λ e. (let t = k.spent id v at e in let gone : count_of v.spare ≡ 0 = ap count_of t.0 in omega (arith, gone, n_some, enough))) in
       let unused : views_total (calls_as first) s.views ≡ 0 = no_caller Trusted history s k id v first at first_is_spare in (
         history,
         record {
+          opening = k.opening;
+          opened = every_snoc (KnowsOpening k.opening) (set s.views id l) r (every_set (KnowsOpening k.opening) s.views id l k.opened (k.opened id v at)) (λ _. k.opened id v at caller_is);
           next = k.next;
           words = k.words;
           room = k.room;
@@ -135,6 +142,8 @@ merges Trusted id other v w idle free idle' free' caller_is s (history, k) at ne
     let every : (P : Knowledge → Type 0) → Every P s.views → P m → P join_right → Every P views = λ P h p q. every_set P (set s.views id m) other join_right (every_set P s.views id m h p) q in (
       history,
       record {
+        opening = k.opening;
+        opened = every (KnowsOpening k.opening) k.opened (λ _. k.opened id v at caller_is) (λ none_of. absurd (omega (arith, none_of)));
         next = k.next;
         words = k.words;
         room = k.room;

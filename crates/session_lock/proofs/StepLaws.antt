@@ -9,13 +9,12 @@ use prog.Atomic.{either}
 use Rattle.atomic_table.specs.Table.{State, step, keeps, takes, gives, stepped, Allows}
 use Rattle.atomic_table.proofs.Lists.{set_again}
 use Rattle.reflector_core.specs.PlainSession.{PlainSession, IsSoundSession}
-use Rattle.reflector_core.specs.Play.{first_session}
 use Rattle.session_lock.specs.declared.knowledge.Item.{Item}
 use Rattle.session_lock.specs.declared.knowledge.Part.{Part}
 use Rattle.session_lock.specs.declared.knowledge.Knowledge.{Knowledge}
-use Rattle.session_lock.specs.History.{caller_of, after_item, play, has, calls_of, Saw}
+use Rattle.session_lock.specs.History.{caller_of, after_item, play_from, has, calls_of, Saw, IsSoundThrough}
 use Rattle.session_lock.specs.Numbers.{times, in_ranges, count_of, one_between}
-use Rattle.session_lock.specs.Rules.{all_numbers, views_total, is_ticket, has_ticket, one_if, is_holding, calls_as, holds_number, number_count, HoldsOnce, HoldsInTurn, SpentHoldsNothing, PartFits, PartsFit, IsSeenWhole, IsInOrder, Locks, no_part}
+use Rattle.session_lock.specs.Rules.{all_numbers, views_total, is_ticket, has_ticket, one_if, is_holding, calls_as, holds_number, number_count, HoldsOnce, HoldsInTurn, SpentHoldsNothing, PartFits, PartsFit, KnowsOpening, IsSeenWhole, IsInOrder, Locks, no_part}
 use Rattle.session_lock.specs.Steps.{Unused, Settles, M, with_ticket, with_turn, with_seen_item, Draws, Looks, Finishes, CountsHistory}
 use Rattle.session_lock.proofs.Totals.{total_set, total_same, total_has, total_two, total_none, total_only, every_set, every_set_else}
 use Rattle.session_lock.proofs.Histories.{play_snoc, sound_more, sound_end, calls_append, saw_all, saw_more, saw_whole, saw_length, saw_nothing, saw_between, nothing_first, has_times}
@@ -97,6 +96,8 @@ module _ (Trusted : PlainSession → Type 0) where
         (
           history,
           record {
+            opening = k.opening;
+            opened = every_set (KnowsOpening k.opening) s.views id w k.opened (k.opened id v at);
             next = old + 1;
             words = subst (λ b. set s.words 0 (either b (old + 1) x) ≡ (old + 1) ∷ length history ∷ []) (sym (eq-eqb x old hit)) (ap (λ (l : List ℕ). set l 0 (old + 1)) k.words);
             room = omega arith;
@@ -166,13 +167,17 @@ module _ (Trusted : PlainSession → Type 0) where
       let same_words : set s.words 1 x ≡ s.words = read_word history s k 1 (omega arith) in
       dite (ℕ_discrete x t)
       (λ hit. let w : Knowledge = with_turn v history in let served : v.ticket ≡ Some (length history) = has_it ∙ ap (λ (n : ℕ). Some n) (sym hit ∙ is) in
-      let home : s.homes ≡ some (play history) ∷ [] = k.home (nobody_holds history s k id v at served free) in (
+      let same : k.opening ≡ v.opening = sym (k.opened id v at caller_is) in
+      let home : s.homes ≡ some (play_from v.opening history) ∷ [] = subst (λ (o : PlainSession). s.homes ≡ some (play_from o history) ∷ []) same (k.home (nobody_holds history s k id v at served free)) in
+      let well : Told (play_from v.opening history) × IsSoundThrough v.opening history = subst (λ (o : PlainSession). Told (play_from o history) × IsSoundThrough o history) same (tells (play_from k.opening history) k.trusted, k.sound) in (
         w,
-        takes 0 (play history),
+        takes 0 (play_from v.opening history),
         ap (λ (l : List _). get_elem? l 0) home,
         (
           history,
           record {
+            opening = k.opening;
+            opened = every_set (KnowsOpening k.opening) s.views id w k.opened (k.opened id v at);
             next = k.next;
             words = same_words ∙ k.words;
             room = k.room;
@@ -192,7 +197,7 @@ module _ (Trusted : PlainSession → Type 0) where
             away = λ _. ap (λ (l : List (mathlib.Core.Option.Option PlainSession)). set l 0 none) home;
           },
         ),
-        ((λ _. (history, sym is, k.seen id v at, refl, tells (play history) k.trusted, k.sound)), λ not. absurd (not (has_it ∙ ap (λ (n : ℕ). Some n) (sym hit)))),
+        ((λ _. (history, sym is, k.seen id v at, refl, well.0, well.1)), λ not. absurd (not (has_it ∙ ap (λ (n : ℕ). Some n) (sym hit)))),
       ))
       (λ miss. (
         v,
@@ -211,7 +216,7 @@ module _ (Trusted : PlainSession → Type 0) where
   only_home (h ∷ (g ∷ gs)) y e = absurd (omega arith)
 
   pub finishes : (Told : PlainSession → Type 0) → ((s : PlainSession) → Trusted s → Told s) → (id : ℕ) (v : Knowledge) (y : PlainSession) (item : ℕ → Item) (c : ℕ) (others : List ℕ) → v.callers ≡ c ∷ others → caller_of (item c) ≡ c → v.holding ≡ true → v.ticket ≡ Some (length v.seen) → v.kept ≡ no_part → v.other ≡ no_part
-      → y ≡ after_item (play v.seen) (item c) → IsSoundSession y → (IsSoundSession (play v.seen) → IsSoundSession (after_item (play v.seen) (item c)) → Trusted (play v.seen) → Trusted (after_item (play v.seen) (item c)))
+      → y ≡ after_item (play_from v.opening v.seen) (item c) → IsSoundSession y → (IsSoundSession (play_from v.opening v.seen) → IsSoundSession (after_item (play_from v.opening v.seen) (item c)) → Trusted (play_from v.opening v.seen) → Trusted (after_item (play_from v.opening v.seen) (item c)))
       → Allows (Locks Trusted) 1 id (v, (0, y) ∷ []) 1 (λ n. (n + 1) % 2 ^ 64) (Finishes Told item (step 1 1 1 0 none) (v, (0, y) ∷ []))
   finishes Told tells id v y item c others mine by holding has_it no_kept no_other is_play y_sound stays s (history, k₀) wide at small =
       let same : v.seen ≡ history = saw_whole v.callers v.seen history (k₀.seen id v at) (let t : Some (length history) ≡ Some (length v.seen) = sym (k₀.turn id v at holding).0 ∙ has_it in let e : length history ≡ length v.seen = cc in omega arith) in
@@ -219,9 +224,12 @@ module _ (Trusted : PlainSession → Type 0) where
       let k : IsInOrder Trusted h s = subst (λ (l : List Item). IsInOrder Trusted l s) (sym same) k₀ in
       let x : Item = item c in
       let w : Knowledge = with_seen_item v x in
-      let sound_now : IsSoundSession (after_item (play h) x) = subst IsSoundSession is_play y_sound in
-      let trusted_now : Trusted (play (h ++ x ∷ [])) = subst Trusted (sym (play_snoc h x)) (stays (sound_end first_session h k.sound) sound_now k.trusted) in
       let some_caller : 0 < length v.callers = subst (λ (l : List ℕ). 0 < length l) (sym mine) (omega arith) in
+      let o : PlainSession = v.opening in
+      let same_opening : k.opening ≡ o = sym (k.opened id v at some_caller) in
+      let well : Trusted (play_from o h) × IsSoundThrough o h = subst (λ (p : PlainSession). Trusted (play_from p h) × IsSoundThrough p h) same_opening (k.trusted, k.sound) in
+      let sound_now : IsSoundSession (after_item (play_from o h) x) = subst IsSoundSession is_play y_sound in
+      let trusted_now : Trusted (play_from o (h ++ x ∷ [])) = subst Trusted (sym (play_snoc o h x)) (stays (sound_end o h well.1) sound_now well.0) in
       let mine_once : 0 < times c v.callers = subst (λ (l : List ℕ). 0 < times c l) (sym mine) (holds_own c others) in
       let long : length (h ++ x ∷ []) ≡ length h + 1 = length-append h (x ∷ []) in
       let own_ticket : has_ticket (length h) v ≡ 1 = ap (is_ticket (length h)) has_it ∙ its_ticket (length h) in
@@ -237,6 +245,8 @@ module _ (Trusted : PlainSession → Type 0) where
         (
           h ++ x ∷ [],
           record {
+            opening = o;
+            opened = every_set (KnowsOpening o) s.views id w (λ j u e some_of. k.opened j u e some_of ∙ same_opening) (λ _. refl);
             next = k.next;
             words = ap (λ (n : ℕ). set s.words 1 n) word ∙ ap (λ (l : List ℕ). set l 1 (length (h ++ x ∷ []))) k.words;
             room = room;
@@ -270,19 +280,21 @@ module _ (Trusted : PlainSession → Type 0) where
                 (λ j u ne atj was holds. absurd (alone h s k id v (length h) at has_it j u atj ne (was holds).0)) k.turn (λ f. cc);
             spent = every_set SpentHoldsNothing s.views id w k.spent (has_callers w some_caller);
             trusted = trusted_now;
-            sound = sound_more first_session h x k.sound sound_now;
-            home = λ nobody. only_home s.homes y wide ∙ ap (λ (z : PlainSession). some z ∷ []) (is_play ∙ sym (play_snoc h x));
+            sound = sound_more o h x well.1 sound_now;
+            home = λ nobody. only_home s.homes y wide ∙ ap (λ (z : PlainSession). some z ∷ []) (is_play ∙ sym (play_snoc o h x));
             away = λ one. let was = total_set is_holding s.views id v w at in let only = one_holds h s k id v at has_it holding in absurd (omega (arith, one, was, only.0, only.1));
           },
         ),
-        (c, others, mine, refl, (tells (play (h ++ x ∷ [])) trusted_now, sound_more first_session h x k.sound sound_now)),
+        (c, others, mine, refl, (tells (play_from o (h ++ x ∷ [])) trusted_now, sound_more o h x well.1 sound_now)),
       )
 
   -- a view that knows more, of the same callers, numbers and ticket
   renewed : (history : List Item) (s : St) → IsInOrder Trusted history s → (i id : ℕ) (c : List (ℕ × PlainSession)) (v w : Knowledge) → get_elem? s.views id ≡ some v → set s.words i (get_or s.words i 0) ≡ s.words
-      → w.callers ≡ v.callers → w.spare ≡ v.spare → w.ticket ≡ v.ticket → w.holding ≡ v.holding → Saw w.callers w.seen history → PartsFit history w → (v.seen ≡ history → w.seen ≡ history)
+      → w.opening ≡ v.opening → w.callers ≡ v.callers → w.spare ≡ v.spare → w.ticket ≡ v.ticket → w.holding ≡ v.holding → Saw w.callers w.seen history → PartsFit history w → (v.seen ≡ history → w.seen ≡ history)
       → IsInOrder Trusted history (stepped s i (get_or s.words i 0) id c w keeps)
-  renewed history s k i id c v w at same_words callers spare ticket holding saw fits told = record {
+  renewed history s k i id c v w at same_words opens callers spare ticket holding saw fits told = record {
+    opening = k.opening;
+    opened = every_set (KnowsOpening k.opening) s.views id w k.opened (λ some_of. opens ∙ k.opened id v at (subst (λ (l : List ℕ). 0 < length l) callers some_of));
     next = k.next;
     words = same_words ∙ k.words;
     room = k.room;
@@ -302,24 +314,24 @@ module _ (Trusted : PlainSession → Type 0) where
     away = λ one. k.away (sym (total_same is_holding s.views id v w at (ap one_if holding)) ∙ one);
   }
 
-  pub counts : (Told : PlainSession → Type 0) → ((s : PlainSession) → Trusted s → Told s) → (slots id : ℕ) (v : Knowledge) (carried : List (ℕ × PlainSession)) → Allows (Locks Trusted) slots id (v, carried) 1 (λ n. n) (CountsHistory Told (step slots 1 0 0 none) (v, carried))
-  counts Told tells slots id v carried s (history, k) wide at small = let w : Knowledge = record v { seen = history } in (
+  pub counts : (Told : PlainSession → Type 0) → ((s : PlainSession) → Trusted s → Told s) → (slots id : ℕ) (v : Knowledge) (carried : List (ℕ × PlainSession)) → 0 < length v.callers → Allows (Locks Trusted) slots id (v, carried) 1 (λ n. n) (CountsHistory Told (step slots 1 0 0 none) (v, carried))
+  counts Told tells slots id v carried caller_is s (history, k) wide at small = let w : Knowledge = record v { seen = history } in (
     w,
     keeps,
     tt,
-    (history, renewed history s k 1 id carried v w at (read_word history s k 1 (omega arith)) refl refl refl refl (saw_all v.callers history) (parts_seen history v (k.parts id v at)) (λ e. refl)),
-    (history, sym (ap (λ (l : List ℕ). get_or l 1 0) k.words), k.seen id v at, refl, (tells (play history) k.trusted, k.sound)),
+    (history, renewed history s k 1 id carried v w at (read_word history s k 1 (omega arith)) refl refl refl refl refl (saw_all v.callers history) (parts_seen history v (k.parts id v at)) (λ e. refl)),
+    (history, sym (ap (λ (l : List ℕ). get_or l 1 0) k.words), k.seen id v at, refl, subst (λ (o : PlainSession). Told (play_from o history) × IsSoundThrough o history) (sym (k.opened id v at caller_is)) (tells (play_from k.opening history) k.trusted, k.sound)),
   )
 
   pub looks_me : (Told : PlainSession → Type 0) → ((s : PlainSession) → Trusted s → Told s) → (slots id : ℕ) (me : M) (t : ℕ) → me.1 ≡ [] → me.0.ticket ≡ Some t → me.0.holding ≡ false → 0 < length me.0.callers → Allows (Locks Trusted) slots id me 1 (λ n. n) (Looks Told (step slots 1 0 0 none) me)
   looks_me Told tells slots id me t empty has_it free caller_is =
       subst (λ (c : List (ℕ × PlainSession)). Allows (Locks Trusted) slots id (me.0, c) 1 (λ n. n) (Looks Told (step slots 1 0 0 none) (me.0, c))) (sym empty) (looks Told tells slots id me.0 t has_it free caller_is)
 
-  pub counts_me : (Told : PlainSession → Type 0) → ((s : PlainSession) → Trusted s → Told s) → (slots id : ℕ) (me : M) → Allows (Locks Trusted) slots id me 1 (λ n. n) (CountsHistory Told (step slots 1 0 0 none) me)
-  counts_me Told tells slots id me = counts Told tells slots id me.0 me.1
+  pub counts_me : (Told : PlainSession → Type 0) → ((s : PlainSession) → Trusted s → Told s) → (slots id : ℕ) (me : M) → 0 < length me.0.callers → Allows (Locks Trusted) slots id me 1 (λ n. n) (CountsHistory Told (step slots 1 0 0 none) me)
+  counts_me Told tells slots id me caller_is = counts Told tells slots id me.0 me.1 caller_is
 
   pub finishes_me : (Told : PlainSession → Type 0) → ((s : PlainSession) → Trusted s → Told s) → (slots id : ℕ) (me : M) (y : PlainSession) (item : ℕ → Item) (c : ℕ) (others : List ℕ) → slots ≡ 1 → me.1 ≡ (0, y) ∷ [] → me.0.callers ≡ c ∷ others → caller_of (item c) ≡ c → me.0.holding ≡ true → me.0.ticket ≡ Some (length me.0.seen) → me.0.kept ≡ no_part → me.0.other ≡ no_part
-      → y ≡ after_item (play me.0.seen) (item c) → IsSoundSession y → (IsSoundSession (play me.0.seen) → IsSoundSession (after_item (play me.0.seen) (item c)) → Trusted (play me.0.seen) → Trusted (after_item (play me.0.seen) (item c)))
+      → y ≡ after_item (play_from me.0.opening me.0.seen) (item c) → IsSoundSession y → (IsSoundSession (play_from me.0.opening me.0.seen) → IsSoundSession (after_item (play_from me.0.opening me.0.seen) (item c)) → Trusted (play_from me.0.opening me.0.seen) → Trusted (after_item (play_from me.0.opening me.0.seen) (item c)))
       → Allows (Locks Trusted) slots id me 1 (λ n. (n + 1) % 2 ^ 64) (Finishes Told item (step slots 1 1 0 none) me)
   finishes_me Told tells slots id me y item c others one carried mine by holding has_it no_kept no_other is_play y_sound stays =
       subst (λ (z : ℕ × List (ℕ × PlainSession)). Allows (Locks Trusted) z.0 id (me.0, z.1) 1 (λ n. (n + 1) % 2 ^ 64) (Finishes Told item (step z.0 1 1 0 none) (me.0, z.1))) (λ i. (sym one i, sym carried i))
@@ -360,7 +372,7 @@ module _ (Trusted : PlainSession → Type 0) where
     w,
     keeps,
     tt,
-    (history, renewed history s k 0 id c v w at (read_word history s k 0 (omega arith)) refl refl refl refl (k.seen id v at) (part_none history w no_part refl, part_none history w no_part refl) (λ e. e)),
+    (history, renewed history s k 0 id c v w at (read_word history s k 0 (omega arith)) refl refl refl refl refl (k.seen id v at) (part_none history w no_part refl, part_none history w no_part refl) (λ e. e)),
     (
       refl,
       saw_between v.kept.callers v.callers v.kept.seen v.seen history fits.0.0 (k.seen id v at) fits.0.1,

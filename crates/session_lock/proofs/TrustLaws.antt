@@ -6,13 +6,12 @@ use Rattle.reflector_core.specs.declared.request.Request.{Request}
 use Rattle.reflector_core.specs.declared.request.Request.TheVariants.{Join, Send, Tick, Leave, Offer, Pull}
 use Rattle.reflector_core.specs.PlainSession.{PlainSession, IsSoundSession}
 use Rattle.reflector_core.specs.Answer.{answer}
-use Rattle.reflector_core.specs.Play.{first_session}
 use Rattle.session_lock.specs.declared.knowledge.Item.{Item}
 use Rattle.session_lock.specs.declared.knowledge.Item.TheVariants.{Did, Void}
 use Rattle.atomic_table.specs.Seated.{TableId}
 use Rattle.session_lock.specs.Passes.{SharedState, shared_state}
 use Rattle.session_lock.specs.Trusts.{Allowing, TrustAllows, IsTrusted, Stays, MayBeAsked}
-use Rattle.session_lock.specs.History.{play, play_from, Saw, IsSoundThrough}
+use Rattle.session_lock.specs.History.{play_from, Saw, IsSoundThrough}
 use Rattle.reflector_core.proofs.SoundLaws.{offer_along}
 use Rattle.reflector_core.proofs.GrowthLaws.{kept-others}
 use Rattle.session_lock.proofs.Histories.{play_from_append, sound_start, sound_rest}
@@ -46,19 +45,19 @@ module _ {T : Type 0} (allows : Allowing T) (stays : Stays allows) (trust : T) (
   later s (Void c ∷ xs) time bytes sound a = later s xs time bytes sound.1 a
 
   -- what may be asked of the session that was seen may be asked later
-  pub asked_later : (cs : List ℕ) (seen history : List Item) (request : Request) → IsSoundThrough first_session history → Saw cs seen history → MayBeAsked allows trust id (play seen) request → MayBeAsked allows trust id (play history) request
-  asked_later cs seen history (Join view now want) sound saw ok = ok
-  asked_later cs seen history (Send view joined number payload now) sound saw ok = ok
-  asked_later cs seen history (Tick now) sound saw ok = ok
-  asked_later cs seen history (Leave view joined now) sound saw ok = ok
-  asked_later cs seen history (Offer view joined time snapshot) sound saw ok =
-      subst (λ (s : PlainSession). TrustAllows allows trust id s time snapshot) (sym (play_from_append first_session seen saw.0) ∙ ap play saw.1)
-      (later (play seen) saw.0 time snapshot (sound_rest first_session seen saw.0 (subst (IsSoundThrough first_session) (sym saw.1) sound)) ok)
-  asked_later cs seen history (Pull after limit) sound saw ok = ok
+  pub asked_later : (o : PlainSession) (cs : List ℕ) (seen history : List Item) (request : Request) → IsSoundThrough o history → Saw cs seen history → MayBeAsked allows trust id (play_from o seen) request → MayBeAsked allows trust id (play_from o history) request
+  asked_later o cs seen history (Join view now want) sound saw ok = ok
+  asked_later o cs seen history (Send view joined number payload now) sound saw ok = ok
+  asked_later o cs seen history (Tick now) sound saw ok = ok
+  asked_later o cs seen history (Leave view joined now) sound saw ok = ok
+  asked_later o cs seen history (Offer view joined time snapshot) sound saw ok =
+      subst (λ (s : PlainSession). TrustAllows allows trust id s time snapshot) (sym (play_from_append o seen saw.0) ∙ ap (play_from o) saw.1)
+      (later (play_from o seen) saw.0 time snapshot (sound_rest o seen saw.0 (subst (IsSoundThrough o) (sym saw.1) sound)) ok)
+  asked_later o cs seen history (Pull after limit) sound saw ok = ok
 
 -- what is trusted by what the table was told is trusted by what a contract sees of it, and what may be asked goes back
-pub trusted_outside : {T : Type 0} (allows : Allowing T) (session : TableId) (key : SessionId × T) (seen : SharedState T) → shared_state session key ≡ seen → (s : PlainSession) → IsTrusted allows key.1 key.0 s → IsTrusted allows seen.trust seen.id s
-trusted_outside {T} allows session key seen is s h = subst (λ (v : SharedState T). IsTrusted allows v.trust v.id s) is h
+pub trusted_outside : {T K : Type 0} (allows : Allowing T) (session : TableId) (key : SessionId × T × K) (seen : SharedState T) → shared_state session key ≡ seen → (s : PlainSession) → IsTrusted allows key.1 key.0 s → IsTrusted allows seen.trust seen.id s
+trusted_outside {T} {K} allows session key seen is s h = subst (λ (v : SharedState T). IsTrusted allows v.trust v.id s) is h
 
-pub asked_inside : {T : Type 0} (allows : Allowing T) (session : TableId) (key : SessionId × T) (seen : SharedState T) → shared_state session key ≡ seen → (s : PlainSession) (request : Request) → MayBeAsked allows seen.trust seen.id s request → MayBeAsked allows key.1 key.0 s request
-asked_inside {T} allows session key seen is s request h = subst (λ (v : SharedState T). MayBeAsked allows v.trust v.id s request) (sym is) h
+pub asked_inside : {T K : Type 0} (allows : Allowing T) (session : TableId) (key : SessionId × T × K) (seen : SharedState T) → shared_state session key ≡ seen → (s : PlainSession) (request : Request) → MayBeAsked allows seen.trust seen.id s request → MayBeAsked allows key.1 key.0 s request
+asked_inside {T} {K} allows session key seen is s request h = subst (λ (v : SharedState T). MayBeAsked allows v.trust v.id s request) (sym is) h

@@ -36,7 +36,11 @@ abbrev pub IsSoundThrough : PlainSession → List Item → Type 0
 IsSoundThrough session [] = IsSoundSession session
 IsSoundThrough session (x ∷ xs) = IsSoundSession session × IsSoundThrough (after_item session x) xs
 
--- what is answered to the request after the history
+-- what is answered to the request after the history, from a session on
+abbrev pub reply_from : PlainSession → List Item → Request → Reply
+reply_from session history request = (answer (play_from session history) request).reply
+
+-- and from the first session on
 abbrev pub reply_after : List Item → Request → Reply
 reply_after history request = (answer (play history) request).reply
 

@@ -10,7 +10,7 @@ use Rattle.session_lock.specs.declared.knowledge.Item.{Item}
 use Rattle.session_lock.specs.declared.knowledge.Item.TheVariants.{Did, Void}
 use Rattle.session_lock.specs.declared.knowledge.Range.{Range}
 use Rattle.session_lock.specs.declared.knowledge.Knowledge.{Knowledge}
-use Rattle.session_lock.specs.History.{play, reply_after, has, calls_of, SameCallsOfEach, Saw}
+use Rattle.session_lock.specs.History.{play_from, reply_from, has, calls_of, SameCallsOfEach, Saw}
 use Rattle.session_lock.specs.Numbers.{times, in_ranges, one_between, count_of, take_numbers, drop_numbers, first_of_ranges}
 use Rattle.session_lock.specs.Rules.{all_numbers, longer}
 
@@ -20,13 +20,14 @@ pub record SharedState (T : Type 0) : Type 0 where
   pub id : SessionId
   pub trust : T
 
-abbrev pub shared_state : {T : Type 0} → TableId → SessionId × T → SharedState T
+abbrev pub shared_state : {T K : Type 0} → TableId → SessionId × T × K → SharedState T
 shared_state session key = record { session = session; id = key.0; trust = key.1 }
 
--- of which shared session it is a pass, its callers' numbers, its own caller's first, its spare numbers, and the
--- history that it has seen
+-- of which shared session it is a pass, the session that this began with, its callers' numbers, its own caller's first,
+-- its spare numbers, and the history that it has seen
 pub record PassState : Type 0 where
   pub session : TableId
+  pub opening : PlainSession
   pub callers : List ℕ
   pub spare : List Range
   pub seen : List Item
@@ -61,7 +62,7 @@ UsedNoSpare p = (n : ℕ) → 0 < in_ranges n p.spare → calls_of (n ∷ []) p.
 
 -- what a contract sees of a seat with this knowledge
 abbrev pub pass_state : TableId → Knowledge → PassState
-pass_state session v = record { session = session; callers = v.callers; spare = v.spare; seen = v.seen }
+pass_state session v = record { session = session; opening = v.opening; callers = v.callers; spare = v.spare; seen = v.seen }
 
 -- The pass after a call. There is a history that begins with all that it had seen, without another item of its
 -- callers; the pass has then seen this history and the item behind it, and its own calls have grown by just this item.
@@ -75,23 +76,23 @@ pub record Grew (before after : PassState) (history : List Item) (item : Item) :
 pub record Replied (IsTrusted : PlainSession → Type 0) (before after : PassState) (request : Request) (reply : Reply) : Type 0 where
   pub history : List Item
   pub grew : Grew before after history (Did (caller before) request)
-  pub replies : reply ≡ reply_after history request
-  pub trusted : IsTrusted (play history)
-  pub trusted_after : IsTrusted (play after.seen)
+  pub replies : reply ≡ reply_from before.opening history request
+  pub trusted : IsTrusted (play_from before.opening history)
+  pub trusted_after : IsTrusted (play_from before.opening after.seen)
 
 -- the call found no memory, the reply due at that place may want some, and what is kept is trusted
 pub record Voided (IsTrusted : PlainSession → Type 0) (before after : PassState) (request : Request) : Type 0 where
   pub history : List Item
   pub grew : Grew before after history (Void (caller before))
-  pub due : MayWantMemory (reply_after history request)
-  pub trusted_after : IsTrusted (play after.seen)
+  pub due : MayWantMemory (reply_from before.opening history request)
+  pub trusted_after : IsTrusted (play_from before.opening after.seen)
 
 -- the pass has seen a history that begins with all that it had seen, and has made no call; what is kept is trusted
 pub record Caught (IsTrusted : PlainSession → Type 0) (before after : PassState) : Type 0 where
   pub saw : Saw before.callers before.seen after.seen
   pub same : after ≡ record before { seen = after.seen }
   pub own : own_calls after ≡ own_calls before
-  pub trusted_after : IsTrusted (play after.seen)
+  pub trusted_after : IsTrusted (play_from before.opening after.seen)
 
 -- The new pass gets the first of the spare numbers: one as its caller's, the others as its own spare ones. It has seen
 -- the same, and has no calls.
@@ -123,9 +124,10 @@ pub record Merged (before other after : PassState) : Type 0 where
   pub each_other : SameCallsOfEach other.callers other.seen after.seen
 
 -- the first pass is caller 0, holds all other numbers as spare ones, and has seen nothing
-abbrev pub first_pass : TableId → PassState
-first_pass session = record {
+abbrev pub first_pass : TableId → PlainSession → PassState
+first_pass session opening = record {
   session = session;
+  opening = opening;
   callers = 0 ∷ [];
   spare = record { first = 1; count = 4294967295 } ∷ [];
   seen = [];

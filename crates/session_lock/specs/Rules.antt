@@ -4,12 +4,11 @@ use mathlib.Core.Option.{some, none}
 use lib.ListN.{get_elem?}
 use Rattle.atomic_table.specs.Table.{State}
 use Rattle.reflector_core.specs.PlainSession.{PlainSession}
-use Rattle.reflector_core.specs.Play.{first_session}
 use Rattle.session_lock.specs.declared.knowledge.Item.{Item}
 use Rattle.session_lock.specs.declared.knowledge.Range.{Range}
 use Rattle.session_lock.specs.declared.knowledge.Part.{Part}
 use Rattle.session_lock.specs.declared.knowledge.Knowledge.{Knowledge}
-use Rattle.session_lock.specs.History.{play, calls_of, Saw, IsSoundThrough}
+use Rattle.session_lock.specs.History.{play_from, calls_of, Saw, IsSoundThrough}
 use Rattle.session_lock.specs.Numbers.{times, in_ranges, count_of, one_between}
 
 -- how many numbers there are
@@ -73,12 +72,19 @@ PartFits history v p =
 abbrev pub PartsFit : List Item → Knowledge → Type 0
 PartsFit history v = PartFits history v v.kept × PartFits history v v.other
 
+-- a view that has a caller knows the session that the lock began with
+abbrev pub KnowsOpening : PlainSession → Knowledge → Type 0
+KnowsOpening opening v = 0 < length v.callers → v.opening ≡ opening
+
 -- some view that has a caller has seen the whole history
 abbrev pub IsSeenWhole : List Item → List Knowledge → Type 0
 IsSeenWhole history views = (i : ℕ) × (v : Knowledge) × (get_elem? views i ≡ some v) × (v.seen ≡ history) × (0 < length v.callers)
 
 -- What holds of a history, of the table and of the trust. A view with no caller is that of a pass which was merged.
 pub record IsInOrder (Trusted : PlainSession → Type 0) (history : List Item) (s : State PlainSession Knowledge) : Type 0 where
+  -- the session that the lock began with, which each view knows
+  pub opening : PlainSession
+  pub opened : Every (KnowsOpening opening) s.views
   -- the first word is the number of tickets drawn, the second the length of the history
   pub next : ℕ
   pub words : s.words ≡ next ∷ length history ∷ []
@@ -97,17 +103,17 @@ pub record IsInOrder (Trusted : PlainSession → Type 0) (history : List Item) (
   pub called : (n : ℕ) → views_total (calls_as n) s.views ≡ 0 → calls_of (n ∷ []) history ≡ []
   pub turn : Every (HoldsInTurn (length history)) s.views
   pub spent : Every SpentHoldsNothing s.views
-  pub trusted : Trusted (play history)
-  -- the session is sound from the first on
-  pub sound : IsSoundThrough first_session history
+  pub trusted : Trusted (play_from opening history)
+  -- the session is sound from the opening on
+  pub sound : IsSoundThrough opening history
   -- where no view holds it, the session lies in the slot, and is the play of the history
-  pub home : views_total is_holding s.views ≡ 0 → s.homes ≡ some (play history) ∷ []
+  pub home : views_total is_holding s.views ≡ 0 → s.homes ≡ some (play_from opening history) ∷ []
   -- where a view holds it, the slot is empty
   pub away : views_total is_holding s.views ≡ 1 → s.homes ≡ none ∷ []
 
 -- the play of the history is trusted, and was sound at each place of it
-abbrev pub PlaysWell : (PlainSession → Type 0) → List Item → Type 0
-PlaysWell Trusted history = Trusted (play history) × IsSoundThrough first_session history
+abbrev pub PlaysWell : (PlainSession → Type 0) → PlainSession → List Item → Type 0
+PlaysWell Trusted opening history = Trusted (play_from opening history) × IsSoundThrough opening history
 
 -- there is one history that holds of the table
 abbrev pub Locks : (PlainSession → Type 0) → State PlainSession Knowledge → Type 0
@@ -120,8 +126,9 @@ abbrev pub no_part : Part
 no_part = merge_part [] []
 
 -- what a pass knows that rests
-abbrev pub knows : List ℕ → List Range → List Item → Knowledge
-knows callers spare seen = record {
+abbrev pub knows : PlainSession → List ℕ → List Range → List Item → Knowledge
+knows opening callers spare seen = record {
+  opening = opening;
   callers = callers;
   spare = spare;
   seen = seen;
@@ -132,8 +139,8 @@ knows callers spare seen = record {
 }
 
 -- the first pass is caller 0, and holds all other numbers as spare ones
-abbrev pub first_knowledge : Knowledge
-first_knowledge = knows (0 ∷ []) (record { first = 1; count = 4294967295 } ∷ []) []
+abbrev pub first_knowledge : PlainSession → Knowledge
+first_knowledge opening = knows opening (0 ∷ []) (record { first = 1; count = 4294967295 } ∷ []) []
 
 -- the longer of two histories; of two as long as each other, the second
 abbrev pub longer : List Item → List Item → List Item

@@ -10,7 +10,7 @@ use Rattle.reflector_core.specs.declared.request.Reply.{Reply}
 use Rattle.session_lock.specs.declared.knowledge.Item.{Item}
 use Rattle.session_lock.specs.declared.knowledge.Item.TheVariants.{Did, Void}
 use Rattle.session_lock.specs.declared.knowledge.Knowledge.{Knowledge}
-use Rattle.session_lock.specs.History.{play, reply_after, calls_of, Saw, IsSoundThrough}
+use Rattle.session_lock.specs.History.{play_from, reply_from, calls_of, Saw, IsSoundThrough}
 use Rattle.session_lock.specs.Numbers.{in_ranges, take_numbers, drop_numbers, first_of_ranges}
 use Rattle.session_lock.specs.Rules.{HoldsOnce, PlaysWell, knows, merge_part, no_part, longer}
 
@@ -40,8 +40,8 @@ Waits m ticket = (m.1 ≡ []) × (m.0.ticket ≡ Some ticket) × (m.0.holding �
 abbrev pub HasTurn : (PlainSession → Type 0) → M → ℕ → M → Type 0
 HasTurn Trusted m ticket m' =
     (history : List Item) × (length history ≡ ticket) × Saw m.0.callers m.0.seen history
-    × (m' ≡ (with_turn m.0 history, (0, play history) ∷ [])) × Trusted (play history)
-    × IsSoundThrough first_session history
+    × (m' ≡ (with_turn m.0 history, (0, play_from m.0.opening history) ∷ [])) × Trusted (play_from m.0.opening history)
+    × IsSoundThrough m.0.opening history
 
 -- look: it is the pass's turn, or nothing changed
 abbrev pub Looks : (PlainSession → Type 0) → Step PlainSession → M → ℕ → M → Type 0
@@ -62,13 +62,13 @@ Works m request result m' =
 abbrev pub Finishes : (PlainSession → Type 0) → (ℕ → Item) → Step PlainSession → M → ℕ → M → Type 0
 Finishes Trusted item st m found m' =
     (caller : ℕ) × (others : List ℕ) × (m.0.callers ≡ caller ∷ others) × (m' ≡ (with_seen_item m.0 (item caller), []))
-    × PlaysWell Trusted m'.0.seen
+    × PlaysWell Trusted m.0.opening m'.0.seen
 
 -- the whole history was seen, which is so long, and whose play is trusted and was sound all the way
 abbrev pub HasCounted : (PlainSession → Type 0) → M → ℕ → M → Type 0
 HasCounted Trusted m found m' =
     (history : List Item) × (length history ≡ found) × Saw m.0.callers m.0.seen history
-    × (m' ≡ (record m.0 { seen = history }, m.1)) × PlaysWell Trusted history
+    × (m' ≡ (record m.0 { seen = history }, m.1)) × PlaysWell Trusted m.0.opening history
 
 -- count: the whole history was seen, and its length found
 abbrev pub CountsHistory : (PlainSession → Type 0) → Step PlainSession → M → ℕ → M → Type 0
@@ -81,7 +81,7 @@ Unused st m found m' =
 
 -- split: the first of the n numbers that are taken becomes the new caller's
 abbrev pub split_right : ℕ → Knowledge → Knowledge
-split_right n v = let taken = take_numbers n v.spare in knows (first_of_ranges taken ∷ []) (drop_numbers 1 taken) v.seen
+split_right n v = let taken = take_numbers n v.spare in knows v.opening (first_of_ranges taken ∷ []) (drop_numbers 1 taken) v.seen
 
 abbrev pub split_left : ℕ → Knowledge → Knowledge
 split_left n v = record v { spare = drop_numbers n v.spare }
@@ -97,7 +97,7 @@ join_left v w = record v {
 }
 
 abbrev pub join_right : Knowledge
-join_right = knows [] [] []
+join_right = knows first_session [] [] []
 
 -- settle: what was known before the merge begins what is known now, and its callers made no call since; and no number
 -- is held twice
@@ -117,11 +117,11 @@ IsIdle m =
 abbrev pub AnswersRequest : (PlainSession → Type 0) → Knowledge → M → Request → Reply → Type 0
 AnswersRequest Trusted v m request reply =
     (history : List Item) × (caller : ℕ) × (others : List ℕ) × (v.callers ≡ caller ∷ others) × Saw v.callers v.seen history
-    × (m ≡ (knows v.callers v.spare (history ++ Did caller request ∷ []), [])) × (reply ≡ reply_after history request)
-    × Trusted (play history)
+    × (m ≡ (knows v.opening v.callers v.spare (history ++ Did caller request ∷ []), [])) × (reply ≡ reply_from v.opening history request)
+    × Trusted (play_from v.opening history)
 
 -- the same where the call found no memory
 abbrev pub Fails : Knowledge → M → Request → Type 0
 Fails v m request =
     (history : List Item) × (caller : ℕ) × (others : List ℕ) × (v.callers ≡ caller ∷ others) × Saw v.callers v.seen history
-    × (m ≡ (knows v.callers v.spare (history ++ Void caller ∷ []), [])) × MayWantMemory (reply_after history request)
+    × (m ≡ (knows v.opening v.callers v.spare (history ++ Void caller ∷ []), [])) × MayWantMemory (reply_from v.opening history request)

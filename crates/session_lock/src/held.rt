@@ -9,7 +9,7 @@ use tea_base::WantOfMemory;
 
 /// A session, of which what its log has room for is not seen.
 #[derive(Drop)]
-pub(crate) struct Held {
+pub struct Held {
     pub(crate) session: Session,
 }
 
@@ -23,8 +23,11 @@ impl Model for Held {
 
 impl Held {
     pub(crate) fn of(session: Session) -> Held
-        ensures { result ≡ session.plain }
+        ensures plain { result ≡ session.plain }
+        ensures sound { IsSoundSession result }
     {
+        // a session that can be asked is sound
+        let _ = session.horizon();
         Held { session }
     }
 

@@ -2,10 +2,10 @@
 ghost use Rattle.std.specs.Prelude.{◌≡◌, ℕ, ◌<◌, ◌+◌, [], ◌∷◌, length, true, false, None, IfOk, IfErr, IsOk, MatchResult};
 ghost use Rattle.tea_base.specs.declared.entry.SessionId.{SessionId};
 ghost use Rattle.reflector_core.specs.PlainSession.{PlainSession};
-ghost use Rattle.reflector_core.specs.Play.{first_session, replies_from, TellsItsEvents};
+ghost use Rattle.reflector_core.specs.Play.{replies_from, TellsItsEvents};
 ghost use Rattle.reflector_core.specs.Growth.{is_offer};
 ghost use Rattle.session_lock.specs.Trusts.{IsTrusted, MayBeAsked};
-ghost use Rattle.session_lock.specs.History.{play, calls_of, history_requests, IsSoundThrough};
+ghost use Rattle.session_lock.specs.History.{play_from, calls_of, history_requests, IsSoundThrough};
 ghost use Rattle.session_lock.specs.Rules.{all_numbers, HoldsOnce, PlaysWell};
 ghost use Rattle.session_lock.specs.Steps.{with_ticket, Waits, HasTurn, HasCounted, Works, IsIdle, AnswersRequest, Fails, split_left, split_right};
 ghost use Rattle.session_lock.specs.Numbers.{count_of, in_ranges, drop_numbers};
@@ -14,8 +14,8 @@ ghost use Rattle.session_lock.specs.Passes.{Replied, Voided, Caught, Given, Merg
 use crate::held::Held;
 use crate::knowledge::Knowledge;
 use crate::rule::{
-    Asking, CountAll, Cut, Draw, FinishDid, FinishVoid, Glue, Law, Look, LookUnused, Settle,
-    Sharing, Trusting,
+    Asking, CountAll, Cut, Draw, FinishDid, FinishVoid, Glue, Law, Look, LookUnused, Mark, Marking,
+    Settle, Sharing, Trusting,
 };
 use crate::trust::Trust;
 use atomic_table::{Refused, Seat, Table};
@@ -35,7 +35,7 @@ const SERVING: usize = 1;
 type Place = Seat<Held, Knowledge>;
 
 /// A caller's token for one shared session. It has no bytes. Contracts see its callers' numbers, its own caller's first,
-/// its spare numbers and the history that it has seen. A number is held by one pass at most; a spare one was never used.
+/// its spare numbers, the session that the lock began with, and the history that it has seen. A number is held by one pass at most; a spare one was never used.
 /// A pass that is let go takes its numbers with it, and the session can then not be closed.
 #[derive(Drop)]
 pub struct Pass {
@@ -57,7 +57,7 @@ impl Model for Pass {
 /// A session that threads share by `&`. However they call it, there is one history, and the session is its play.
 #[derive(Drop)]
 pub struct SharedSession<T: Trust> {
-    table: Table<Held, Knowledge, (SessionId, T), Law<T>, Global>,
+    table: Table<Held, Knowledge, (SessionId, T, Mark), Law<T>, Global>,
 }
 
 impl<T: Trust> Model for SharedSession<T> {
@@ -79,22 +79,37 @@ pub struct Unmade<T: Trust> {
 }
 
 impl<T: Trust> SharedSession<T> {
-    /// Shares a first session. The pass is caller 0, has seen nothing, and holds all other numbers below 2^32 as spare
-    /// ones. The trust says which snapshots may be kept under this id. Both serve proofs alone, so the trust is let go.
+    /// Shares a session, which the passes then know as their opening. The pass is caller 0, has seen nothing, and holds
+    /// all other numbers below 2^32 as spare ones. The trust says which snapshots may be kept under this id, and allows
+    /// the one that the session keeps, if it keeps one. All of this serves proofs alone, so the trust is let go.
     pub fn new(
         alloc: Global,
         id: SessionId,
         session: Session,
         trust: T,
     ) -> Result<(SharedSession<T>, Pass), Unmade<T>>
-        requires { session.plain ≡ first_session }
-        ensures pass { IfOk result (λ made. made.1 ≡ first_pass made.0.session) }
+        requires { IsTrusted T.allows trust id session.plain }
+        ensures pass { IfOk result (λ made. made.1 ≡ first_pass made.0.session session.plain) }
         ensures trust { IfOk result (λ made. (made.0.id ≡ id) × (made.0.trust ≡ trust)) }
         ensures unmade { IfErr result (λ unmade. (unmade.session.plain ≡ session.plain) × (unmade.trust ≡ trust)) }
     {
-        let key = (id, trust);
+        let held = Held::of(session);
+        let (_, mark) = match Table::<u8, Held, Held, Marking, Global>::of_words(
+            alloc,
+            &[0],
+            &held,
+        ) {
+            Ok(made) => made,
+            Err(_) => {
+                return Err(Unmade {
+                    session: held.into_session(),
+                    trust,
+                });
+            }
+        };
+        let key = (id, trust, mark);
         let mut slots = Vec::new(alloc);
-        if let Err(AllocFailed { value: held }) = slots.push(Held::of(session)) {
+        if let Err(AllocFailed { value: held }) = slots.push(held) {
             return Err(Unmade {
                 session: held.into_session(),
                 trust: key.1,
@@ -130,7 +145,7 @@ impl<T: Trust> SharedSession<T> {
         ensures call { MatchResult result
             (λ reply. Replied (IsTrusted T.allows self.now.trust self.now.id) pass.old pass.new request.now reply)
             (λ _. Voided (IsTrusted T.allows self.now.trust self.now.id) pass.old pass.new request.now) }
-        ensures sound { IsSoundThrough first_session pass.new.seen }
+        ensures sound { IsSoundThrough pass.old.opening pass.new.seen }
     {
         self.ask(rt, pass, request)
     }
@@ -144,12 +159,12 @@ impl<T: Trust> SharedSession<T> {
     ) -> Result<Reply, WantOfMemory>
         requires session { pass.old.session ≡ self.now.session }
         requires kind { is_offer request.now ≡ true }
-        requires allowed { MayBeAsked T.allows self.now.trust self.now.id (play pass.old.seen) request.now }
+        requires allowed { MayBeAsked T.allows self.now.trust self.now.id (play_from pass.old.opening pass.old.seen) request.now }
         ensures kept { pass.new ≡ record pass.old { seen = pass.new.seen } }
         ensures call { MatchResult result
             (λ reply. Replied (IsTrusted T.allows self.now.trust self.now.id) pass.old pass.new request.now reply)
             (λ _. Voided (IsTrusted T.allows self.now.trust self.now.id) pass.old pass.new request.now) }
-        ensures sound { IsSoundThrough first_session pass.new.seen }
+        ensures sound { IsSoundThrough pass.old.opening pass.new.seen }
     {
         self.ask(rt, pass, request)
     }
@@ -160,7 +175,7 @@ impl<T: Trust> SharedSession<T> {
         requires { pass.old.session ≡ self.now.session }
         ensures length { result ≡ length pass.new.seen }
         ensures seen { Caught (IsTrusted T.allows self.now.trust self.now.id) pass.old pass.new }
-        ensures sound { IsSoundThrough first_session pass.new.seen }
+        ensures sound { IsSoundThrough pass.old.opening pass.new.seen }
     {
         self.count::<Brand>(&mut pass.seat)
     }
@@ -200,17 +215,17 @@ impl<T: Trust> SharedSession<T> {
 
     /// The session in the end. The pass holds all numbers: every other one was merged into it, and no call is under way.
     /// All that was ever called is among its calls, and at each place of it the session was sound. The log has just the
-    /// events that were answered Stamped.
+    /// events of the opening session and, after them, those that were answered Stamped.
     pub fn close(self, pass: Pass) -> Session
         requires session { pass.session ≡ self.session }
         requires whole { numbers_held pass ≡ all_numbers }
-        ensures play { result.plain ≡ play pass.seen }
+        ensures play { result.plain ≡ play_from pass.opening pass.seen }
         ensures calls { own_calls pass ≡ pass.seen }
         ensures numbers { HoldsEach pass }
         ensures trusted { IsTrusted T.allows self.trust self.id result.plain }
-        ensures sound { IsSoundThrough first_session pass.seen }
-        ensures events { TellsItsEvents (history_requests pass.seen)
-            (replies_from first_session (history_requests pass.seen)) result.plain.log }
+        ensures sound { IsSoundThrough pass.opening pass.seen }
+        ensures events { TellsItsEvents pass.opening.log (history_requests pass.seen)
+            (replies_from pass.opening (history_requests pass.seen)) result.plain.log }
     {
         let SharedSession { table } = self;
         let Pass { seat } = pass;
@@ -224,6 +239,7 @@ impl<T: Trust> SharedSession<T> {
     fn count<J: Trusting>(&self, seat: &mut Place) -> u64
         requires table { seat.old.table_id ≡ self.now.session }
         requires trusted { (s : PlainSession) → IsTrusted T.allows self.now.trust self.now.id s → J.trusted s }
+        requires caller { 0 < length seat.old.me.0.callers }
         ensures table { seat.new.table_id ≡ self.now.session }
         ensures counted { HasCounted J.trusted seat.old.me result seat.new.me }
     {
@@ -238,12 +254,12 @@ impl<T: Trust> SharedSession<T> {
         request: &Request,
     ) -> Result<Reply, WantOfMemory>
         requires session { pass.old.session ≡ self.now.session }
-        requires allowed { MayBeAsked T.allows self.now.trust self.now.id (play pass.old.seen) request.now }
+        requires allowed { MayBeAsked T.allows self.now.trust self.now.id (play_from pass.old.opening pass.old.seen) request.now }
         ensures kept { pass.new ≡ record pass.old { seen = pass.new.seen } }
         ensures call { MatchResult result
             (λ reply. Replied (IsTrusted T.allows self.now.trust self.now.id) pass.old pass.new request.now reply)
             (λ _. Voided (IsTrusted T.allows self.now.trust self.now.id) pass.old pass.new request.now) }
-        ensures sound { IsSoundThrough first_session pass.new.seen }
+        ensures sound { IsSoundThrough pass.old.opening pass.new.seen }
     {
         self.make::<Brand, R>(rt, &mut pass.seat, request)
     }
@@ -258,13 +274,13 @@ impl<T: Trust> SharedSession<T> {
         requires table { seat.old.table_id ≡ self.now.session }
         requires asked { request.now ≡ J.request }
         requires trusted { (s : PlainSession) → IsTrusted T.allows self.now.trust self.now.id s → J.trusted s }
-        requires allowed { MayBeAsked T.allows self.now.trust self.now.id (play seat.old.me.0.seen) request.now }
+        requires allowed { MayBeAsked T.allows self.now.trust self.now.id (play_from seat.old.me.0.opening seat.old.me.0.seen) request.now }
         requires idle { IsIdle seat.old.me }
         ensures table { seat.new.table_id ≡ self.now.session }
         ensures made { MatchResult result
             (λ reply. AnswersRequest J.trusted seat.old.me.0 seat.new.me request.now reply)
             (λ _. Fails seat.old.me.0 seat.new.me request.now) }
-        ensures plays { PlaysWell J.trusted seat.new.me.0.seen }
+        ensures plays { PlaysWell J.trusted seat.old.me.0.opening seat.new.me.0.seen }
     {
         let ticket = self.draw(rt, seat);
         self.take_turn::<J, R>(rt, seat, ticket);

@@ -2,23 +2,35 @@
 use crate::held::Held;
 use crate::knowledge::Knowledge;
 use crate::trust::Trust;
-use atomic_table::{Join, Play, Split, TableRule};
+use atomic_table::{Join, Play, Seat, Split, TableRule};
 use reflector_core::Request;
 use std::marker::{Brand, PhantomData};
 use tea_base::SessionId;
 
-/// The rule. The table is told the session's id and its trust.
+/// What a small table is made for: its seat knows the session that was lent to it as its key, and goes on to know it.
+pub(crate) struct Marking;
+
+impl TableRule<u8, Held, Held> for Marking {
+    ghost holds = { λ _ _. Unit {0} };
+
+    ghost first = { λ session. session };
+}
+
+/// It has no bytes, and means a session.
+pub(crate) type Mark = Seat<u8, Held>;
+
+/// The rule. The table is told the session's id, its trust and the session that it began with.
 pub(crate) struct Law<T> {
     trust: PhantomData<T>,
 }
 
-impl<T: Trust> TableRule<Held, Knowledge, (SessionId, T)> for Law<T> {
+impl<T: Trust> TableRule<Held, Knowledge, (SessionId, T, Mark)> for Law<T> {
     ghost use Rattle.session_lock.specs.Trusts.{IsTrusted};
     ghost use Rattle.session_lock.specs.Rules.{Locks, first_knowledge};
 
     ghost holds = { λ key. Locks (IsTrusted T.allows key.1 key.0) };
 
-    ghost first = { λ _. first_knowledge };
+    ghost first = { λ key. first_knowledge key.2.me.0 };
 }
 
 /// What a caller asks. Each call picks it.

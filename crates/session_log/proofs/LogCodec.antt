@@ -8,6 +8,7 @@ use Rattle.tea_base.specs.declared.entry.What.TheVariants.{Join, Exit, Event}
 use Rattle.tea_base.specs.Legal.{IsLegal, IsLegalAfter, MayFollow, LogAllows}
 use Rattle.tea_base.specs.Limits.{most_entries}
 use Rattle.tea_base.proofs.LogLaws.{MayFollow-short}
+use Rattle.byte_fields.specs.Fields.{list_of, list_at}
 use Rattle.byte_fields.proofs.Codecs.{Codec, EachFits, wide64, number_codec, u32_codec, paired_codec, marked_codec, made_codec, tested_codec, said_codec, list_codec}
 use Rattle.entry_fields.proofs.WhatCodec.{HasWhatSpelling, what_codec}
 use Rattle.session_log.specs.LogState.{next_entry}
@@ -71,8 +72,12 @@ each_legal : (before log : List Entry) → IsLegalAfter before log → EachFits 
 each_legal before [] legal = tt
 each_legal before (entry ∷ log) legal = (legal.0, each_legal (before ++ entry ∷ []) log legal.1)
 
+-- the entries, and how many there are
+pub entries_codec : Codec (List Entry) (list_of log_entry_spelling) IsLegal (list_at entry_after)
+entries_codec =
+    said_codec (list_of log_entry_spelling) IsLegal (λ log _. refl) (λ log f. legal_each [] log f.1) (λ log legal. (omega (arith, length-legal log legal), each_legal [] log legal))
+    (list_codec log_entry_spelling MayFollow entry_after after_codec)
+
 pub log_codec : Codec (List Entry) log_spelling IsLegal log_at
 unfolding log_at
-log_codec =
-    said_codec log_spelling IsLegal (λ log _. refl) (λ log f. legal_each [] log f.1) (λ log legal. (omega (arith, length-legal log legal), each_legal [] log legal))
-    (marked_codec (codes "TEALOG01") (list_codec log_entry_spelling MayFollow entry_after after_codec))
+log_codec = marked_codec (codes "TEALOG01") entries_codec

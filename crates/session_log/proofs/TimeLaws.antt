@@ -1,10 +1,10 @@
 -- The times of heads rise, so those until a time are the first ones.
-use Rattle.std.proofs.Common.{ℕ, ◌+◌, ◌≡◌, ◌≤◌, ◌<◌, Bool, true, false, cond, List, [], ◌∷◌, zero, suc, length, get_or, map, ap, ◌∙◌, arith}
+use Rattle.std.proofs.Common.{ℕ, ◌+◌, ◌-◌, ◌≡◌, ◌≤◌, ◌<◌, Bool, true, false, cond, List, [], ◌∷◌, zero, suc, length, get_or, slice_get, Some, map, sym, ap, ◌∙◌, arith}
 use Rattle.std.specs.Prelude.{nat_le}
 use Rattle.std.proofs.lemmas.List.Sums.{sum_by-cons}
 use Rattle.std.specs.List.Sorted.{IsNonDecreasingBy}
 use Rattle.tea_base.specs.declared.entry.Entry.{Entry}
-use Rattle.tea_base.specs.Readings.{count_until}
+use Rattle.tea_base.specs.Readings.{count_until, last_time}
 use Rattle.tea_base.specs.Legal.{TimesRiseAfter}
 use Rattle.session_log.specs.declared.heads.Head.{Head}
 use Rattle.session_log.specs.Heads.{entry_of}
@@ -46,3 +46,16 @@ count_until_at payloads (head ∷ rest) time (suc n) bound before after =
     let others = count_until_at payloads rest time n (omega arith) (λ k none low below. before (suc k) none (omega arith) (omega arith)) (λ k none low below. after (suc k) none (omega arith) (omega arith)) in
     let all : cond true 1 0 + count_until (map (entry_of payloads) rest) time ≡ suc n = omega arith in
     here ∙ all
+
+-- the time of the last head is that of the last entry
+pub last_time_at : (payloads : List ℕ) (heads : List Head) (head : Head) → slice_get heads (length heads - 1) ≡ Some head → head.time ≡ last_time (map (entry_of payloads) heads)
+last_time_at payloads [] head at = absurd cc
+last_time_at payloads (first ∷ []) head at =
+    let place : length (first ∷ []) - 1 ≡ 0 = omega arith in
+    let there : slice_get (first ∷ []) 0 ≡ Some head = sym (ap (slice_get (first ∷ [])) place) ∙ at in
+    let is : first ≡ head = cc in
+    ap (λ (h : Head). h.time) (sym is)
+last_time_at payloads (first ∷ second ∷ rest) head at =
+    let place : length (first ∷ second ∷ rest) - 1 ≡ suc (length (second ∷ rest) - 1) = omega arith in
+    let there : slice_get (second ∷ rest) (length (second ∷ rest) - 1) ≡ Some head = sym (ap (slice_get (first ∷ second ∷ rest)) place) ∙ at in
+    last_time_at payloads (second ∷ rest) head there

@@ -6,3 +6,6 @@ pub mod Legality
 pub mod Lent
 pub mod Reading
 pub mod Tally
+pub mod Kinds
+pub mod Stored
+pub mod StoredReading

@@ -1,7 +1,7 @@
 //! What a log keeps of an entry, beside the payloads of all, and what is read from it.
 ghost use Rattle.std.specs.Prelude.{◌≡◌, ◌≤◌, ◌<◌, ◌+◌, ◌++◌, ◌∷◌, [], ℕ, List, map, length, vec_len, vec_capacity};
 ghost use Rattle.std.specs.List.Sorted.{IsNonDecreasingBy};
-ghost use Rattle.tea_base.specs.Readings.{count_until, last_number};
+ghost use Rattle.tea_base.specs.Readings.{count_until, last_number, last_time};
 ghost use Rattle.tea_base.specs.Limits.{most_entries};
 ghost use Rattle.session_log.specs.Heads.{entry_of};
 
@@ -73,4 +73,14 @@ pub fn count_until(heads: &[Head], time: u64) -> u32
     ensures { (payloads : List ℕ) → result ≡ count_until (map (entry_of payloads) heads.now) time }
 {
     heads.partition_point(|head| head.time <= time) as u32
+}
+
+/// The time of the last entry, and 0 where there is none.
+pub fn last_time_in(heads: &[Head]) -> u64
+    ensures { (payloads : List ℕ) → result ≡ last_time (map (entry_of payloads) heads.now) }
+{
+    match heads.last() {
+        Some(head) => head.time,
+        None => 0,
+    }
 }

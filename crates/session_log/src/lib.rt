@@ -2,13 +2,20 @@
 #![tactic(auto)]
 
 mod heads;
+mod kinds;
 mod legality;
 mod lent;
 mod log;
 mod payloads;
 mod reading;
 mod spelling;
+mod stored;
 mod tally;
 
+pub use kinds::EntryKind;
+pub use legality::ViewState;
+pub use lent::{LentLogEntry, entry_at};
 pub use log::{GetRefusal, Log, encode};
-pub use reading::{LogFault, decode};
+pub use reading::{LogFault, append, decode};
+pub use stored::{Kept, Stored, decode_stored, encode_stored};
+pub use tally::{Tally, learn, may_follow, no_entries};

@@ -1,13 +1,16 @@
 //! A log: the heads of its entries in a vector, and all payload bytes in a region.
-ghost use Rattle.std.specs.Prelude.{◌≡◌, ◌↔◌, ◌+◌, ◌-◌, ◌^◌, ◌<◌, ◌≤◌, ◌⊎◌, [], length, option_map, slice_get, IsTrue, IfOk, IsOk, OnOk, OnErr, Some, Err};
-ghost use Rattle.tea_base.specs.Readings.{payload_bytes, count_until, last_number, payload_len};
+ghost use Rattle.std.specs.Prelude.{◌≡◌, ◌↔◌, ◌+◌, ◌-◌, ◌^◌, ◌<◌, ◌≤◌, ◌⊎◌, ◌++◌, [], length, option_map, slice_get, IsTrue, IfOk, IsOk, OnOk, OnErr, Some, Err};
+ghost use Rattle.tea_base.specs.Readings.{payload_bytes, count_until, last_number, last_time, payload_len};
 ghost use Rattle.tea_base.specs.Legal.{IsLegal, MayFollow};
 ghost use Rattle.tea_base.specs.Limits.{most_entries, most_bytes};
 ghost use Rattle.session_log.specs.LogState.{next_entry, with_next, HasPayloadAt};
 ghost use Rattle.session_log.specs.Heads.{what_of, IsPresence};
-ghost use Rattle.session_log.specs.Spelling.{log_spelling};
+ghost use Rattle.session_log.specs.Kinds.{entry_kind};
+ghost use Rattle.session_log.specs.Spelling.{log_entry_spelling, log_spelling};
+ghost use Rattle.byte_fields.specs.Fields.{list_of};
 
-use crate::heads::{Head, HeadKind, count_until, last_number_in, push_head};
+use crate::heads::{Head, HeadKind, count_until, last_number_in, last_time_in, push_head};
+use crate::kinds::{EntryKind, kind_of_head};
 use crate::payloads::{copy_what, is_stored, store_event};
 use crate::spelling::write_entries;
 use byte_fields::Writer;
@@ -197,6 +200,33 @@ impl Log {
         self.heads[seq as usize - 1].time
     }
 
+    /// The view of the entry with a seq. Takes no memory.
+    pub fn view_of(&self, seq: u32) -> u32
+        requires named { 0 < seq }
+        requires there { seq ≤ length self.now.entries }
+        ensures { option_map (λ entry. entry.view) (slice_get self.now.entries (seq - 1)) ≡
+            Some result }
+    {
+        self.heads[seq as usize - 1].view
+    }
+
+    /// What the entry with a seq records of its view. Takes no memory.
+    pub fn kind_of(&self, seq: u32) -> EntryKind
+        requires named { 0 < seq }
+        requires there { seq ≤ length self.now.entries }
+        ensures { option_map (λ entry. entry_kind entry.what) (slice_get self.now.entries (seq - 1)) ≡
+            Some result }
+    {
+        kind_of_head(self.heads[seq as usize - 1].kind)
+    }
+
+    /// The time of the last entry, in microseconds, and 0 where there is none.
+    pub fn last_time(&self) -> u64
+        ensures { result ≡ last_time self.now.entries }
+    {
+        last_time_in(&self.heads)
+    }
+
     /// Whether the entry with a seq is an Event with this payload. There is none with the seq 0 or
     /// one above the length.
     pub fn payload_is(&self, seq: u32, bytes: &[u8]) -> bool
@@ -217,14 +247,28 @@ impl Log {
     }
 }
 
+/// Writes how many entries a log has, and each entry but for its seq.
+pub fn write_log(out: &mut Writer, log: &Log) -> Result<(), WantOfMemory>
+    ensures { OnOk result (out.new ≡ out.old ++ list_of log_entry_spelling log.now.entries) }
+{
+    out.put_count(log.heads.len())?;
+    write_entries(out, &log.payloads, &log.heads)
+}
+
+/// A writer that has written nothing, of the log's memory.
+pub fn writer_of(log: &Log) -> Writer
+    ensures { result ≡ [] }
+{
+    Writer::new(*log.heads.allocator())
+}
+
 /// The bytes of a log, in memory of their own: `TEALOG01`, how many entries it has, and each entry
 /// but for its seq. The caller keeps the log. Fails for want of memory alone.
 pub fn encode(log: &Log) -> Result<Blob, WantOfMemory>
     ensures { IfOk result (λ bytes. bytes ≡ log_spelling log.now.entries) }
 {
-    let mut out = Writer::new(*log.heads.allocator());
+    let mut out = writer_of(log);
     out.put_bytes(b"TEALOG01")?;
-    out.put_count(log.heads.len())?;
-    write_entries(&mut out, &log.payloads, &log.heads)?;
+    write_log(&mut out, log)?;
     Ok(out.done())
 }

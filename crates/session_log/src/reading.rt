@@ -1,9 +1,9 @@
 //! Reading a log from its bytes.
-ghost use Rattle.std.specs.Prelude.{◌≡◌, ◌≢◌, [], List, IfOk, OnOk, Err};
+ghost use Rattle.std.specs.Prelude.{◌≡◌, ◌≢◌, [], List, IfOk, OnOk, OnErr, Err};
 ghost use Rattle.std.specs.Option.{IfSome, option_map};
 ghost use Rattle.tea_base.specs.declared.entry.Entry.{Entry};
 ghost use Rattle.tea_base.specs.Legal.{IsLegal, MayFollow};
-ghost use Rattle.byte_fields.specs.Fields.{Decodes, items_at, whole};
+ghost use Rattle.byte_fields.specs.Fields.{Decodes, items_at, list_at, whole};
 ghost use Rattle.session_log.specs.LogState.{with_next};
 ghost use Rattle.entry_fields.specs.Lent.{lent_what};
 ghost use Rattle.session_log.specs.Lent.{lent_entry};
@@ -53,11 +53,13 @@ fn next_of<'a>(log: &Log, tally: &Tally, bytes: &'a [u8]) -> Option<(LentLogEntr
     Some((entry, rest))
 }
 
-/// Appends an entry, and makes room for no more than it.
-fn append(log: &mut Log, entry: &LentLogEntry<'_>) -> Result<(), WantOfMemory>
+/// Appends an entry that the log may go on with, and makes room for no more than it. Without memory
+/// the log is as it was.
+pub fn append(log: &mut Log, entry: &LentLogEntry<'_>) -> Result<(), WantOfMemory>
     requires { MayFollow log.old.entries (lent_entry log.old.entries entry.now) }
-    ensures { OnOk result (log.new.entries ≡
+    ensures ok { OnOk result (log.new.entries ≡
         with_next log.old.entries entry.now.time entry.now.view (lent_what entry.now.what)) }
+    ensures err { OnErr result (log.new.entries ≡ log.old.entries) }
 {
     match &entry.what {
         LentWhat::Join => {
@@ -76,10 +78,11 @@ fn append(log: &mut Log, entry: &LentLogEntry<'_>) -> Result<(), WantOfMemory>
     Ok(())
 }
 
-/// So many entries, from the first one on.
-fn entries_of(alloc: Global, count: u32, bytes: &[u8]) -> Result<(Log, &[u8]), LogFault>
-    ensures { Decodes LogFault.BadLog (λ x. (x.0.entries, x.1.now)) result
+/// So many entries, from the first one on, what is told of them, and the bytes after them.
+fn entries_of(alloc: Global, count: u32, bytes: &[u8]) -> Result<(Log, Tally, &[u8]), LogFault>
+    ensures read { Decodes LogFault.BadLog (λ x. (x.0.entries, x.2.now)) result
         (items_at entry_after [] count bytes.now) }
+    ensures told { IfOk result (λ x. TellsLog x.1 x.0.entries) }
 {
     let mut log = Log::new(alloc);
     let mut tally = no_entries(alloc);
@@ -90,7 +93,17 @@ fn entries_of(alloc: Global, count: u32, bytes: &[u8]) -> Result<(Log, &[u8]), L
         append(&mut log, &entry)?;
         rest = after;
     }
-    Ok((log, rest))
+    Ok((log, tally, rest))
+}
+
+/// The entries behind how many there are, what is told of them, and the bytes after them.
+pub fn entries_at(alloc: Global, bytes: &[u8]) -> Result<(Log, Tally, &[u8]), LogFault>
+    ensures read { Decodes LogFault.BadLog (λ x. (x.0.entries, x.2.now)) result
+        (list_at entry_after bytes.now) }
+    ensures told { IfOk result (λ x. TellsLog x.1 x.0.entries) }
+{
+    let (count, rest) = u32_at(bytes).ok_or(LogFault::BadLog)?;
+    entries_of(alloc, count, rest)
 }
 
 /// The log that is spelled by all of the bytes.
@@ -99,8 +112,7 @@ fn read_all(alloc: Global, bytes: &[u8]) -> Result<Log, LogFault>
     ensures { Decodes LogFault.BadLog (λ log. log.entries) result (whole log_at bytes.now) }
 {
     let rest = after_mark(bytes, b"TEALOG01").ok_or(LogFault::BadLog)?;
-    let (count, rest) = u32_at(rest).ok_or(LogFault::BadLog)?;
-    let (log, rest) = entries_of(alloc, count, rest)?;
+    let (log, _tally, rest) = entries_at(alloc, rest)?;
     if !rest.is_empty() {
         return Err(LogFault::BadLog);
     }

@@ -32,6 +32,7 @@ use Rattle.session_lock.proofs.Histories.{play_snoc}
 use Rattle.connection.specs.Exchanges.{exchanges_in}
 use Rattle.connection.specs.Phases.{Opening, talk_walk}
 use Rattle.connection.proofs.TalkLines.{talk_served}
+use Rattle.reflect_server.proofs.Reflections.{only_connections}
 use Rattle.reflect_server.specs.Connections.{HasTalk, IsHistoryOf, ServedConnection, callers_of}
 use Rattle.run_steps.specs.Outside.{LinksTell}
 use Rattle.view_shell.specs.Viewers.{first_phase}
@@ -106,7 +107,7 @@ split_at connections history (link ∷ links) (first ∷ ends) (suc k) end withi
     }
 
 module _ {L : Type 0} (gives : ℕ → Type 0) (id : SessionId) (links : LinksTell L) (founding : Founding) (connections : List (ServedConnection L)) (history : List Item) (views : List (SessionView L))
-    (laws : AreWorlds (worlds founding id.0)) (legal : IsLegal (play history).log) (sound : IsSoundThrough first_session history) (talks : IsHistoryOf gives id links connections history)
+    (laws : AreWorlds (worlds founding id.0)) (legal : IsLegal (play history).log) (sound : IsSoundThrough first_session history) (opener : ℕ) (talks : IsHistoryOf gives id first_session links connections opener history)
     (walked : AllByRecursion (IsViewOf founding id.0 connections history) views) (all : AllByRecursion (IsLinkOfView views) connections) where
   abbrev m : RealWorlds
   m = worlds founding id.0
@@ -128,18 +129,18 @@ module _ {L : Type 0} (gives : ℕ → Type 0) (id : SessionId) (links : LinksTe
 
   -- ---- what the log serves
 
-  connection_serves : (n : ℕ) → KeptUntil n → (link : LinkTalk) (one : ServedConnection L) → IsLinkBetween link one.heard one.sent → HasTalk gives id links history one → CallsBy n one.caller → IsServedBy m log link
+  connection_serves : (n : ℕ) → KeptUntil n → (link : LinkTalk) (one : ServedConnection L) → IsLinkBetween link one.heard one.sent → HasTalk gives id first_session links history one → CallsBy n one.caller → IsServedBy m log link
   connection_serves n kept link one between has calls =
       let talk = has.talk in
       let walk = talk_walk id (Opening 0) talk.events in
-      let served = talk_served gives id history one.caller one.heard one.sent one.ended sound talk in
+      let served = talk_served gives id first_session history one.caller one.heard one.sent one.ended sound talk in
       let same : served.frames ≡ walk.sent = spelled_alike served.frames walk.sent served.spelled talk.spelled (sym served.spelling ∙ talk.told) in
       let honest = opens_honestly m log first_session history one.caller walk.asked walk.sent talk.asked (talk_opens id 0 talk.events) (λ front back is none. kept front back is (calls front back is none)) in
       links_meet m log link one.heard one.sent served (subst (BeginsHonestly m log) (sym same) honest) between
 
   end_serves : (n : ℕ) → KeptUntil n → (link : LinkTalk) (end : Option (ServedConnection L)) → ComesTo link end → IsAmong connections end → BeginsBy n end → IsServedBy m log link
   end_serves n kept link None comes known begins = record { given = []; frames = []; heard = sym comes; served = tt; honest = tt }
-  end_serves n kept link (Some one) comes known begins = connection_serves n kept link one comes.between (all_contains (HasTalk gives id links history) connections one talks.talks known) begins
+  end_serves n kept link (Some one) comes known begins = connection_serves n kept link one comes.between (all_contains (HasTalk gives id first_session links history) connections one talks.talks known) begins
 
   ends_serve : (n : ℕ) → KeptUntil n → (of_view : List LinkTalk) (ends : List (Option (ServedConnection L))) → ComeTo of_view ends → AllByRecursion (IsAmong connections) ends → AllByRecursion (BeginsBy n) ends
       → AllByRecursion (IsServedBy m log) of_view
@@ -164,7 +165,7 @@ module _ {L : Type 0} (gives : ℕ → Type 0) (id : SessionId) (links : LinksTe
   view_knows v = record { same = refl; its = refl; follows = first_world_follows m log (new_replica m v.view) laws legal refl refl refl }
 
   -- what was heard on a connection of a view
-  heard_follows : (n : ℕ) → KeptUntil n → (one : ServedConnection L) (v : SessionView L) → IsViewOf founding id.0 connections history v → EndSplit connections history (links_in v.steps) one → HasTalk gives id links history one → CallsBy n one.caller
+  heard_follows : (n : ℕ) → KeptUntil n → (one : ServedConnection L) (v : SessionView L) → IsViewOf founding id.0 connections history v → EndSplit connections history (links_in v.steps) one → HasTalk gives id first_session links history one → CallsBy n one.caller
       → AllByRecursion (IsGoodFrame Follower) (frames_heard one.heard)
   heard_follows n kept one v its split has calls =
       let begins = all_so (λ (front : Option (ServedConnection L)). BeginsBefore history front (Some one)) (BeginsBy n) (λ end first. begins_by n one end calls first) split.fronts split.order in
@@ -173,7 +174,7 @@ module _ {L : Type 0} (gives : ℕ → Type 0) (id : SessionId) (links : LinksTe
       let sent = link_follows m laws log legal v.view (first_phase founding id.0 v.view v.address v.lines) v.steps v.last split.before split.link split.after (view_knows v) its.walks split.is before served in
       comes_good Follower (frames_heard one.heard) split.link.sent split.comes.sent sent
 
-  offers_follow : (one : ServedConnection L) → HasTalk gives id links history one → AllByRecursion (IsGoodFrame Follower) (frames_heard one.heard) → AllByRecursion (IsGoodExchange Follower) (exchanges_in history one.caller)
+  offers_follow : (one : ServedConnection L) → HasTalk gives id first_session links history one → AllByRecursion (IsGoodFrame Follower) (frames_heard one.heard) → AllByRecursion (IsGoodExchange Follower) (exchanges_in first_session history one.caller)
   offers_follow one has heard =
       let talk = has.talk in
       subst (AllByRecursion (IsGoodExchange Follower)) (sym talk.asked) (talk_is_good Follower id talk.events (subst (λ (h : List Heard). AllByRecursion (IsGoodFrame Follower) (frames_heard h)) talk.said heard))
@@ -182,8 +183,8 @@ module _ {L : Type 0} (gives : ℕ → Type 0) (id : SessionId) (links : LinksTe
   offer_is_honest n kept before behind caller view joined time bytes is few =
       let asked : Request = Offer view joined time bytes in
       let found =
-      find_caller (λ (one : ServedConnection L). HasTalk gives id links history one × IsLinkOfView views one) connections caller (is_called (callers_of connections) history before behind (Did caller asked) talks.whole is)
-      (all_both (HasTalk gives id links history) (IsLinkOfView views) connections talks.talks all) in
+      find_caller (λ (one : ServedConnection L). HasTalk gives id first_session links history one × IsLinkOfView views one) connections caller (is_called (callers_of connections) history before behind (Did caller asked) (only_connections gives id links connections opener history talks) is)
+      (all_both (HasTalk gives id first_session links history) (IsLinkOfView views) connections talks.talks all) in
       let one = found.0 in
       let has = found.2.0 in
       let v = found.2.1.0 in
@@ -215,7 +216,7 @@ module _ {L : Type 0} (gives : ℕ → Type 0) (id : SessionId) (links : LinksTe
         | inl more ↦
             let long : length (before ++ item ∷ []) ≡ length before + 1 = length-append before (item ∷ []) in
             let whole = same_front front back (before ++ item ∷ []) behind (same ∙ sym is ∙ sym (append_assoc before (item ∷ []) behind)) (omega (arith, long, more, few)) in
-            subst (λ (s : PlainSession). IsHonestBase m log s.kept) (sym (ap play whole ∙ play_snoc before item)) (next_kept before item behind is kept)
+            subst (λ (s : PlainSession). IsHonestBase m log s.kept) (sym (ap play whole ∙ play_snoc first_session before item)) (next_kept before item behind is kept)
         | inr within ↦ kept front back same within
       ]
 

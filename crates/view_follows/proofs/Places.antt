@@ -77,12 +77,12 @@ same_front (x ∷ front) back (y ∷ other) behind is long =
 
 -- ---- an item as an exchange
 
-pub item_holds : (P : Exchange → Type 0) (history before behind : List Item) (caller : ℕ) (asked : Request) → before ++ Did caller asked ∷ behind ≡ history → AllByRecursion P (exchanges_in history caller)
+pub item_holds : (P : Exchange → Type 0) (history before behind : List Item) (caller : ℕ) (asked : Request) → before ++ Did caller asked ∷ behind ≡ history → AllByRecursion P (exchanges_in first_session history caller)
     → P (Answered asked (answer (play before) asked).reply)
 item_holds P history before behind caller asked is all =
     let replied = (answer (play before) asked).reply in
     let later = exchanges_from (answer (play before) asked).session caller behind in
     let own : exchanges_from (play before) caller (Did caller asked ∷ behind) ≡ Answered asked replied ∷ later = ap (λ (b : Bool). (if b then Answered asked replied ∷ [] else []) ++ later) (eq-eqb caller caller refl) in
-    let whole = subst (λ (h : List Item). AllByRecursion P (exchanges_in h caller)) (sym is) all in
+    let whole = subst (λ (h : List Item). AllByRecursion P (exchanges_in first_session h caller)) (sym is) all in
     let parts = subst (AllByRecursion P) (exchanges_both first_session caller before (Did caller asked ∷ behind)) whole in
-    (subst (AllByRecursion P) own (all_back P (exchanges_in before caller) (exchanges_from (play before) caller (Did caller asked ∷ behind)) parts)).0
+    (subst (AllByRecursion P) own (all_back P (exchanges_in first_session before caller) (exchanges_from (play before) caller (Did caller asked ∷ behind)) parts)).0

@@ -8,6 +8,7 @@ use Rattle.wire_frames.specs.Spelling.{client_spelling}
 use Rattle.wire_frames.specs.declared.frame.ClientFrame.TheVariants as client
 use Rattle.model_solved.specs.Founding.{Founding, IsFounding}
 use Rattle.reflector_core.specs.PlainSession.{PlainSession}
+use Rattle.reflector_core.specs.Play.{first_session}
 use Rattle.session_lock.specs.declared.knowledge.Item.{Item}
 use Rattle.session_lock.specs.History.{calls_of}
 use Rattle.reflect_server.specs.Connections.{IsHistoryOf, ServedConnection}
@@ -91,11 +92,12 @@ pub record IsViewOf {L : Type 0} (founding : Founding) (id : List ℕ) (connecti
 abbrev pub IsLinkOfView : {L : Type 0} → List (SessionView L) → ServedConnection L → Type 0
 IsLinkOfView {L = L} views one = (v : SessionView L) × Contains views v × Contains v.ends (Some one)
 
--- a session that was reflected to these connections, each of which is that of a view
+-- a new session that was reflected to these connections, each of which is that of a view
 pub record IsViewSession (gives : ℕ → Type 0) (id : SessionId) {L : Type 0} (links : LinksTell L) (founding : Founding) (connections : List (ServedConnection L)) (history : List Item)
     (session : PlainSession) (views : List (SessionView L)) : Type 0 where
   pub program : IsFounding founding
-  pub talks : IsHistoryOf gives id links connections history
-  pub plays : Plays history session
+  pub opener : ℕ
+  pub talks : IsHistoryOf gives id first_session links connections opener history
+  pub plays : Plays first_session history session
   pub each : AllByRecursion (IsViewOf founding id.0 connections history) views
   pub all : AllByRecursion (IsLinkOfView views) connections

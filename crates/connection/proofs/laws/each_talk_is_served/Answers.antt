@@ -4,6 +4,6 @@ use Rattle.connection.proofs.laws.each_talk_is_served.Goals as goal
 
 pub returns : goal.returns
 returns g c = record {
-  served = λ id history caller heard sent how sound talk. talk_served (g.C.Clock.gives c.args.clock.now) id history caller heard sent how sound talk;
-  grows = λ id history more caller heard sent how none talk. talk_grows (g.C.Clock.gives c.args.clock.now) id history more caller heard sent how none talk;
+  served = λ id opening history caller heard sent how sound talk. talk_served (g.C.Clock.gives c.args.clock.now) id opening history caller heard sent how sound talk;
+  grows = λ id opening history more caller heard sent how none talk. talk_grows (g.C.Clock.gives c.args.clock.now) id opening history more caller heard sent how none talk;
 }

@@ -12,7 +12,7 @@ returns-clause-talk g c = talks_whole _ _ c.args.pass.now c.serve.new.pass _ _ c
 pub returns-clause-exactly : goal.returns-clause-exactly
 returns-clause-exactly g c =
     let told = talks_whole _ _ c.args.pass.now c.serve.new.pass _ _ c.serve.result c.requires.fresh c.serve.ensures.kept c.serve.ensures.talk in
-    talk_ends _ _ c.serve.new.pass.seen _ told.heard told.sent c.serve.result told.talk
+    talk_ends _ _ c.serve.new.pass.opening c.serve.new.pass.seen _ told.heard told.sent c.serve.result told.talk
 
 pub returns-clause-cause : goal.returns-clause-cause
 returns-clause-cause g c = talk_counted _ _ c.serve.result _ _ c.serve.ensures.talk

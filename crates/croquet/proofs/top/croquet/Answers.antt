@@ -1,7 +1,7 @@
 use Rattle.std.proofs.Common.{inl, inr}
 use Rattle.command_words.specs.CommandWords.{command_of}
 use Rattle.commands.specs.Verdict.{Comes}
-use Rattle.commands.specs.Work.{visit_of}
+use Rattle.commands.specs.Work.{plain_reflection, visit_of}
 use Rattle.commands.proofs.NetLaws.{never_on_net}
 use Rattle.croquet.proofs.Completeness.{is_complete}
 use Rattle.croquet.proofs.DrillRuns.{ran_drilling}
@@ -20,7 +20,7 @@ returns-in-Visits-clause-ran g c =
 
 pub returns-in-Reflects-clause-ran : goal.returns-in-Reflects-clause-ran
 returns-in-Reflects-clause-ran g c =
-    inr (inl (ran_reflecting _ _ _ _ _ (Comes (command_of c.args.words.now)) c.in-Reflects.reflection c.reflect-net.result.1 c.args.files.now c.begin.new.files c.tell_reflected-status.new.files c.args.out.now c.begin.new.out c.tell_reflected-status.new.out
+    inr (inl (ran_reflecting _ _ _ _ _ (Comes (command_of c.args.words.now)) (plain_reflection c.in-Reflects.reflection) c.reflect-net.result.1 c.args.files.now c.begin.new.files c.tell_reflected-status.new.files c.args.out.now c.begin.new.out c.tell_reflected-status.new.out
     c.args.net c.reflect-net.result.0 c.tell_reflected-status.result c.in-Reflects.ensures.turns c.reflect-net.ensures c.tell_reflected-status.ensures))
 
 pub returns-in-Drills-clause-ran : goal.returns-in-Drills-clause-ran

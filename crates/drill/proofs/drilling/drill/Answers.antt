@@ -4,8 +4,7 @@ use Rattle.std.specs.List.{AllZip}
 use Rattle.tea_base.specs.declared.entry.SessionId.{SessionId}
 use Rattle.model_solved.specs.Founding.{CheckedView, founding_of}
 use Rattle.reflector_core.specs.PlainSession.{PlainSession}
-use Rattle.reflector_core.specs.Play.{first_session}
-use Rattle.session_lock.specs.History.{IsSoundThrough, play}
+use Rattle.session_lock.specs.History.{IsSoundThrough, play_from}
 use Rattle.session_lock.specs.Passes.{PassState, SharedState, numbers_held, own_calls}
 use Rattle.replica.specs.View.{ReplicaView}
 use Rattle.run_steps.specs.Limits.{most_drill_events, most_drill_views}
@@ -27,15 +26,15 @@ use Rattle.drill.proofs.drilling.drill.Goals as goal
 -- the workers have ended, and their session is closed
 closed_by : (gives : ℕ → Type 0) (size : Size) (shared : SharedState TrustReplay) (workers : List Worker) (ended : List Finished) (keeper : PassState) (s : PlainSession)
     → (1 ≤ size.views) × (size.views ≤ most_drill_views) × (size.events ≤ most_drill_events) → HaveEnded gives size shared workers ended → views_of_workers workers ≡ numbers_from 1 size.views → GathersWorkers shared ended keeper
-    → s ≡ play keeper.seen → own_calls keeper ≡ keeper.seen → IsSoundThrough first_session keeper.seen → IsClosed gives size shared ended keeper s
+    → s ≡ play_from keeper.opening keeper.seen → own_calls keeper ≡ keeper.seen → IsSoundThrough keeper.opening keeper.seen → IsClosed gives size shared ended keeper s
 closed_by gives size shared workers ended keeper s fits told views gathers plays calls sound = record {
   fits = record { some = fits.0; views = fits.1; events = fits.2 };
   each = told.each;
   views = told.views ∙ views;
   gathers = gathers;
-  plays = plays;
+  plays = plays ∙ ap (λ (o : PlainSession). play_from o keeper.seen) gathers.opening;
   calls = calls;
-  sound = sound;
+  sound = subst (λ (o : PlainSession). IsSoundThrough o keeper.seen) gathers.opening sound;
 }
 
 -- the replicas that rest have come to its end

@@ -11,7 +11,7 @@ returns g c =
     let as_long : vec_len c.accept_all-net.result.served ≡ length c.accept_all-net.result.served.items = search rules in
     let ends =
     ends_when _ _ _ _ c.args.server.now.connections _ c.accept_all-net.result c.give_back.new.net c.close-session.result.plain (vec_len c.args.prepared.passes)
-    c.requires.prepared.number c.accept_all-net.ensures.round as_long
+    c.requires.prepared.number c.requires.prepared.opened c.accept_all-net.ensures.round as_long
     (record { over = back.over; counts = back.counts; lent = back.lent; coming = back.coming; asked = back.asked; faults = back.faults })
     (record { play = closed.play; calls = closed.calls; numbers = closed.numbers; sound = closed.sound; events = closed.events }) in
     reflects_when _ _ _ _ c.args.server.now.connections _ c.accept_all-net.result c.give_back.new.net c.close-session.result c.from_vec-ends.result c.answer.result c.answer.ensures

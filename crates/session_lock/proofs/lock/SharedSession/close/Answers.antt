@@ -1,8 +1,7 @@
 use Rattle.std.proofs.Common.{ap, ◌∙◌, sym, subst}
 use Rattle.reflector_core.specs.PlainSession.{PlainSession}
-use Rattle.reflector_core.specs.Play.{first_session}
 use Rattle.session_lock.specs.Passes.{PassState, HoldsEach, numbers_held, own_calls}
-use Rattle.session_lock.specs.History.{play, IsSoundThrough}
+use Rattle.session_lock.specs.History.{play_from, IsSoundThrough}
 use Rattle.session_lock.specs.Trusts.{IsTrusted}
 use Rattle.session_lock.proofs.Closing.{closed, plays_events}
 use Rattle.session_lock.proofs.TrustLaws.{trusted_outside}
@@ -12,7 +11,7 @@ pub returns-clause-play : goal.returns-clause-play
 returns-clause-play g c =
     let key = c.self.inside.table.shared.key in
     let t = closed (IsTrusted g.T.Trust.allows key.1 key.0) c.pass.inside.seat.id c.pass.inside.seat.me.0 _ _ c.take-held.result c.close_with-closed.ensures.values.2 (ap numbers_held c.pass.view_is ∙ c.requires.whole) c.pass.invariant.2 c.take-held.ensures.value in
-    c.into_session.ensures ∙ (t.0 ∙ ap (λ (p : PassState). play p.seen) c.pass.view_is)
+    c.into_session.ensures ∙ (t.0 ∙ ap (λ (p : PassState). play_from p.opening p.seen) c.pass.view_is)
 
 pub returns-clause-calls : goal.returns-clause-calls
 returns-clause-calls g c =
@@ -36,8 +35,8 @@ pub returns-clause-sound : goal.returns-clause-sound
 returns-clause-sound g c =
     let key = c.self.inside.table.shared.key in
     let t = closed (IsTrusted g.T.Trust.allows key.1 key.0) c.pass.inside.seat.id c.pass.inside.seat.me.0 _ _ c.take-held.result c.close_with-closed.ensures.values.2 (ap numbers_held c.pass.view_is ∙ c.requires.whole) c.pass.invariant.2 c.take-held.ensures.value in
-    subst (λ (p : PassState). IsSoundThrough first_session p.seen) c.pass.view_is t.2.1
+    subst (λ (p : PassState). IsSoundThrough p.opening p.seen) c.pass.view_is t.2.1
 
 pub returns-clause-events : goal.returns-clause-events
 returns-clause-events g c =
-    plays_events c.into_session.result.plain c.args.pass.seen (returns-clause-play g c) (returns-clause-sound g c)
+    plays_events c.into_session.result.plain c.args.pass.opening c.args.pass.seen (returns-clause-play g c) (returns-clause-sound g c)

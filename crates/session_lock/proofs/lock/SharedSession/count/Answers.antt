@@ -9,5 +9,5 @@ load-requires g c = (
   cc (c.requires.table, c.self.view_is),
   omega (arith, c.self.invariant.0),
   counts_me (IsTrusted g.T.Trust.allows c.self.inside.table.shared.key.1 c.self.inside.table.shared.key.0) g.J.Trusting.trusted
-      (λ s h. c.requires.trusted s (trusted_outside g.T.Trust.allows c.self.inside.table.shared.table_id c.self.inside.table.shared.key c.args.self.now c.self.view_is s h)) _ c.args.seat.now.id c.args.seat.now.me,
+      (λ s h. c.requires.trusted s (trusted_outside g.T.Trust.allows c.self.inside.table.shared.table_id c.self.inside.table.shared.key c.args.self.now c.self.view_is s h)) _ c.args.seat.now.id c.args.seat.now.me c.requires.caller,
 )

@@ -1,0 +1,91 @@
+-- The opening Leaves: who is here, and that each is made to leave.
+use Rattle.std.proofs.Common.{◌≡◌, ℕ, ◌+◌, ◌<◌, MatchResult, Result, Ok, Err, Option, Some, None, List, [], ◌∷◌, ◌++◌, append_assoc, append-nil, get_or, length, take, refl, sym, ap, ◌∙◌, subst}
+use Rattle.std.specs.Prelude.{IfSome}
+use Rattle.std.proofs.lemmas.List.{take_more}
+use Rattle.tea_base.specs.declared.entry.Entry.{Entry}
+use Rattle.tea_base.specs.declared.want.WantOfMemory.{WantOfMemory}
+use Rattle.wire_frames.specs.declared.start.Base.{Base}
+use Rattle.reflector_core.specs.PlainSession.{PlainSession}
+use Rattle.reflector_core.specs.Stored.{IsNextHere}
+use Rattle.reflector_core.specs.declared.request.Request.TheVariants.{Leave}
+use Rattle.reflector_core.specs.declared.request.Reply.{Reply}
+use Rattle.session_lock.specs.declared.knowledge.Item.{Item}
+use Rattle.session_lock.specs.declared.knowledge.Item.TheVariants.{Did, Void}
+use Rattle.session_lock.specs.Passes.{PassState, Replied, Voided, caller, own_calls}
+use Rattle.reflect_server.proofs.PassLaws.{one_caller}
+use Rattle.reflect_server.specs.Opening.{AreHereAbove, AreHere, AreLeavesOf, IsLeaveOf, HasMadeLeave, HasMadeLeaves, HasOpened}
+
+-- ---- who is here
+
+-- those that were found, and then all that are above the last one, are all
+abbrev pub HereSoFar : List Entry → ℕ → List (ℕ × ℕ) → Type 0
+HereSoFar log above found = (rest : List (ℕ × ℕ)) → AreHereAbove log above rest → AreHere log (found ++ rest)
+
+pub here_first : (log : List Entry) → HereSoFar log 0 []
+here_first log rest here = here
+
+pub here_more : (log : List Entry) (above : ℕ) (found more : List (ℕ × ℕ)) (next : ℕ × ℕ) → more ≡ found ++ next ∷ [] → IsNextHere log above (Some next) → HereSoFar log above found → HereSoFar log next.0 more
+here_more log above found more next is here so_far rest others =
+    subst (AreHere log) (sym (ap (λ (l : List (ℕ × ℕ)). l ++ rest) is ∙ append_assoc found (next ∷ []) rest)) (so_far (next ∷ rest) (here, others))
+
+pub here_all : (log : List Entry) (above : ℕ) (found : List (ℕ × ℕ)) → IsNextHere log above None → HereSoFar log above found → AreHere log found
+here_all log above found none so_far = subst (AreHere log) (append-nil found) (so_far [] none)
+
+-- ---- one Leave
+
+pub leave_made : (IsTrusted : PlainSession → Type 0) (gives : ℕ → Type 0) (before after : PassState) (one : ℕ × ℕ) (now : ℕ) (r : Result Reply WantOfMemory) → gives now
+    → MatchResult r (λ reply. Replied IsTrusted before after (Leave one.0 one.1 now) reply) (λ _. Voided IsTrusted before after (Leave one.0 one.1 now)) → HasMadeLeave gives one before after
+leave_made IsTrusted gives before after one now (Ok reply) given told = (Did (caller before) (Leave one.0 one.1 now), (refl, refl, refl, given), told.grew.own)
+leave_made IsTrusted gives before after one now (Err want) given told = (Void (caller before), refl, told.grew.own)
+
+-- ---- and all
+
+leaves_snoc : (gives : ℕ → Type 0) (opener : ℕ) (views : List (ℕ × ℕ)) (items : List Item) (one : ℕ × ℕ) (item : Item) → AreLeavesOf gives opener views items → IsLeaveOf gives opener one item
+    → AreLeavesOf gives opener (views ++ one ∷ []) (items ++ item ∷ [])
+leaves_snoc gives opener [] [] one item made last = (last, tt)
+leaves_snoc gives opener [] (x ∷ xs) one item made last = absurd made
+leaves_snoc gives opener (v ∷ vs) [] one item made last = absurd made
+leaves_snoc gives opener (v ∷ vs) (x ∷ xs) one item made last = (made.0, leaves_snoc gives opener vs xs one item made.1 last)
+
+pub none_made : (gives : ℕ → Type 0) (before : PassState) → HasMadeLeaves gives [] before before
+none_made gives before = ([], tt, sym (append-nil (own_calls before)))
+
+-- one Leave more
+pub one_more_made : (gives : ℕ → Type 0) (views : List (ℕ × ℕ)) (before mid after : PassState) (one : ℕ × ℕ) → mid ≡ record before { seen = mid.seen } → HasMadeLeaves gives views before mid → HasMadeLeave gives one mid after
+    → HasMadeLeaves gives (views ++ one ∷ []) before after
+one_more_made gives views before mid after one kept so_far last =
+    let mine : caller mid ≡ caller before = ap caller kept in (
+      so_far.0 ++ last.0 ∷ [],
+      leaves_snoc gives (caller before) views so_far.0 one last.0 so_far.1 (subst (λ (c : ℕ). IsLeaveOf gives c one last.0) mine last.1),
+      last.2 ∙ (ap (λ (l : List Item). l ++ last.0 ∷ []) so_far.2 ∙ append_assoc (own_calls before) so_far.0 (last.0 ∷ [])),
+    )
+
+pub leaves_more : (gives : ℕ → Type 0) (views : List (ℕ × ℕ)) (i : ℕ) (none : ℕ × ℕ) (before mid after : PassState) → i < length views → mid ≡ record before { seen = mid.seen } → HasMadeLeaves gives (take i views) before mid
+    → HasMadeLeave gives (get_or views i none) mid after → HasMadeLeaves gives (take (i + 1) views) before after
+leaves_more gives views i none before mid after within kept so_far last =
+    subst (λ (l : List (ℕ × ℕ)). HasMadeLeaves gives l before after) (sym (take_more views i none within)) (one_more_made gives (take i views) before mid after (get_or views i none) kept so_far last)
+
+-- ---- the pass that opened
+
+pub all_trusted : (kept : Option Base) → IfSome kept (λ base. Unit {0})
+all_trusted None = tt
+all_trusted (Some base) = tt
+
+-- a first pass that has made the Leaves of all who are here
+pub opened_by : (gives : ℕ → Type 0) (opening : PlainSession) (views : List (ℕ × ℕ)) (before after : PassState) → before.callers ≡ 0 ∷ [] → own_calls before ≡ [] → after ≡ record before { seen = after.seen }
+    → AreHere opening.log views → HasMadeLeaves gives views before after → HasOpened gives opening after
+opened_by gives opening views before after alone none kept here made =
+    let callers : after.callers ≡ 0 ∷ [] = ap (λ (p : PassState). p.callers) kept ∙ alone in
+    let mine : caller after ≡ caller before = ap caller kept in
+    let all : own_calls after ≡ made.0 = made.2 ∙ ap (λ (l : List Item). l ++ made.0) none in
+    record {
+      one = one_caller after 0 callers;
+      views = views;
+      here = here;
+      made = subst (λ (c : ℕ). AreLeavesOf gives c views (own_calls after)) (sym mine) (subst (AreLeavesOf gives (caller before) views) (sym all) made.1);
+    }
+
+-- with other spare numbers it is so still
+pub opened_still : (gives : ℕ → Type 0) (opening : PlainSession) (before after : PassState) → after ≡ record before { spare = after.spare } → HasOpened gives opening before → HasOpened gives opening after
+opened_still gives opening before after kept opened =
+    subst (HasOpened gives opening) (sym kept) (record { one = opened.one; views = opened.views; here = opened.here; made = opened.made })

@@ -1,0 +1,63 @@
+-- How a reflector opens a session that goes on: each view that is here in it is made to leave.
+use Rattle.std.specs.Prelude.{◌≡◌, ℕ, ◌+◌, ◌-◌, ◌^◌, min, List, [], ◌∷◌, ◌++◌, Some, None}
+use Rattle.tea_base.specs.declared.entry.Entry.{Entry}
+use Rattle.reflector_core.specs.PlainSession.{PlainSession}
+use Rattle.reflector_core.specs.Stored.{IsNextHere}
+use Rattle.reflector_core.specs.declared.request.Request.TheVariants.{Leave}
+use Rattle.session_lock.specs.declared.knowledge.Item.{Item}
+use Rattle.session_lock.specs.declared.knowledge.Item.TheVariants.{Did, Void}
+use Rattle.session_lock.specs.History.{calls_of}
+use Rattle.session_lock.specs.Passes.{PassState, caller, own_calls}
+
+-- the times that a clock may give after this one: its value more, and at most the last of 64 bits
+abbrev pub gives_later : (ℕ → Type 0) → ℕ → ℕ → Type 0
+gives_later gives since time = (value : ℕ) × gives value × (time ≡ min (value + since) (2 ^ 64 - 1))
+
+-- all views above this that are here, in rising order, each with the seq of its Join
+abbrev pub AreHereAbove : List Entry → ℕ → List (ℕ × ℕ) → Type 0
+AreHereAbove log above [] = IsNextHere log above None
+AreHereAbove log above (one ∷ rest) = IsNextHere log above (Some one) × AreHereAbove log one.0 rest
+
+-- all views that are here: none has the number 0
+abbrev pub AreHere : List Entry → List (ℕ × ℕ) → Type 0
+AreHere log views = AreHereAbove log 0 views
+
+-- the opener's Leave of the view by its Join, at a time that the clock may give; or its Void, where the Leave found no memory
+abbrev pub IsLeaveOf : (ℕ → Type 0) → ℕ → ℕ × ℕ → Item → Type 0
+IsLeaveOf gives opener one (Did who (Leave view joined now)) = (who ≡ opener) × (view ≡ one.0) × (joined ≡ one.1) × gives now
+IsLeaveOf gives opener one (Void who) = who ≡ opener
+IsLeaveOf gives opener one item = ⊥
+
+-- one for each, in the same order
+abbrev pub AreLeavesOf : (ℕ → Type 0) → ℕ → List (ℕ × ℕ) → List Item → Type 0
+AreLeavesOf gives opener [] [] = Unit {0}
+AreLeavesOf gives opener (one ∷ rest) (item ∷ items) = IsLeaveOf gives opener one item × AreLeavesOf gives opener rest items
+AreLeavesOf gives opener views items = ⊥
+
+-- The history begins with the opening Leaves: one item of the opener for each view that was here, in rising order. After
+-- them the opener has made no call.
+pub record BeginsWithLeaves (gives : ℕ → Type 0) (opening : PlainSession) (opener : ℕ) (history : List Item) : Type 0 where
+  pub views : List (ℕ × ℕ)
+  pub here : AreHere opening.log views
+  pub leaves : List Item
+  pub made : AreLeavesOf gives opener views leaves
+  pub rest : List Item
+  pub first : leaves ++ rest ≡ history
+  pub others : calls_of (opener ∷ []) rest ≡ []
+
+-- a pass has made the Leave of a view
+abbrev pub HasMadeLeave : (ℕ → Type 0) → ℕ × ℕ → PassState → PassState → Type 0
+HasMadeLeave gives one before after =
+    (item : Item) × IsLeaveOf gives (caller before) one item × (own_calls after ≡ own_calls before ++ item ∷ [])
+
+-- and those of all views, in order
+abbrev pub HasMadeLeaves : (ℕ → Type 0) → List (ℕ × ℕ) → PassState → PassState → Type 0
+HasMadeLeaves gives views before after =
+    (items : List Item) × AreLeavesOf gives (caller before) views items × (own_calls after ≡ own_calls before ++ items)
+
+-- a pass of this session has one caller, whose calls are the opening Leaves
+pub record HasOpened (gives : ℕ → Type 0) (opening : PlainSession) (pass : PassState) : Type 0 where
+  pub one : pass.callers ≡ caller pass ∷ []
+  pub views : List (ℕ × ℕ)
+  pub here : AreHere opening.log views
+  pub made : AreLeavesOf gives (caller pass) views (own_calls pass)

@@ -1,0 +1,240 @@
+//! The keeper of a session's journal.
+ghost use Rattle.std.specs.Prelude.{◌≡◌, ◌≤◌, ◌<◌, ◌+◌, ◌-◌, ◌^◌, ◌⊎◌, ◌++◌, ℕ, List, OnOk, OnErr, IfOk, IfErr, Ok, Err, false, true, length, nat_le};
+ghost use Rattle.tea_io.specs.Told.{with_more, Rose};
+ghost use Rattle.tea_io.specs.Sink.{GrowsWithin};
+ghost use Rattle.store_io.specs.Store.{IsAllSafe, MayBeCut, StoreCause};
+ghost use Rattle.store_io.specs.Stores.{TellsOnly};
+ghost use Rattle.byte_fields.specs.Fields.{FitsBlob, blob};
+ghost use Rattle.session_log.specs.Stored.{PlainStored, plain_of, plain_stored};
+ghost use Rattle.session_journal.specs.declared.change.Change.{Change};
+ghost use Rattle.session_journal.specs.declared.change.Change.TheVariants.{Reached};
+ghost use Rattle.session_journal.specs.Lent.{lent_change};
+ghost use Rattle.session_journal.specs.Changes.{IsTypedChange, change_spelling};
+ghost use Rattle.session_journal.specs.Heads.{record_len, payload_of};
+ghost use Rattle.session_journal.specs.State.{after_change, horizon_after, may_come, has_room};
+ghost use Rattle.session_journal.specs.Journal.{most_journal, read_journal, Goes, AreBytes};
+ghost use Rattle.session_journal.specs.Reading.{read_place};
+ghost use Rattle.session_journal.specs.Keeper.{IsKeptBy, IsWritten, lease, reached_to, since_after};
+
+use crate::change::LentChange;
+use crate::check::check_of;
+use crate::heads::{head_of, payload_of};
+use crate::reading::Read;
+use store_io::{Store, StoreFault};
+use tea_base::END_OF_TIME;
+
+/// The most bytes of a journal. A file that is longer is none.
+pub const MOST_JOURNAL: u64 = 268_435_456;
+
+/// Why a change was not kept.
+#[derive(Clone, Copy, Debug, PartialEq, Eq)]
+pub enum KeepFault {
+    /// The journal would be too long. Nothing was written.
+    Full,
+    /// The store failed, now or before. Nothing more is written.
+    Unkept,
+}
+
+/// A journal that grows. It is made by `open`.
+#[derive(Drop)]
+pub struct Journal<S> {
+    pub store: S,
+    /// The check that the next record follows.
+    pub check: [u8; 8],
+    /// The horizon that its records tell, a TeaTime in microseconds.
+    pub horizon: u64,
+    /// How many bytes it has.
+    pub len: u64,
+    /// How many it had after the last snapshot that it keeps, or when it was opened.
+    pub since: u64,
+    /// A call of the store has failed.
+    pub shut: bool,
+}
+
+/// A store on which no journal was opened, and why.
+#[derive(Drop)]
+pub struct Unopened<S> {
+    pub store: S,
+    pub fault: StoreFault,
+}
+
+/// Appends three pieces, and makes all safe.
+fn write<S: Store>(
+    store: &mut S,
+    head: &[u8],
+    payload: &[u8],
+    check: &[u8],
+) -> Result<(), StoreFault>
+    ensures ok { OnOk result (IsWritten (S.bytes store.old) (S.bytes store.new) (S.safe store.new) (head.now ++ (payload.now ++ check.now))) }
+    ensures part { OnErr result (GrowsWithin (S.bytes store.old) (S.bytes store.new) (head.now ++ (payload.now ++ check.now))) }
+    ensures safe { OnErr result (S.safe store.new ≡ S.safe store.old) }
+    ensures cause { StoreCause (S.faults store.old) (S.faults store.new) result }
+{
+    store.append(head)?;
+    store.append(payload)?;
+    store.append(check)?;
+    store.sync()
+}
+
+impl<S: Store> Journal<S> {
+    /// The journal that was read from a store. What is after its good bytes is cut, and all others are made safe. At an error
+    /// the store may be cut or not.
+    pub fn open(store: S, read: &Read<'_>) -> Result<Journal<S>, Unopened<S>>
+        // The store's safe bytes are the journal of the session that was read.
+        ensures keeps { IfOk result (λ journal. (id bytes : List ℕ) → TellsOnly (S.bytes store) bytes → AreBytes bytes →
+            read_journal id bytes ≡ Goes (read_place read.now) → read.now.good ≡ length bytes - length read.now.torn.now →
+            IsKeptBy S.bytes S.safe id journal (plain_stored read.now.stored)) }
+        ensures unshut { IfOk result (λ journal. journal.shut ≡ false) }
+        ensures since { IfOk result (λ journal. journal.since ≡ read.now.good) }
+        ensures faults { IfOk result (λ journal. S.faults store ≤ S.faults journal.store) }
+        ensures err { IfErr result (λ unopened. MayBeCut read.now.good (S.bytes store) (S.bytes unopened.store) (S.safe store) (S.safe unopened.store)) }
+        ensures cause { IfErr result (λ unopened. Rose (S.faults store) (S.faults unopened.store)) }
+    {
+        let mut store = store;
+        match store.cut(read.good) {
+            Err(fault) => Err(Unopened { store, fault }),
+            Ok(()) => {
+                let check = read.check;
+                Ok(Journal {
+                    store,
+                    check,
+                    horizon: read.stored.horizon,
+                    len: read.good,
+                    since: read.good,
+                    shut: false,
+                })
+            }
+        }
+    }
+
+    /// Adds a record, by its head and its payload, after which the horizon is this one.
+    fn add(&mut self, head: &[u8], payload: &[u8], horizon: u64) -> Result<(), KeepFault>
+        requires unshut { self.old.shut ≡ false }
+        requires head { 4 ≤ length head.now }
+        requires fits { length head.now + length payload.now < 2 ^ 33 }
+        ensures kept { OnOk result ((id : List ℕ) (s : PlainStored) (c : Change) → IsKeptBy S.bytes S.safe id self.old s →
+            head.now ++ payload.now ≡ blob (change_spelling c) → IsTypedChange c → may_come s c ≡ true → horizon ≡ horizon_after s.horizon c →
+            IsKeptBy S.bytes S.safe id self.new (after_change s c)) }
+        ensures unkept { OnErr result ((id : List ℕ) (s : PlainStored) → IsKeptBy S.bytes S.safe id self.old s → IsKeptBy S.bytes S.safe id self.new s) }
+        ensures full { result ≡ Err KeepFault.Full → (most_journal < self.old.len + (length head.now + length payload.now + 8)) × (self.new ≡ self.old) }
+        ensures room { OnOk result (self.old.len + (length head.now + length payload.now + 8) ≤ most_journal) }
+        ensures unshut { OnOk result (self.new.shut ≡ false) }
+        ensures len { OnOk result (self.new.len ≡ self.old.len + (length head.now + length payload.now + 8)) }
+        ensures since { self.new.since ≡ self.old.since }
+        ensures horizon { OnOk result (self.new.horizon ≡ horizon) }
+        ensures cause { result ≡ Err KeepFault.Unkept → (self.new.shut ≡ true) × Rose (S.faults self.old.store) (S.faults self.new.store) }
+        ensures later { S.faults self.old.store ≤ S.faults self.new.store }
+    {
+        let record = (head.len() + payload.len()) as u64 + 8;
+        let len = self.len.saturating_add(record);
+        if len > MOST_JOURNAL {
+            return Err(KeepFault::Full);
+        }
+        let check = check_of(&self.check, &head[4..], payload);
+        match write(&mut self.store, head, payload, &check) {
+            Err(_) => {
+                self.shut = true;
+                Err(KeepFault::Unkept)
+            }
+            Ok(()) => {
+                self.check = check;
+                self.horizon = horizon;
+                self.len = len;
+                Ok(())
+            }
+        }
+    }
+
+    /// Keeps a change: its record is appended and synced, or nothing more is. Takes no memory.
+    pub fn keep(&mut self, change: LentChange<'_>) -> Result<(), KeepFault>
+        requires { length (payload_of (lent_change change)) < 2 ^ 31 }
+        // What the safe bytes were the journal of, they are with this change.
+        ensures kept { OnOk result ((id : List ℕ) (s : PlainStored) → IsKeptBy S.bytes S.safe id self.old s →
+            IsTypedChange (lent_change change.entry) → may_come s (lent_change change.entry) ≡ true →
+            IsKeptBy S.bytes S.safe id self.new (after_change s (lent_change change.entry))) }
+        // What they were the journal of, they are still.
+        ensures unkept { OnErr result ((id : List ℕ) (s : PlainStored) → IsKeptBy S.bytes S.safe id self.old s → IsKeptBy S.bytes S.safe id self.new s) }
+        ensures full { result ≡ Err KeepFault.Full → (most_journal < self.old.len + record_len (lent_change change.entry)) × (self.new ≡ self.old) }
+        ensures room { OnOk result (self.old.len + record_len (lent_change change.entry) ≤ most_journal) }
+        ensures horizon { OnOk result (self.new.horizon ≡ horizon_after self.old.horizon (lent_change change.entry)) }
+        ensures since { OnOk result (self.new.since ≡ since_after self.old.since self.new.len (lent_change change.entry)) }
+        // After a failed call nothing is written.
+        ensures shut { self.old.shut ≡ true → (result ≡ Err KeepFault.Unkept) × (self.new ≡ self.old) }
+        ensures unshut { OnOk result (self.new.shut ≡ false) }
+        ensures cause { result ≡ Err KeepFault.Unkept → (self.new.shut ≡ true)
+            × ((self.old.shut ≡ true) ⊎ Rose (S.faults self.old.store) (S.faults self.new.store)) }
+        ensures later { S.faults self.old.store ≤ S.faults self.new.store }
+    {
+        if self.shut {
+            return Err(KeepFault::Unkept);
+        }
+        let head = head_of(change);
+        let horizon = horizon_after(self.horizon, change);
+        match self.add(head.bytes(), payload_of(change), horizon) {
+            Err(fault) => Err(fault),
+            Ok(()) => {
+                self.since = since_after(self.since, self.len, change);
+                Ok(())
+            }
+        }
+    }
+
+    /// Keeps that a tick of this time may be told: a horizon is written ahead, unless one is that reaches so far. Takes no
+    /// memory.
+    pub fn reach(&mut self, time: u64) -> Result<(), KeepFault>
+        ensures kept { OnOk result ((id : List ℕ) (s : PlainStored) → IsKeptBy S.bytes S.safe id self.old s →
+            has_room (plain_of s.log (lease time) s.kept) ≡ true → IsKeptBy S.bytes S.safe id self.new (reached_to time s)) }
+        ensures reached { OnOk result (time ≤ self.new.horizon) }
+        // A tick that is within what is written writes nothing.
+        ensures within { self.old.shut ≡ false → time ≤ self.old.horizon → (result ≡ Ok tt) × (self.new ≡ self.old) }
+        ensures unkept { OnErr result ((id : List ℕ) (s : PlainStored) → IsKeptBy S.bytes S.safe id self.old s → IsKeptBy S.bytes S.safe id self.new s) }
+        ensures full { result ≡ Err KeepFault.Full → (most_journal < self.old.len + record_len (Reached (lease time))) × (self.new ≡ self.old) }
+        ensures shut { self.old.shut ≡ true → (result ≡ Err KeepFault.Unkept) × (self.new ≡ self.old) }
+        ensures unshut { OnOk result (self.new.shut ≡ false) }
+        ensures cause { result ≡ Err KeepFault.Unkept → (self.new.shut ≡ true)
+            × ((self.old.shut ≡ true) ⊎ Rose (S.faults self.old.store) (S.faults self.new.store)) }
+        ensures later { S.faults self.old.store ≤ S.faults self.new.store }
+    {
+        if !self.shut && time <= self.horizon {
+            return Ok(());
+        }
+        self.keep(LentChange::Reached {
+            time: lease_of(time),
+        })
+    }
+
+    /// Whether a snapshot of so many bytes is worth a record: the journal has grown by as many since the last one.
+    pub fn is_due(&self, len: u64) -> bool
+        ensures { result ≡ nat_le len (self.now.len - self.now.since) }
+    {
+        len <= self.len.saturating_sub(self.since)
+    }
+}
+
+/// How far a horizon is written ahead of a tick: by two seconds, and not past the end of time unless the tick is.
+fn lease_of(time: u64) -> u64
+    ensures { result ≡ lease time }
+{
+    time.saturating_add(2_000_000).min(END_OF_TIME).max(time)
+}
+
+/// The horizon after a change.
+fn horizon_after(horizon: u64, change: LentChange<'_>) -> u64
+    ensures { result ≡ horizon_after horizon (lent_change change.entry) }
+{
+    match change {
+        LentChange::Came { time, .. } => horizon.max(time),
+        LentChange::Reached { time } => time,
+        LentChange::Kept { .. } => horizon,
+    }
+}
+
+/// How many bytes there were after the last snapshot, where there are `len` after this change.
+fn since_after(since: u64, len: u64, change: LentChange<'_>) -> u64
+    ensures { result ≡ since_after since len (lent_change change.entry) }
+{
+    match change {
+        LentChange::Came { .. } | LentChange::Reached { .. } => since,
+        LentChange::Kept { .. } => len,
+    }
+}

@@ -1,0 +1,4 @@
+pub mod Store
+pub mod MemStore
+pub mod Stores
+pub mod MemStores
