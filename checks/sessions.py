@@ -206,7 +206,9 @@ def other_frames_are_answered(program):
 def a_view_that_is_cut_off_is_put_out(program):
     """Its Exit stands in the log, it joins again behind what it has, and what it sends again is not put twice."""
     with reflecting(program, 3) as reflector:
-        watcher, view = reflector.view(1), reflector.view(7)
+        watcher = reflector.view(1)
+        watcher.joined()
+        view = reflector.view(7)
         seq, time_ = view.done(b"hi")
         view.until_entry(seq)
         view.wire.reset()
