@@ -11,7 +11,7 @@ use crate::opening::read_opening;
 use crate::work::{Next, Waiting};
 use command_outcome::{CommandRefusal, Input, Outcome};
 use command_stamp::{log_files, read_script, text};
-use reflector_core::{Requests, Session, play_on};
+use reflector_core::{Requests, Session, play};
 use session_log::LogFault;
 use std::alloc::Global;
 use tea_base::{Blob, Text, WantOfMemory};
@@ -46,7 +46,7 @@ fn outcome_of(
 ) -> Result<Outcome, WantOfMemory>
     ensures { IfOk result (λ outcome. fine (steps_of outcome.files outcome.text) ≡ stamp_verdict opening.plain log requests.now) }
 {
-    let (session, replies) = play_on(alloc, opening, requests.as_slice())?;
+    let (session, replies) = play(alloc, opening, requests.as_slice())?;
     let text = text(alloc, replies.as_slice())?;
     let files = log_files(alloc, log, &session)?;
     Ok(Outcome {

@@ -7,8 +7,7 @@ ghost use Rattle.command_words.specs.Bounds.{UsesNet};
 ghost use Rattle.commands.specs.Laws.{IsFunction, LogsTellTheirEvents, SnapshotsAgree, SomeVerdictComes};
 ghost use Rattle.commands.specs.Verdict.{Comes};
 ghost use Rattle.commands.specs.Work.{ComesNext, IsBoundedNext, ask_of, RunsOn};
-ghost use Rattle.reflect_server.specs.Opening.{gives_later};
-ghost use Rattle.view_follows.specs.SessionsReplay.{EndsViews, OfViewSessions};
+ghost use Rattle.view_follows.specs.SessionsReplay.{EndsViews, OfViewRuns};
 ghost use Rattle.view_follows.specs.ViewsReplay.{VisitsEndInReplay};
 ghost use Rattle.view_shell.specs.OneRun.{IsOneRun};
 ghost use Rattle.croquet.specs.Calls.{IsBoundedTurn, IsOver, Turns};
@@ -34,7 +33,7 @@ use std::sync::Wait;
 use std::thread::Threads;
 use tea_base::{Blob, WantOfMemory, Words};
 use tea_io::{Clock, Files, Gate, Net, Sink};
-use view_follows::{ends_are_caused, views_of_one_session, views_replay};
+use view_follows::{ends_are_caused, views_of_many_runs, views_replay};
 use view_shell::one_run;
 
 /// A command is over, or the run goes on as a view's, a reflector's, or a drill.
@@ -141,8 +140,9 @@ pub fn croquet<
     ensures view { IsOneRun }
     // A view's run that is done printed last the line of the replay of the log, where one legal log served its links, with honest bases.
     ensures replays { VisitsEndInReplay }
-    // In a new session of a reflector whose only clients are views each view that is done printed last the line of the replay of the log.
-    ensures views { OfViewSessions (gives_later (C.gives clock.now) 0) (links_tell N.Conn.coming N.Conn.heard N.Conn.sent N.Conn.counts) EndsViews }
+    // However often a reflector whose only clients are views was started again on the file that it wrote, each view that is done printed last
+    // the line of the replay of the last log.
+    ensures views { OfViewRuns C.gives (links_tell N.Conn.coming N.Conn.heard N.Conn.sent N.Conn.counts) EndsViews }
     // Some verdict comes that is not want of memory, whatever the files give.
     ensures some { SomeVerdictComes }
     // The log that a script leaves has the events of the log that it began with, and then each event that was answered Stamped, once and in
@@ -157,7 +157,7 @@ pub fn croquet<
     one_run();
     ends_are_caused();
     views_replay();
-    views_of_one_session::<C, N::Conn>(clock);
+    views_of_many_runs::<C, N::Conn>();
     some_verdict();
     logs_tell_their_events();
     snapshots_agree();

@@ -1,8 +1,13 @@
 -- The opening Leaves: who is here, and that each is made to leave.
-use Rattle.std.proofs.Common.{◌≡◌, ℕ, ◌+◌, ◌<◌, MatchResult, Result, Ok, Err, Option, Some, None, List, [], ◌∷◌, ◌++◌, append_assoc, append-nil, get_or, length, take, refl, sym, ap, ◌∙◌, subst}
+use Rattle.std.proofs.Common.{◌≡◌, inl, inr, ℕ, zero, suc, ◌+◌, ◌<◌, Bool, true, false, eqb, ◌||◌, map, arith, MatchResult, Result, Ok, Err, Option, Some, None, List, [], ◌∷◌, ◌++◌, append_assoc, append-nil, get_or, length, take, refl, sym, ap, ◌∙◌, subst}
 use Rattle.std.specs.Prelude.{IfSome}
+use Rattle.std.specs.List.{AllByRecursion}
+use Rattle.std.proofs.lemmas.Bool.{cases_lt}
 use Rattle.std.proofs.lemmas.List.{take_more}
 use Rattle.tea_base.specs.declared.entry.Entry.{Entry}
+use Rattle.tea_base.specs.Legal.{IsLegal}
+use Rattle.tea_base.specs.Readings.{current, is_here}
+use Rattle.tea_base.proofs.LogLaws.{is_here-zero}
 use Rattle.tea_base.specs.declared.want.WantOfMemory.{WantOfMemory}
 use Rattle.wire_frames.specs.declared.start.Base.{Base}
 use Rattle.reflector_core.specs.PlainSession.{PlainSession}
@@ -11,9 +16,11 @@ use Rattle.reflector_core.specs.declared.request.Request.TheVariants.{Leave}
 use Rattle.reflector_core.specs.declared.request.Reply.{Reply}
 use Rattle.session_lock.specs.declared.knowledge.Item.{Item}
 use Rattle.session_lock.specs.declared.knowledge.Item.TheVariants.{Did, Void}
+use Rattle.session_lock.specs.History.{has}
+use Rattle.session_lock.proofs.Histories.{has_own}
 use Rattle.session_lock.specs.Passes.{PassState, Replied, Voided, caller, own_calls}
 use Rattle.reflect_server.proofs.PassLaws.{one_caller}
-use Rattle.reflect_server.specs.Opening.{AreHereAbove, AreHere, AreLeavesOf, IsLeaveOf, HasMadeLeave, HasMadeLeaves, HasOpened}
+use Rattle.reflect_server.specs.Opening.{AreHereAbove, AreHere, AreJustThoseHere, RiseAbove, AreLeavesOf, IsLeaveOf, HasMadeLeave, HasMadeLeaves, HasOpened}
 
 -- ---- who is here
 
@@ -89,3 +96,46 @@ opened_by gives opening views before after alone none kept here made =
 pub opened_still : (gives : ℕ → Type 0) (opening : PlainSession) (before after : PassState) → after ≡ record before { spare = after.spare } → HasOpened gives opening before → HasOpened gives opening after
 opened_still gives opening before after kept opened =
     subst (HasOpened gives opening) (sym kept) (record { one = opened.one; views = opened.views; here = opened.here; made = opened.made })
+
+-- ---- just those who are here
+
+no_such : (here : Bool) → here ≡ true → here ≡ false → ⊥
+no_such true is none = cc
+no_such false is none = cc
+
+rise : (log : List Entry) (above : ℕ) (views : List (ℕ × ℕ)) → AreHereAbove log above views → RiseAbove above views
+rise log above [] here = tt
+rise log above (one ∷ rest) here = (here.0.0, rise log one.0 rest here.1)
+
+each_here : (log : List Entry) (above : ℕ) (views : List (ℕ × ℕ)) → AreHereAbove log above views → AllByRecursion (λ (one : ℕ × ℕ). (is_here log one.0 ≡ true) × (one.1 ≡ current log one.0)) views
+each_here log above [] here = tt
+each_here log above (one ∷ rest) here = ((here.0.1, here.0.2), each_here log one.0 rest here.1)
+
+or_right : (first second : Bool) → second ≡ true → (first || second) ≡ true
+or_right true second is = refl
+or_right false second is = is
+
+has_first : (view n : ℕ) (ns : List ℕ) → view ≡ n → has view (n ∷ ns) ≡ true
+has_first view n ns is = subst (λ (m : ℕ). has view (m ∷ ns) ≡ true) is (has_own view ns)
+
+all_here : (log : List Entry) (above : ℕ) (views : List (ℕ × ℕ)) → AreHereAbove log above views → (view : ℕ) → above < view → is_here log view ≡ true → has view (map (λ (one : ℕ × ℕ). one.0) views) ≡ true
+all_here log above [] here view more is = absurd (no_such (is_here log view) is (here view more))
+all_here log above (one ∷ rest) here view more is =
+    elim (cases_lt view one.0) [
+      | inl less ↦ absurd (no_such (is_here log view) is (here.0.3 view more less))
+      | inr within ↦ elim (cases_lt one.0 view) [
+        | inl later ↦ or_right (eqb view one.0) (has view (map (λ (x : ℕ × ℕ). x.0) rest)) (all_here log one.0 rest here.1 view later is)
+        | inr before ↦ has_first view one.0 (map (λ (x : ℕ × ℕ). x.0) rest) (omega (arith, within, before))
+      ]
+    ]
+
+some_view : (log : List Entry) (view : ℕ) → IsLegal log → is_here log view ≡ true → 0 < view
+some_view log zero legal is = absurd (no_such (is_here log 0) is (is_here-zero log legal))
+some_view log (suc view) legal is = omega arith
+
+pub just_those : (log : List Entry) (views : List (ℕ × ℕ)) → IsLegal log → AreHere log views → AreJustThoseHere log views
+just_those log views legal here = record {
+  rise = rise log 0 views here;
+  each = each_here log 0 views here;
+  all = λ view is. all_here log 0 views here view (some_view log view legal is) is;
+}

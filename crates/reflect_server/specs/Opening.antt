@@ -1,12 +1,14 @@
 -- How a reflector opens a session that goes on: each view that is here in it is made to leave.
-use Rattle.std.specs.Prelude.{◌≡◌, ℕ, ◌+◌, ◌-◌, ◌^◌, min, List, [], ◌∷◌, ◌++◌, Some, None}
+use Rattle.std.specs.Prelude.{◌≡◌, ℕ, ◌+◌, ◌-◌, ◌<◌, ◌^◌, min, true, List, [], ◌∷◌, ◌++◌, map, Some, None}
+use Rattle.std.specs.List.{AllByRecursion}
 use Rattle.tea_base.specs.declared.entry.Entry.{Entry}
+use Rattle.tea_base.specs.Readings.{current, is_here}
 use Rattle.reflector_core.specs.PlainSession.{PlainSession}
 use Rattle.reflector_core.specs.Stored.{IsNextHere}
 use Rattle.reflector_core.specs.declared.request.Request.TheVariants.{Leave}
 use Rattle.session_lock.specs.declared.knowledge.Item.{Item}
 use Rattle.session_lock.specs.declared.knowledge.Item.TheVariants.{Did, Void}
-use Rattle.session_lock.specs.History.{calls_of}
+use Rattle.session_lock.specs.History.{calls_of, has}
 use Rattle.session_lock.specs.Passes.{PassState, caller, own_calls}
 
 -- the times that a clock may give after this one: its value more, and at most the last of 64 bits
@@ -21,6 +23,17 @@ AreHereAbove log above (one ∷ rest) = IsNextHere log above (Some one) × AreHe
 -- all views that are here: none has the number 0
 abbrev pub AreHere : List Entry → List (ℕ × ℕ) → Type 0
 AreHere log views = AreHereAbove log 0 views
+
+-- each view's number is above this one and above those before it
+abbrev pub RiseAbove : ℕ → List (ℕ × ℕ) → Type 0
+RiseAbove above [] = Unit {0}
+RiseAbove above (one ∷ rest) = (above < one.0) × RiseAbove one.0 rest
+
+-- just the views that are here, each once, in rising order, and each with the seq of its Join
+pub record AreJustThoseHere (log : List Entry) (views : List (ℕ × ℕ)) : Type 0 where
+  pub rise : RiseAbove 0 views
+  pub each : AllByRecursion (λ one. (is_here log one.0 ≡ true) × (one.1 ≡ current log one.0)) views
+  pub all : (view : ℕ) → is_here log view ≡ true → has view (map (λ one. one.0) views) ≡ true
 
 -- the opener's Leave of the view by its Join, at a time that the clock may give; or its Void, where the Leave found no memory
 abbrev pub IsLeaveOf : (ℕ → Type 0) → ℕ → ℕ × ℕ → Item → Type 0

@@ -34,7 +34,7 @@ pub struct Round<N: Drop, L: Link + Drop> {
     pub stopped: Option<NetFault>,
 }
 
-/// What each thread is given. It asks by the server's clock, so much later.
+/// What each thread is given. It asks at the times of the server's clock plus `since`.
 #[derive(Drop)]
 pub struct Post<'a, C: Clock, G: Gate, R: Wait> {
     pub rt: &'a R,

@@ -4,10 +4,12 @@
 #![tactic(auto)]
 
 mod accepting;
+mod laws;
 mod opening;
 mod passes;
 mod reflecting;
 mod reflection;
 
+pub use laws::those_here;
 pub use reflecting::reflect;
 pub use reflection::{Ends, Reflected, ServeFault, Server};

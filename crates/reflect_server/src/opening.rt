@@ -13,7 +13,7 @@ use std::sync::Wait;
 use tea_base::{SessionId, WantOfMemory, push};
 use tea_io::Clock;
 
-/// A clock that tells the time of another one and so much more, up to 2^64 - 1.
+/// Tells the time of `clock` plus `since`, both in microseconds, and at most 2^64 - 1.
 #[derive(Drop)]
 pub struct LaterClock<'a, C: Clock> {
     pub clock: &'a C,

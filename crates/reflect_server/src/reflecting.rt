@@ -150,7 +150,7 @@ fn serve_all<N: Net + Drop, C: Clock + Sync, G: Gate + Sync, R: Threads + Wait +
 }
 
 /// Reflects a session to so many links of a net. First each view that is here in it is made to leave, in rising order. The session is asked at
-/// the clock's times after the horizon that it had, so its times never go back.
+/// the clock's times plus the horizon that it had, so its time goes on at once.
 pub fn reflect<N: Net + Drop, C: Clock + Sync, G: Gate + Sync, R: Threads + Wait + Sync>(
     rt: &R,
     alloc: Global,

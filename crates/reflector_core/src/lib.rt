@@ -10,6 +10,6 @@ pub use laws::{
     a_stored_session_comes_back, log_grows, offers_change_what_is_kept, prepared_calls_are_answered,
 };
 pub use request::{Refusal, Replies, Reply, Request, Requests};
-pub use run::{play, play_on};
+pub use run::play;
 pub use session::Session;
 pub use wire_frames::{Base, Want};

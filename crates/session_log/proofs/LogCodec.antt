@@ -1,6 +1,5 @@
--- A log is read exactly where a legal log has its spelling.
+-- Entries are read exactly where those of a legal log have their spelling.
 use Rattle.std.proofs.Common.{◌≡◌, ℕ, ◌+◌, ◌^◌, ◌<◌, List, [], ◌∷◌, ◌++◌, length, refl, ap, arith}
-use Rattle.std.specs.Prelude.{codes}
 use Rattle.std.specs.Int.{w64}
 use Rattle.tea_base.specs.declared.entry.Entry.{Entry}
 use Rattle.tea_base.specs.declared.entry.What.{What}
@@ -9,12 +8,12 @@ use Rattle.tea_base.specs.Legal.{IsLegal, IsLegalAfter, MayFollow, LogAllows}
 use Rattle.tea_base.specs.Limits.{most_entries}
 use Rattle.tea_base.proofs.LogLaws.{MayFollow-short}
 use Rattle.byte_fields.specs.Fields.{list_of, list_at}
-use Rattle.byte_fields.proofs.Codecs.{Codec, EachFits, wide64, number_codec, u32_codec, paired_codec, marked_codec, made_codec, tested_codec, said_codec, list_codec}
+use Rattle.byte_fields.proofs.Codecs.{Codec, EachFits, wide64, number_codec, u32_codec, paired_codec, made_codec, tested_codec, said_codec, list_codec}
 use Rattle.entry_fields.proofs.WhatCodec.{HasWhatSpelling, what_codec}
 use Rattle.session_log.specs.LogState.{next_entry}
-use Rattle.session_log.specs.Spelling.{log_entry_spelling, log_spelling}
+use Rattle.session_log.specs.Spelling.{log_entry_spelling}
 use Rattle.session_log.specs.Legality.{may_follow}
-use Rattle.session_log.specs.Reading.{log_entry_at, entry_after, log_at}
+use Rattle.session_log.specs.Reading.{log_entry_at, entry_after}
 use Rattle.session_log.proofs.LegalityLaws.{may_follow-Decides, length-legal, last_number-le}
 
 -- ---- entries
@@ -77,7 +76,3 @@ pub entries_codec : Codec (List Entry) (list_of log_entry_spelling) IsLegal (lis
 entries_codec =
     said_codec (list_of log_entry_spelling) IsLegal (λ log _. refl) (λ log f. legal_each [] log f.1) (λ log legal. (omega (arith, length-legal log legal), each_legal [] log legal))
     (list_codec log_entry_spelling MayFollow entry_after after_codec)
-
-pub log_codec : Codec (List Entry) log_spelling IsLegal log_at
-unfolding log_at
-log_codec = marked_codec (codes "TEALOG01") entries_codec

@@ -10,8 +10,8 @@ use Rattle.tea_base.specs.declared.entry.Entry.{Entry}
 use Rattle.tea_base.specs.Legal.{IsLegal}
 use Rattle.tea_base.specs.Limits.{time_limit, most_snapshot}
 use Rattle.tea_base.specs.Readings.{here_count, last_time}
-use Rattle.byte_fields.specs.Fields.{FitsBlob, blob, blob_at, list_of, number_at, paired_at, made_at}
-use Rattle.byte_fields.proofs.Codecs.{Codec, wide64, number_codec, byte_codec, bytes_codec, blob_codec, paired_codec, headed_codec, made_codec, tested_codec, said_codec, never_codec, chosen_codec, bare_codec, tagged_codec, not_tag}
+use Rattle.byte_fields.specs.Fields.{FitsBlob, blob, blob_at, list_of, number_at, paired_at, made_at, whole}
+use Rattle.byte_fields.proofs.Codecs.{Codec, wide64, number_codec, byte_codec, bytes_codec, blob_codec, paired_codec, headed_codec, made_codec, tested_codec, said_codec, never_codec, chosen_codec, bare_codec, tagged_codec, not_tag, whole_again}
 use Rattle.session_log.specs.Spelling.{log_entry_spelling, log_spelling}
 use Rattle.session_log.specs.Stored.{PlainStored, plain_of, MayBeKept, IsStored, is_log_alone, kept_spelling, stored_spelling}
 use Rattle.session_log.specs.StoredReading.{kept_of_mark, kept_at, may_be_kept, may_be_stored, alone, alone_at, told_at, stored_of_mark, stored_at}
@@ -242,3 +242,12 @@ spelled_alone s e = ap (λ (b : Bool). spelled_if b s) e
 pub spelled_told : (s : PlainStored) → is_log_alone s ≡ false → stored_spelling s ≡ codes "TEALOG02" ++ (to_be_bytes w64 s.horizon ++ (kept_spelling s.kept ++ list_of log_entry_spelling s.log))
 unfolding stored_spelling
 spelled_told s e = ap (λ (b : Bool). spelled_if b s) e
+
+-- ---- one spelling
+
+same_some : (stored other : PlainStored) → Some stored ≡ Some other → stored ≡ other
+same_some stored other is = cc
+
+pub same_stored : (stored other : PlainStored) → IsStored stored → IsStored other → stored_spelling stored ≡ stored_spelling other → stored ≡ other
+same_stored stored other is is' same =
+    same_some stored other (sym (whole_again stored_codec stored is) ∙ ap (whole stored_at) same ∙ whole_again stored_codec other is')

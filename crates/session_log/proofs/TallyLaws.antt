@@ -1,6 +1,6 @@
 -- What the tally tells after one more entry.
 use Rattle.std.proofs.Common.{◌≡◌, ℕ, ◌+◌, ◌<◌, ◌≤◌, Bool, true, false, cond, eqb, ◌&&◌, ◌||◌, Result, Ok, Err, List, [], ◌∷◌, ◌++◌, length, refl, sym, ap, ◌∙◌, arith}
-use Rattle.std.specs.Prelude.{OnOk}
+use Rattle.std.specs.Prelude.{OnOk, OnErr}
 use Rattle.std.proofs.lemmas.Bool.{eqb-true}
 use Rattle.tea_base.specs.declared.entry.Entry.{Entry}
 use Rattle.tea_base.specs.declared.entry.What.{What}
@@ -12,7 +12,7 @@ use Rattle.tea_base.proofs.LogLaws.{here_count-push, here_count-positive, here_c
 use Rattle.session_log.specs.declared.legality.ViewState.{ViewState}
 use Rattle.session_log.specs.declared.tally.Tally.{Tally}
 use Rattle.session_log.specs.Legality.{view_state, view_state_after, may_go_on, may_follow}
-use Rattle.session_log.specs.Tally.{TellsLog, view_state_in, here_after}
+use Rattle.session_log.specs.Tally.{TellsLog, TellsTheSame, view_state_in, here_after}
 use Rattle.session_log.proofs.LegalityLaws.{stand-push, last_number-le}
 
 exit_here : (log : List Entry) (view : ℕ) (what : What) → LogAllows log view what → what ≡ Exit → is_here log view ≡ true
@@ -86,3 +86,16 @@ pub learned_ok : {X E : Type 0} (r : Result X E) (before after : Tally) (log : L
     → OnOk r ((other : ℕ) → view_state_in after.stands other ≡ cond (eqb entry.view other) (view_state_after found entry.what) (view_state_in before.stands other)) → OnOk r (TellsLog after (log ++ entry ∷ []))
 learned_ok (Ok x) before after log entry found tells may is time here stands = learned before after log entry found tells may is time here stands
 learned_ok (Err e) before after log entry found tells may is time here stands = tt
+
+-- ---- no more
+
+pub kept_told : (before after : Tally) (log : List Entry) → TellsLog before log → TellsTheSame before after → TellsLog after log
+kept_told before after log tells same = record {
+  time = same.time ∙ tells.time;
+  views_here = same.views_here ∙ tells.views_here;
+  stands = λ view. same.stands view ∙ tells.stands view;
+}
+
+pub learned_err : {X E : Type 0} (r : Result X E) (before after : Tally) (log : List Entry) → TellsLog before log → OnErr r (TellsTheSame before after) → OnErr r (TellsLog after log)
+learned_err (Ok value) before after log tells same = tt
+learned_err (Err fault) before after log tells same = kept_told before after log tells same

@@ -1,8 +1,8 @@
--- Reading a log: entry by entry, each tested against those before it.
-use Rattle.std.specs.Prelude.{List, codes}
+-- Reading the entries of a log, each tested against those before it.
+use Rattle.std.specs.Prelude.{List}
 use Rattle.std.specs.Int.{w32, w64}
 use Rattle.tea_base.specs.declared.entry.Entry.{Entry}
-use Rattle.byte_fields.specs.Fields.{Decoder, number_at, paired_at, marked_at, made_at, tested_at, list_at}
+use Rattle.byte_fields.specs.Fields.{Decoder, number_at, paired_at, made_at, tested_at}
 use Rattle.entry_fields.specs.Reading.{what_at}
 use Rattle.session_log.specs.LogState.{next_entry}
 use Rattle.session_log.specs.Legality.{may_follow}
@@ -15,6 +15,3 @@ log_entry_at log =
 -- the same, where it may follow
 unfoldable pub entry_after : List Entry → Decoder Entry
 entry_after log = tested_at (may_follow log) (log_entry_at log)
-
-unfoldable pub log_at : Decoder (List Entry)
-log_at = marked_at (codes "TEALOG01") (list_at entry_after)

@@ -27,3 +27,9 @@ pub record TellsLog (tally : Tally) (log : List Entry) : Type 0 where
   pub time : tally.time ≡ last_time log
   pub views_here : tally.views_here ≡ here_count log
   pub stands : (view : ℕ) → view_state_in tally.stands view ≡ view_state log view
+
+-- both tell the same
+pub record TellsTheSame (tally other : Tally) : Type 0 where
+  pub time : other.time ≡ tally.time
+  pub views_here : other.views_here ≡ tally.views_here
+  pub stands : (view : ℕ) → view_state_in other.stands view ≡ view_state_in tally.stands view

@@ -19,10 +19,12 @@ pub struct LogCounts {
     pub time: u64,
 }
 
-/// Whether a view is here, and how many Events it sent.
+/// What entries tell of a view.
 #[derive(Clone, Copy, Debug)]
 pub struct ViewState {
+    /// Its last Join or Exit is a Join.
     pub here: bool,
+    /// How many Events it sent, which is the number of the last one.
     pub number: u32,
 }
 

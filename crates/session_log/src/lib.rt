@@ -3,6 +3,7 @@
 
 mod heads;
 mod kinds;
+mod laws;
 mod legality;
 mod lent;
 mod log;
@@ -13,9 +14,10 @@ mod stored;
 mod tally;
 
 pub use kinds::EntryKind;
+pub use laws::one_spelling;
 pub use legality::ViewState;
 pub use lent::{LentLogEntry, entry_at};
-pub use log::{GetRefusal, Log, encode};
-pub use reading::{LogFault, append, decode};
+pub use log::{GetRefusal, Log};
+pub use reading::{LogFault, append};
 pub use stored::{Kept, Stored, decode_stored, encode_stored};
 pub use tally::{Tally, learn, may_follow, no_entries};

@@ -1,28 +1,26 @@
-//! Reading a log from its bytes.
-ghost use Rattle.std.specs.Prelude.{◌≡◌, ◌≢◌, [], List, IfOk, OnOk, OnErr, Err};
+//! Reading the entries of a log from their bytes.
+ghost use Rattle.std.specs.Prelude.{◌≡◌, [], IfOk, OnOk, OnErr};
 ghost use Rattle.std.specs.Option.{IfSome, option_map};
-ghost use Rattle.tea_base.specs.declared.entry.Entry.{Entry};
-ghost use Rattle.tea_base.specs.Legal.{IsLegal, MayFollow};
-ghost use Rattle.byte_fields.specs.Fields.{Decodes, items_at, list_at, whole};
+ghost use Rattle.tea_base.specs.Legal.{MayFollow};
+ghost use Rattle.byte_fields.specs.Fields.{Decodes, items_at, list_at};
 ghost use Rattle.session_log.specs.LogState.{with_next};
 ghost use Rattle.entry_fields.specs.Lent.{lent_what};
 ghost use Rattle.session_log.specs.Lent.{lent_entry};
-ghost use Rattle.session_log.specs.Reading.{entry_after, log_at};
-ghost use Rattle.session_log.specs.Spelling.{log_spelling};
+ghost use Rattle.session_log.specs.Reading.{entry_after};
 ghost use Rattle.session_log.specs.Tally.{TellsLog};
 
 use crate::lent::{LentLogEntry, entry_at};
 use crate::log::Log;
 use crate::tally::{Tally, learn, may_follow, no_entries};
-use byte_fields::{after_mark, u32_at};
+use byte_fields::u32_at;
 use entry_fields::LentWhat;
 use std::alloc::Global;
 use tea_base::{WantOfMemory, What};
 
-/// Why no log was read.
+/// Why no stored session was read.
 #[derive(Clone, Copy, Debug, PartialEq, Eq)]
 pub enum LogFault {
-    /// No legal log has this spelling.
+    /// No stored session has this spelling.
     BadLog,
     WantOfMemory,
 }
@@ -53,8 +51,7 @@ fn next_of<'a>(log: &Log, tally: &Tally, bytes: &'a [u8]) -> Option<(LentLogEntr
     Some((entry, rest))
 }
 
-/// Appends an entry that the log may go on with, and makes room for no more than it. Without memory
-/// the log is as it was.
+/// Appends an entry that the log may go on with. Without memory the entries are as they were.
 pub fn append(log: &mut Log, entry: &LentLogEntry<'_>) -> Result<(), WantOfMemory>
     requires { MayFollow log.old.entries (lent_entry log.old.entries entry.now) }
     ensures ok { OnOk result (log.new.entries ≡
@@ -104,34 +101,4 @@ pub fn entries_at(alloc: Global, bytes: &[u8]) -> Result<(Log, Tally, &[u8]), Lo
 {
     let (count, rest) = u32_at(bytes).ok_or(LogFault::BadLog)?;
     entries_of(alloc, count, rest)
-}
-
-/// The log that is spelled by all of the bytes.
-#[tactic(auto, unfolding(crate::specs::Reading::log_at))]
-fn read_all(alloc: Global, bytes: &[u8]) -> Result<Log, LogFault>
-    ensures { Decodes LogFault.BadLog (λ log. log.entries) result (whole log_at bytes.now) }
-{
-    let rest = after_mark(bytes, b"TEALOG01").ok_or(LogFault::BadLog)?;
-    let (log, _tally, rest) = entries_at(alloc, rest)?;
-    if !rest.is_empty() {
-        return Err(LogFault::BadLog);
-    }
-    Ok(log)
-}
-
-/// The log that the bytes spell, as `encode` writes it: `TEALOG01`, how many entries it has, and
-/// each entry but for its seq. `BadLog` comes exactly where no legal log has this spelling: it
-/// comes too where bytes follow the last entry. The count is not trusted, so memory is taken only
-/// as entries come.
-pub fn decode(alloc: Global, bytes: &[u8]) -> Result<Log, LogFault>
-    // What is read is spelled so.
-    ensures spelled { IfOk result (λ log. bytes.now ≡ log_spelling log.entries) }
-    // No legal log has a spelling that is refused.
-    ensures bad { result ≡ Err LogFault.BadLog →
-        (log : List Entry) → IsLegal log → bytes.now ≢ log_spelling log }
-    // What is spelled so is read, unless memory runs out.
-    ensures only { (log : List Entry) → IsLegal log → bytes.now ≡ log_spelling log →
-        IfOk result (λ read. read.entries ≡ log) }
-{
-    read_all(alloc, bytes)
 }

@@ -23,9 +23,9 @@ pub struct Kept {
     pub bytes: Blob,
 }
 
-/// A session as it is stored. No entry of its log is later than the horizon. The horizon is below
-/// 2^53 together with the number of views that are here. What is kept has a time of at most the
-/// horizon, and at most 4,194,304 bytes.
+/// What a session leaves for one that goes on from it. In what `decode_stored` gives no entry of the log
+/// is later than the horizon. The horizon and the number of views that are here are together below 2^53.
+/// What is kept has a time of at most the horizon, and at most 4,194,304 bytes.
 #[derive(Drop)]
 pub struct Stored {
     /// What was stamped.
@@ -69,11 +69,12 @@ fn put_kept(out: &mut Writer, kept: Option<&Kept>) -> Result<(), WantOfMemory>
     }
 }
 
-/// The bytes of a stored session, in memory of their own. Where the horizon is the time of the last
-/// entry, or 0 of an empty log, and nothing is kept, they are those of `encode`. Else they are
-/// `TEALOG02`, the horizon in eight bytes, a byte 0 where nothing is kept and else 1 with the time
-/// in eight bytes, the length in four and the bytes, and then the entries as `encode` writes them.
-/// The caller keeps what is stored. Fails for want of memory alone.
+/// The bytes of a stored session, in memory of their own. It asks for one that keeps the bounds of
+/// [`Stored`]. Where the horizon is the time of the last entry, or 0 of an empty log, and nothing is
+/// kept, the bytes are `TEALOG01` and the entries. Else they are `TEALOG02`, the horizon in eight
+/// bytes, a byte 0 where nothing is kept and else 1 with the time in eight bytes, the length in four
+/// and the bytes, and then the entries. The entries are how many there are, in four bytes, and each
+/// but for its seq. Fails for want of memory alone.
 pub fn encode_stored(log: &Log, horizon: u64, kept: Option<&Kept>) -> Result<Blob, WantOfMemory>
     requires { IsStored (plain_of log.now.entries horizon (option_copied kept)) }
     ensures { IfOk result (λ bytes. bytes ≡

@@ -1,5 +1,5 @@
 //! What legality needs of the entries so far, so that no entry goes through all before it.
-ghost use Rattle.std.specs.Prelude.{◌≡◌, ◌+◌, ◌-◌, ◌<◌, ◌≤◌, ◌==◌, [], ℕ, OnOk, if◌then◌else◌};
+ghost use Rattle.std.specs.Prelude.{◌≡◌, ◌+◌, ◌-◌, ◌<◌, ◌≤◌, ◌==◌, [], ℕ, OnOk, OnErr, if◌then◌else◌};
 ghost use Rattle.tea_base.specs.declared.entry.What.TheVariants.{Exit};
 ghost use Rattle.tea_base.specs.Legal.{MayFollow};
 ghost use Rattle.tea_base.specs.Limits.{most_entries};
@@ -7,7 +7,7 @@ ghost use Rattle.session_log.specs.LogState.{with_next};
 ghost use Rattle.session_log.specs.Legality.{view_state_after, may_follow};
 ghost use Rattle.entry_fields.specs.Lent.{lent_what};
 ghost use Rattle.session_log.specs.Lent.{lent_entry};
-ghost use Rattle.session_log.specs.Tally.{view_state_in, here_after, TellsLog};
+ghost use Rattle.session_log.specs.Tally.{view_state_in, here_after, TellsLog, TellsTheSame};
 
 use crate::legality::{LogCounts, ViewState, goes_on, stand_after};
 use crate::lent::LentLogEntry;
@@ -17,11 +17,14 @@ use std::alloc::Global;
 use std::collections::BTreeMap;
 use tea_base::WantOfMemory;
 
-/// The last time, how many views are here, and how each view stands that an entry names.
+/// What is told of entries, so that a further one can be tested.
 #[derive(Drop)]
 pub struct Tally {
+    /// The TeaTime of the last entry, in microseconds; 0 of none.
     pub time: u64,
+    /// How many views are here.
     pub views_here: u32,
+    /// Of each view that an entry names, whether it is here and how many Events it sent.
     pub stands: BTreeMap<u32, ViewState>,
 }
 
@@ -74,6 +77,7 @@ fn note(tally: &mut Tally, view: ViewState, entry: &LentLogEntry<'_>) -> Result<
     ensures stands { OnOk result ((other : ℕ) → view_state_in tally.new.stands other ≡
         (if entry.now.view == other then view_state_after view (lent_what entry.now.what)
         else view_state_in tally.old.stands other)) }
+    ensures err { OnErr result (TellsTheSame tally.old tally.new) }
 {
     tally
         .stands
@@ -98,12 +102,13 @@ pub fn may_follow(tally: &Tally, log: &Log, entry: &LentLogEntry<'_>) -> bool
     goes_on(standing, view, entry)
 }
 
-/// Takes note of an entry that a log goes on with.
+/// Takes note of an entry that a log goes on with. Without memory it tells what it told before.
 pub fn learn(tally: &mut Tally, log: &Log, entry: &LentLogEntry<'_>) -> Result<(), WantOfMemory>
     requires told { TellsLog tally.old log.now.entries }
     requires follows { MayFollow log.now.entries (lent_entry log.now.entries entry.now) }
-    ensures { OnOk result (TellsLog tally.new
+    ensures ok { OnOk result (TellsLog tally.new
         (with_next log.now.entries entry.now.time entry.now.view (lent_what entry.now.what))) }
+    ensures err { OnErr result (TellsLog tally.new log.now.entries) }
 {
     let view = stand_of(tally, entry.view);
     note(tally, view, entry)

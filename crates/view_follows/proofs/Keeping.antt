@@ -1,8 +1,9 @@
--- Each snapshot that is kept is honest, one after the other in the order of the history.
-use Rattle.std.proofs.Common.{◌≡◌, inl, inr, ℕ, zero, suc, ◌+◌, ◌<◌, ◌≤◌, List, [], ◌∷◌, ◌++◌, length, map, Option, Some, None, refl, sym, ap, subst, ◌∙◌, arith, append_assoc, length-append}
+-- Each snapshot that is kept is honest, one after the other in the order of the runs and of the history of each.
+use Rattle.std.proofs.Common.{◌≡◌, ◌⊎◌, inl, inr, ℕ, zero, suc, ◌+◌, ◌<◌, ◌≤◌, List, [], ◌∷◌, ◌++◌, length, map, Option, Some, None, slice_get, refl, sym, ap, subst, ◌∙◌, arith, append_assoc, length-append}
 use Rattle.std.specs.List.{AllByRecursion, slice_index_or}
 use Rattle.std.proofs.lemmas.Bool.{cases_lt}
 use Rattle.std.proofs.lemmas.List.{append-nil}
+use Rattle.std.proofs.lemmas.Option.{none-some, same_Some}
 use Rattle.byte_fields.specs.Fields.{whole}
 use Rattle.byte_fields.proofs.Codecs.{whole_again}
 use Rattle.tea_base.specs.declared.entry.Entry.{Entry}
@@ -27,25 +28,28 @@ use Rattle.reflector_core.specs.declared.request.Request.TheVariants.{Join, Send
 use Rattle.reflector_core.proofs.GrowthLaws.{kept-offer, kept-others}
 use Rattle.session_lock.specs.declared.knowledge.Item.{Item}
 use Rattle.session_lock.specs.declared.knowledge.Item.TheVariants.{Did, Void}
-use Rattle.session_lock.specs.History.{IsSoundThrough, after_item, calls_of, play}
+use Rattle.session_lock.specs.History.{after_item, calls_of, play_from}
 use Rattle.session_lock.proofs.Histories.{play_snoc}
 use Rattle.connection.specs.Exchanges.{exchanges_in}
 use Rattle.connection.specs.Phases.{Opening, talk_walk}
+use Rattle.connection.specs.TalkServed.{IsTalkServed}
 use Rattle.connection.proofs.TalkLines.{talk_served}
-use Rattle.reflect_server.proofs.Reflections.{only_connections}
-use Rattle.reflect_server.specs.Connections.{HasTalk, IsHistoryOf, ServedConnection, callers_of}
+use Rattle.connection.proofs.Talking.{talk_grows}
+use Rattle.reflect_server.specs.Connections.{HasTalk, ServedConnection, callers_of}
+use Rattle.reflect_server.specs.Opening.{gives_later}
 use Rattle.run_steps.specs.Outside.{LinksTell}
 use Rattle.view_shell.specs.Viewers.{first_phase}
 use Rattle.view_follows.specs.BothEnds.{IsLinkBetween}
 use Rattle.view_follows.specs.Links.{BeginsHonestly, IsServedBy, LinkTalk, links_in}
 use Rattle.view_follows.specs.Offers.{IsOfFollower}
-use Rattle.view_follows.specs.Sessions.{BeginInOrder, BeginsBefore, ComeTo, ComesTo, IsAmong, IsLinkTo, IsLinkOfView, IsViewOf, SessionView, frames_heard}
+use Rattle.view_follows.specs.Sessions.{BeginInOrder, BeginsBefore, ComeTo, ComesTo, FarEnd, IsAmong, IsLinkTo, IsLinkOfView, IsReflectorRun, IsViewOf, ReflectorRun, SessionView, TakeUp, frames_heard}
 use Rattle.view_follows.specs.ViewsReplay.{IsServedVisit}
-use Rattle.view_follows.proofs.Lists.{all_both, all_contains, all_front, all_so}
+use Rattle.view_follows.proofs.LaterRuns.{ComesAfter}
+use Rattle.view_follows.proofs.Lists.{all_at, all_both, all_contains, all_so}
 use Rattle.view_follows.proofs.Meeting.{links_meet}
 use Rattle.view_follows.proofs.Offering.{IsGoodExchange, IsGoodFrame, comes_good, talk_is_good}
 use Rattle.view_follows.proofs.Openings.{opens_honestly, talk_opens}
-use Rattle.view_follows.proofs.Places.{find_caller, is_called, is_earlier, item_holds, same_front}
+use Rattle.view_follows.proofs.Places.{find_caller, is_earlier, item_holds, offer_is_called, same_front}
 use Rattle.view_follows.proofs.Stands.{KnowsLog, RealWorlds}
 use Rattle.view_follows.proofs.Walking.{link_follows}
 
@@ -73,27 +77,27 @@ spelled_alike (frame ∷ frames) (other ∷ others) fit suit is =
 -- ---- the ends of a view's links
 
 -- the connection of one of its links, and what stands before it
-record EndSplit {L : Type 0} (connections : List (ServedConnection L)) (history : List Item) (links : List LinkTalk) (end : ServedConnection L) : Type 0 where
+record EndSplit {C L : Type 0} (runs : List (ReflectorRun C L)) (links : List LinkTalk) (end : FarEnd L) : Type 0 where
   before : List LinkTalk
   link : LinkTalk
   after : List LinkTalk
   is : links ≡ before ++ link ∷ after
-  fronts : List (Option (ServedConnection L))
+  fronts : List (Option (FarEnd L))
   come : ComeTo before fronts
-  comes : IsLinkTo link end
-  known : AllByRecursion (IsAmong connections) fronts
-  order : AllByRecursion (λ (front : Option (ServedConnection L)). BeginsBefore history front (Some end)) fronts
+  comes : IsLinkTo link end.connection
+  known : AllByRecursion (IsAmong runs) fronts
+  order : AllByRecursion (λ (front : Option (FarEnd L)). BeginsBefore runs front (Some end)) fronts
 
-split_at : {L : Type 0} (connections : List (ServedConnection L)) (history : List Item) (links : List LinkTalk) (ends : List (Option (ServedConnection L))) (k : ℕ) (end : ServedConnection L) → k < length ends
-    → slice_index_or ends k (Some end) ≡ Some end → ComeTo links ends → AllByRecursion (IsAmong connections) ends → BeginInOrder history ends → EndSplit connections history links end
-split_at connections history [] [] k end within is come known order = absurd (omega (arith, within))
-split_at connections history [] (first ∷ ends) k end within is come known order = absurd come
-split_at connections history (link ∷ links) [] k end within is come known order = absurd come
-split_at connections history (link ∷ links) (first ∷ ends) zero end within is come known order =
+split_at : {C L : Type 0} (runs : List (ReflectorRun C L)) (links : List LinkTalk) (ends : List (Option (FarEnd L))) (k : ℕ) (end : FarEnd L) → k < length ends → slice_index_or ends k (Some end) ≡ Some end
+    → ComeTo links ends → AllByRecursion (IsAmong runs) ends → BeginInOrder runs ends → EndSplit runs links end
+split_at runs [] [] k end within is come known order = absurd (omega (arith, within))
+split_at runs [] (first ∷ ends) k end within is come known order = absurd come
+split_at runs (link ∷ links) [] k end within is come known order = absurd come
+split_at runs (link ∷ links) (first ∷ ends) zero end within is come known order =
     record { before = []; link = link; after = links; is = refl; fronts = []; come = tt; comes = subst (ComesTo link) is come.0; known = tt; order = tt }
-split_at connections history (link ∷ links) (first ∷ ends) (suc k) end within is come known order =
+split_at runs (link ∷ links) (first ∷ ends) (suc k) end within is come known order =
     let below : k < length ends = omega (arith, within) in
-    let rest = split_at connections history links ends k end below is come.1 known.1 order.1 in
+    let rest = split_at runs links ends k end below is come.1 known.1 order.1 in
     record {
       before = link ∷ rest.before;
       link = rest.link;
@@ -103,57 +107,85 @@ split_at connections history (link ∷ links) (first ∷ ends) (suc k) end withi
       come = (come.0, rest.come);
       comes = rest.comes;
       known = (known.0, rest.known);
-      order = (all_contains (BeginsBefore history first) ends (Some end) order.0 (k, below, is), rest.order);
+      order = (all_contains (BeginsBefore runs first) ends (Some end) order.0 (k, below, is), rest.order);
     }
 
-module _ {L : Type 0} (gives : ℕ → Type 0) (id : SessionId) (links : LinksTell L) (founding : Founding) (connections : List (ServedConnection L)) (history : List Item) (views : List (SessionView L))
-    (laws : AreWorlds (worlds founding id.0)) (legal : IsLegal (play history).log) (sound : IsSoundThrough first_session history) (opener : ℕ) (talks : IsHistoryOf gives id first_session links connections opener history)
-    (walked : AllByRecursion (IsViewOf founding id.0 connections history) views) (all : AllByRecursion (IsLinkOfView views) connections) where
+-- ---- where a run begins
+
+-- a run of a lower number, with whose session this one began
+record TakesUpFrom {C L : Type 0} (runs : List (ReflectorRun C L)) (number : ℕ) (run : ReflectorRun C L) : Type 0 where
+  place : ℕ
+  before : ReflectorRun C L
+  earlier : place < number
+  at : slice_get runs place ≡ Some before
+  began : run.opening ≡ before.session
+
+module _ {C L : Type 0} where
+  takes_up : (opening : PlainSession) (runs : List (ReflectorRun C L)) (number : ℕ) (run : ReflectorRun C L) → TakeUp opening runs → slice_get runs number ≡ Some run → (run.opening ≡ opening) ⊎ TakesUpFrom runs number run
+  takes_up opening [] number run take_up at = absurd (none-some run at)
+  takes_up opening (first ∷ runs) zero run take_up at = inl (ap (λ (r : ReflectorRun C L). r.opening) (sym (same_Some first run at)) ∙ take_up.0)
+  takes_up opening (first ∷ runs) (suc number) run take_up at = elim (takes_up first.session runs number run take_up.1 at) [
+    | inl own ↦ inr (record { place = zero; before = first; earlier = omega arith; at = refl; began = own })
+    | inr from ↦ inr (record { place = suc from.place; before = from.before; earlier = omega (arith, from.earlier); at = from.at; began = from.began })
+  ]
+
+module _ {C L : Type 0} (gives : C → ℕ → Type 0) (id : SessionId) (links : LinksTell L) (founding : Founding) (runs : List (ReflectorRun C L)) (views : List (SessionView L)) (final : PlainSession)
+    (laws : AreWorlds (worlds founding id.0)) (legal : IsLegal final.log) (are : AllByRecursion (λ (run : ReflectorRun C L). IsReflectorRun gives id links run × ComesAfter run final) runs) (take_up : TakeUp first_session runs)
+    (walked : AllByRecursion (IsViewOf founding id.0 runs) views) (all : (number : ℕ) (run : ReflectorRun C L) → slice_get runs number ≡ Some run → AllByRecursion (IsLinkOfView views number) run.connections) where
   abbrev m : RealWorlds
   m = worlds founding id.0
 
   abbrev log : List Entry
-  log = (play history).log
+  log = final.log
 
-  -- what is kept behind so many items, or fewer, is honest
-  abbrev KeptUntil : ℕ → Type 0
-  KeptUntil n = (front back : List Item) → front ++ back ≡ history → length front ≤ n → IsHonestBase m log (play front).kept
+  abbrev TalksIn : ReflectorRun C L → ServedConnection L → Type 0
+  TalksIn run one = HasTalk (gives_later (gives run.clock) run.opening.horizon) id run.opening links run.history one
 
-  -- behind more items than these the caller has made a call
-  abbrev CallsBy : ℕ → ℕ → Type 0
-  CallsBy n caller = (front back : List Item) → front ++ back ≡ history → calls_of (caller ∷ []) front ≡ [] → length front ≤ n
+  -- what is kept behind a front of the run's history is honest
+  abbrev KeptIn : ReflectorRun C L → Type 0
+  KeptIn run = (front back : List Item) → front ++ back ≡ run.history → IsHonestBase m log (play_from run.opening front).kept
 
-  abbrev BeginsBy : ℕ → Option (ServedConnection L) → Type 0
-  BeginsBy n None = Unit {0}
-  BeginsBy n (Some one) = CallsBy n one.caller
+  -- so is what is kept as long as the caller has made no call
+  abbrev OpensIn : ReflectorRun C L → ℕ → Type 0
+  OpensIn run caller = (front back : List Item) → front ++ back ≡ run.history → calls_of (caller ∷ []) front ≡ [] → IsHonestBase m log (play_from run.opening front).kept
+
+  abbrev Opens : Option (FarEnd L) → Type 0
+  Opens None = Unit {0}
+  Opens (Some end) = (run : ReflectorRun C L) → slice_get runs end.run ≡ Some run → OpensIn run end.connection.caller
+
+  -- of all runs of a lower number
+  abbrev KeptBefore : ℕ → Type 0
+  KeptBefore number = (place : ℕ) (run : ReflectorRun C L) → place < number → slice_get runs place ≡ Some run → KeptIn run
 
   -- ---- what the log serves
 
-  connection_serves : (n : ℕ) → KeptUntil n → (link : LinkTalk) (one : ServedConnection L) → IsLinkBetween link one.heard one.sent → HasTalk gives id first_session links history one → CallsBy n one.caller → IsServedBy m log link
-  connection_serves n kept link one between has calls =
+  connection_serves : (run : ReflectorRun C L) (after : ComesAfter run final) (link : LinkTalk) (one : ServedConnection L) → TalksIn run one → calls_of (one.caller ∷ []) after.more ≡ []
+      → IsLinkBetween link one.heard one.sent → OpensIn run one.caller → IsServedBy m log link
+  connection_serves run after link one has none between opens =
       let talk = has.talk in
       let walk = talk_walk id (Opening 0) talk.events in
-      let served = talk_served gives id first_session history one.caller one.heard one.sent one.ended sound talk in
+      let gives_in = gives_later (gives run.clock) run.opening.horizon in
+      let longer = talk_grows gives_in id run.opening run.history after.more one.caller one.heard one.sent one.ended none talk in
+      let of_all = talk_served gives_in id run.opening (run.history ++ after.more) one.caller one.heard one.sent one.ended after.sound longer in
+      let served = subst (λ (s : PlainSession). IsTalkServed s.log one.heard one.sent) after.ends of_all in
       let same : served.frames ≡ walk.sent = spelled_alike served.frames walk.sent served.spelled talk.spelled (sym served.spelling ∙ talk.told) in
-      let honest = opens_honestly m log first_session history one.caller walk.asked walk.sent talk.asked (talk_opens id 0 talk.events) (λ front back is none. kept front back is (calls front back is none)) in
+      let honest = opens_honestly m log run.opening run.history one.caller walk.asked walk.sent talk.asked (talk_opens id 0 talk.events) opens in
       links_meet m log link one.heard one.sent served (subst (BeginsHonestly m log) (sym same) honest) between
 
-  end_serves : (n : ℕ) → KeptUntil n → (link : LinkTalk) (end : Option (ServedConnection L)) → ComesTo link end → IsAmong connections end → BeginsBy n end → IsServedBy m log link
-  end_serves n kept link None comes known begins = record { given = []; frames = []; heard = sym comes; served = tt; honest = tt }
-  end_serves n kept link (Some one) comes known begins = connection_serves n kept link one comes.between (all_contains (HasTalk gives id first_session links history) connections one talks.talks known) begins
+  end_serves : (link : LinkTalk) (end : Option (FarEnd L)) → ComesTo link end → IsAmong runs end → Opens end → IsServedBy m log link
+  end_serves link None comes known opens = record { given = []; frames = []; heard = sym comes; served = tt; honest = tt }
+  end_serves link (Some end) comes known opens =
+      let run = known.0 in
+      let fact = all_at (λ (run : ReflectorRun C L). IsReflectorRun gives id links run × ComesAfter run final) runs end.run run are known.1 in
+      let has = all_contains (TalksIn run) run.connections end.connection fact.0.talks.talks known.2 in
+      let none = all_contains (λ (one : ServedConnection L). calls_of (one.caller ∷ []) fact.1.more ≡ []) run.connections end.connection fact.1.others known.2 in
+      connection_serves run fact.1 link end.connection has none comes.between (opens run known.1)
 
-  ends_serve : (n : ℕ) → KeptUntil n → (of_view : List LinkTalk) (ends : List (Option (ServedConnection L))) → ComeTo of_view ends → AllByRecursion (IsAmong connections) ends → AllByRecursion (BeginsBy n) ends
-      → AllByRecursion (IsServedBy m log) of_view
-  ends_serve n kept [] [] come known begin = tt
-  ends_serve n kept [] (end ∷ ends) come known begin = absurd come
-  ends_serve n kept (link ∷ of_view) [] come known begin = absurd come
-  ends_serve n kept (link ∷ of_view) (end ∷ ends) come known begin = (end_serves n kept link end come.0 known.0 begin.0, ends_serve n kept of_view ends come.1 known.1 begin.1)
-
-  -- ---- what is offered
-
-  begins_by : (n : ℕ) (one : ServedConnection L) (end : Option (ServedConnection L)) → CallsBy n one.caller → BeginsBefore history end (Some one) → BeginsBy n end
-  begins_by n one None calls before = tt
-  begins_by n one (Some other) calls before = λ front back is none. calls front back is (before front back is none)
+  ends_serve : (of_view : List LinkTalk) (ends : List (Option (FarEnd L))) → ComeTo of_view ends → AllByRecursion (IsAmong runs) ends → AllByRecursion Opens ends → AllByRecursion (IsServedBy m log) of_view
+  ends_serve [] [] come known open_so = tt
+  ends_serve [] (end ∷ ends) come known open_so = absurd come
+  ends_serve (link ∷ of_view) [] come known open_so = absurd come
+  ends_serve (link ∷ of_view) (end ∷ ends) come known open_so = (end_serves link end come.0 known.0 open_so.0, ends_serve of_view ends come.1 known.1 open_so.1)
 
   abbrev Follower : ℕ → List ℕ → Type 0
   Follower time bytes = IsOfFollower m log time bytes
@@ -164,90 +196,152 @@ module _ {L : Type 0} (gives : ℕ → Type 0) (id : SessionId) (links : LinksTe
   view_knows : (v : SessionView L) → KnowsLog m log v.view m (new_replica m v.view)
   view_knows v = record { same = refl; its = refl; follows = first_world_follows m log (new_replica m v.view) laws legal refl refl refl }
 
-  -- what was heard on a connection of a view
-  heard_follows : (n : ℕ) → KeptUntil n → (one : ServedConnection L) (v : SessionView L) → IsViewOf founding id.0 connections history v → EndSplit connections history (links_in v.steps) one → HasTalk gives id first_session links history one → CallsBy n one.caller
-      → AllByRecursion (IsGoodFrame Follower) (frames_heard one.heard)
-  heard_follows n kept one v its split has calls =
-      let begins = all_so (λ (front : Option (ServedConnection L)). BeginsBefore history front (Some one)) (BeginsBy n) (λ end first. begins_by n one end calls first) split.fronts split.order in
-      let before = ends_serve n kept split.before split.fronts split.come split.known begins in
-      let served = connection_serves n kept split.link one split.comes.between has calls in
-      let sent = link_follows m laws log legal v.view (first_phase founding id.0 v.view v.address v.lines) v.steps v.last split.before split.link split.after (view_knows v) its.walks split.is before served in
-      comes_good Follower (frames_heard one.heard) split.link.sent split.comes.sent sent
+  -- ---- one run
 
-  offers_follow : (one : ServedConnection L) → HasTalk gives id first_session links history one → AllByRecursion (IsGoodFrame Follower) (frames_heard one.heard) → AllByRecursion (IsGoodExchange Follower) (exchanges_in first_session history one.caller)
-  offers_follow one has heard =
-      let talk = has.talk in
-      subst (AllByRecursion (IsGoodExchange Follower)) (sym talk.asked) (talk_is_good Follower id talk.events (subst (λ (h : List Heard). AllByRecursion (IsGoodFrame Follower) (frames_heard h)) talk.said heard))
+  module _ (number : ℕ) (run : ReflectorRun C L) (at : slice_get runs number ≡ Some run) (is_run : IsReflectorRun gives id links run) (after : ComesAfter run final) (earlier : KeptBefore number) (begins : IsHonestBase m log run.opening.kept) where
+    -- what is kept behind so many items, or fewer, is honest
+    abbrev KeptUntil : ℕ → Type 0
+    KeptUntil n = (front back : List Item) → front ++ back ≡ run.history → length front ≤ n → IsHonestBase m log (play_from run.opening front).kept
 
-  offer_is_honest : (n : ℕ) → KeptUntil n → (before behind : List Item) (caller view joined time : ℕ) (bytes : List ℕ) → before ++ Did caller (Offer view joined time bytes) ∷ behind ≡ history → length before ≤ n → IsHonest m log time bytes
-  offer_is_honest n kept before behind caller view joined time bytes is few =
-      let asked : Request = Offer view joined time bytes in
-      let found =
-      find_caller (λ (one : ServedConnection L). HasTalk gives id first_session links history one × IsLinkOfView views one) connections caller (is_called (callers_of connections) history before behind (Did caller asked) (only_connections gives id links connections opener history talks) is)
-      (all_both (HasTalk gives id first_session links history) (IsLinkOfView views) connections talks.talks all) in
-      let one = found.0 in
-      let has = found.2.0 in
-      let v = found.2.1.0 in
-      let end = found.2.1.2 in
-      let its = all_contains (IsViewOf founding id.0 connections history) views v walked found.2.1.1 in
-      let split = split_at connections history (links_in v.steps) v.ends end.0 one end.1 end.2 its.links its.known its.order in
-      let own : before ++ Did one.caller asked ∷ behind ≡ history = subst (λ (c : ℕ). before ++ Did c asked ∷ behind ≡ history) found.1 is in
-      let calls : CallsBy n one.caller = λ front back same none. let early = is_earlier one.caller asked front back before behind (same ∙ sym own) none in omega (arith, early, few) in
-      honest_follower time bytes (item_holds (IsGoodExchange Follower) history before behind one.caller asked own (offers_follow one has (heard_follows n kept one v its split has calls)))
+    -- behind more items than these the caller has made a call
+    abbrev CallsBy : ℕ → ℕ → Type 0
+    CallsBy n caller = (front back : List Item) → front ++ back ≡ run.history → calls_of (caller ∷ []) front ≡ [] → length front ≤ n
 
-  -- ---- what is kept
+    -- the connection is one of the run, and of a view
+    abbrev IsOfRun : ServedConnection L → Type 0
+    IsOfRun one = (TalksIn run one × (calls_of (one.caller ∷ []) after.more ≡ [])) × IsLinkOfView views number one
 
-  next_kept : (before : List Item) (item : Item) (behind : List Item) → before ++ item ∷ behind ≡ history → KeptUntil (length before) → IsHonestBase m log (after_item (play before) item).kept
-  next_kept before (Void caller) behind is kept = kept before (Void caller ∷ behind) is (omega arith)
-  next_kept before (Did caller (Offer view joined time bytes)) behind is kept = elim (kept-offer (play before) view joined time bytes) [
-    | inl same ↦ subst (IsHonestBase m log) (sym same) (kept before (Did caller (Offer view joined time bytes) ∷ behind) is (omega arith))
-    | inr fresh ↦ subst (IsHonestBase m log) (sym fresh) (offer_is_honest (length before) kept before behind caller view joined time bytes is (omega arith))
+    abbrev its_end : ServedConnection L → FarEnd L
+    its_end one = record { run = number; connection = one }
+
+    own_opens : (n : ℕ) → KeptUntil n → (caller : ℕ) → CallsBy n caller → OpensIn run caller
+    own_opens n kept caller calls front back is none = kept front back is (calls front back is none)
+
+    -- the connections of earlier links open so too
+    earlier_opens : (n : ℕ) → KeptUntil n → (one : ServedConnection L) (end : Option (FarEnd L)) → CallsBy n one.caller → BeginsBefore runs end (Some (its_end one)) → Opens end
+    earlier_opens n kept one None calls before = tt
+    earlier_opens n kept one (Some end) calls (inl lower) = λ other there front back is none. earlier end.run other lower there front back is
+    earlier_opens n kept one (Some end) calls (inr here) = λ other there.
+        let same : run ≡ other = same_Some run other (sym at ∙ (ap (slice_get runs) (sym here.0) ∙ there)) in
+        subst (λ (r : ReflectorRun C L). OpensIn r end.connection.caller) same
+        (λ front back is none. own_opens n kept one.caller calls front back is (here.1 run at front back is none))
+
+    -- what was heard on a connection of a view
+    heard_follows : (n : ℕ) → KeptUntil n → (one : ServedConnection L) (v : SessionView L) → TalksIn run one → calls_of (one.caller ∷ []) after.more ≡ [] → IsViewOf founding id.0 runs v → EndSplit runs (links_in v.steps) (its_end one) → CallsBy n one.caller
+        → AllByRecursion (IsGoodFrame Follower) (frames_heard one.heard)
+    heard_follows n kept one v has none its split calls =
+        let open_so = all_so (λ (end : Option (FarEnd L)). BeginsBefore runs end (Some (its_end one))) Opens (λ end before. earlier_opens n kept one end calls before) split.fronts split.order in
+        let before = ends_serve split.before split.fronts split.come split.known open_so in
+        let served = connection_serves run after split.link one has none split.comes.between (own_opens n kept one.caller calls) in
+        let sent = link_follows m laws log legal v.view (first_phase founding id.0 v.view v.address v.lines) v.steps v.last split.before split.link split.after (view_knows v) its.walks split.is before served in
+        comes_good Follower (frames_heard one.heard) split.link.sent split.comes.sent sent
+
+    offers_follow : (one : ServedConnection L) → TalksIn run one → AllByRecursion (IsGoodFrame Follower) (frames_heard one.heard) → AllByRecursion (IsGoodExchange Follower) (exchanges_in run.opening run.history one.caller)
+    offers_follow one has heard =
+        let talk = has.talk in
+        subst (AllByRecursion (IsGoodExchange Follower)) (sym talk.asked) (talk_is_good Follower id talk.events (subst (λ (h : List Heard). AllByRecursion (IsGoodFrame Follower) (frames_heard h)) talk.said heard))
+
+    offer_is_honest : (n : ℕ) → KeptUntil n → (before behind : List Item) (caller view joined time : ℕ) (bytes : List ℕ) → before ++ Did caller (Offer view joined time bytes) ∷ behind ≡ run.history → length before ≤ n → IsHonest m log time bytes
+    offer_is_honest n kept before behind caller view joined time bytes is few =
+        let asked : Request = Offer view joined time bytes in
+        let gives_in = gives_later (gives run.clock) run.opening.horizon in
+        let among = offer_is_called gives_in run.opening is_run.opener caller (callers_of run.connections) run.history before behind view joined time bytes is_run.talks.leaves is_run.talks.whole is in
+        let talked = all_both (TalksIn run) (λ (one : ServedConnection L). calls_of (one.caller ∷ []) after.more ≡ []) run.connections is_run.talks.talks after.others in
+        let each = all_both (λ (one : ServedConnection L). TalksIn run one × (calls_of (one.caller ∷ []) after.more ≡ [])) (IsLinkOfView views number) run.connections talked (all number run at) in
+        let found = find_caller IsOfRun run.connections caller among each in
+        let one = found.0 in
+        let has = found.2.0.0 in
+        let v = found.2.1.0 in
+        let end = found.2.1.2 in
+        let its = all_contains (IsViewOf founding id.0 runs) views v walked found.2.1.1 in
+        let split = split_at runs (links_in v.steps) v.ends end.0 (its_end one) end.1 end.2 its.links its.known its.order in
+        let own : before ++ Did one.caller asked ∷ behind ≡ run.history = subst (λ (c : ℕ). before ++ Did c asked ∷ behind ≡ run.history) found.1 is in
+        let calls : CallsBy n one.caller = λ front back same none. let early = is_earlier one.caller asked front back before behind (same ∙ sym own) none in omega (arith, early, few) in
+        honest_follower time bytes
+        (item_holds (IsGoodExchange Follower) run.opening run.history before behind one.caller asked own (offers_follow one has (heard_follows n kept one v has found.2.0.1 its split calls)))
+
+    -- ---- what is kept
+
+    next_kept : (before : List Item) (item : Item) (behind : List Item) → before ++ item ∷ behind ≡ run.history → KeptUntil (length before) → IsHonestBase m log (after_item (play_from run.opening before) item).kept
+    next_kept before (Void caller) behind is kept = kept before (Void caller ∷ behind) is (omega arith)
+    next_kept before (Did caller (Offer view joined time bytes)) behind is kept = elim (kept-offer (play_from run.opening before) view joined time bytes) [
+      | inl same ↦ subst (IsHonestBase m log) (sym same) (kept before (Did caller (Offer view joined time bytes) ∷ behind) is (omega arith))
+      | inr fresh ↦ subst (IsHonestBase m log) (sym fresh) (offer_is_honest (length before) kept before behind caller view joined time bytes is (omega arith))
+    ]
+    next_kept before (Did caller (Join view now want)) behind is kept =
+        subst (IsHonestBase m log) (sym (kept-others (play_from run.opening before) (Join view now want) refl)) (kept before (Did caller (Join view now want) ∷ behind) is (omega arith))
+    next_kept before (Did caller (Send view joined number payload now)) behind is kept =
+        subst (IsHonestBase m log) (sym (kept-others (play_from run.opening before) (Send view joined number payload now) refl)) (kept before (Did caller (Send view joined number payload now) ∷ behind) is (omega arith))
+    next_kept before (Did caller (Tick now)) behind is kept =
+        subst (IsHonestBase m log) (sym (kept-others (play_from run.opening before) (Tick now) refl)) (kept before (Did caller (Tick now) ∷ behind) is (omega arith))
+    next_kept before (Did caller (Leave view joined now)) behind is kept =
+        subst (IsHonestBase m log) (sym (kept-others (play_from run.opening before) (Leave view joined now) refl)) (kept before (Did caller (Leave view joined now) ∷ behind) is (omega arith))
+    next_kept before (Did caller (Pull after limit)) behind is kept =
+        subst (IsHonestBase m log) (sym (kept-others (play_from run.opening before) (Pull after limit) refl)) (kept before (Did caller (Pull after limit) ∷ behind) is (omega arith))
+
+    kept_more : (before : List Item) (item : Item) (behind : List Item) → before ++ item ∷ behind ≡ run.history → KeptUntil (length before) → KeptUntil (length (before ++ item ∷ []))
+    kept_more before item behind is kept = λ front back same few.
+        elim (cases_lt (length before) (length front)) [
+          | inl more ↦
+              let long : length (before ++ item ∷ []) ≡ length before + 1 = length-append before (item ∷ []) in
+              let whole = same_front front back (before ++ item ∷ []) behind (same ∙ sym is ∙ sym (append_assoc before (item ∷ []) behind)) (omega (arith, long, more, few)) in
+              subst (λ (s : PlainSession). IsHonestBase m log s.kept) (sym (ap (play_from run.opening) whole ∙ play_snoc run.opening before item)) (next_kept before item behind is kept)
+          | inr within ↦ kept front back same within
+        ]
+
+    kept_from : (before rest : List Item) → before ++ rest ≡ run.history → KeptUntil (length before) → KeptUntil (length run.history)
+    kept_from before [] is kept = subst (λ (h : List Item). KeptUntil (length h)) (sym (append-nil before) ∙ is) kept
+    kept_from before (item ∷ rest) is kept = kept_from (before ++ item ∷ []) rest (append_assoc before (item ∷ []) rest ∙ is) (kept_more before item rest is kept)
+
+    first_kept : KeptUntil 0
+    first_kept [] back is few = begins
+    first_kept (item ∷ front) back is few = absurd (omega (arith, few))
+
+    run_kept : KeptIn run
+    run_kept front back is =
+        let long = sym (ap length is) ∙ length-append front back in
+        kept_from [] run.history refl first_kept front back is (omega (arith, long))
+
+  -- ---- all runs
+
+  began_honestly : (number : ℕ) → KeptBefore number → (run : ReflectorRun C L) → slice_get runs number ≡ Some run → IsHonestBase m log run.opening.kept
+  began_honestly number kept run at = elim (takes_up first_session runs number run take_up at) [
+    | inl new ↦ subst (λ (s : PlainSession). IsHonestBase m log s.kept) (sym new) tt
+    | inr from ↦
+        let fact = all_at (λ (run : ReflectorRun C L). IsReflectorRun gives id links run × ComesAfter run final) runs from.place from.before are from.at in
+        subst (λ (s : PlainSession). IsHonestBase m log s.kept) (sym (from.began ∙ fact.0.plays.play))
+        (kept from.place from.before from.earlier from.at from.before.history [] (append-nil from.before.history))
   ]
-  next_kept before (Did caller (Join view now want)) behind is kept = subst (IsHonestBase m log) (sym (kept-others (play before) (Join view now want) refl)) (kept before (Did caller (Join view now want) ∷ behind) is (omega arith))
-  next_kept before (Did caller (Send view joined number payload now)) behind is kept =
-      subst (IsHonestBase m log) (sym (kept-others (play before) (Send view joined number payload now) refl)) (kept before (Did caller (Send view joined number payload now) ∷ behind) is (omega arith))
-  next_kept before (Did caller (Tick now)) behind is kept = subst (IsHonestBase m log) (sym (kept-others (play before) (Tick now) refl)) (kept before (Did caller (Tick now) ∷ behind) is (omega arith))
-  next_kept before (Did caller (Leave view joined now)) behind is kept = subst (IsHonestBase m log) (sym (kept-others (play before) (Leave view joined now) refl)) (kept before (Did caller (Leave view joined now) ∷ behind) is (omega arith))
-  next_kept before (Did caller (Pull after limit)) behind is kept = subst (IsHonestBase m log) (sym (kept-others (play before) (Pull after limit) refl)) (kept before (Did caller (Pull after limit) ∷ behind) is (omega arith))
 
-  kept_more : (before : List Item) (item : Item) (behind : List Item) → before ++ item ∷ behind ≡ history → KeptUntil (length before) → KeptUntil (length (before ++ item ∷ []))
-  kept_more before item behind is kept = λ front back same few.
-      elim (cases_lt (length before) (length front)) [
-        | inl more ↦
-            let long : length (before ++ item ∷ []) ≡ length before + 1 = length-append before (item ∷ []) in
-            let whole = same_front front back (before ++ item ∷ []) behind (same ∙ sym is ∙ sym (append_assoc before (item ∷ []) behind)) (omega (arith, long, more, few)) in
-            subst (λ (s : PlainSession). IsHonestBase m log s.kept) (sym (ap play whole ∙ play_snoc first_session before item)) (next_kept before item behind is kept)
-        | inr within ↦ kept front back same within
+  kept_in : (number : ℕ) → KeptBefore number → (run : ReflectorRun C L) → slice_get runs number ≡ Some run → KeptIn run
+  kept_in number kept run at =
+      let fact = all_at (λ (run : ReflectorRun C L). IsReflectorRun gives id links run × ComesAfter run final) runs number run are at in
+      run_kept number run at fact.0 fact.1 kept (began_honestly number kept run at)
+
+  kept_before : (number : ℕ) → KeptBefore number
+  kept_before zero = λ place run lower at. absurd (omega (arith, lower))
+  kept_before (suc number) = λ place run lower at.
+      elim (cases_lt place number) [
+        | inl less ↦ kept_before number place run less at
+        | inr other ↦
+            let same : place ≡ number = omega (arith, lower, other) in
+            kept_in number (kept_before number) run (ap (slice_get runs) (sym same) ∙ at)
       ]
 
-  kept_from : (before rest : List Item) → before ++ rest ≡ history → KeptUntil (length before) → KeptUntil (length history)
-  kept_from before [] is kept = subst (λ (h : List Item). KeptUntil (length h)) (sym (append-nil before) ∙ is) kept
-  kept_from before (item ∷ rest) is kept = kept_from (before ++ item ∷ []) rest (append_assoc before (item ∷ []) rest ∙ is) (kept_more before item rest is kept)
-
-  none_kept : KeptUntil 0
-  none_kept [] back is few = tt
-  none_kept (item ∷ front) back is few = absurd (omega (arith, few))
-
-  all_kept : KeptUntil (length history)
-  all_kept = kept_from [] history refl none_kept
-
-  within : (front back : List Item) → front ++ back ≡ history → length front ≤ length history
-  within front back is = let long = sym (ap length is) ∙ length-append front back in omega (arith, long)
-
-  pub kept_is_honest : (front back : List Item) → front ++ back ≡ history → IsHonestBase m log (play front).kept
-  kept_is_honest front back is = all_kept front back is (within front back is)
+  pub kept_is_honest : (number : ℕ) (run : ReflectorRun C L) → slice_get runs number ≡ Some run → KeptIn run
+  kept_is_honest number run at = kept_in number (kept_before number) run at
 
   -- ---- views
 
-  all_begin : (ends : List (Option (ServedConnection L))) → AllByRecursion (BeginsBy (length history)) ends
-  all_begin [] = tt
-  all_begin (None ∷ ends) = (tt, all_begin ends)
-  all_begin (Some one ∷ ends) = (λ front back is none. within front back is, all_begin ends)
+  all_open : (ends : List (Option (FarEnd L))) → AllByRecursion Opens ends
+  all_open [] = tt
+  all_open (None ∷ ends) = (tt, all_open ends)
+  all_open (Some end ∷ ends) = (λ run at front back is none. kept_is_honest end.run run at front back is, all_open ends)
 
-  pub view_is_served : (v : SessionView L) → IsViewOf founding id.0 connections history v → IsFounding founding → IsServedVisit founding id.0 v.view v.address v.lines log v.steps v.last
+  pub view_is_served : (v : SessionView L) → IsViewOf founding id.0 runs v → IsFounding founding → IsServedVisit founding id.0 v.view v.address v.lines log v.steps v.last
   view_is_served v its program = record {
     program = program;
     legal = legal;
     walks = its.walks;
-    serves = ends_serve (length history) all_kept (links_in v.steps) v.ends its.links its.known (all_begin v.ends);
+    serves = ends_serve (links_in v.steps) v.ends its.links its.known (all_open v.ends);
   }

@@ -6,6 +6,7 @@ pub mod Walking
 pub mod Meeting
 pub mod Openings
 pub mod Places
+pub mod LaterRuns
 pub mod Keeping
 pub mod Numbers
 pub mod Heard

@@ -1,5 +1,6 @@
 -- Elements of lists, and lists that go side by side.
-use Rattle.std.proofs.Common.{◌≡◌, ℕ, zero, suc, ◌<◌, List, [], ◌∷◌, ◌++◌, length, subst, arith}
+use Rattle.std.proofs.Common.{◌≡◌, ℕ, zero, suc, ◌<◌, List, [], ◌∷◌, ◌++◌, length, Some, slice_get, refl, subst, arith}
+use Rattle.std.proofs.lemmas.Option.{none-some, same_Some}
 use Rattle.std.specs.Prelude.{Contains}
 use Rattle.std.specs.List.{AllByRecursion, slice_index_or}
 
@@ -27,3 +28,13 @@ all_both P Q (x ∷ xs) one other = ((one.0, other.0), all_both P Q xs one.1 oth
 pub all_so : {X : Type 0} (P Q : X → Type 0) → ((x : X) → P x → Q x) → (xs : List X) → AllByRecursion P xs → AllByRecursion Q xs
 all_so P Q so [] all = tt
 all_so P Q so (x ∷ xs) all = (so x all.0, all_so P Q so xs all.1)
+
+-- and of each place
+pub all_at : {X : Type 0} (P : X → Type 0) (xs : List X) (k : ℕ) (x : X) → AllByRecursion P xs → slice_get xs k ≡ Some x → P x
+all_at P [] k x all at = absurd (none-some x at)
+all_at P (first ∷ xs) zero x all at = subst P (same_Some first x at) all.0
+all_at P (first ∷ xs) (suc k) x all at = all_at P xs k x all.1 at
+
+pub each_place : {X : Type 0} (P : X → Type 0) (xs : List X) → ((k : ℕ) (x : X) → slice_get xs k ≡ Some x → P x) → AllByRecursion P xs
+each_place P [] each = tt
+each_place P (first ∷ xs) each = (each zero first refl, each_place P xs (λ k x at. each (suc k) x at))

@@ -1,17 +1,20 @@
 -- Where callers stand in a history.
-use Rattle.std.proofs.Common.{◌≡◌, ℕ, ◌+◌, ◌≤◌, Bool, true, false, eqb, ◌||◌, List, [], ◌∷◌, ◌++◌, if◌then◌else◌, length, refl, sym, ap, subst, ◌∙◌, arith, eq-eqb}
+use Rattle.std.proofs.Common.{◌≡◌, ℕ, ◌+◌, ◌≤◌, Bool, true, false, eqb, ◌||◌, List, [], ◌∷◌, ◌++◌, if◌then◌else◌, length, refl, sym, ap, subst, ◌∙◌, arith, eq-eqb, length-append}
 use Rattle.std.proofs.lemmas.Bool.{eqb-true}
+use Rattle.std.proofs.lemmas.List.{append-nil}
 use Rattle.std.specs.List.{AllByRecursion}
 use Rattle.reflector_core.specs.Answer.{answer}
-use Rattle.reflector_core.specs.Play.{first_session}
+use Rattle.reflector_core.specs.PlainSession.{PlainSession}
 use Rattle.reflector_core.specs.declared.request.Request.{Request}
+use Rattle.reflector_core.specs.declared.request.Request.TheVariants.{Offer}
 use Rattle.session_lock.specs.declared.knowledge.Item.{Item}
 use Rattle.session_lock.specs.declared.knowledge.Item.TheVariants.{Did}
-use Rattle.session_lock.specs.History.{calls_of, caller_of, has, play}
+use Rattle.session_lock.specs.History.{calls_of, caller_of, has, play_from}
 use Rattle.session_lock.proofs.Histories.{has_own, none_behind}
 use Rattle.connection.specs.Exchanges.{Exchange, Answered, exchanges_from, exchanges_in}
 use Rattle.connection.proofs.Callers.{exchanges_both}
 use Rattle.reflect_server.specs.Connections.{ServedConnection, callers_of}
+use Rattle.reflect_server.specs.Opening.{AreLeavesOf, BeginsWithLeaves, IsLeaveOf}
 use Rattle.view_follows.proofs.Lists.{all_back}
 
 -- ---- who called
@@ -75,14 +78,49 @@ same_front (x ∷ front) back (y ∷ other) behind is long =
     let rest = same_front front back other behind (same_items x y (front ++ back) (other ++ behind) is) (omega (arith, long)) in
     ap (λ (z : Item). z ∷ front) heads ∙ ap (λ (l : List Item). y ∷ l) rest
 
+-- ---- who offers
+
+never_calls : (caller : ℕ) (asked : Request) (items before behind : List Item) → items ≡ before ++ Did caller asked ∷ behind → calls_of (caller ∷ []) items ≡ [] → ⊥
+never_calls caller asked items before behind is none =
+    let early = is_earlier caller asked items [] before behind (append-nil items ∙ is) none in
+    let long : length items ≡ length before + length (Did caller asked ∷ behind) = ap length is ∙ length-append before (Did caller asked ∷ behind) in
+    omega (arith, early, long)
+
+module _ (gives : ℕ → Type 0) (opener : ℕ) (view joined time : ℕ) (bytes : List ℕ) where
+  abbrev offered : Item
+  offered = Did opener (Offer view joined time bytes)
+
+  -- the opening Leaves are no Offers, and the opener has made no other calls
+  opener_never_offers : (views : List (ℕ × ℕ)) (leaves rest before behind : List Item) → AreLeavesOf gives opener views leaves → calls_of (opener ∷ []) rest ≡ [] → leaves ++ rest ≡ before ++ offered ∷ behind → ⊥
+  opener_never_offers views [] rest before behind made others is = never_calls opener (Offer view joined time bytes) rest before behind is others
+  opener_never_offers [] (item ∷ leaves) rest before behind made others is = absurd made
+  opener_never_offers (one ∷ views) (item ∷ leaves) rest [] behind made others is =
+      subst (IsLeaveOf gives opener one) (same_item item offered (leaves ++ rest) behind is) made.0
+  opener_never_offers (one ∷ views) (item ∷ leaves) rest (other ∷ before) behind made others is =
+      opener_never_offers views leaves rest before behind made.1 others (same_items item other (leaves ++ rest) (before ++ offered ∷ behind) is)
+
+-- who offers is none but one of the connections
+pub offer_is_called : (gives : ℕ → Type 0) (opening : PlainSession) (opener caller : ℕ) (callers : List ℕ) (history before behind : List Item) (view joined time : ℕ) (bytes : List ℕ) → BeginsWithLeaves gives opening opener history
+    → calls_of (opener ∷ callers) history ≡ history → before ++ Did caller (Offer view joined time bytes) ∷ behind ≡ history → has caller callers ≡ true
+offer_is_called gives opening opener caller callers history before behind view joined time bytes begins whole is =
+    not_opener (eqb caller opener) refl (is_called (opener ∷ callers) history before behind (Did caller (Offer view joined time bytes)) whole is)
+  where
+    not_opener : (own : Bool) → eqb caller opener ≡ own → (own || has caller callers) ≡ true → has caller callers ≡ true
+    not_opener true same among =
+        let its : before ++ Did opener (Offer view joined time bytes) ∷ behind ≡ history =
+        subst (λ (c : ℕ). before ++ Did c (Offer view joined time bytes) ∷ behind ≡ history) (eqb-true caller opener same) is in
+        absurd (opener_never_offers gives opener view joined time bytes begins.views begins.leaves begins.rest before behind begins.made begins.others (begins.first ∙ sym its))
+    not_opener false other among = among
+
 -- ---- an item as an exchange
 
-pub item_holds : (P : Exchange → Type 0) (history before behind : List Item) (caller : ℕ) (asked : Request) → before ++ Did caller asked ∷ behind ≡ history → AllByRecursion P (exchanges_in first_session history caller)
-    → P (Answered asked (answer (play before) asked).reply)
-item_holds P history before behind caller asked is all =
-    let replied = (answer (play before) asked).reply in
-    let later = exchanges_from (answer (play before) asked).session caller behind in
-    let own : exchanges_from (play before) caller (Did caller asked ∷ behind) ≡ Answered asked replied ∷ later = ap (λ (b : Bool). (if b then Answered asked replied ∷ [] else []) ++ later) (eq-eqb caller caller refl) in
-    let whole = subst (λ (h : List Item). AllByRecursion P (exchanges_in first_session h caller)) (sym is) all in
-    let parts = subst (AllByRecursion P) (exchanges_both first_session caller before (Did caller asked ∷ behind)) whole in
-    (subst (AllByRecursion P) own (all_back P (exchanges_in first_session before caller) (exchanges_from (play before) caller (Did caller asked ∷ behind)) parts)).0
+pub item_holds : (P : Exchange → Type 0) (opening : PlainSession) (history before behind : List Item) (caller : ℕ) (asked : Request) → before ++ Did caller asked ∷ behind ≡ history
+    → AllByRecursion P (exchanges_in opening history caller) → P (Answered asked (answer (play_from opening before) asked).reply)
+item_holds P opening history before behind caller asked is all =
+    let at = play_from opening before in
+    let replied = (answer at asked).reply in
+    let later = exchanges_from (answer at asked).session caller behind in
+    let own : exchanges_from at caller (Did caller asked ∷ behind) ≡ Answered asked replied ∷ later = ap (λ (b : Bool). (if b then Answered asked replied ∷ [] else []) ++ later) (eq-eqb caller caller refl) in
+    let whole = subst (λ (h : List Item). AllByRecursion P (exchanges_in opening h caller)) (sym is) all in
+    let parts = subst (AllByRecursion P) (exchanges_both opening caller before (Did caller asked ∷ behind)) whole in
+    (subst (AllByRecursion P) own (all_back P (exchanges_in opening before caller) (exchanges_from at caller (Did caller asked ∷ behind)) parts)).0

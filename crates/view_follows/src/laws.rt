@@ -1,9 +1,8 @@
 //! The last line of a view is the replay of the log.
 ghost use Rattle.run_steps.specs.Outside.{links_tell};
 ghost use Rattle.view_follows.specs.Answered.{AnsweredVisitsHaveNoFault, VisitsEndByRefusals, VisitsEndWithLinks};
-ghost use Rattle.reflect_server.specs.Opening.{gives_later};
 ghost use Rattle.view_follows.specs.BothEnds.{LinksMeet};
-ghost use Rattle.view_follows.specs.SessionsReplay.{EndsViews, KeepsHonest, OfViewSessions, ServesViews};
+ghost use Rattle.view_follows.specs.SessionsReplay.{EndsViews, KeepHonest, OfViewRuns, ServesViews};
 ghost use Rattle.view_follows.specs.ViewsReplay.{ViewsReplay, VisitsEndInReplay, VisitsOfferFollowers};
 
 use replica::{worlds_replay, worlds_stand};
@@ -40,16 +39,17 @@ pub fn links_meet()
     ensures { LinksMeet }
 {}
 
-/// In a new session whose only clients are views each snapshot that was kept is honest, whatever their scripts did, and however often
-/// they were cut. So the log that the reflector wrote serves each of them, and each that is done printed last the line of the replay
-/// of this log.
+/// However often a reflector ended and was started again on the file that it wrote: where its only clients are views, each snapshot that
+/// was kept is honest for the log of its last run, whatever the scripts did, and however often they were cut. So this log serves each view
+/// of each run, and each that is done printed last the line of its replay. One run of a new session is a list of one.
 ///
-/// Each connection of the reflector is that of a link of a view. What came on a link was sent at its other end, in order and without a
-/// gap; the reflector may hear an ALIVE besides. The connections of a view made their first calls in the order of its links.
-pub fn views_of_one_session<C: Clock, L: Link>(clock: &C)
-    ensures honest { OfViewSessions (gives_later (C.gives clock.now) 0) (links_tell L.coming L.heard L.sent L.counts) KeepsHonest }
-    ensures served { OfViewSessions (gives_later (C.gives clock.now) 0) (links_tell L.coming L.heard L.sent L.counts) ServesViews }
-    ensures done { OfViewSessions (gives_later (C.gives clock.now) 0) (links_tell L.coming L.heard L.sent L.counts) EndsViews }
+/// Each connection of each run is that of a link of a view. What came on a link was sent at its other end, in order and without a
+/// gap; the reflector may hear an ALIVE besides. The connections of a view made their first calls in the order of its links. Each run has
+/// a clock of its own. A run that put no session is none of these.
+pub fn views_of_many_runs<C: Clock, L: Link>()
+    ensures honest { OfViewRuns C.gives (links_tell L.coming L.heard L.sent L.counts) KeepHonest }
+    ensures served { OfViewRuns C.gives (links_tell L.coming L.heard L.sent L.counts) ServesViews }
+    ensures done { OfViewRuns C.gives (links_tell L.coming L.heard L.sent L.counts) EndsViews }
 {
     worlds_stand();
     views_replay();

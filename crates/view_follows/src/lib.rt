@@ -3,4 +3,4 @@
 
 mod laws;
 
-pub use laws::{ends_are_caused, links_meet, views_of_one_session, views_replay};
+pub use laws::{ends_are_caused, links_meet, views_of_many_runs, views_replay};

@@ -15,7 +15,7 @@ pub loop-preserved : goal.loop-preserved
 loop-preserved c =
     let some = sym (rw c.in_ok-entry.ensures.ok_part at c.next_of.ensures.read) in
     record {
-      told = rw c.in_ok-append.ensures.ok c.in_ok-learn.ensures;
+      told = rw c.in_ok-append.ensures.ok c.in_ok-learn.ensures.ok;
       same = rw c.in_ok-append.ensures.ok (goes_on entry_after c.loop.log.entries c.args.count c.loop.counter c.loop.rest.now (lent_entry c.loop.log.entries c.in_ok-entry.entry) c.in_ok-entry.after.now _ c.loop-test.true some c.loop.invariant.same);
     }
 

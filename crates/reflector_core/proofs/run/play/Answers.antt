@@ -1,7 +1,7 @@
 use Rattle.std.proofs.Common.{◌≡◌, [], drop}
 use Rattle.std.proofs.lemmas.List.{drop_all, append-nil}
 use Rattle.reflector_core.proofs.PlayLaws.{TellsItsEvents-all}
-use Rattle.reflector_core.proofs.run.play_on.Goals as goal
+use Rattle.reflector_core.proofs.run.play.Goals as goal
 
 pub returns-clause-law : goal.returns-clause-law
 returns-clause-law c =

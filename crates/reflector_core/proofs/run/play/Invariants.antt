@@ -1,7 +1,7 @@
 use Rattle.std.proofs.Common.{◌≡◌, ◌++◌, drop}
 use Rattle.reflector_core.specs.PlainSession.{IsSoundSession}
 use Rattle.reflector_core.specs.Play.{after_all, replies_from}
-use Rattle.reflector_core.proofs.run.play_on.Given as goal
+use Rattle.reflector_core.proofs.run.play.Given as goal
 
 -- what is done, and then what the rest makes of it, is what all make of the opening session
 abbrev pub invariant-loop-request : goal.invariant-loop-request
