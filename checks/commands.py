@@ -308,7 +308,7 @@ PARTS = {
     "resumed": lambda: each("resumed", "resumed", check_resumed),
     "saved": lambda: each("saved", "saved", check_saved),
     "jsons": lambda: each("data", "jsons", check_json),
-    "inspects": lambda: reference_cases("inspects", "inspects"),
+    "inspects": lambda: each("inspects", "inspects", check_inspect),
     "traces": lambda: reference_cases("traces", "traces"),
     "spoiled": spoiled_cases,
     "commands": command_cases,

@@ -7,17 +7,20 @@ import os
 import sys
 import threading
 
+import stand_in_journals as journals
 import stand_in_links as links
 from reference import croquet
 from stand_in_links import Failed, LinkEnd
 
 COMMANDS = {"stamp": (1, {"--from", "--log"}, set()), "check": (1, set(), set()),
             "replay": (4, {"--persisted", "--from", "--snapshot", "--saved"}, set()),
+            "inspect": (5, {"--persisted"}, set()),
             "join": (5, {"--persisted"}, set()),
-            "reflect": (3, {"--persisted", "--from", "--connections", "--log"}, {"--connections", "--log"}),
+            "reflect": (3, {"--persisted", "--from", "--connections", "--journal", "--log"}, {"--connections"}),
             "drill": (3, {"--log", "--snapshots"}, {"--log", "--snapshots"})}
 LIMITS = {"script": croquet.SCRIPT_BYTES, "program": croquet.PROGRAM_BYTES, "log": croquet.LOG_FILE_BYTES,
-          "snapshot": croquet.MOST_SNAPSHOT, "persisted": croquet.MOST_JSON}
+          "snapshot": croquet.MOST_SNAPSHOT, "persisted": croquet.MOST_JSON,
+          "queries": croquet.MOST_QUERIES_BYTES}
 DRILL = (b'class Root{field total;field n;init(o){this.total=0;this.n=0;subscribe("drill","add","add")'
          b';}add(v){this.total=this.total+v;this.n=this.n+1;if(this.n%16==0){this.future(1).mark();}}'
          b'mark(){publish("drill","mark",this.total);}}')
@@ -177,26 +180,41 @@ def read_persisted(options):
     return croquet.read_persisted(read_file(options["--persisted"], "persisted"))
 
 
-def replay(plain, options):
-    name, time = check_name(plain[1]), number(plain[3], 0, croquet.TIME_LIMIT)
+def read_recorded(plain, options):
+    """The program, the log and the persisted value of a recorded session, read in this order."""
     source = read_file(plain[0], "program")
     program = croquet.read_program(source)
     entries = read_or("log", croquet.read_log, read_file(plain[2], "log"))
     persisted = read_persisted(options)
-    ident = croquet.session_id(name, source, persisted)
+    return croquet.Replaying(croquet.session_id(plain[1].encode(), source, persisted), [], entries, program, persisted)
+
+
+def replay(plain, options):
+    check_name(plain[1])
+    time = number(plain[3], 0, croquet.TIME_LIMIT)
+    recorded = read_recorded(plain, options)
     if "--from" in options:
         snapshot = read_file(options["--from"], "snapshot")
-        world = read_or("snapshot", croquet.read_snapshot, program, ident, snapshot)
+        world = read_or("snapshot", croquet.read_snapshot, recorded.program, recorded.id, snapshot)
         if time < world.time:
             raise croquet.Ended("input time", 3)
     else:
-        world = croquet.World.first(program, ident, persisted)
-    world = croquet.replayed(world, entries, time)
+        world = recorded.first_world()
+    world = croquet.replayed(world, recorded.entries, time)
     if "--snapshot" in options:
         write_file(options["--snapshot"], world.snapshot())
     if "--saved" in options:
         write_file(options["--saved"], croquet.to_json(world.saved))
     say(croquet.world_line(world))
+
+
+def inspect(plain, options):
+    check_name(plain[1])
+    every = number(plain[3], 1, 1_048_577)
+    recorded = read_recorded(plain, options)
+    croquet.check_every(recorded.entries, every)
+    for line in croquet.inspected(recorded, every, read_file(plain[4], "queries")):
+        say(line)
 
 
 def drill(plain, options):
@@ -295,12 +313,13 @@ Reflecting, Talk = croquet.Reflecting, croquet.Talk
 
 
 def reflect(plain, options):
+    usage("--log" in options or "--journal" in options)
     name, count = check_name(plain[1]), number(options["--connections"], 1, 65)
     source = read_file(plain[0], "program")
     croquet.read_program(source)
     croquet.check_address(plain[2])
     ident = croquet.session_id(name, source, read_persisted(options))
-    shared = Reflecting(ident, opening_session(options), lambda: links.now())
+    shared, talk = shared_session(ident, options)
     accepted, words = [], {}
     try:
         listener = links.listen(links.socket_address(plain[2]))
@@ -309,18 +328,49 @@ def reflect(plain, options):
         raise croquet.Ended("net-fault", 6) from None
     tell(f"listening at {plain[2]}, session {shared.ident.hex()}")
     threads = []
-    for place in range(count):
-        accepted.append(links.accept(listener))
-        serve = lambda place, link: words.update({place: Talk(shared, OneLink(link)).run()})
-        threads.append(threading.Thread(target=serve, args=(place, accepted[-1])))
-        threads[-1].start()
+    while len(accepted) < count and not is_shut(shared):
+        link = links.accept_soon(listener)
+        if link is not None:
+            serve = lambda place, link: words.update({place: talk(shared, OneLink(link)).run()})
+            threads.append(threading.Thread(target=serve, args=(len(accepted), link)))
+            accepted.append(link)
+            threads[-1].start()
     for thread in threads:
         thread.join()
     links.close_all(accepted)
-    write_file(options["--log"], shared.session.encoded())
-    for place in range(count):
+    if "--log" in options and not is_shut(shared):
+        write_file(options["--log"], shared.session.encoded())
+    for place in range(len(accepted)):
         say(f"connection {place} {words[place]}")
     say(f"entries {len(shared.session.log)} time {shared.session.horizon}")
+    if is_shut(shared):
+        raise croquet.Ended("write-fault", 5)
+
+
+def is_shut(shared):
+    """Whether its journal is shut, if it has one."""
+    return isinstance(shared, journals.Reflecting) and shared.kept.shut
+
+
+def shared_session(ident, options):
+    """The session that links share, and what their talks are."""
+    if "--log" in options:
+        look_at_folder(options["--log"])
+    if "--journal" not in options:
+        return Reflecting(ident, opening_session(options), lambda: links.now()), Talk
+    name = options["--journal"]
+    kept = journals.Journal(name, ident, lambda: opening_session(options))
+    if kept.torn:
+        write_file(f"{name}.torn", kept.torn)
+        say(f"torn {len(kept.torn)}")
+    kept.cut()
+    return journals.Reflecting(ident, kept, lambda: links.now()), journals.Talk
+
+
+def look_at_folder(name):
+    """Where a file cannot be put, that is found before anything listens."""
+    if not os.access(os.path.dirname(name) or ".", os.W_OK) and not os.access(name, os.W_OK):
+        raise croquet.Ended("write-fault", 5)
 
 
 # ---------------------------------------------------------------- the program

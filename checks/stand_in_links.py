@@ -14,6 +14,7 @@ LONGEST = 8_388_608
 ACCEPTED_SECONDS, MADE_SECONDS, PART_SECONDS = 0.05, 0.01, 1
 SEND_SECONDS, CLOSE_SECONDS, PING_SECONDS, PING_QUIETS, NEWS_GAP = 5, 1, 15, 1000, 0.004
 ALIVE = b"\x05"
+ACCEPT_SECONDS = 0.1
 BEGUN = time.monotonic()
 ACCEPTED = []  # all links that were accepted
 
@@ -45,7 +46,10 @@ def listen(address):
     return socket.create_server(address, backlog=128)
 
 
-def accept(listener):
+def accept_soon(listener):
+    """The next link; None where none came for a while."""
+    if not select.select([listener], [], [], ACCEPT_SECONDS)[0]:
+        return None
     link = Link(listener.accept()[0], is_client=False)
     ACCEPTED.append(link)
     return link

@@ -2247,10 +2247,15 @@ def is_time(word):
     return re.fullmatch(r"0|[1-9][0-9]{0,15}", word, re.ASCII) and int(word) < TIME_LIMIT
 
 
+def check_every(entries, every):
+    """Refuses what would keep too many worlds. That is looked at before the queries are read."""
+    if len(entries) // every > MOST_KEYFRAMES:
+        raise Ended("input every", 3)
+
+
 def inspected(recorded, every, source):
     """The lines that queries print."""
-    if len(recorded.entries) // every > MOST_KEYFRAMES:
-        raise Ended("input every", 3)
+    check_every(recorded.entries, every)
     lines = []
     for word, time in [read_query(line) for line in read_lines(source, MOST_QUERIES_BYTES, "input queries")]:
         world = replayed(recorded.first_world(), recorded.entries, time)
@@ -2498,8 +2503,8 @@ DECIMAL = re.compile(r"0|[1-9][0-9]*", re.ASCII)
 
 
 def script_words(line):
-    """The words of a line: spaces divide them, but for those between quotes."""
-    words = re.findall(r'(?:"(?:[^"\\]|\\.)*"|[^" ])+| +', line, re.DOTALL)
+    """The words of a line: spaces divide them, but for those between quotes, or behind the last one."""
+    words = re.findall(r'(?:"(?:[^"\\]|\\.)*(?:"|\\?\Z)|[^" ])+| +', line, re.DOTALL)
     if "".join(words) != line or line.startswith(" ") or line.endswith(" "):
         raise Bad()
     return [word for word in words if not word.startswith(" ")]
@@ -2568,7 +2573,12 @@ def read_view_line(line):
         return (name, literal(words[0]), literal(words[1]), words[2])
     if name == "wait":
         need(len(words) == 1)
+        if words[0].startswith("+"):
+            return ("wait_for", decimal(words[0][1:], TIME_LIMIT))
         return (name, decimal(words[0], TIME_LIMIT))
+    if name == "mark":
+        need(len(words) == 1)
+        return (name, words[0])
     need(name in ("settle", "snap", "cut", "quit") and not words)
     return (name,)
 
@@ -2992,6 +3002,9 @@ class ViewRun:
             self.receive()
         return f"time {self.replica.world.time}"
 
+    def do_wait_for(self, span):
+        return self.do_wait(min(self.replica.world.time + span, TIME_LIMIT - 1))
+
     def do_settle(self):
         self.send_unsent()
         while not self.replica.settled():
@@ -3012,6 +3025,9 @@ class ViewRun:
         joined, from_ = self.synced()
         self.send_unsent()
         return f"rejoined {joined} {from_}"
+
+    def do_mark(self, word):
+        return f"mark {word}"
 
 
 # ---------------------------------------------------------------- the command join

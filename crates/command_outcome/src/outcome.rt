@@ -18,6 +18,10 @@ pub enum Input {
     Time,
     /// The address to which a view connects.
     Address,
+    /// After how many entries an inspection keeps a world, which are too few for the log.
+    Every,
+    /// The queries of an inspection.
+    Queries,
 }
 
 /// Why a command is refused.
@@ -27,7 +31,8 @@ pub enum CommandRefusal {
     Usage,
     /// The program is refused, with the line that tells why.
     Program { line: Blob },
-    /// This input is not in its grammar or above its limit, or it is a time below that of the snapshot, or no address.
+    /// This input is not in its grammar or above its limit, or it is a time below that of the snapshot, no address, or a number
+    /// of entries after which too many worlds would be kept.
     Input(Input),
 }
 

@@ -4,11 +4,12 @@ use Rattle.std.specs.Str.{bytes_eq}
 use Rattle.run_steps.specs.Limits.{most_connections, most_drill_events, most_drill_views}
 use Rattle.text_lines.specs.Lines.{LineWord, number_of_word, time_of_word}
 use Rattle.command_words.specs.declared.words.ReplayRequest.{ReplayRequest}
+use Rattle.command_words.specs.declared.words.InspectRequest.{InspectRequest}
 use Rattle.command_words.specs.declared.words.JoinRequest.{JoinRequest}
 use Rattle.command_words.specs.declared.words.ReflectRequest.{ReflectRequest}
 use Rattle.command_words.specs.declared.words.DrillRequest.{DrillRequest}
 use Rattle.command_words.specs.declared.words.Command.{Command}
-use Rattle.command_words.specs.declared.words.Command.TheVariants.{Stamp, Check, Replay, Join, Reflect, Drill}
+use Rattle.command_words.specs.declared.words.Command.TheVariants.{Stamp, Check, Replay, Inspect, Join, Reflect, Drill}
 use Rattle.command_words.specs.Parts.{Parts, all_parts, are_all_taken, behind_first, without_option, first_positional, value_of}
 
 -- ---- what one word may be
@@ -19,6 +20,10 @@ a_word word = Some word
 -- the most bytes of UTF-8 that the name of a session has
 abbrev pub most_name : ℕ
 most_name = 255
+
+-- the greatest number of entries after which a world is kept
+abbrev pub most_every : ℕ
+most_every = 1048576
 
 -- the name of a session
 abbrev pub a_name : LineWord → Option LineWord
@@ -83,6 +88,18 @@ abbrev pub replay_row : Row
 replay_row = (codes "replay", positional a_word (λ program. positional a_name (λ name. positional a_word (λ log. positional a_time (λ time. replay_options program name log time)))))
 
 -- `[--persisted JSON]`
+abbrev pub inspect_options : InspectRequest → Reading
+inspect_options request = free (codes "--persisted") (λ persisted. asks (Inspect (record request { persisted = persisted })))
+
+-- `inspect PROGRAM NAME LOG EVERY QUERIES`, and its option
+abbrev pub inspect_row : Row
+inspect_row = (
+  codes "inspect",
+  positional a_word (λ program. positional a_name (λ name. positional a_word (λ log. positional (a_number 1 most_every) (λ every. positional a_word (λ queries.
+      inspect_options (record { program = program; name = name; log = log; every = every; queries = queries; persisted = None })))))),
+)
+
+-- `[--persisted JSON]`
 abbrev pub join_options : JoinRequest → Reading
 join_options request = free (codes "--persisted") (λ persisted. asks (Join (record request { persisted = persisted })))
 
@@ -119,7 +136,7 @@ drill_row = (
 )
 
 abbrev pub rows : List Row
-rows = stamp_row ∷ check_row ∷ replay_row ∷ join_row ∷ reflect_row ∷ drill_row ∷ []
+rows = stamp_row ∷ check_row ∷ replay_row ∷ inspect_row ∷ join_row ∷ reflect_row ∷ drill_row ∷ []
 
 -- what the row of this name makes of the parts
 abbrev pub read_by : List Row → LineWord → Reading

@@ -7,4 +7,6 @@ mod parts;
 mod words;
 
 pub use address::is_address;
-pub use words::{Command, DrillRequest, JoinRequest, ReflectRequest, ReplayRequest, read_command};
+pub use words::{
+    Command, DrillRequest, InspectRequest, JoinRequest, ReflectRequest, ReplayRequest, read_command,
+};

@@ -3,8 +3,8 @@ ghost use Rattle.std.specs.Prelude.{◌≡◌, ◌≤◌, ◌<◌, IfOk, IfSome,
 ghost use Rattle.std.specs.Option.{option_and_then};
 ghost use Rattle.tea_base.specs.Limits.{time_limit};
 ghost use Rattle.command_words.specs.Parts.{behind_first, first_positional};
-ghost use Rattle.command_words.specs.CommandWords.{a_name, a_number, a_time, asks, check_row, command_of, drill_row, join_row, join_options, most_name, read_by, reflect_options, reflect_row, replay_options, replay_puts, replay_row, rows, stamp_row, reflect_ends};
-ghost use Rattle.command_words.specs.Bounds.{IsBounded, IsBoundedJoin, IsBoundedReflect, IsWithinBounds};
+ghost use Rattle.command_words.specs.CommandWords.{a_name, a_number, a_time, asks, check_row, command_of, drill_row, inspect_options, inspect_row, join_row, join_options, most_name, read_by, reflect_options, reflect_row, replay_options, replay_puts, replay_row, rows, stamp_row, reflect_ends};
+ghost use Rattle.command_words.specs.Bounds.{IsBounded, IsBoundedInspect, IsBoundedJoin, IsBoundedReflect, IsWithinBounds};
 
 use crate::parts::{Parts, is_word, read_parts};
 use run_steps::{MOST_CONNECTIONS, MOST_DRILL_EVENTS, MOST_DRILL_VIEWS};
@@ -14,6 +14,9 @@ use text_lines::{number, time_of_word};
 
 /// The most bytes of UTF-8 that the name of a session has.
 const MOST_NAME: usize = 255;
+
+/// The greatest number of entries after which `inspect` keeps a world.
+const MOST_EVERY: u32 = 1_048_576;
 
 /// A command with its words.
 #[derive(Drop)]
@@ -30,6 +33,8 @@ pub enum Command {
     },
     /// `replay PROGRAM NAME LOG TIME [--persisted JSON] [--from SNAP] [--snapshot FILE] [--saved FILE]`
     Replay(ReplayRequest),
+    /// `inspect PROGRAM NAME LOG EVERY QUERIES [--persisted JSON]`
+    Inspect(InspectRequest),
     /// `join PROGRAM NAME ADDRESS VIEW SCRIPT [--persisted JSON]`
     Join(JoinRequest),
     /// `reflect PROGRAM NAME ADDRESS [--persisted JSON] [--from LOG] --connections N --log FILE`
@@ -55,6 +60,21 @@ pub struct ReplayRequest {
     pub snapshot: Option<Text>,
     /// Where the saved value of the world is put, as JSON.
     pub saved: Option<Text>,
+}
+
+/// What is asked about the moments of a recorded session.
+#[derive(Drop)]
+pub struct InspectRequest {
+    pub program: Text,
+    /// The name of the session, of at most 255 bytes.
+    pub name: Text,
+    pub log: Text,
+    /// After how many entries each a world is kept, from 1 to 1,048,576.
+    pub every: u32,
+    /// The file of the queries.
+    pub queries: Text,
+    /// The JSON of the persisted value.
+    pub persisted: Option<Text>,
 }
 
 /// What a view is asked for.
@@ -237,6 +257,37 @@ fn replay(mut parts: Parts) -> Option<Command>
     replay_options(parts, program, name, log, time)
 }
 
+/// The option of `inspect`: `[--persisted JSON]`
+fn inspect_options(mut parts: Parts, mut request: InspectRequest) -> Option<Command>
+    requires { IsBoundedInspect request }
+    ensures read { result ≡ inspect_options request parts }
+    ensures bounds { IfSome result IsWithinBounds }
+{
+    request.persisted = parts.option("--persisted");
+    ask(Command::Inspect(request), &parts)
+}
+
+/// `inspect PROGRAM NAME LOG EVERY QUERIES`, and its option
+fn inspect(mut parts: Parts) -> Option<Command>
+    ensures read { result ≡ inspect_row.1 parts }
+    ensures bounds { IfSome result IsWithinBounds }
+{
+    let program = parts.positional()?;
+    let name = next_name(&mut parts)?;
+    let log = parts.positional()?;
+    let every = next_number(&mut parts, 1, MOST_EVERY)?;
+    let queries = parts.positional()?;
+    let request = InspectRequest {
+        program,
+        name,
+        log,
+        every,
+        queries,
+        persisted: None,
+    };
+    inspect_options(parts, request)
+}
+
 /// The option of `join`: `[--persisted JSON]`
 fn join_options(mut parts: Parts, mut request: JoinRequest) -> Option<Command>
     requires { IsBoundedJoin request }
@@ -341,6 +392,8 @@ fn command_named(name: &Text, parts: Parts) -> Option<Command>
         check(parts)
     } else if is_word(name, "replay") {
         replay(parts)
+    } else if is_word(name, "inspect") {
+        inspect(parts)
     } else if is_word(name, "join") {
         join(parts)
     } else if is_word(name, "reflect") {

@@ -1,4 +1,5 @@
 pub mod Agreement
+pub mod InspectLaws
 pub mod NetLaws
 pub mod OneVerdict
 pub mod OpeningLaws

@@ -16,15 +16,18 @@ use Rattle.command_outcome.specs.declared.outcome.Input.TheVariants as input
 use Rattle.command_outcome.specs.declared.outcome.CommandRefusal.{CommandRefusal}
 use Rattle.command_outcome.specs.declared.outcome.CommandRefusal.TheVariants as refusal
 use Rattle.command_words.specs.declared.words.ReplayRequest.{ReplayRequest}
+use Rattle.command_words.specs.declared.words.InspectRequest.{InspectRequest}
 use Rattle.command_words.specs.declared.words.Command.{Command}
-use Rattle.command_words.specs.declared.words.Command.TheVariants.{Stamp, Check, Replay, Join, Reflect, Drill}
+use Rattle.command_words.specs.declared.words.Command.TheVariants.{Stamp, Check, Replay, Inspect, Join, Reflect, Drill}
 use Rattle.command_words.specs.Bounds.{UsesNet}
 use Rattle.command_stamp.specs.Script.{script_of}
+use Rattle.command_inspect.specs.declared.query.Query.{Query}
+use Rattle.command_inspect.specs.Queries.{queries_of}
 use Rattle.model_tree.specs.Bounds.{most_program_bytes}
 use Rattle.persist_json.specs.JsonOf.{most_json}
 use Rattle.tea_base.specs.Limits.{most_snapshot}
 use Rattle.commands.specs.Work.{RunsOn}
-use Rattle.commands.specs.Verdict.{ByDrill, ByNetFault, ByRefusal, ByReflecting, ByVisit, ByWant, Closing, Coming, Comes, Fine, Free, Only, OfFile, OfFounded, OfGiven, OfJson, OfPersisted, OfProgram, OfRecorded, OfScript, OfSnapshot, OfTree, OfWords, Starts, Verdict, ask_file, at_once, count_verdict, fine, founded, stamp_verdict, most_script, most_log, OfOpening, OfStored, session_id_of}
+use Rattle.commands.specs.Verdict.{ByDrill, ByNetFault, ByRefusal, ByReflecting, ByVisit, ByWant, Closing, Coming, Comes, Fine, Free, Only, OfFile, OfFounded, OfGiven, OfInspect, OfInspectedLog, OfJson, OfKeyframes, OfPersisted, OfProgram, OfQueries, OfRecorded, OfRight, OfScript, OfSnapshot, OfTimeLine, OfTree, OfWords, Starts, Verdict, ask_file, at_once, count_verdict, fine, founded, inspect_verdict, keeps_few, stamp_verdict, most_queries, most_script, most_log, OfOpening, OfStored, session_id_of}
 
 -- the run goes on
 abbrev pub IsGoingOn : Closing → Type 0
@@ -112,6 +115,29 @@ tree_never request text tree =
     file_never input.Log (ask_file request.log most_log) (OfStored (λ stored. OfRecorded request text tree stored.log))
     (λ bytes. stored_never (λ stored. OfRecorded request text tree stored.log) bytes (λ stored. recorded_never request text tree stored.log))
 
+right_never : (at : Input) (is : Bool) (next : Coming) → NeverGoesOn next → NeverGoesOn (OfRight at is next)
+right_never at true next never = never
+right_never at false next never = refused_never (refusal.Input at)
+
+queries_never : (founding : Founding) (id : List ℕ) (log : List Entry) (queries : Option (List Query)) → NeverGoesOn (OfQueries founding id log queries)
+queries_never founding id log None = refused_never (refusal.Input input.Queries)
+queries_never founding id log (Some queries) = fine_never (inspect_verdict founding id log queries).steps
+
+keyframes_never : (every : ℕ) (queries : List ℕ) (founding : Founding) (id : List ℕ) (log : List Entry) → NeverGoesOn (OfKeyframes every queries founding id log)
+keyframes_never every queries founding id log =
+    let of_bytes : List ℕ → Coming = λ bytes. OfQueries founding id log (queries_of bytes) in
+    right_never input.Every (keeps_few every log) (OfFile input.Queries (ask_file queries most_queries) of_bytes)
+    (file_never input.Queries (ask_file queries most_queries) of_bytes (λ bytes. queries_never founding id log (queries_of bytes)))
+
+inspected_log_never : (request : InspectRequest) (text : List ℕ) (tree : ProgramTree) (log : List Entry) → NeverGoesOn (OfInspectedLog request text tree log)
+inspected_log_never request text tree log =
+    persisted_never request.persisted (λ v. OfTimeLine request text log (founded tree v)) (λ v. keyframes_never request.every request.queries (founded tree v) (session_id_of request.name text v) log)
+
+inspect_never : (request : InspectRequest) (text : List ℕ) (tree : ProgramTree) → NeverGoesOn (OfInspect request text tree)
+inspect_never request text tree =
+    file_never input.Log (ask_file request.log most_log) (OfStored (λ stored. OfInspectedLog request text tree stored.log))
+    (λ bytes. stored_never (λ stored. OfInspectedLog request text tree stored.log) bytes (λ stored. inspected_log_never request text tree stored.log))
+
 words_never : (command : Option Command) → ¬ RunsOn command → NeverGoesOn (OfWords command)
 words_never None other = refused_never refusal.Usage
 words_never (Some (Stamp script from log)) other =
@@ -122,6 +148,9 @@ words_never (Some (Check program)) other =
 words_never (Some (Replay request)) other =
     file_never input.Program (ask_file request.program most_program_bytes) (λ bytes. OfProgram (OfTree request bytes) bytes)
     (λ bytes. program_never (OfTree request bytes) bytes (tree_never request bytes))
+words_never (Some (Inspect request)) other =
+    file_never input.Program (ask_file request.program most_program_bytes) (λ bytes. OfProgram (OfInspect request bytes) bytes)
+    (λ bytes. program_never (OfInspect request bytes) bytes (inspect_never request bytes))
 words_never (Some (Join request)) other = absurd (other tt)
 words_never (Some (Reflect request)) other = absurd (other tt)
 words_never (Some (Drill request)) other = absurd (other tt)
@@ -153,6 +182,7 @@ never_on_net None other verdict comes on = never_goes_on None (λ runs. absurd r
 never_on_net (Some (Stamp script from log)) other verdict comes on = never_goes_on (Some (Stamp script from log)) (λ runs. absurd runs) verdict comes (on_net_goes_on verdict.closing on)
 never_on_net (Some (Check program)) other verdict comes on = never_goes_on (Some (Check program)) (λ runs. absurd runs) verdict comes (on_net_goes_on verdict.closing on)
 never_on_net (Some (Replay request)) other verdict comes on = never_goes_on (Some (Replay request)) (λ runs. absurd runs) verdict comes (on_net_goes_on verdict.closing on)
+never_on_net (Some (Inspect request)) other verdict comes on = never_goes_on (Some (Inspect request)) (λ runs. absurd runs) verdict comes (on_net_goes_on verdict.closing on)
 never_on_net (Some (Join request)) other verdict comes on = absurd (other tt)
 never_on_net (Some (Reflect request)) other verdict comes on = absurd (other tt)
 never_on_net (Some (Drill request)) other verdict (inl want) on = absurd (subst (λ (v : Verdict). IsOnNet v.closing) want on)

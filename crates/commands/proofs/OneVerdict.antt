@@ -33,17 +33,20 @@ use Rattle.view_script.specs.PlainLine.{PlainLine}
 use Rattle.view_script.specs.ViewScript.{view_script_of}
 use Rattle.command_words.specs.Address.{is_address}
 use Rattle.command_words.specs.declared.words.ReplayRequest.{ReplayRequest}
+use Rattle.command_words.specs.declared.words.InspectRequest.{InspectRequest}
 use Rattle.command_words.specs.declared.words.JoinRequest.{JoinRequest}
 use Rattle.command_words.specs.declared.words.ReflectRequest.{ReflectRequest}
 use Rattle.command_words.specs.declared.words.Command.{Command}
-use Rattle.command_words.specs.declared.words.Command.TheVariants.{Stamp, Check, Replay, Join, Reflect, Drill}
+use Rattle.command_words.specs.declared.words.Command.TheVariants.{Stamp, Check, Replay, Inspect, Join, Reflect, Drill}
 use Rattle.command_outcome.specs.ProgramText.{syntax_line}
 use Rattle.command_stamp.specs.Script.{script_of}
+use Rattle.command_inspect.specs.declared.query.Query.{Query}
+use Rattle.command_inspect.specs.Queries.{queries_of}
 use Rattle.command_outcome.specs.ProgramEnd.{IsLineOf, IsRefused, IsRefusedBy}
 use Rattle.model_tree.specs.Bounds.{most_program_bytes}
 use Rattle.tea_base.specs.Limits.{most_snapshot}
 use Rattle.commands.specs.Laws.{AreAlike, AreDoneAlike, IsOneVerdict, IsFunction}
-use Rattle.commands.specs.Verdict.{Closing, ByDrill, ByRefusal, ByReflecting, ByVisit, ByWant, Verdict, Coming, Free, OfAddress, OfFile, OfFounded, OfGiven, OfJoin, OfJson, OfPersisted, OfProgram, OfRecorded, OfReflect, OfScript, OfSnapshot, OfTree, OfView, OfViewScript, OfWords, Only, Starts, before, ask_file, at_once, count_verdict, founded, reflection_of, resumed_verdict, stamp_verdict, visit_to, most_script, most_log, OfOpening, OfServed, OfStored, session_id_of}
+use Rattle.commands.specs.Verdict.{Closing, ByDrill, ByRefusal, ByReflecting, ByVisit, ByWant, Verdict, Coming, Free, OfFile, OfFounded, OfGiven, OfInspect, OfInspectedLog, OfJoin, OfJson, OfKeyframes, OfPersisted, OfProgram, OfQueries, OfRecorded, OfReflect, OfRight, OfScript, OfSnapshot, OfTimeLine, OfTree, OfView, OfViewScript, OfWords, Only, Starts, before, ask_file, at_once, count_verdict, founded, inspect_verdict, keeps_few, reflection_of, resumed_verdict, stamp_verdict, visit_to, most_queries, most_script, most_log, OfOpening, OfServed, OfStored, session_id_of}
 
 -- what `model_lang::one_reading` says
 abbrev pub IsOneReading : Type 0
@@ -99,6 +102,10 @@ one_file at ask next one verdict other (given, (rest, is, a)) (told, (more, also
           one_free (OfGiven at given next) (one_given at given next one) rest more a
           (subst (λ (bytes : Option (List ℕ)). Free (OfGiven at bytes next) more) (sym same) b),
     )
+
+one_right : (at : Input) (is : Bool) (next : Coming) → IsOneVerdict next → IsOneVerdict (OfRight at is next)
+one_right at true next one = one
+one_right at false next one = one_only (at_once (ByRefusal (refusal.Input at)))
 
 -- ---- stored sessions
 
@@ -216,6 +223,27 @@ one_tree request text tree =
     one_file input.Log (ask_file request.log most_log) (OfStored (λ stored. OfRecorded request text tree stored.log))
     (one_stored (λ stored. OfRecorded request text tree stored.log) (λ stored. one_recorded request text tree stored.log))
 
+-- ---- inspect
+
+one_queries : (founding : Founding) (id : List ℕ) (log : List Entry) (queries : Option (List Query)) → IsOneVerdict (OfQueries founding id log queries)
+one_queries founding id log None = one_only (at_once (ByRefusal (refusal.Input input.Queries)))
+one_queries founding id log (Some queries) = one_only (inspect_verdict founding id log queries)
+
+one_keyframes : (every : ℕ) (queries : List ℕ) (founding : Founding) (id : List ℕ) (log : List Entry) → IsOneVerdict (OfKeyframes every queries founding id log)
+one_keyframes every queries founding id log =
+    let of_bytes : List ℕ → Coming = λ bytes. OfQueries founding id log (queries_of bytes) in
+    one_right input.Every (keeps_few every log) (OfFile input.Queries (ask_file queries most_queries) of_bytes)
+    (one_file input.Queries (ask_file queries most_queries) of_bytes (λ bytes. one_queries founding id log (queries_of bytes)))
+
+one_inspected_log : (request : InspectRequest) (text : List ℕ) (tree : ProgramTree) (log : List Entry) → IsOneVerdict (OfInspectedLog request text tree log)
+one_inspected_log request text tree log =
+    one_persisted request.persisted (λ v. OfTimeLine request text log (founded tree v)) (λ v. one_keyframes request.every request.queries (founded tree v) (session_id_of request.name text v) log)
+
+one_inspect : (request : InspectRequest) (text : List ℕ) (tree : ProgramTree) → IsOneVerdict (OfInspect request text tree)
+one_inspect request text tree =
+    one_file input.Log (ask_file request.log most_log) (OfStored (λ stored. OfInspectedLog request text tree stored.log))
+    (one_stored (λ stored. OfInspectedLog request text tree stored.log) (λ stored. one_inspected_log request text tree stored.log))
+
 -- ---- join
 
 one_view_script : (request : JoinRequest) (text : List ℕ) (tree : ProgramTree) (script : Option (List PlainLine)) → IsOneVerdict (OfViewScript request text tree script)
@@ -223,16 +251,12 @@ one_view_script request text tree None = one_only (at_once (ByRefusal (refusal.I
 one_view_script request text tree (Some lines) =
     one_persisted request.persisted (λ v. Only (at_once (ByVisit (visit_to request text lines (founded tree v))))) (λ v. one_only (at_once (ByVisit (visit_to request text lines (founded tree v)))))
 
-one_address : (is : Bool) (next : Coming) → IsOneVerdict next → IsOneVerdict (OfAddress is next)
-one_address true next one = one
-one_address false next one = one_only (at_once (ByRefusal (refusal.Input input.Address)))
-
 one_view : (request : JoinRequest) (text : List ℕ) (tree : ProgramTree) → IsOneVerdict (OfView request text tree)
 one_view request text tree =
     one_file input.Script (ask_file request.script most_script) (λ bytes. OfViewScript request text tree (view_script_of bytes)) (λ bytes. one_view_script request text tree (view_script_of bytes))
 
 one_join : (request : JoinRequest) (text : List ℕ) (tree : ProgramTree) → IsOneVerdict (OfJoin request text tree)
-one_join request text tree = one_address (is_address (encode_utf8_all request.address)) (OfView request text tree) (one_view request text tree)
+one_join request text tree = one_right input.Address (is_address (encode_utf8_all request.address)) (OfView request text tree) (one_view request text tree)
 
 -- ---- reflect
 
@@ -243,7 +267,7 @@ one_served request id =
 one_reflect : (request : ReflectRequest) (text : List ℕ) → IsOneVerdict (OfReflect request text)
 one_reflect request text =
     let served : PlainValue → Coming = λ v. OfServed request (session_id_of request.name text v) in
-    one_address (is_address (encode_utf8_all request.address)) (OfPersisted request.persisted served)
+    one_right input.Address (is_address (encode_utf8_all request.address)) (OfPersisted request.persisted served)
     (one_persisted request.persisted served (λ v. one_served request (session_id_of request.name text v)))
 
 -- ---- the commands
@@ -257,6 +281,9 @@ one_words one (Some (Check program)) =
 one_words one (Some (Replay request)) =
     one_file input.Program (ask_file request.program most_program_bytes) (λ bytes. OfProgram (OfTree request bytes) bytes)
     (λ bytes. one_program one (OfTree request bytes) (one_tree request bytes) bytes)
+one_words one (Some (Inspect request)) =
+    one_file input.Program (ask_file request.program most_program_bytes) (λ bytes. OfProgram (OfInspect request bytes) bytes)
+    (λ bytes. one_program one (OfInspect request bytes) (one_inspect request bytes) bytes)
 one_words one (Some (Join request)) =
     one_file input.Program (ask_file request.program most_program_bytes) (λ bytes. OfProgram (OfJoin request bytes) bytes)
     (λ bytes. one_program one (OfJoin request bytes) (one_join request bytes) bytes)

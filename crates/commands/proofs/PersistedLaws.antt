@@ -57,11 +57,10 @@ recorded_without request other text tree log verdict named (inr comes) =
     inr (subst (λ (p : Option (List ℕ)). OfPersisted p asked verdict) (sym named) (founded_alike other request text log (founded tree nil) verdict comes))
 
 -- the program has its persisted value, and the session its id
-pub founded_so : (request : ReplayRequest) (text id : List ℕ) (log : List Entry) (founding asked : Founding) (verdict : Verdict) → founding ≡ asked → id ≡ session_id_of request.name text asked.persisted
-    → Free (Starts request.from request founding id log) verdict → Free (OfFounded request text log asked) verdict
-founded_so request text id log founding asked verdict same is comes =
-    subst (λ (f : Founding). Free (Starts request.from request f (session_id_of request.name text asked.persisted) log) verdict) same
-    (subst (λ (i : List ℕ). Free (Starts request.from request founding i log) verdict) is comes)
+pub founded_so : (next : Founding → List ℕ → Coming) (name text id : List ℕ) (founding asked : Founding) (verdict : Verdict) → founding ≡ asked → id ≡ session_id_of name text asked.persisted
+    → Free (next founding id) verdict → Free (next asked (session_id_of name text asked.persisted)) verdict
+founded_so next name text id founding asked verdict same is comes =
+    subst (λ (f : Founding). Free (next f (session_id_of name text asked.persisted)) verdict) same (subst (λ (i : List ℕ). Free (next founding i) verdict) is comes)
 
 -- ---- whatever follows the persisted value
 
@@ -70,3 +69,7 @@ persisted_by_file name file next verdict is comes = subst (λ (p : Option (List 
 
 pub persisted_without : (name : Option (List ℕ)) (next : PlainValue → Coming) (verdict : Verdict) → name ≡ None → next (plain Nil) verdict → OfPersisted name next verdict
 persisted_without name next verdict is comes = subst (λ (p : Option (List ℕ)). OfPersisted p next verdict) (sym is) (subst (λ (v : PlainValue). next v verdict) plain-Nil comes)
+
+pub persisted_freely : (name : Option (List ℕ)) (next : PlainValue → Coming) (verdict : Verdict) → name ≡ None → Free (next (plain Nil)) verdict → Free (OfPersisted name next) verdict
+persisted_freely name next verdict is (inl want) = inl want
+persisted_freely name next verdict is (inr comes) = inr (persisted_without name next verdict is comes)

@@ -22,20 +22,24 @@ use Rattle.view_script.specs.PlainLine.{PlainLine}
 use Rattle.view_script.specs.ViewScript.{view_script_of}
 use Rattle.command_words.specs.Address.{is_address}
 use Rattle.command_words.specs.declared.words.ReplayRequest.{ReplayRequest}
+use Rattle.command_words.specs.declared.words.InspectRequest.{InspectRequest}
 use Rattle.command_words.specs.declared.words.JoinRequest.{JoinRequest}
 use Rattle.command_words.specs.declared.words.ReflectRequest.{ReflectRequest}
 use Rattle.command_words.specs.declared.words.DrillRequest.{DrillRequest}
 use Rattle.command_words.specs.declared.words.Command.{Command}
-use Rattle.command_words.specs.declared.words.Command.TheVariants.{Stamp, Check, Replay, Join, Reflect, Drill}
+use Rattle.command_words.specs.declared.words.Command.TheVariants.{Stamp, Check, Replay, Inspect, Join, Reflect, Drill}
 use Rattle.command_outcome.specs.ProgramText.{check_line, counts_line, syntax_line, too_large_line}
 use Rattle.command_stamp.specs.Script.{script_of}
+use Rattle.command_inspect.specs.declared.query.Query.{Query}
+use Rattle.command_inspect.specs.InspectText.{inspect_text}
+use Rattle.command_inspect.specs.Queries.{queries_of}
 use Rattle.command_outcome.specs.Outcome.{steps_of}
 use Rattle.command_outcome.specs.ProgramEnd.{IsLineOf}
 use Rattle.model_tree.specs.Bounds.{most_program_bytes}
 use Rattle.persist_json.specs.JsonOf.{most_json}
 use Rattle.tea_base.specs.Limits.{most_snapshot}
 use Rattle.commands.specs.Laws.{AreGiven, IsOnlyWant, SomeVerdictComes}
-use Rattle.commands.specs.Verdict.{PlainVisit, Fine, ByDrill, ByRefusal, ByReflecting, ByVisit, ByWant, Coming, OfAddress, OfCommand, OfFile, OfFounded, OfGiven, OfJoin, OfJson, OfPersisted, OfProgram, OfRecorded, OfReflect, OfScript, OfSnapshot, OfTree, OfView, OfViewScript, Only, Starts, ask_file, at_once, before, count_verdict, fine, founded, reflection_of, stamp_verdict, visit_to, most_script, most_log, PlainReflection, OfOpening, OfServed, OfStored, session_id_of}
+use Rattle.commands.specs.Verdict.{PlainVisit, Fine, ByDrill, ByRefusal, ByReflecting, ByVisit, ByWant, Coming, OfCommand, OfFile, OfFounded, OfGiven, OfInspect, OfInspectedLog, OfJoin, OfJson, OfKeyframes, OfPersisted, OfProgram, OfQueries, OfRecorded, OfReflect, OfRight, OfScript, OfSnapshot, OfTimeLine, OfTree, OfView, OfViewScript, Only, Starts, ask_file, at_once, before, count_verdict, fine, founded, keeps_few, reflection_of, stamp_verdict, visit_to, most_queries, most_script, most_log, PlainReflection, OfOpening, OfServed, OfStored, session_id_of}
 
 abbrev pub Told : Type 0
 Told = Ask → Option (List ℕ)
@@ -73,6 +77,10 @@ file_not_want : (told : Told) (at : Input) (ask : Ask) (next : List ℕ → Comi
 file_not_want told at ask next each only =
     given_not_want told at (told ask) next each
     (λ rest comes given. only (before (Loads ask (told ask)) rest) (told ask, (rest, refl, inr comes)) (refl, given))
+
+right_not_want : (told : Told) (at : Input) (is : Bool) (next : Coming) → ¬ IsOnlyWant told next → ¬ IsOnlyWant told (OfRight at is next)
+right_not_want told at true next each = each
+right_not_want told at false next each = refused_not_want told (OfRight at false next) (refusal.Input at) refl
 
 -- ---- stored sessions
 
@@ -157,6 +165,27 @@ tree_not_want told request text tree =
     file_not_want told input.Log (ask_file request.log most_log) (OfStored (λ stored. OfRecorded request text tree stored.log))
     (λ bytes. stored_not_want told (λ stored. OfRecorded request text tree stored.log) bytes (λ stored. recorded_not_want told request text tree stored.log))
 
+-- ---- inspect
+
+queries_not_want : (told : Told) (founding : Founding) (id : List ℕ) (log : List Entry) (queries : Option (List Query)) → ¬ IsOnlyWant told (OfQueries founding id log queries)
+queries_not_want told founding id log None = refused_not_want told (OfQueries founding id log None) (refusal.Input input.Queries) refl
+queries_not_want told founding id log (Some queries) = fine_not_want told (OfQueries founding id log (Some queries)) [] (inspect_text founding id log queries) refl
+
+keyframes_not_want : (told : Told) (every : ℕ) (queries : List ℕ) (founding : Founding) (id : List ℕ) (log : List Entry) → ¬ IsOnlyWant told (OfKeyframes every queries founding id log)
+keyframes_not_want told every queries founding id log =
+    let of_bytes : List ℕ → Coming = λ bytes. OfQueries founding id log (queries_of bytes) in
+    right_not_want told input.Every (keeps_few every log) (OfFile input.Queries (ask_file queries most_queries) of_bytes)
+    (file_not_want told input.Queries (ask_file queries most_queries) of_bytes (λ bytes. queries_not_want told founding id log (queries_of bytes)))
+
+inspected_log_not_want : (told : Told) (request : InspectRequest) (text : List ℕ) (tree : ProgramTree) (log : List Entry) → ¬ IsOnlyWant told (OfInspectedLog request text tree log)
+inspected_log_not_want told request text tree log =
+    persisted_not_want told request.persisted (λ v. OfTimeLine request text log (founded tree v)) (λ v. keyframes_not_want told request.every request.queries (founded tree v) (session_id_of request.name text v) log)
+
+inspect_not_want : (told : Told) (request : InspectRequest) (text : List ℕ) (tree : ProgramTree) → ¬ IsOnlyWant told (OfInspect request text tree)
+inspect_not_want told request text tree =
+    file_not_want told input.Log (ask_file request.log most_log) (OfStored (λ stored. OfInspectedLog request text tree stored.log))
+    (λ bytes. stored_not_want told (λ stored. OfInspectedLog request text tree stored.log) bytes (λ stored. inspected_log_not_want told request text tree stored.log))
+
 -- ---- join
 
 view_script_not_want : (told : Told) (request : JoinRequest) (text : List ℕ) (tree : ProgramTree) (script : Option (List PlainLine)) → ¬ IsOnlyWant told (OfViewScript request text tree script)
@@ -165,13 +194,9 @@ view_script_not_want told request text tree (Some lines) =
     let visits : PlainValue → Coming = λ v. Only (at_once (ByVisit (visit_to request text lines (founded tree v)))) in
     persisted_not_want told request.persisted visits (λ v. visit_not_want told (visits v) (visit_to request text lines (founded tree v)) refl)
 
-address_not_want : (told : Told) (is : Bool) (next : Coming) → ¬ IsOnlyWant told next → ¬ IsOnlyWant told (OfAddress is next)
-address_not_want told true next each = each
-address_not_want told false next each = refused_not_want told (OfAddress false next) (refusal.Input input.Address) refl
-
 join_not_want : (told : Told) (request : JoinRequest) (text : List ℕ) (tree : ProgramTree) → ¬ IsOnlyWant told (OfJoin request text tree)
 join_not_want told request text tree =
-    address_not_want told (is_address (encode_utf8_all request.address)) (OfView request text tree)
+    right_not_want told input.Address (is_address (encode_utf8_all request.address)) (OfView request text tree)
     (file_not_want told input.Script (ask_file request.script most_script) (λ bytes. OfViewScript request text tree (view_script_of bytes))
     (λ bytes. view_script_not_want told request text tree (view_script_of bytes)))
 
@@ -185,7 +210,7 @@ served_not_want told request id =
 reflect_not_want : (told : Told) (request : ReflectRequest) (text : List ℕ) → ¬ IsOnlyWant told (OfReflect request text)
 reflect_not_want told request text =
     let served : PlainValue → Coming = λ v. OfServed request (session_id_of request.name text v) in
-    address_not_want told (is_address (encode_utf8_all request.address)) (OfPersisted request.persisted served)
+    right_not_want told input.Address (is_address (encode_utf8_all request.address)) (OfPersisted request.persisted served)
     (persisted_not_want told request.persisted served (λ v. served_not_want told request (session_id_of request.name text v)))
 
 -- ---- the commands
@@ -198,6 +223,9 @@ command_not_want some told (Check program) =
 command_not_want some told (Replay request) =
     file_not_want told input.Program (ask_file request.program most_program_bytes) (λ bytes. OfProgram (OfTree request bytes) bytes)
     (λ bytes. program_not_want some told (OfTree request bytes) bytes (tree_not_want told request bytes))
+command_not_want some told (Inspect request) =
+    file_not_want told input.Program (ask_file request.program most_program_bytes) (λ bytes. OfProgram (OfInspect request bytes) bytes)
+    (λ bytes. program_not_want some told (OfInspect request bytes) bytes (inspect_not_want told request bytes))
 command_not_want some told (Join request) =
     file_not_want told input.Program (ask_file request.program most_program_bytes) (λ bytes. OfProgram (OfJoin request bytes) bytes)
     (λ bytes. program_not_want some told (OfJoin request bytes) bytes (join_not_want told request bytes))

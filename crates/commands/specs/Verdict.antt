@@ -1,5 +1,5 @@
 -- What comes of a command: the steps that it does, one after the other, and how it is closed.
-use Rattle.std.specs.Prelude.{◌≡◌, ◌≢◌, ◌⊎◌, ℕ, ℤ, Bool, true, false, nat_lt, if◌then◌else◌, List, [], ◌∷◌, ◌++◌, encode_utf8_all, Option, Some, None}
+use Rattle.std.specs.Prelude.{◌≡◌, ◌≢◌, ◌⊎◌, ℕ, ℤ, ◌/◌, Bool, true, false, nat_le, nat_lt, if◌then◌else◌, List, [], ◌∷◌, ◌++◌, length, encode_utf8_all, Option, Some, None}
 use Rattle.tea_base.specs.declared.entry.Entry.{Entry}
 use Rattle.connection.specs.declared.ending.Ended.{Ended}
 use Rattle.reflector_core.specs.PlainSession.{PlainSession}
@@ -28,11 +28,12 @@ use Rattle.command_outcome.specs.declared.outcome.Input.TheVariants as input
 use Rattle.command_outcome.specs.declared.outcome.CommandRefusal.{CommandRefusal}
 use Rattle.command_outcome.specs.declared.outcome.CommandRefusal.TheVariants as refusal
 use Rattle.command_words.specs.declared.words.ReplayRequest.{ReplayRequest}
+use Rattle.command_words.specs.declared.words.InspectRequest.{InspectRequest}
 use Rattle.command_words.specs.declared.words.JoinRequest.{JoinRequest}
 use Rattle.command_words.specs.declared.words.ReflectRequest.{ReflectRequest}
 use Rattle.command_words.specs.declared.words.DrillRequest.{DrillRequest}
 use Rattle.command_words.specs.declared.words.Command.{Command}
-use Rattle.command_words.specs.declared.words.Command.TheVariants.{Stamp, Check, Replay, Join, Reflect, Drill}
+use Rattle.command_words.specs.declared.words.Command.TheVariants.{Stamp, Check, Replay, Inspect, Join, Reflect, Drill}
 use Rattle.command_words.specs.Address.{is_address}
 use Rattle.command_stamp.specs.Script.{script_of}
 use Rattle.command_outcome.specs.Outcome.{optional_put, steps_of}
@@ -41,6 +42,10 @@ use Rattle.command_outcome.specs.ProgramText.{counts_line}
 use Rattle.command_stamp.specs.ReplyText.{text_of}
 use Rattle.command_replay.specs.Replays.{json_of}
 use Rattle.command_replay.specs.WorldText.{world_line}
+use Rattle.time_line.specs.Keyframes.{most_frames}
+use Rattle.command_inspect.specs.declared.query.Query.{Query}
+use Rattle.command_inspect.specs.InspectText.{inspect_text}
+use Rattle.command_inspect.specs.Queries.{queries_of}
 use Rattle.command_outcome.specs.declared.outcome.Put.{Put}
 use Rattle.command_reflect.specs.ReflectedSteps.{reflected_steps}
 use Rattle.command_drill.specs.DrilledSteps.{drilled_steps}
@@ -107,6 +112,11 @@ Only verdict came = came ≡ verdict
 -- want of memory is free: it may come in place of all that follows
 abbrev pub Free : Coming → Coming
 Free next verdict = Only (at_once ByWant) verdict ⊎ next verdict
+
+-- what comes of an input that is right, or of one that is not
+abbrev pub OfRight : Input → Bool → Coming → Coming
+OfRight at true next = next
+OfRight at false next = Only (at_once (ByRefusal (refusal.Input at)))
 
 -- a step is done, and then this comes
 abbrev pub Then : Step → Coming → Coming
@@ -230,6 +240,42 @@ OfRecorded request text tree log = OfPersisted request.persisted (λ v. OfFounde
 abbrev pub OfTree : ReplayRequest → List ℕ → ProgramTree → Coming
 OfTree request text tree = OfFile input.Log (ask_file request.log most_log) (OfStored (λ stored. OfRecorded request text tree stored.log))
 
+-- ---- inspect
+
+-- the most bytes of queries
+abbrev pub most_queries : ℕ
+most_queries = 65536
+
+-- what is printed of a recorded session
+abbrev pub inspect_verdict : Founding → List ℕ → List Entry → List Query → Verdict
+inspect_verdict founding id log queries = fine (steps_of [] (inspect_text founding id log queries))
+
+-- what comes of queries, or of a text that has none
+abbrev pub OfQueries : Founding → List ℕ → List Entry → Option (List Query) → Coming
+OfQueries founding id log None = Only (at_once (ByRefusal (refusal.Input input.Queries)))
+OfQueries founding id log (Some queries) = Only (inspect_verdict founding id log queries)
+
+-- not too many worlds are kept of a log, where one is kept after each so many entries
+abbrev pub keeps_few : ℕ → List Entry → Bool
+keeps_few every log = nat_le (length log / every) most_frames
+
+-- once it is known that few worlds are kept, the queries are read
+abbrev pub OfKeyframes : ℕ → List ℕ → Founding → List ℕ → List Entry → Coming
+OfKeyframes every queries founding id log =
+    OfRight input.Every (keeps_few every log) (OfFile input.Queries (ask_file queries most_queries) (λ bytes. OfQueries founding id log (queries_of bytes)))
+
+-- once the persisted value is known, the worlds are kept
+abbrev pub OfTimeLine : InspectRequest → List ℕ → List Entry → Founding → Coming
+OfTimeLine request text log founding = OfKeyframes request.every request.queries founding (session_id_of request.name text founding.persisted) log
+
+-- once the log was read, the persisted value is
+abbrev pub OfInspectedLog : InspectRequest → List ℕ → ProgramTree → List Entry → Coming
+OfInspectedLog request text tree log = OfPersisted request.persisted (λ v. OfTimeLine request text log (founded tree v))
+
+-- once the program was read, the log of a stored session is
+abbrev pub OfInspect : InspectRequest → List ℕ → ProgramTree → Coming
+OfInspect request text tree = OfFile input.Log (ask_file request.log most_log) (OfStored (λ stored. OfInspectedLog request text tree stored.log))
+
 -- ---- join
 
 abbrev pub visit_to : JoinRequest → List ℕ → List PlainLine → Founding → PlainVisit
@@ -241,18 +287,13 @@ abbrev pub OfViewScript : JoinRequest → List ℕ → ProgramTree → Option (L
 OfViewScript request text tree None = Only (at_once (ByRefusal (refusal.Input input.Script)))
 OfViewScript request text tree (Some lines) = OfPersisted request.persisted (λ v. Only (at_once (ByVisit (visit_to request text lines (founded tree v)))))
 
--- what comes of an address, or of a word that is none
-abbrev pub OfAddress : Bool → Coming → Coming
-OfAddress true next = next
-OfAddress false next = Only (at_once (ByRefusal (refusal.Input input.Address)))
-
 -- the script of a view is read
 abbrev pub OfView : JoinRequest → List ℕ → ProgramTree → Coming
 OfView request text tree = OfFile input.Script (ask_file request.script most_script) (λ bytes. OfViewScript request text tree (view_script_of bytes))
 
 -- once the program was read, the address is checked, and then the script is read
 abbrev pub OfJoin : JoinRequest → List ℕ → ProgramTree → Coming
-OfJoin request text tree = OfAddress (is_address (encode_utf8_all request.address)) (OfView request text tree)
+OfJoin request text tree = OfRight input.Address (is_address (encode_utf8_all request.address)) (OfView request text tree)
 
 -- ---- reflect
 
@@ -268,7 +309,7 @@ OfServed request id = OfOpening request.from (λ opening. Only (at_once (ByRefle
 -- once the program was read, the address is checked, then the persisted value is read, and then the session begins
 abbrev pub OfReflect : ReflectRequest → List ℕ → Coming
 OfReflect request text =
-    OfAddress (is_address (encode_utf8_all request.address)) (OfPersisted request.persisted (λ v. OfServed request (session_id_of request.name text v)))
+    OfRight input.Address (is_address (encode_utf8_all request.address)) (OfPersisted request.persisted (λ v. OfServed request (session_id_of request.name text v)))
 
 -- what comes of a session behind its reflector, whose net may have failed
 abbrev pub reflected_verdict : List ℕ → List Ended → PlainSession → Bool → Verdict
@@ -289,6 +330,8 @@ OfCommand (Stamp script from log) = OfFile input.Script (ask_file script most_sc
 OfCommand (Check program) = OfFile input.Program (ask_file program most_program_bytes) (OfProgram (λ tree. Only (count_verdict tree)))
 OfCommand (Replay request) =
     OfFile input.Program (ask_file request.program most_program_bytes) (λ bytes. OfProgram (OfTree request bytes) bytes)
+OfCommand (Inspect request) =
+    OfFile input.Program (ask_file request.program most_program_bytes) (λ bytes. OfProgram (OfInspect request bytes) bytes)
 OfCommand (Join request) =
     OfFile input.Program (ask_file request.program most_program_bytes) (λ bytes. OfProgram (OfJoin request bytes) bytes)
 OfCommand (Reflect request) =

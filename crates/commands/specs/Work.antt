@@ -1,5 +1,5 @@
 -- What the parts of a command's work make of what comes.
-use Rattle.std.specs.Prelude.{◌≡◌, ◌≤◌, ℕ, ⊤, List, Option, Some}
+use Rattle.std.specs.Prelude.{◌≡◌, ◌≤◌, ℕ, ⊤, true, false, List, Option, Some, Result, Ok, Err}
 use Rattle.tea_base.specs.Limits.{most_snapshot}
 use Rattle.model_tree.specs.Bounds.{most_program_bytes}
 use Rattle.persist_json.specs.JsonOf.{most_json}
@@ -18,16 +18,22 @@ use Rattle.commands.specs.declared.work.Waiting.{Waiting}
 use Rattle.commands.specs.declared.work.Waiting.TheVariants as waiting
 use Rattle.commands.specs.declared.stamp.StampWait.TheVariants as stamp_wait
 use Rattle.commands.specs.declared.recording.ReplayWait.TheVariants as replay_wait
+use Rattle.commands.specs.declared.inspection.InspectWait.TheVariants as inspect_wait
 use Rattle.commands.specs.declared.visit.JoinWait.TheVariants as join_wait
 use Rattle.commands.specs.declared.reflection.ReflectWait.TheVariants as reflect_wait
 use Rattle.command_stamp.specs.Script.{script_of}
+use Rattle.command_inspect.specs.Queries.{queries_of}
+use Rattle.command_replay.specs.declared.recording.Recording.{Recording}
+use Rattle.time_line.specs.Keyframes.{LineView}
+use Rattle.time_line.specs.declared.fault.LineFault.{LineFault}
+use Rattle.time_line.specs.declared.fault.LineFault.TheVariants as line_fault
 use Rattle.view_script.specs.ViewScript.{view_script_of}
 use Rattle.commands.specs.declared.work.Next.{Next}
 use Rattle.commands.specs.declared.work.Next.TheVariants as next
 use Rattle.view_script.specs.PlainLine.{plain_lines}
-use Rattle.command_words.specs.Bounds.{AreConnections, IsBounded, IsBoundedDrill, IsBoundedJoin, IsBoundedReflect}
+use Rattle.command_words.specs.Bounds.{AreConnections, IsBounded, IsBoundedDrill, IsBoundedInspect, IsBoundedJoin, IsBoundedReflect}
 use Rattle.command_outcome.specs.Outcome.{steps_of}
-use Rattle.commands.specs.Verdict.{Verdict, PlainReflection, PlainVisit, ByDrill, ByRefusal, ByReflecting, ByVisit, ByWant, Coming, Only, OfFile, OfFounded, OfJoin, OfJson, OfProgram, OfRecorded, OfReflect, OfScript, OfServed, OfSnapshot, OfStored, OfTree, OfViewScript, ask_file, at_once, count_verdict, fine, founded, most_log, most_script, reflection_of, session_id_of, stamp_verdict, visit_to}
+use Rattle.commands.specs.Verdict.{Verdict, PlainReflection, PlainVisit, ByDrill, ByRefusal, ByReflecting, ByVisit, ByWant, Coming, Only, OfFile, OfFounded, OfInspect, OfJoin, OfJson, OfTimeLine, OfInspectedLog, OfProgram, OfQueries, OfRecorded, OfReflect, OfScript, OfServed, OfSnapshot, OfStored, OfTree, OfViewScript, ask_file, at_once, count_verdict, fine, founded, keeps_few, most_log, most_queries, most_script, reflection_of, session_id_of, stamp_verdict, visit_to}
 
 -- ---- a command that waits for a file
 
@@ -40,6 +46,10 @@ input_of (waiting.Replay (replay_wait.Program request)) = input.Program
 input_of (waiting.Replay (replay_wait.Log wait)) = input.Log
 input_of (waiting.Replay (replay_wait.Value wait)) = input.Persisted
 input_of (waiting.Replay (replay_wait.Snapshot wait)) = input.Snapshot
+input_of (waiting.Inspect (inspect_wait.Program request)) = input.Program
+input_of (waiting.Inspect (inspect_wait.Log wait)) = input.Log
+input_of (waiting.Inspect (inspect_wait.Value wait)) = input.Persisted
+input_of (waiting.Inspect (inspect_wait.Queries wait)) = input.Queries
 input_of (waiting.Join (join_wait.Program request)) = input.Program
 input_of (waiting.Join (join_wait.Script wait)) = input.Script
 input_of (waiting.Join (join_wait.Value wait)) = input.Persisted
@@ -56,6 +66,10 @@ file_of (waiting.Replay (replay_wait.Program request)) = request.program
 file_of (waiting.Replay (replay_wait.Log wait)) = wait.request.log
 file_of (waiting.Replay (replay_wait.Value wait)) = wait.persisted
 file_of (waiting.Replay (replay_wait.Snapshot wait)) = wait.from
+file_of (waiting.Inspect (inspect_wait.Program request)) = request.program
+file_of (waiting.Inspect (inspect_wait.Log wait)) = wait.request.log
+file_of (waiting.Inspect (inspect_wait.Value wait)) = wait.persisted
+file_of (waiting.Inspect (inspect_wait.Queries wait)) = wait.queries
 file_of (waiting.Join (join_wait.Program request)) = request.program
 file_of (waiting.Join (join_wait.Script wait)) = wait.request.script
 file_of (waiting.Join (join_wait.Value wait)) = wait.persisted
@@ -70,9 +84,11 @@ most_bytes input.Program = most_program_bytes
 most_bytes input.Log = most_log
 most_bytes input.Snapshot = most_snapshot
 most_bytes input.Persisted = most_json
+most_bytes input.Queries = most_queries
 -- these are no files
 most_bytes input.Time = 0
 most_bytes input.Address = 0
+most_bytes input.Every = 0
 
 -- the file that is waited for
 abbrev pub ask_of : Waiting → Ask
@@ -90,6 +106,12 @@ next_of (waiting.Replay (replay_wait.Value wait)) bytes =
     OfJson (λ v. OfFounded read.request read.text read.log.entries (founded (checked_tree read.program) v)) bytes
 next_of (waiting.Replay (replay_wait.Snapshot wait)) bytes =
     OfSnapshot wait.request (checked_tree wait.recording.program) wait.recording.id.0 wait.recording.log.entries bytes
+next_of (waiting.Inspect (inspect_wait.Program request)) bytes = OfProgram (OfInspect request bytes) bytes
+next_of (waiting.Inspect (inspect_wait.Log wait)) bytes = OfStored (λ stored. OfInspectedLog wait.request wait.text (checked_tree wait.program) stored.log) bytes
+next_of (waiting.Inspect (inspect_wait.Value wait)) bytes =
+    let read = wait.read in
+    OfJson (λ v. OfTimeLine read.request read.text read.log.entries (founded (checked_tree read.program) v)) bytes
+next_of (waiting.Inspect (inspect_wait.Queries wait)) bytes = OfQueries (founding_of wait.line.program) wait.line.id wait.line.entries (queries_of bytes)
 next_of (waiting.Join (join_wait.Program request)) bytes = OfProgram (OfJoin request bytes) bytes
 next_of (waiting.Join (join_wait.Script wait)) bytes = OfViewScript wait.request wait.text (checked_tree wait.program) (view_script_of bytes)
 next_of (waiting.Join (join_wait.Value wait)) bytes =
@@ -113,6 +135,10 @@ files_left (waiting.Replay (replay_wait.Program request)) = 4
 files_left (waiting.Replay (replay_wait.Log wait)) = 3
 files_left (waiting.Replay (replay_wait.Value wait)) = 2
 files_left (waiting.Replay (replay_wait.Snapshot wait)) = 1
+files_left (waiting.Inspect (inspect_wait.Program request)) = 4
+files_left (waiting.Inspect (inspect_wait.Log wait)) = 3
+files_left (waiting.Inspect (inspect_wait.Value wait)) = 2
+files_left (waiting.Inspect (inspect_wait.Queries wait)) = 1
 files_left (waiting.Join (join_wait.Program request)) = 3
 files_left (waiting.Join (join_wait.Script wait)) = 2
 files_left (waiting.Join (join_wait.Value wait)) = 1
@@ -128,6 +154,10 @@ IsBoundedWait (waiting.Replay (replay_wait.Program request)) = IsBounded request
 IsBoundedWait (waiting.Replay (replay_wait.Log wait)) = IsBounded wait.request
 IsBoundedWait (waiting.Replay (replay_wait.Value wait)) = IsBounded wait.read.request
 IsBoundedWait (waiting.Replay (replay_wait.Snapshot wait)) = IsBounded wait.request
+IsBoundedWait (waiting.Inspect (inspect_wait.Program request)) = IsBoundedInspect request
+IsBoundedWait (waiting.Inspect (inspect_wait.Log wait)) = IsBoundedInspect wait.request
+IsBoundedWait (waiting.Inspect (inspect_wait.Value wait)) = IsBoundedInspect wait.read.request
+IsBoundedWait (waiting.Inspect (inspect_wait.Queries wait)) = ⊤
 IsBoundedWait (waiting.Join (join_wait.Program request)) = IsBoundedJoin request
 IsBoundedWait (waiting.Join (join_wait.Script wait)) = IsBoundedJoin wait.request
 IsBoundedWait (waiting.Join (join_wait.Value wait)) = IsBoundedJoin wait.read.request
@@ -158,6 +188,17 @@ plain_reflection reflection = record {
 -- the session that goes on from the one that is stored in these bytes
 abbrev pub IsStoredIn : List ℕ → PlainSession → Type 0
 IsStoredIn bytes session = (stored : PlainStored) × IsStored stored × (bytes ≡ stored_spelling stored) × (session ≡ session_of stored)
+
+-- a time line is that of a recorded session, keeps a world after each so many entries, and not too many worlds
+pub record IsTimeLineOf (recording : Recording) (every : ℕ) (line : LineView) : Type 0 where
+  pub is : line ≡ record { program = recording.program; id = recording.id.0; entries = recording.log.entries; every = every }
+  pub few : keeps_few every recording.log.entries ≡ true
+
+-- the time line that was made, or that it would keep too many worlds; where it ran out of memory nothing is said
+abbrev pub MakesTimeLine : Result LineView LineFault → Recording → ℕ → Type 0
+MakesTimeLine (Ok line) recording every = IsTimeLineOf recording every line
+MakesTimeLine (Err (line_fault.TooMany frames)) recording every = keeps_few every recording.log.entries ≡ false
+MakesTimeLine (Err line_fault.WantOfMemory) recording every = ⊤
 
 -- what comes of a command that does this next
 abbrev pub ComesNext : Next → Coming

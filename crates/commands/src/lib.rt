@@ -5,10 +5,11 @@
 //! until it is refused, or gives what it puts and prints, or goes on as a view's run, a reflector's, or a drill.
 //!
 //! The words of commands stand in `command_words`, what comes of them in `command_outcome`, and what each of them gives in a crate of its own:
-//! `command_stamp`, `command_replay`, `command_reflect` and `command_drill`.
+//! `command_stamp`, `command_replay`, `command_inspect`, `command_reflect` and `command_drill`.
 #![tactic(auto)]
 
 mod check;
+mod inspection;
 mod laws;
 mod opening;
 mod recording;
@@ -17,6 +18,7 @@ mod stamp;
 mod visit;
 mod work;
 
+pub use inspection::{InspectLogWait, InspectValueWait, InspectWait, QueriesWait, ReadInspection};
 pub use laws::{logs_tell_their_events, one_verdict, snapshots_agree, some_verdict};
 pub use recording::{LogWait, ReadReplay, ReplayValueWait, ReplayWait, SnapshotWait};
 pub use reflection::{ReflectLogWait, ReflectValueWait, ReflectWait};

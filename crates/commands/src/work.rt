@@ -9,6 +9,7 @@ ghost use Rattle.command_outcome.specs.declared.outcome.CommandRefusal.TheVarian
 ghost use Rattle.commands.specs.declared.work.Next.TheVariants as next;
 
 use crate::check::check;
+use crate::inspection::InspectWait;
 use crate::recording::ReplayWait;
 use crate::reflection::ReflectWait;
 use crate::stamp::StampWait;
@@ -28,6 +29,7 @@ pub enum Waiting {
     /// A check that has read nothing yet.
     Check { program: Text },
     Replay(ReplayWait),
+    Inspect(InspectWait),
     Join(JoinWait),
     Reflect(ReflectWait),
 }
@@ -56,6 +58,9 @@ const MOST_SCRIPT: u64 = 16_777_216;
 /// The most bytes of a log.
 const MOST_LOG: u64 = 134_217_728;
 
+/// The most bytes of queries.
+const MOST_QUERIES: u64 = 65_536;
+
 impl Next {
     /// What a command does first, or the refusal of words that ask for none.
     pub fn of_command(command: Option<Command>) -> Next
@@ -70,6 +75,9 @@ impl Next {
             Some(Command::Check { program }) => Next::Reads(Waiting::Check { program }),
             Some(Command::Replay(request)) => {
                 Next::Reads(Waiting::Replay(ReplayWait::Program(request)))
+            }
+            Some(Command::Inspect(request)) => {
+                Next::Reads(Waiting::Inspect(InspectWait::Program(request)))
             }
             Some(Command::Join(request)) => Next::Reads(Waiting::Join(JoinWait::Program(request))),
             Some(Command::Reflect(request)) => {
@@ -90,6 +98,7 @@ impl Waiting {
             Waiting::Stamp(wait) => wait.name(),
             Waiting::Check { program } => program,
             Waiting::Replay(wait) => wait.name(),
+            Waiting::Inspect(wait) => wait.name(),
             Waiting::Join(wait) => wait.name(),
             Waiting::Reflect(wait) => wait.name(),
         }
@@ -103,6 +112,7 @@ impl Waiting {
             Waiting::Stamp(wait) => wait.input(),
             Waiting::Check { .. } => Input::Program,
             Waiting::Replay(wait) => wait.input(),
+            Waiting::Inspect(wait) => wait.input(),
             Waiting::Join(wait) => wait.input(),
             Waiting::Reflect(wait) => wait.input(),
         }
@@ -118,8 +128,10 @@ impl Waiting {
             Input::Log => MOST_LOG,
             Input::Snapshot => MOST_SNAPSHOT as u64,
             Input::Persisted => MOST_JSON as u64,
+            Input::Queries => MOST_QUERIES,
             Input::Time => 0,
             Input::Address => 0,
+            Input::Every => 0,
         }
     }
 
@@ -134,6 +146,7 @@ impl Waiting {
             Waiting::Stamp(wait) => wait.take(alloc, bytes),
             Waiting::Check { program: _program } => check(alloc, bytes.bytes()),
             Waiting::Replay(wait) => wait.take(alloc, bytes),
+            Waiting::Inspect(wait) => wait.take(alloc, bytes),
             Waiting::Join(wait) => wait.take(alloc, bytes),
             Waiting::Reflect(wait) => wait.take(alloc, bytes),
         }

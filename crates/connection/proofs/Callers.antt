@@ -8,7 +8,7 @@ use Rattle.reflector_core.specs.Growth.{GrowsTo}
 use Rattle.reflector_core.specs.declared.request.Reply.{Reply}
 use Rattle.reflector_core.specs.declared.request.Request.{Request}
 use Rattle.session_lock.specs.declared.knowledge.Item.{Item}
-use Rattle.session_lock.specs.declared.knowledge.Item.TheVariants.{Did, Void}
+use Rattle.session_lock.specs.declared.knowledge.Item.TheVariants.{Did, Void, Unkept}
 use Rattle.session_lock.specs.History.{after_item, calls_of, play_from, IsSoundThrough}
 use Rattle.session_lock.specs.Passes.{PassState, caller, Grew, Replied, Voided}
 use Rattle.session_lock.proofs.Histories.{history_grows, play_snoc, saw_each, sound_end, sound_first}
@@ -55,6 +55,9 @@ exchanges_none s c (Did who request ∷ xs) none =
     ap (λ (l : List Exchange). l ++ exchanges_from (after_item s (Did who request)) c xs) both.0 ∙ exchanges_none (after_item s (Did who request)) c xs both.1
 exchanges_none s c (Void who ∷ xs) none =
     let both = other_item (eqb who c) (Void who) (calls_of (c ∷ []) xs) Unanswered none in
+    ap (λ (l : List Exchange). l ++ exchanges_from s c xs) both.0 ∙ exchanges_none s c xs both.1
+exchanges_none s c (Unkept who ∷ xs) none =
+    let both = other_item (eqb who c) (Unkept who) (calls_of (c ∷ []) xs) Unanswered none in
     ap (λ (l : List Exchange). l ++ exchanges_from s c xs) both.0 ∙ exchanges_none s c xs both.1
 
 -- what others do behind it changes none

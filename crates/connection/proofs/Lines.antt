@@ -11,7 +11,7 @@ use Rattle.reflector_core.specs.declared.request.Reply.TheVariants as reply
 use Rattle.reflector_core.specs.declared.request.Request.{Request}
 use Rattle.reflector_core.specs.declared.request.Request.TheVariants.{Pull, Tick}
 use Rattle.session_lock.specs.declared.knowledge.Item.{Item}
-use Rattle.session_lock.specs.declared.knowledge.Item.TheVariants.{Did, Void}
+use Rattle.session_lock.specs.declared.knowledge.Item.TheVariants.{Did, Void, Unkept}
 use Rattle.session_lock.specs.History.{play_from, IsSoundThrough}
 use Rattle.join_sync.specs.declared.cursor.Cursor.{Cursor}
 use Rattle.join_sync.specs.Batches.{most_pulled, next_cursor, next_frames}
@@ -55,6 +55,7 @@ others_end id [] line final given unheard sent unsent sound ends given_is sent_i
 others_end id (Did who request ∷ items) line final given unheard sent unsent sound ends given_is sent_is =
     turn_first id line (Others request) final given sent sound.0 (others_end id items (after_turn id line (Others request)) final given unheard sent unsent sound.1 ends given_is sent_is)
 others_end id (Void who ∷ items) line final given unheard sent unsent sound ends given_is sent_is = others_end id items line final given unheard sent unsent sound.1 ends given_is sent_is
+others_end id (Unkept who ∷ items) line final given unheard sent unsent sound ends given_is sent_is = others_end id items line final given unheard sent unsent sound.1 ends given_is sent_is
 
 abbrev pub at_session : ConnectionLine → PlainSession → ConnectionLine
 at_session line s = record line { session = s }
@@ -102,6 +103,9 @@ reaches id (Did who asked ∷ items) line caller final request replied rest give
 reaches id (Void who ∷ items) line caller final request replied rest given sent sound ends is then_so =
     void_no (eqb who caller) (exchanges_from line.session caller items) rest request replied (IsLine id line final given sent) is
     (λ more. reaches id items line caller final request replied rest given sent sound.1 ends more then_so)
+reaches id (Unkept who ∷ items) line caller final request replied rest given sent sound ends is then_so =
+    void_no (eqb who caller) (exchanges_from line.session caller items) rest request replied (IsLine id line final given sent) is
+    (λ more. reaches id items line caller final request replied rest given sent sound.1 ends more then_so)
 
 -- the same where the call found no memory
 abbrev pub GoesOn : SessionId → ConnectionLine → ℕ → PlainSession → List Exchange → List (Option ClientFrame) → List ServerFrame → Type 0
@@ -116,6 +120,10 @@ misses id (Did who asked ∷ items) line caller final rest given sent sound ends
     did_no (eqb who caller) (exchanges_from (answer line.session asked).session caller items) rest asked (answer line.session asked).reply (IsLine id line final given sent) is
     (λ more. turn_first id line (Others asked) final given sent sound.0 (misses id items (at_session line (answer line.session asked).session) caller final rest given sent sound.1 ends more then_so))
 misses id (Void who ∷ items) line caller final rest given sent sound ends is then_so =
+    void_either (eqb who caller) (exchanges_from line.session caller items) rest (IsLine id line final given sent) is
+    (λ behind. then_so line.session items sound.1 ends behind)
+    (λ more. misses id items line caller final rest given sent sound.1 ends more then_so)
+misses id (Unkept who ∷ items) line caller final rest given sent sound ends is then_so =
     void_either (eqb who caller) (exchanges_from line.session caller items) rest (IsLine id line final given sent) is
     (λ behind. then_so line.session items sound.1 ends behind)
     (λ more. misses id items line caller final rest given sent sound.1 ends more then_so)

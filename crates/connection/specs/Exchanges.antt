@@ -6,10 +6,10 @@ use Rattle.reflector_core.specs.declared.request.Request.{Request}
 use Rattle.reflector_core.specs.declared.request.Request.TheVariants.{Join, Send, Tick, Leave, Offer, Pull}
 use Rattle.reflector_core.specs.declared.request.Reply.{Reply}
 use Rattle.session_lock.specs.declared.knowledge.Item.{Item}
-use Rattle.session_lock.specs.declared.knowledge.Item.TheVariants.{Did, Void}
+use Rattle.session_lock.specs.declared.knowledge.Item.TheVariants.{Did, Void, Unkept}
 use Rattle.session_lock.specs.History.{after_item}
 
--- a request and its reply, or a call that found no memory
+-- a request and its reply, or a call that found no memory or was not kept
 pub data Exchange : Type 0 where
   Answered : Request → Reply → Exchange
   Unanswered : Exchange
@@ -18,6 +18,7 @@ pub data Exchange : Type 0 where
 abbrev pub exchange_in : PlainSession → ℕ → Item → List Exchange
 exchange_in s caller (Did who request) = if eqb who caller then Answered request (answer s request).reply ∷ [] else []
 exchange_in s caller (Void who) = if eqb who caller then Unanswered ∷ [] else []
+exchange_in s caller (Unkept who) = if eqb who caller then Unanswered ∷ [] else []
 
 abbrev pub exchanges_from : PlainSession → ℕ → List Item → List Exchange
 exchanges_from s caller [] = []

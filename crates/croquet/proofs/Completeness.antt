@@ -1,6 +1,5 @@
 -- A command whose inputs are right, and no call of which has failed, is done, or runs out of memory.
 use Rattle.std.proofs.Common.{◌≡◌, ◌⊎◌, inl, inr, ℕ, ℤ, ◌≤◌, Bool, true, false, List, [], ◌∷◌, length, replicate, Option, Some, None, Result, Ok, Err, refl, sym, subst}
-use Rattle.tea_base.specs.declared.entry.Entry.{Entry}
 use Rattle.tea_base.specs.declared.want.WantOfMemory.{WantOfMemory}
 use Rattle.tea_io.specs.Told.{Rose}
 use Rattle.run_steps.specs.Steps.{Step, Puts, Prints}

@@ -1,5 +1,5 @@
 -- The count of faults of a run's links: it rises with each link that fails, once the link is given back.
-use Rattle.std.proofs.Common.{◌≡◌, ◌⊎◌, inl, inr, ℕ, ◌+◌, ◌-◌, ◌^◌, ◌≤◌, min, List, [], ◌∷◌, Option, Some, None, refl, sym, ap, subst, arith}
+use Rattle.std.proofs.Common.{◌≡◌, inl, inr, ℕ, ◌-◌, ◌^◌, ◌≤◌, min, List, [], ◌∷◌, Option, Some, None, refl, sym, ap, subst, arith}
 use Rattle.tea_io.specs.Told.{Rose}
 use Rattle.tea_io.specs.Links.{Counts}
 use Rattle.tea_io.specs.Nets.{sum_of}

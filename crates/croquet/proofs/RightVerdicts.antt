@@ -1,5 +1,6 @@
 -- The verdict that is due where the inputs of a command are right.
 use Rattle.std.proofs.Common.{◌≡◌, inl, inr, ℕ, Bool, true, List, [], ◌∷◌, encode_utf8_all, Option, Some, None, refl, sym, subst}
+use Rattle.std.proofs.lemmas.Bool.{le-leb}
 use Rattle.tea_base.specs.declared.entry.Entry.{Entry}
 use Rattle.session_log.specs.Stored.{PlainStored, IsStored, stored_spelling}
 use Rattle.reflector_core.specs.declared.request.Request.{Request}
@@ -25,17 +26,21 @@ use Rattle.command_outcome.specs.ProgramText.{counts_line}
 use Rattle.command_stamp.specs.ReplyText.{text_of}
 use Rattle.command_stamp.specs.Script.{script_of}
 use Rattle.command_replay.specs.WorldText.{world_line}
+use Rattle.command_inspect.specs.declared.query.Query.{Query}
+use Rattle.command_inspect.specs.InspectText.{inspect_text}
+use Rattle.command_inspect.specs.Queries.{queries_of}
 use Rattle.command_words.specs.Address.{is_address}
 use Rattle.command_words.specs.declared.words.ReplayRequest.{ReplayRequest}
+use Rattle.command_words.specs.declared.words.InspectRequest.{InspectRequest}
 use Rattle.command_words.specs.declared.words.JoinRequest.{JoinRequest}
 use Rattle.command_words.specs.declared.words.ReflectRequest.{ReflectRequest}
 use Rattle.command_words.specs.declared.words.Command.{Command}
-use Rattle.command_words.specs.declared.words.Command.TheVariants.{Stamp, Check, Replay, Join, Reflect, Drill}
+use Rattle.command_words.specs.declared.words.Command.TheVariants.{Stamp, Check, Replay, Inspect, Join, Reflect, Drill}
 use Rattle.model_tree.specs.Bounds.{most_program_bytes}
 use Rattle.tea_base.specs.Limits.{most_snapshot}
-use Rattle.commands.specs.Verdict.{ByDrill, ByReflecting, ByVisit, Closing, Coming, Fine, OfAddress, OfFile, OfJoin, OfOpening, OfProgram, OfReflect, OfScript, OfServed, OfSnapshot, OfStored, OfTree, OfView, OfViewScript, OfWords, Only, Starts, Verdict, OfFounded, OfJson, OfPersisted, OfRecorded, ask_file, at_once, before, count_verdict, fine, founded, most_script, reflection_of, session_id_of, stamp_verdict, visit_to, world_puts, most_log}
+use Rattle.commands.specs.Verdict.{ByDrill, ByReflecting, ByVisit, Closing, Coming, Fine, OfFile, OfInspectedLog, OfInspect, OfJoin, OfKeyframes, OfOpening, OfProgram, OfQueries, OfReflect, OfRight, OfScript, OfServed, OfSnapshot, OfStored, OfTimeLine, OfTree, OfView, OfViewScript, OfWords, Only, Starts, Verdict, OfFounded, OfJson, OfPersisted, OfRecorded, ask_file, at_once, before, count_verdict, fine, founded, inspect_verdict, keeps_few, most_queries, most_script, reflection_of, session_id_of, stamp_verdict, visit_to, world_puts, most_log}
 use Rattle.commands.proofs.Agreement.{late_verdict}
-use Rattle.croquet.specs.Complete.{HasRightInput, HoldsFile, HoldsOpening, HoldsPersisted, HoldsProgram, HoldsRecording, HoldsStart, IsJsonText, IsScriptText, IsSnapshotUntil, IsStoredText, IsProgramText, IsViewScriptText, NamesAddress, persisted_in}
+use Rattle.croquet.specs.Complete.{HasRightInput, HoldsFile, HoldsInspection, HoldsOpening, HoldsPersisted, HoldsProgram, HoldsRecording, HoldsStart, IsJsonText, IsQueriesText, IsScriptText, IsSnapshotUntil, IsStoredText, IsProgramText, IsViewScriptText, NamesAddress, persisted_in}
 use Rattle.croquet.proofs.RightSteps.{AreRight, GivesHeld, IsGiving, giving_are_right}
 
 -- what is put and printed is put and printed alone
@@ -98,8 +103,8 @@ module _ (held : List ℕ → Content) where
   json_right Closes next bytes v is right =
       record { verdict = right.verdict; comes = inl (v, is, right.comes); reads = right.reads; closing = right.closing }
 
-  address_right : (Closes : Closing → Type 0) (is : Bool) (next : Coming) → is ≡ true → ComesRight held Closes next → ComesRight held Closes (OfAddress is next)
-  address_right Closes is next so right = subst (λ (b : Bool). ComesRight held Closes (OfAddress b next)) (sym so) right
+  right_right : (Closes : Closing → Type 0) (at : Input) (is : Bool) (next : Coming) → is ≡ true → ComesRight held Closes next → ComesRight held Closes (OfRight at is next)
+  right_right Closes at is next so right = subst (λ (b : Bool). ComesRight held Closes (OfRight at b next)) (sym so) right
 
 -- ---- what the files hold
 
@@ -162,13 +167,38 @@ module _ {F : Type 0} (files : FilesTell F) (old : F) where
       (persisted_right ClosesWell request.persisted recording.persisted (λ v. OfFounded request program.bytes stored.log (founded tree v))
       (start_right request.from request (founded tree v) (session_id_of request.name program.bytes v) stored.log recording.start))))
 
+  queries_right : (founding : Founding) (id : List ℕ) (log : List Entry) (read : Option (List Query)) (queries : List Query) → read ≡ Some queries → ComesRight (files.held old) ClosesWell (OfQueries founding id log read)
+  queries_right founding id log read queries is =
+      subst (λ (q : Option (List Query)). ComesRight (files.held old) ClosesWell (OfQueries founding id log q)) (sym is)
+      (fine_right (files.held old) [] (inspect_text founding id log queries) (Only (inspect_verdict founding id log queries)) refl)
+
+  keyframes_right : (every : ℕ) (name : List ℕ) (founding : Founding) (id : List ℕ) (log : List Entry) → keeps_few every log ≡ true → HoldsFile files old name most_queries IsQueriesText
+      → ComesRight (files.held old) ClosesWell (OfKeyframes every name founding id log)
+  keyframes_right every name founding id log few queries =
+      let next : List ℕ → Coming = λ bytes. OfQueries founding id log (queries_of bytes) in
+      right_right (files.held old) ClosesWell input.Every (keeps_few every log) (OfFile input.Queries (ask_file name most_queries) next) few
+      (read_right ClosesWell input.Queries (ask_file name most_queries) next IsQueriesText queries (queries_right founding id log (queries_of queries.bytes) queries.right.0 queries.right.1))
+
+  inspection_right : (request : InspectRequest) → HoldsInspection files old request → ComesRight (files.held old) ClosesWell (OfWords (Some (Inspect request)))
+  inspection_right request inspection =
+      let program = inspection.program in
+      let tree = program.right.0 in
+      let stored = inspection.log.right.0 in
+      let next : PlainStored → Coming = λ stored. OfInspectedLog request program.bytes tree stored.log in
+      let v = persisted_in files old request.persisted inspection.persisted in
+      read_program ClosesWell request.program program (λ bytes tree. OfInspect request bytes tree)
+      (read_right ClosesWell input.Log (ask_file request.log most_log) (OfStored next) IsStoredText inspection.log
+      (stored_right (files.held old) ClosesWell next inspection.log.bytes stored inspection.log.right.1 inspection.log.right.2
+      (persisted_right ClosesWell request.persisted inspection.persisted (λ v. OfTimeLine request program.bytes stored.log (founded tree v))
+      (keyframes_right request.every request.queries (founded tree v) (session_id_of request.name program.bytes v) stored.log (le-leb _ _ inspection.few) inspection.queries))))
+
   reflect_right : (request : ReflectRequest) → HoldsProgram files old request.program → NamesAddress request.address → HoldsPersisted files old request.persisted → HoldsOpening files old request.from
       → ComesRight (files.held old) ClosesWell (OfWords (Some (Reflect request)))
   reflect_right request program address persisted opening =
       let id = session_id_of request.name program.bytes (persisted_in files old request.persisted persisted) in
       let next : PlainValue → Coming = λ v. OfServed request (session_id_of request.name program.bytes v) in
       read_program ClosesWell request.program program (λ bytes tree. OfReflect request bytes)
-      (address_right (files.held old) ClosesWell (is_address (encode_utf8_all request.address)) (OfPersisted request.persisted next) address
+      (right_right (files.held old) ClosesWell input.Address (is_address (encode_utf8_all request.address)) (OfPersisted request.persisted next) address
       (persisted_right ClosesWell request.persisted persisted next
       (opening_right ClosesWell request.from (λ opening. Only (at_once (ByReflecting (reflection_of request id opening)))) opening
       (λ opening. closed_right (files.held old) ClosesWell (ByReflecting (reflection_of request id opening)) (Only (at_once (ByReflecting (reflection_of request id opening)))) tt refl))))
@@ -188,7 +218,7 @@ module _ {F : Type 0} (files : FilesTell F) (old : F) where
       let text = program.bytes in
       let tree = program.right.0 in
       read_program ClosesByVisit request.program program (λ bytes tree. OfJoin request bytes tree)
-      (address_right (files.held old) ClosesByVisit (is_address (encode_utf8_all request.address)) (OfView request text tree) address
+      (right_right (files.held old) ClosesByVisit input.Address (is_address (encode_utf8_all request.address)) (OfView request text tree) address
       (read_right ClosesByVisit input.Script (ask_file request.script most_script) (λ bytes. OfViewScript request text tree (view_script_of bytes)) IsViewScriptText script
       (view_script_right request text tree (view_script_of script.bytes) script.right.0 script.right.1 persisted)))
 
@@ -201,6 +231,7 @@ module _ {F : Type 0} (files : FilesTell F) (old : F) where
   words_right (Some (Check program)) right =
       read_program ClosesWell program right (λ bytes tree. Only (count_verdict tree)) (fine_right (files.held old) [] (counts_line right.right.0) (Only (count_verdict right.right.0)) refl)
   words_right (Some (Replay request)) right = recording_right request right
+  words_right (Some (Inspect request)) right = inspection_right request right
   words_right (Some (Reflect request)) right = reflect_right request right.0 right.1 right.2 right.3
   words_right (Some (Drill request)) right = closed_right (files.held old) ClosesWell (ByDrill request) (OfWords (Some (Drill request))) tt refl
   words_right (Some (Join request)) right = join_right request right.0 right.1 right.2 right.3

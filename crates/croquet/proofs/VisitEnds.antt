@@ -1,5 +1,5 @@
 -- The walk of a view ends as its script and its links say: a fault of the net or of the output cuts it.
-use Rattle.std.proofs.Common.{◌≡◌, inl, inr, ℕ, Bool, true, false, cond, ◌==◌, nat_le, List, [], ◌∷◌, ◌++◌, length, Option, Some, None, sym, subst}
+use Rattle.std.proofs.Common.{◌≡◌, inl, inr, ℕ, Bool, true, false, cond, ◌==◌, nat_le, List, [], ◌∷◌, ◌++◌, Option, Some, None, sym, subst}
 use Rattle.byte_fields.specs.Fields.{whole}
 use Rattle.tea_io.specs.Links.{most_quiets}
 use Rattle.tea_io.specs.declared.link.Heard.{Heard}
@@ -15,12 +15,12 @@ use Rattle.replica_plain.specs.declared.fault.ReplicaFault.{ReplicaFault}
 use Rattle.replica_plain.specs.declared.fault.ReplicaFault.TheVariants as fault
 use Rattle.replica_plain.specs.Taking.{taken}
 use Rattle.replica_plain.specs.Calls.{unsent}
-use Rattle.view_script.specs.PlainLine.{PlainLine, Publish, Watch, Wait, Settle, Snap, Cut, Quit}
+use Rattle.view_script.specs.PlainLine.{PlainLine, Publish, Watch, Wait, WaitFor, Settle, Snap, Cut, Quit, Mark}
 use Rattle.run_steps.specs.Steps.{Step, Prints, Connects, Returns, Hears, Sends}
 use Rattle.view_shell.specs.declared.ending.ViewEnd.{ViewEnd}
 use Rattle.view_shell.specs.declared.ending.ViewEnd.TheVariants as view_end
 use Rattle.view_shell.specs.ViewText.{rejoined_line, snap_refused_line, snapped_line, time_line}
-use Rattle.view_shell.specs.Phases.{Aim, Begins, Connecting, Hearing, Leaves, Leaving, Moves, Over, Phase, Printing, PrintingLast, Receives, Receiving, Returning, Sending, Task, TellsText, ToCatchUp, ToJoin, ToReach, ToSettle, ToSnap, Viewer, Walks, after_frame, after_giving, after_publish, after_sync, alive, bad_base, begin_task, finish, go_on, has_caught_up, heard_frame, heard_quiet, leave_session, phase_behind_frame, quiet, reads, receive, run, send_all, settle_on, with_lines, with_taken}
+use Rattle.view_shell.specs.Phases.{Aim, Begins, Connecting, Hearing, Leaves, Leaving, Moves, Over, Phase, Printing, PrintingLast, Receives, Receiving, Returning, Sending, Task, TellsText, ToCatchUp, ToJoin, ToReach, ToSettle, ToSnap, Viewer, Walks, after_frame, after_giving, after_publish, after_sync, alive, bad_base, begin_task, finish, go_on, has_caught_up, heard_frame, heard_quiet, leave_session, phase_behind_frame, quiet, reads, receive, run, send_all, settle_on, with_lines, with_taken, time_after}
 use Rattle.view_shell.specs.ViewRun.{EndsBy}
 use Rattle.commands.specs.Verdict.{PlainVisit}
 use Rattle.croquet.specs.Run.{Ending, Visits}
@@ -67,10 +67,12 @@ run_said v (Publish scope event value ∷ rest) =
     send_said (after_giving w) (unsent w.replica) (Receives ToCatchUp)
 run_said v (Watch scope event handling ∷ rest) = tt
 run_said v (Wait time ∷ rest) = receive_said (with_lines v rest) (ToReach time)
+run_said v (WaitFor span ∷ rest) = receive_said (with_lines v rest) (ToReach (time_after v.replica.world.time span))
 run_said v (Settle ∷ rest) = send_said (after_giving (with_lines v rest)) (unsent v.replica) (Receives ToSettle)
 run_said v (Snap ∷ rest) = tt
 run_said v (Cut ∷ rest) = tt
 run_said v (Quit ∷ rest) = leave_said (with_lines v rest)
+run_said v (Mark word ∷ rest) = tt
 
 go_on_said : (v : Viewer) (frames : List ClientFrame) (task : Task) → IsSaid (go_on v frames task)
 go_on_said v frames task = send_said v (alive v ++ frames) task

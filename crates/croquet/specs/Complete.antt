@@ -1,5 +1,5 @@
 -- A command whose inputs are right, and no call of which has failed, is done, or runs out of memory.
-use Rattle.std.specs.Prelude.{◌≡◌, ◌≢◌, ◌⊎◌, ℕ, ⊤, ◌≤◌, true, List, length, encode_utf8_all, Option, Some, None}
+use Rattle.std.specs.Prelude.{◌≡◌, ◌≢◌, ◌⊎◌, ℕ, ⊤, ◌/◌, ◌≤◌, true, List, length, encode_utf8_all, Option, Some, None}
 use Rattle.tea_base.specs.Limits.{most_snapshot}
 use Rattle.tea_base.specs.declared.entry.Entry.{Entry}
 use Rattle.session_log.specs.Stored.{PlainStored, IsStored, stored_spelling}
@@ -20,11 +20,15 @@ use Rattle.run_steps.specs.Outside.{FilesTell, LinksTell, NetTells, Outside, Out
 use Rattle.view_follows.specs.Answered.{GoOn, IsAnsweredVisit, RefuseNoOther}
 use Rattle.command_words.specs.Address.{is_address}
 use Rattle.command_words.specs.declared.words.ReplayRequest.{ReplayRequest}
+use Rattle.command_words.specs.declared.words.InspectRequest.{InspectRequest}
 use Rattle.command_words.specs.declared.words.Command.{Command}
-use Rattle.command_words.specs.declared.words.Command.TheVariants.{Stamp, Check, Replay, Join, Reflect, Drill}
+use Rattle.command_words.specs.declared.words.Command.TheVariants.{Stamp, Check, Replay, Inspect, Join, Reflect, Drill}
 use Rattle.command_stamp.specs.Script.{script_of}
+use Rattle.time_line.specs.Keyframes.{most_frames}
+use Rattle.command_inspect.specs.declared.query.Query.{Query}
+use Rattle.command_inspect.specs.Queries.{queries_of}
 use Rattle.command_outcome.specs.ProgramEnd.{IsFaultless}
-use Rattle.commands.specs.Verdict.{ByVisit, Closing, Comes, PlainVisit, most_log, most_script, session_id_of}
+use Rattle.commands.specs.Verdict.{ByVisit, Closing, Comes, PlainVisit, most_log, most_queries, most_script, session_id_of}
 use Rattle.croquet.specs.Run.{RanBySteps}
 use Rattle.croquet.specs.declared.status.Status.{Status}
 use Rattle.croquet.specs.declared.status.Status.TheVariants as status
@@ -43,6 +47,9 @@ IsScriptText bytes = (requests : List Request) × (script_of bytes ≡ Some requ
 
 abbrev pub IsViewScriptText : List ℕ → Type 0
 IsViewScriptText bytes = (lines : List PlainLine) × (view_script_of bytes ≡ Some lines)
+
+abbrev pub IsQueriesText : List ℕ → Type 0
+IsQueriesText bytes = (queries : List Query) × (queries_of bytes ≡ Some queries)
 
 -- a program without faults
 abbrev pub IsProgramText : List ℕ → Type 0
@@ -90,6 +97,14 @@ pub record HoldsRecording {F : Type 0} (files : FilesTell F) (old : F) (request 
   pub persisted : HoldsPersisted files old request.persisted
   pub start : HoldsStart files old request.from (IsSnapshotUntil request.time (field_counts program.right.0) (session_id_of request.name program.bytes (persisted_in files old request.persisted persisted)))
 
+-- the files of an inspection, which keeps not too many worlds
+pub record HoldsInspection {F : Type 0} (files : FilesTell F) (old : F) (request : InspectRequest) : Type 0 where
+  pub program : HoldsProgram files old request.program
+  pub log : HoldsFile files old request.log most_log IsStoredText
+  pub persisted : HoldsPersisted files old request.persisted
+  pub few : length log.right.0.log / request.every ≤ most_frames
+  pub queries : HoldsFile files old request.queries most_queries IsQueriesText
+
 -- a word is the address of a net
 abbrev pub NamesAddress : List ℕ → Type 0
 NamesAddress word = is_address (encode_utf8_all word) ≡ true
@@ -100,6 +115,7 @@ HasRightInput files old None = ⊥
 HasRightInput files old (Some (Stamp script from log)) = HoldsFile files old script most_script IsScriptText × HoldsOpening files old from
 HasRightInput files old (Some (Check program)) = HoldsProgram files old program
 HasRightInput files old (Some (Replay request)) = HoldsRecording files old request
+HasRightInput files old (Some (Inspect request)) = HoldsInspection files old request
 HasRightInput files old (Some (Join request)) =
     HoldsProgram files old request.program × NamesAddress request.address × HoldsFile files old request.script most_script IsViewScriptText × HoldsPersisted files old request.persisted
 HasRightInput files old (Some (Reflect request)) =

@@ -1,5 +1,5 @@
 -- What comes of a drill's answer.
-use Rattle.std.specs.Prelude.{◌≡◌, ℕ, List, replicate, Result, Ok, Err}
+use Rattle.std.specs.Prelude.{◌≡◌, ℕ, replicate, Result, Ok, Err}
 use Rattle.reflector_core.specs.PlainSession.{PlainSession}
 use Rattle.tea_base.specs.declared.want.WantOfMemory.{WantOfMemory}
 use Rattle.world_plain.specs.World.{WorldRecord}

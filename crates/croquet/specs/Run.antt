@@ -50,6 +50,8 @@ name_of input.Snapshot = codes "snapshot"
 name_of input.Persisted = codes "persisted"
 name_of input.Time = codes "time"
 name_of input.Address = codes "address"
+name_of input.Every = codes "every"
+name_of input.Queries = codes "queries"
 
 -- its command is refused
 abbrev pub refusal_ending : CommandRefusal → Ending

@@ -55,6 +55,8 @@ fn input_line(input: Input) -> &'static str
         Input::Persisted => "input persisted\n",
         Input::Time => "input time\n",
         Input::Address => "input address\n",
+        Input::Every => "input every\n",
+        Input::Queries => "input queries\n",
     }
 }
 

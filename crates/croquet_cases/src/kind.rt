@@ -1,9 +1,9 @@
 //! What cases are of, and what they come to.
-use crate::command;
 use crate::net_case::{NetCase, NetCommand};
 use crate::net_run::run_case;
 use crate::telling::told_run;
 use crate::words::text_of;
+use crate::{command, moments};
 use case_lines::CaseFault;
 use std::sync::Wait;
 use std::thread::Threads;
@@ -12,6 +12,7 @@ use std::thread::Threads;
 #[derive(Clone, Copy, Drop)]
 pub(crate) enum CommandCases {
     Commands,
+    Inspects,
     Views,
     Reflectors,
 }
@@ -21,6 +22,7 @@ impl CommandCases {
     pub(crate) fn of_word(word: &str) -> Option<CommandCases> {
         match word {
             "commands" => Some(CommandCases::Commands),
+            "inspects" => Some(CommandCases::Inspects),
             "views" => Some(CommandCases::Views),
             "reflectors" => Some(CommandCases::Reflectors),
             _ => None,
@@ -37,6 +39,7 @@ pub(crate) fn outcome<R: Threads + Wait + Sync + AllocGlobal>(
     let case = text_of(case)?;
     match kind {
         CommandCases::Commands => command::outcome(rt, case),
+        CommandCases::Inspects => moments::outcome(rt, case),
         CommandCases::Views => tell_net_case(rt, NetCommand::Join, case),
         CommandCases::Reflectors => tell_net_case(rt, NetCommand::Reflect, case),
     }

@@ -1,13 +1,15 @@
-//! Cases of the program's commands in which a call fails, wants memory or is quiet. `croquet_cases KIND FILE ..` runs each line of
-//! the files, and prints it with ` = ` and what it comes to. What needs no such call is tested over the program itself.
+//! Cases of the program's commands in which a call fails, wants memory or is quiet, and some of `inspect`. `croquet_cases KIND FILE ..`
+//! runs each line of the files, and prints it with ` = ` and what it comes to. What else needs no such call is tested over the program
+//! itself.
 //!
 //! | Kind | A case | What it comes to |
 //! |---|---|---|
 //! | `commands` | `WORDS ; NAME=CONTENT ; NAME:HEX ; .. ; fail file N ; want output N` | what the command prints, and the file `f` |
+//! | `inspects` | `NAME EVERY SCRIPT \| QUERIES \| PROGRAM` | what `inspect` prints of the log that `stamp` makes of the script |
 //! | `views` | `NAME VIEW SCRIPT \| PROGRAM \| LINK \| LINK ..` | what `join` of this session as this view, with this script, does over a net that gives these links |
 //! | `reflectors` | `NAME N \| PROGRAM \| LINK \| LINK ..` | what `reflect` of this session to N connections does over such a net |
 //!
-//! The words of a command are divided by blanks. A content has its lines divided by ` / `. Call N of the files, or of the output,
+//! The words of a command are divided by blanks. A content, a script and queries have their lines divided by ` / `. Call N of the files, or of the output,
 //! fails, or wants memory.
 //!
 //! Behind what is printed stands the status in square brackets, if it is not 0.
@@ -32,6 +34,7 @@ mod command;
 mod faults;
 mod kind;
 mod link;
+mod moments;
 mod net_case;
 mod net_run;
 mod run;

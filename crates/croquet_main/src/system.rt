@@ -5,6 +5,7 @@ ghost use Rattle.tea_io.specs.Files.{Untold, FileCause, FileWant};
 ghost use Rattle.croquet_main.specs.System.{IsCounted, IsWithin};
 
 use crate::served::Served;
+use file_store::put_over;
 use std::env::{Env, FillError};
 use std::fs::{self, File, OpenFile};
 use std::io::{self, ErrorKind, Read, Write};
@@ -104,60 +105,6 @@ fn count_fault(counts: &mut FileCounts, error: io::Error) -> FileFault
     count_failure(counts)
 }
 
-/// How many names beside a file are tried for the new one. One is in use, or was left there, where another run writes the same file, or
-/// was killed in the midst of it.
-const MOST_NAMES: u32 = 100;
-
-/// Writes the bytes of a file, and has the system keep them.
-fn fill<F: Write + OpenFile>(file: &mut F, bytes: &[u8]) -> io::Result<()> {
-    file.write_all(bytes)?;
-    file.sync_all()
-}
-
-/// A new file beside a name, and the name of its own.
-fn new_beside<R: rt::Files + AllocGlobal>(rt: &R, path: &str) -> io::Result<(String, R::File)> {
-    for number in 0..MOST_NAMES {
-        let name = format!(in rt.alloc(); "{path}.{number}.new")?;
-        match File::create_new(rt, name.as_str()) {
-            Ok(file) => return Ok((name, file)),
-            Err(error) if error.kind() == ErrorKind::AlreadyExists => {}
-            Err(error) => return Err(error),
-        }
-    }
-    Err(io::Error::from(ErrorKind::AlreadyExists))
-}
-
-/// The folder of a file.
-fn folder_of(path: &str) -> &str {
-    match path.rsplit_once('/') {
-        Some(("", _)) => "/",
-        Some((folder, _)) => folder,
-        None => ".",
-    }
-}
-
-/// Moves a file over the one of a name, and has the system keep that where it can: from then on the name has the new bytes.
-fn move_over<R: rt::Files>(rt: &R, new: &str, path: &str) -> io::Result<()> {
-    fs::rename(rt, new, path)?;
-    if let Ok(folder) = File::open(rt, folder_of(path)) {
-        let _ = folder.sync_all();
-    }
-    Ok(())
-}
-
-/// Writes a file beside a name, and moves it there once it is whole. Where that fails, nothing is left of it.
-fn replace<R: rt::Files + AllocGlobal>(rt: &R, path: &str, bytes: &[u8]) -> io::Result<()> {
-    let (name, mut file) = new_beside(rt, path)?;
-    let done = match fill(&mut file, bytes) {
-        Ok(()) => move_over(rt, name.as_str(), path),
-        Err(error) => Err(error),
-    };
-    if done.is_err() {
-        let _ = fs::remove_file(rt, name.as_str());
-    }
-    done
-}
-
 /// Whether a name is that of a plain file that may be written, or of none. What else it names is written in its place, as a device, a
 /// pipe and a symbolic link, or refuses that.
 fn is_replaced<R: rt::Files>(rt: &R, path: &str) -> bool {
@@ -175,7 +122,6 @@ fn is_of_folder(error: &io::Error) -> bool {
             | ErrorKind::ResourceBusy
             | ErrorKind::ReadOnlyFilesystem
             | ErrorKind::InvalidFilename
-            | ErrorKind::AlreadyExists
     )
 }
 
@@ -249,7 +195,7 @@ impl<R: rt::Files + AllocGlobal> Files for SystemFiles<'_, R> {
     fn write(&mut self, name: &Text, bytes: &[u8]) -> Result<(), FileFault> {
         let path = name.as_str();
         if is_replaced(self.rt, path) {
-            match replace(self.rt, path, bytes) {
+            match put_over(self.rt, path, bytes) {
                 Ok(()) => return Ok(()),
                 Err(error) if is_of_folder(&error) => {}
                 Err(error) => return Err(count_fault(&mut self.counts, error)),

@@ -6,7 +6,7 @@ use Rattle.std.specs.List.{AllByRecursion}
 use Rattle.std.proofs.lemmas.Bool.{cases_lt}
 use Rattle.reflector_core.specs.SessionState.{entries_used}
 use Rattle.session_lock.specs.declared.knowledge.Item.{Item}
-use Rattle.session_lock.specs.declared.knowledge.Item.TheVariants.{Did, Void}
+use Rattle.session_lock.specs.declared.knowledge.Item.TheVariants.{Did, Void, Unkept}
 use Rattle.session_lock.specs.History.{caller_of, has, calls_of}
 use Rattle.session_lock.proofs.Histories.{has_own}
 use Rattle.run_steps.specs.Limits.{most_drill_events, most_drill_views}
@@ -53,10 +53,12 @@ is_of_drill_or_not views view =
 abbrev entries_of_item : Item → ℕ
 entries_of_item (Did caller request) = entries_used request
 entries_of_item (Void caller) = 0
+entries_of_item (Unkept caller) = 0
 
 entries_used_by-cons : (x : Item) (xs : List Item) → entries_used_by (x ∷ xs) ≡ entries_of_item x + entries_used_by xs
 entries_used_by-cons (Did caller request) xs = omega arith
 entries_used_by-cons (Void caller) xs = omega arith
+entries_used_by-cons (Unkept caller) xs = omega arith
 
 -- how many entries so many callers ask for, from caller 1 on
 abbrev asked_by : ℕ → List Item → ℕ

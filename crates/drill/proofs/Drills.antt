@@ -16,7 +16,7 @@ use Rattle.reflector_core.specs.declared.request.Request.TheVariants.{Join, Send
 use Rattle.reflector_core.proofs.SoundLaws.{send_along, offer_along}
 use Rattle.wire_frames.specs.declared.start.Want.{Want}
 use Rattle.session_lock.specs.declared.knowledge.Item.{Item}
-use Rattle.session_lock.specs.declared.knowledge.Item.TheVariants.{Did, Void}
+use Rattle.session_lock.specs.declared.knowledge.Item.TheVariants.{Did, Void, Unkept}
 use Rattle.session_lock.specs.History.{after_item, play_from}
 use Rattle.session_lock.proofs.Histories.{sound_end}
 use Rattle.drill.specs.declared.size.Size.{Size}
@@ -72,6 +72,7 @@ module _ (gives : ℕ → Type 0) (views : ℕ) (s : PlainSession) (within : Has
   item_within : (x : Item) → IsAskedInDrill gives views x → HasDrillEntries gives views (after_item s x)
   item_within (Did caller request) asked = answered caller request (asked.0, asked.1) asked.2
   item_within (Void caller) asked = within
+  item_within (Unkept caller) asked = within
 
 play_within : (gives : ℕ → Type 0) (views : ℕ) (s : PlainSession) (history : List Item) → HasDrillEntries gives views s → AllByRecursion (IsAskedInDrill gives views) history → HasDrillEntries gives views (play_from s history)
 play_within gives views s [] within asked = within

@@ -16,7 +16,7 @@ use Rattle.reflector_core.specs.declared.request.Request.{Request}
 use Rattle.reflector_core.specs.declared.request.Request.TheVariants.{Join, Send, Tick, Leave, Offer, Pull}
 use Rattle.reflector_core.proofs.GrowthLaws.{kept-others}
 use Rattle.session_lock.specs.declared.knowledge.Item.{Item}
-use Rattle.session_lock.specs.declared.knowledge.Item.TheVariants.{Did, Void}
+use Rattle.session_lock.specs.declared.knowledge.Item.TheVariants.{Did, Void, Unkept}
 use Rattle.session_lock.specs.History.{after_item, calls_of, caller_of, has, play, play_from}
 use Rattle.session_lock.proofs.Histories.{none_behind, play_from_append}
 use Rattle.run_steps.specs.Limits.{most_drill_views}
@@ -41,6 +41,7 @@ asked_grows : (beginning rest : List Item) → entries_used_by beginning ≤ ent
 asked_grows [] rest = omega arith
 asked_grows (Did caller request ∷ xs) rest = omega (arith, asked_grows xs rest)
 asked_grows (Void caller ∷ xs) rest = asked_grows xs rest
+asked_grows (Unkept caller ∷ xs) rest = asked_grows xs rest
 
 pub history_first : (gives : ℕ → Type 0) (views : ℕ) (beginning rest : List Item) → IsDrillHistory gives views (beginning ++ rest) → IsDrillHistory gives views beginning
 history_first gives views beginning rest whole = record {
@@ -73,6 +74,7 @@ apart_item : (gives : ℕ → Type 0) (views view : ℕ) (s : PlainSession) (x :
     → entries_by view (after_item s x).log ≡ entries_by view s.log
 apart_item gives views view s (Did caller request) asked other = apart_request gives view caller s request asked.2 other
 apart_item gives views view s (Void caller) asked other = refl
+apart_item gives views view s (Unkept caller) asked other = refl
 
 apart_from : (gives : ℕ → Type 0) (views view : ℕ) (s : PlainSession) (rest : List Item) → AllByRecursion (IsAskedInDrill gives views) rest → calls_of (view ∷ []) rest ≡ []
     → entries_by view (play_from s rest).log ≡ entries_by view s.log
@@ -111,6 +113,7 @@ keeps_from : (time : ℕ) (s : PlainSession) (rest : List Item) → KeepsFrom ti
 keeps_from time s [] keeps = keeps
 keeps_from time s (Did caller request ∷ xs) keeps = keeps_from time (answer s request).session xs (keeps_request time s request keeps)
 keeps_from time s (Void caller ∷ xs) keeps = keeps_from time s xs keeps
+keeps_from time s (Unkept caller ∷ xs) keeps = keeps_from time s xs keeps
 
 pub kept_on : (time : ℕ) (beginning rest : List Item) → KeepsFrom time (play beginning).kept → KeepsFrom time (play (beginning ++ rest)).kept
 kept_on time beginning rest keeps =

@@ -8,7 +8,7 @@ use Rattle.reflector_core.specs.declared.request.Request.{Request}
 use Rattle.reflector_core.specs.declared.request.Reply.{Reply}
 use Rattle.reflector_core.proofs.GrowthLaws.{GrowsTo-answer, GrowsTo-same, GrowsTo-then}
 use Rattle.session_lock.specs.declared.knowledge.Item.{Item}
-use Rattle.session_lock.specs.declared.knowledge.Item.TheVariants.{Did, Void}
+use Rattle.session_lock.specs.declared.knowledge.Item.TheVariants.{Did, Void, Unkept}
 use Rattle.session_lock.specs.History.{play}
 use Rattle.session_lock.specs.Passes.{PassState, SharedState, own_calls}
 use Rattle.drill.specs.declared.trust.TrustReplay.{TrustReplay}
@@ -21,6 +21,7 @@ pub asked_more : (items : List Item) (view : ℕ) (request : Request) → entrie
 asked_more [] view request = omega arith
 asked_more (Did caller first ∷ rest) view request = omega (arith, asked_more rest view request)
 asked_more (Void caller ∷ rest) view request = asked_more rest view request
+asked_more (Unkept caller ∷ rest) view request = asked_more rest view request
 
 module _ (gives : ℕ → Type 0) (views view : ℕ) where
   pub stays : (seen : List Item) → HistoryGoesOn gives views view seen seen

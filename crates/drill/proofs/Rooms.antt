@@ -15,7 +15,7 @@ use Rattle.reflector_core.specs.Answer.{answer}
 use Rattle.reflector_core.specs.declared.request.Request.{Request}
 use Rattle.reflector_core.specs.declared.request.Request.TheVariants.{Join, Send, Tick, Leave, Offer, Pull}
 use Rattle.session_lock.specs.declared.knowledge.Item.{Item}
-use Rattle.session_lock.specs.declared.knowledge.Item.TheVariants.{Did, Void}
+use Rattle.session_lock.specs.declared.knowledge.Item.TheVariants.{Did, Void, Unkept}
 use Rattle.session_lock.specs.History.{play_from}
 use Rattle.drill.specs.Asking.{IsAskedBy, IsAskedInDrill, entries_used_by, most_short}
 use Rattle.drill.specs.Drilled.{IsOfDrill}
@@ -103,3 +103,4 @@ small_from gives views entries most s (Did caller request ∷ xs) asked le small
     small_from gives views (entries_used request + entries) most (answer s request).session xs asked.1 (omega arith)
     (small_request gives views caller entries s request (asked.0.0, asked.0.1) asked.0.2 small)
 small_from gives views entries most s (Void caller ∷ xs) asked le small = small_from gives views entries most s xs asked.1 le small
+small_from gives views entries most s (Unkept caller ∷ xs) asked le small = small_from gives views entries most s xs asked.1 le small

@@ -5,7 +5,7 @@ use Rattle.reflector_core.specs.SessionState.{entries_used}
 use Rattle.reflector_core.specs.declared.request.Request.{Request}
 use Rattle.reflector_core.specs.declared.request.Request.TheVariants.{Join, Send, Tick, Leave, Offer, Pull}
 use Rattle.session_lock.specs.declared.knowledge.Item.{Item}
-use Rattle.session_lock.specs.declared.knowledge.Item.TheVariants.{Did, Void}
+use Rattle.session_lock.specs.declared.knowledge.Item.TheVariants.{Did, Void, Unkept}
 
 -- how many bytes a payload of the drill has at most
 abbrev pub most_short : ℕ
@@ -24,12 +24,14 @@ IsAskedBy gives view (Pull after limit) = Unit {0}
 abbrev pub IsAskedInDrill : (ℕ → Type 0) → ℕ → Item → Type 0
 IsAskedInDrill gives views (Did caller request) = (1 ≤ caller) × (caller ≤ views) × IsAskedBy gives caller request
 IsAskedInDrill gives views (Void caller) = (1 ≤ caller) × (caller ≤ views)
+IsAskedInDrill gives views (Unkept caller) = (1 ≤ caller) × (caller ≤ views)
 
 -- how many entries the items put into a log at most
 abbrev pub entries_used_by : List Item → ℕ
 entries_used_by [] = 0
 entries_used_by (Did caller request ∷ rest) = entries_used request + entries_used_by rest
 entries_used_by (Void caller ∷ rest) = entries_used_by rest
+entries_used_by (Unkept caller ∷ rest) = entries_used_by rest
 
 -- a view asks for its first Join, for up to three entries behind each event, and for its Exit
 abbrev pub most_asked : ℕ → ℕ

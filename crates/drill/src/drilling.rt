@@ -20,10 +20,10 @@ use crate::trust::TrustReplay;
 use crate::worker::{Hall, Worker};
 use model_solved::{Checked, checked_crosses_threads};
 use model_value::Value;
-use reflector_core::Session;
+use reflector_core::{NoKeeper, Session};
 use replica::{Replica, replica_crosses_threads};
 use seeded_random::Source64;
-use session_lock::{Pass, SharedSession};
+use session_lock::{Pass, SharedSession, pass_crosses_threads, session_crosses_threads};
 use snapshot_codec::session_id;
 use std::alloc::Global;
 use std::sync::{Arc, Wait};
@@ -64,6 +64,8 @@ fn work_beside<C: Clock + Sync, G: Gate + Sync, R: Threads + Wait + Sync>(
 {
     checked_crosses_threads();
     replica_crosses_threads();
+    session_crosses_threads::<TrustReplay, NoKeeper>();
+    pass_crosses_threads::<NoKeeper>();
     // Each thread makes a hall of its own: of a closure that captures one whole, what it ensures is not known here.
     let Hall {
         rt,

@@ -26,7 +26,7 @@ use Rattle.join_sync.specs.Requests.{IsJoin, act_on, first_request}
 use Rattle.system_plain.specs.ConnectionLine.{unread_frame}
 use Rattle.system_plain.specs.Steps.{answer_frames}
 use Rattle.session_lock.specs.declared.knowledge.Item.{Item}
-use Rattle.session_lock.specs.declared.knowledge.Item.TheVariants.{Did, Void}
+use Rattle.session_lock.specs.declared.knowledge.Item.TheVariants.{Did, Void, Unkept}
 use Rattle.session_lock.specs.History.{after_item}
 use Rattle.reflector_core.specs.PlainSession.{PlainSession}
 use Rattle.connection.specs.declared.ending.Ended.{Ended}
@@ -314,6 +314,7 @@ void_from s c [] is = is
 void_from s c (Did who request ∷ rest) is =
     void_from (after_item s (Did who request)) c rest (missed_skip (eqb who c) request _ (exchanges_from (after_item s (Did who request)) c rest) is)
 void_from s c (Void who ∷ rest) is = missed_both (eqb who c) (exchanges_from s c rest) (has_void c rest) (void_from s c rest) is
+void_from s c (Unkept who ∷ rest) is = missed_both (eqb who c) (exchanges_from s c rest) (has_void c rest) (void_from s c rest) is
 
 -- who still holds a view behind its talk has found no memory
 pub talk_holds : (gives : ℕ → Type 0) (id : SessionId) (opening : PlainSession) (history : List Item) (c : ℕ) (said : List Heard) (sent : List (List ℕ)) (how : Ended) (v j : ℕ) → Talk gives id opening history c said sent how

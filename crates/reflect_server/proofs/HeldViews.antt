@@ -20,7 +20,7 @@ use Rattle.reflector_core.specs.declared.request.Reply.TheVariants.{Again, Batch
 use Rattle.reflector_core.specs.declared.request.Refusal.TheVariants.{Stale, TooLong, Differs, Gap, TimeEnd, ViewsFull, BadView, Ahead, Older, NoSuchSeq}
 use Rattle.wire_frames.specs.declared.start.Want.{Want}
 use Rattle.session_lock.specs.declared.knowledge.Item.{Item}
-use Rattle.session_lock.specs.declared.knowledge.Item.TheVariants.{Did, Void}
+use Rattle.session_lock.specs.declared.knowledge.Item.TheVariants.{Did, Void, Unkept}
 use Rattle.session_lock.specs.History.{after_item, play_from}
 use Rattle.connection.specs.Exchanges.{Exchange, Answered, Unanswered, exchange_in, exchanges_from}
 use Rattle.reflect_server.specs.Views.{opens_view, closes_view, ends_view, holds_in, holds_on, opens_with}
@@ -220,6 +220,8 @@ AreHeld first s asked = (v : ℕ) → is_here s.log v ≡ true → (c : ℕ) × 
 
 item_held : (first : Holding) (s : PlainSession) (asked : ℕ → List Exchange) (x : Item) → AreHeld first s asked → AreHeld first (after_item s x) (λ c. asked c ++ exchange_in s c x)
 item_held first s asked (Void who) held v here =
+    let before = held v here in (before.0, holds_still v (current s.log v) (first before.0 v (current s.log v)) (asked before.0) (eqb who before.0) Unanswered before.1 refl)
+item_held first s asked (Unkept who) held v here =
     let before = held v here in (before.0, holds_still v (current s.log v) (first before.0 v (current s.log v)) (asked before.0) (eqb who before.0) Unanswered before.1 refl)
 item_held first s asked (Did who request) held v here = by (request_stands s v request here)
   where

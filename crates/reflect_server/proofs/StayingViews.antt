@@ -15,7 +15,7 @@ use Rattle.reflector_core.specs.Answer.{answer}
 use Rattle.reflector_core.specs.Stored.{IsNextHere}
 use Rattle.reflector_core.specs.declared.request.Request.TheVariants.{Join, Send, Tick, Leave, Offer, Pull}
 use Rattle.session_lock.specs.declared.knowledge.Item.{Item}
-use Rattle.session_lock.specs.declared.knowledge.Item.TheVariants.{Did, Void}
+use Rattle.session_lock.specs.declared.knowledge.Item.TheVariants.{Did, Void, Unkept}
 use Rattle.session_lock.specs.History.{calls_of, has, play_from}
 use Rattle.connection.specs.Exchanges.{Exchange, Answered, Unanswered, exchanges_from, exchanges_in}
 use Rattle.connection.proofs.Callers.{exchanges_none, exchanges_same}
@@ -57,6 +57,7 @@ module _ (gives : ℕ → Type 0) (opener v j : ℕ) where
   stays_out s [] (item ∷ items) made = absurd made
   stays_out s (one ∷ views) [] made = absurd made
   stays_out s (one ∷ views) (Void who ∷ items) made = out_step (eqb who opener) Unanswered (exchanges_from s opener items) refl (stays_out s views items made.1)
+  stays_out s (one ∷ views) (Unkept who ∷ items) made = absurd made.0
   stays_out s (one ∷ views) (Did who (Leave view joined now) ∷ items) made =
       out_step (eqb who opener) (Answered (Leave view joined now) (answer s (Leave view joined now)).reply)
       (exchanges_from (answer s (Leave view joined now)).session opener items) refl (stays_out (answer s (Leave view joined now)).session views items made.1)
@@ -74,6 +75,7 @@ module _ (gives : ℕ → Type 0) (opener v j : ℕ) where
   given_up log above s (one ∷ views) [] here made none lt was is = absurd made
   given_up log above s (one ∷ views) (Void who ∷ items) here made none lt was is =
       absurd (cc (or_first (eqb who opener) (has_void opener items) none, eq-eqb who opener made.0))
+  given_up log above s (one ∷ views) (Unkept who ∷ items) here made none lt was is = absurd made.0
   given_up log above s (one ∷ views) (Did who (Leave view joined now) ∷ items) here made none lt was is =
       by (λ further. given_up log one.0 (answer s (Leave view joined now)).session views items here.1 made.1 none further was is) (eqb one.0 v) refl
     where
@@ -99,14 +101,15 @@ module _ (gives : ℕ → Type 0) (opener v j : ℕ) where
 
 -- ---- the opener in a history
 
+one_first : (c : ℕ) (xs ys : List Item) → (has_void c xs ≡ true → has_void c (xs ++ ys) ≡ true) → (b : Bool) → (b || has_void c xs) ≡ true → (b || has_void c (xs ++ ys)) ≡ true
+one_first c xs ys later true some_of = refl
+one_first c xs ys later false some_of = later some_of
+
 void_first : (c : ℕ) (xs ys : List Item) → has_void c xs ≡ true → has_void c (xs ++ ys) ≡ true
 void_first c [] ys some = absurd (cc (some))
 void_first c (Did who request ∷ xs) ys some = void_first c xs ys some
-void_first c (Void who ∷ xs) ys some = by (void_first c xs ys) (eqb who c) some
-  where
-    by : (has_void c xs ≡ true → has_void c (xs ++ ys) ≡ true) → (b : Bool) → (b || has_void c xs) ≡ true → (b || has_void c (xs ++ ys)) ≡ true
-    by later true some_of = refl
-    by later false some_of = later some_of
+void_first c (Void who ∷ xs) ys some = one_first c xs ys (void_first c xs ys) (eqb who c) some
+void_first c (Unkept who ∷ xs) ys some = one_first c xs ys (void_first c xs ys) (eqb who c) some
 
 and_both : (a b : Bool) → (a && b) ≡ true → (a ≡ true) × (b ≡ true)
 and_both true b is = (refl, is)

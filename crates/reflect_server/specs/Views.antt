@@ -8,7 +8,7 @@ use Rattle.reflector_core.specs.declared.request.Reply.{Reply}
 use Rattle.reflector_core.specs.declared.request.Reply.TheVariants.{Joined, Left, Refused}
 use Rattle.reflector_core.specs.declared.request.Refusal.TheVariants.{Stale}
 use Rattle.session_lock.specs.declared.knowledge.Item.{Item}
-use Rattle.session_lock.specs.declared.knowledge.Item.TheVariants.{Did, Void}
+use Rattle.session_lock.specs.declared.knowledge.Item.TheVariants.{Did, Void, Unkept}
 use Rattle.session_lock.specs.History.{has}
 use Rattle.connection.specs.Exchanges.{Exchange, Answered, exchanges_in}
 
@@ -38,11 +38,12 @@ holds_on view joined held (exchange ∷ rest) = holds_on view joined (opens_view
 abbrev pub holds : ℕ → ℕ → List Exchange → Bool
 holds view joined asked = holds_on view joined false asked
 
--- the caller made a call that found no memory
+-- the caller made a call that found no memory or was not kept
 abbrev pub has_void : ℕ → List Item → Bool
 has_void caller [] = false
 has_void caller (Did who request ∷ rest) = has_void caller rest
 has_void caller (Void who ∷ rest) = eqb who caller || has_void caller rest
+has_void caller (Unkept who ∷ rest) = eqb who caller || has_void caller rest
 
 -- the caller holds the view by this Join after its exchanges; the views of the opening session are the opener's at first
 abbrev pub opens_with : PlainSession → ℕ → ℕ → ℕ → ℕ → Bool

@@ -7,3 +7,4 @@ pub mod PreparedLaws
 pub mod NotedLaws
 pub mod StoredLaws
 pub mod NextHereLaws
+pub mod KeepingLaws

@@ -12,7 +12,7 @@ use Rattle.wire_frames.specs.declared.start.Base.{Base}
 use Rattle.reflector_core.specs.PlainSession.{PlainSession, IsSoundSession, IsKeptBy}
 use Rattle.reflector_core.specs.Answer.{stamp, append_entry}
 
-IsKeptBy-grows : (a b : ℕ) (kept : Option Base) → a ≤ b → IsKeptBy a kept → IsKeptBy b kept
+pub IsKeptBy-grows : (a b : ℕ) (kept : Option Base) → a ≤ b → IsKeptBy a kept → IsKeptBy b kept
 IsKeptBy-grows a b None le within = tt
 IsKeptBy-grows a b (Some base) le within = (omega (arith, within.0), within.1)
 

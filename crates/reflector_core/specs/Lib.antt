@@ -7,3 +7,4 @@ pub mod Kept
 pub mod Prepared
 pub mod Stored
 pub mod NextHere
+pub mod Keeping

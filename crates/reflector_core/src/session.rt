@@ -6,8 +6,10 @@ ghost use Rattle.reflector_core.specs.PlainSession.{IsSoundSession};
 ghost use Rattle.reflector_core.specs.SessionState.{IsPreparedFor, UsesAtMost, entries_used, bytes_used};
 ghost use Rattle.reflector_core.specs.Prepared.{MeetsItsClauses, AnswersPrepared};
 ghost use Rattle.reflector_core.specs.Answer.{with_reply, MayWantMemory, answer};
+ghost use Rattle.reflector_core.specs.Keeping.{FoundMemory, HasCause, KeepsPace};
 ghost use Rattle.reflector_core.specs.Play.{first_session};
 
+mod appending;
 mod entries;
 mod events;
 mod presence;
@@ -17,7 +19,9 @@ mod room;
 mod snapshots;
 mod times;
 
+use crate::keeper::{CallFault, Keeper, NoKeeper};
 use crate::request::{Reply, Request};
+use crate::session::events::Sent;
 use crate::session::room::make_room;
 use resend_table::Resend;
 use session_log::Log;
@@ -119,24 +123,62 @@ impl Session {
             (record { request = request.now; result = result; after = self.new }) }
         ensures memory { OnErr result (MayWantMemory (answer self.old.plain request.now).reply) }
     {
+        let mut keeper = NoKeeper;
+        match self.call_kept(&mut keeper, request) {
+            Ok(reply) => Ok(reply),
+            Err(CallFault::WantOfMemory) => Err(WantOfMemory),
+            Err(CallFault::Unkept) => unreachable!(),
+        }
+    }
+
+    /// The same of a session with a keeper. What will change is kept before it changes: all memory is taken first, then
+    /// the keeper keeps it, and then nothing fails. Where it is not kept, the session is as it was.
+    pub fn call_kept<K: Keeper>(
+        &mut self,
+        keeper: &mut K,
+        request: &Request,
+    ) -> Result<Reply, CallFault>
+        ensures ok { IfOk result (λ reply. with_reply self.new.plain reply ≡
+            answer self.old.plain request.now) }
+        ensures err { OnErr result (self.new.plain ≡ self.old.plain) }
+        ensures sound { IsSoundSession self.new.plain }
+        ensures prepared { IsPreparedFor self.old request.now → FoundMemory result }
+        ensures used { UsesAtMost self.old self.new
+            (entries_used request.now) (bytes_used request.now) }
+        ensures cause { HasCause (answer self.old.plain request.now).reply (K.shut keeper.new) result }
+        ensures pace { KeepsPace K.holds K.shut K.faults keeper.old keeper.new
+            self.old.plain self.new.plain }
+    {
         let reply = match request {
-            Request::Join { view, now, want } => self.join(*view, *now, *want),
+            Request::Join { view, now, want } => self.join(keeper, *view, *now, *want),
             Request::Send {
                 view,
                 joined,
                 number,
                 payload,
                 now,
-            } => self.send(*view, *joined, *number, payload.bytes(), *now),
-            Request::Tick { now } => Ok(self.tick(*now)),
-            Request::Leave { view, joined, now } => self.leave(*view, *joined, *now),
+            } => self.send(
+                keeper,
+                Sent {
+                    view: *view,
+                    joined: *joined,
+                    number: *number,
+                    payload: payload.bytes(),
+                    now: *now,
+                },
+            ),
+            Request::Tick { now } => self.tick(keeper, *now),
+            Request::Leave { view, joined, now } => self.leave(keeper, *view, *joined, *now),
             Request::Offer {
                 view,
                 joined,
                 time,
                 bytes,
-            } => self.offer(*view, *joined, *time, bytes),
-            Request::Pull { after, limit } => self.pull(*after, *limit),
+            } => self.offer(keeper, *view, *joined, *time, bytes),
+            Request::Pull { after, limit } => match self.pull(*after, *limit) {
+                Ok(reply) => Ok(reply),
+                Err(_) => Err(CallFault::WantOfMemory),
+            },
         };
         // opens the session, whose invariant is the clause `sound`
         let _ = &self.horizon;

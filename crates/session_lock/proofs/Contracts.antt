@@ -6,30 +6,34 @@ use Rattle.atomic_table.specs.Seated.{TableId}
 use Rattle.tea_base.specs.declared.entry.SessionId.{SessionId}
 use Rattle.reflector_core.specs.declared.request.Request.{Request}
 use Rattle.reflector_core.specs.declared.request.Reply.{Reply}
-use Rattle.tea_base.specs.declared.want.WantOfMemory.{WantOfMemory}
-use Rattle.reflector_core.specs.Answer.{SessionOutcome, answer, with_reply}
+use Rattle.reflector_core.specs.Keeping.{KeepsPace, MayChange, HasCause}
+use Rattle.reflector_core.specs.declared.keeper.CallFault.{CallFault}
+use Rattle.reflector_core.specs.declared.keeper.CallFault.TheVariants as fault
+use Rattle.reflector_core.specs.Answer.{SessionOutcome, answer, with_reply, MayWantMemory}
 use Rattle.reflector_core.specs.PlainSession.{PlainSession, IsSoundSession}
-use Rattle.reflector_core.specs.Play.{first_session}
 use Rattle.session_lock.specs.declared.knowledge.Item.{Item}
-use Rattle.session_lock.specs.declared.knowledge.Item.TheVariants.{Did, Void}
+use Rattle.session_lock.specs.declared.knowledge.Item.TheVariants.{Did, Void, Unkept}
 use Rattle.session_lock.specs.declared.knowledge.Knowledge.{Knowledge}
-use Rattle.session_lock.specs.History.{caller_of, after_item, play_from, has, calls_of, Saw}
+use Rattle.session_lock.specs.declared.held.KeptSession.{KeptSession}
+use Rattle.session_lock.specs.History.{caller_of, after_item, play_from, reply_from, has, calls_of, Saw, is_unkept}
 use Rattle.session_lock.specs.Rules.{Locks, HoldsOnce, holds_number, knows, no_part, longer}
-use Rattle.session_lock.specs.Steps.{M, HasCounted, Finishes, AnswersRequest, Fails, with_ticket, with_turn, join_left, split_left, split_right}
-use Rattle.session_lock.specs.Passes.{SharedState, shared_state, PassState, pass_state, Grew, Replied, Voided, Caught, Given, Merged, HeldOnce, UsedNoSpare, times_held, caller, numbers_held}
+use Rattle.session_lock.specs.Steps.{M, HasCounted, Finishes, AnswersRequest, Misses, Fails, HasTurn, Works, with_ticket, with_turn, join_left, split_left, split_right}
+use Rattle.session_lock.specs.Passes.{SharedState, shared_state, PassState, pass_state, Grew, Replied, Voided, NotKept, Missed, Caught, Given, Merged, HeldOnce, UsedNoSpare, times_held, caller, numbers_held}
 use Rattle.session_lock.proofs.Histories.{saw_own, saw_each, saw_call, has_own}
 use Rattle.session_lock.specs.Numbers.{in_ranges, count_of, take_numbers, first_of_ranges}
 use Rattle.session_lock.proofs.Ranges.{cut_count, taken_count, count_append, times_append, in_ranges_append}
 use Rattle.session_lock.proofs.Shares.{same_numbers, first_is_spare, left_size, right_size}
 use Rattle.session_lock.proofs.StepLaws.{finishes_me}
+use Rattle.session_lock.specs.Keeping.{KeepsPlay}
+use Rattle.session_lock.proofs.KeepingLaws.{keeps_item}
 
 -- a pass of a shared session has a seat of its table
-pub fits : {T K : Type 0} (z y : TableId) (v : Knowledge) (key : SessionId × T × K) (p : PassState) (shared : SharedState T) → pass_state z v ≡ p → p.session ≡ shared.session → shared_state y key ≡ shared → z ≡ y
-fits {T} {K} z y v key p shared is same looks = ap (λ (q : PassState). q.session) is ∙ (same ∙ sym (ap (λ (s : SharedState T). s.session) looks))
+pub fits : {T K : Type 0} (z y : TableId) (v : Knowledge) (key : SessionId × T × K) (faults : ℕ) (p : PassState) (shared : SharedState T) → pass_state z v ≡ p → p.session ≡ shared.session → shared_state y key faults ≡ shared → z ≡ y
+fits {T} {K} z y v key faults p shared is same looks = ap (λ (q : PassState). q.session) is ∙ (same ∙ sym (ap (λ (s : SharedState T). s.session) looks))
 
-pub caught : (Trusted : PlainSession → Type 0) (z z' : TableId) (m m' : M) (p : PassState) (found : ℕ) → pass_state z m.0 ≡ p → z' ≡ z → HasCounted Trusted m found m' → Caught Trusted p (pass_state z' m'.0)
-caught Trusted z z' m m' p found view table (history, len, saw, is, well) =
-    subst (λ (t : PassState × (TableId × M)). Caught Trusted t.0 (pass_state t.1.0 t.1.1.0)) (λ i. (view i, (sym table i, sym is i))) (record { saw = saw; same = refl; own = saw_own m.0.callers m.0.seen history saw; trusted_after = well.0 })
+pub caught : {K : Type 0} (Trusted : PlainSession → Type 0) (z z' : TableId) (m m' : M K) (p : PassState) (found : ℕ) → pass_state z m.0 ≡ p → z' ≡ z → HasCounted Trusted m found m' → Caught Trusted p (pass_state z' m'.0)
+caught {K} Trusted z z' m m' p found view table (history, len, saw, is, well) =
+    subst (λ (t : PassState × (TableId × M K)). Caught Trusted t.0 (pass_state t.1.0 t.1.1.0)) (λ i. (view i, (sym table i, sym is i))) (record { saw = saw; same = refl; own = saw_own m.0.callers m.0.seen history saw; trusted_after = well.0 })
 
 -- the call of a view's own caller
 grew : (z : TableId) (v : Knowledge) (history : List Item) (item : ℕ → Item) (c : ℕ) (others : List ℕ) → v.callers ≡ c ∷ others → Saw v.callers v.seen history → ((n : ℕ) → caller_of (item n) ≡ n)
@@ -47,62 +51,101 @@ grew z v history item c others mine saw by =
     in
     subst (λ (n : ℕ). Grew (pass_state z v) (pass_state z (knows v.opening v.callers v.spare (history ++ item c ∷ []))) history (item n)) first told
 
-pub replied : (Trusted : PlainSession → Type 0) (z : TableId) (v : Knowledge) (m : M) (request : Request) (reply : Reply) → AnswersRequest Trusted v m request reply → Trusted (play_from v.opening m.0.seen) → Replied Trusted (pass_state z v) (pass_state z m.0) request reply
-replied Trusted z v m request reply (history, c, others, mine, saw, is, gives, trusted) after_it =
+pub replied : {K : Type 0} (Trusted : PlainSession → Type 0) (z : TableId) (v : Knowledge) (m : M K) (request : Request) (reply : Reply) → AnswersRequest Trusted v m request reply → Trusted (play_from v.opening m.0.seen) → Replied Trusted (pass_state z v) (pass_state z m.0) request reply
+replied {K} Trusted z v m request reply (history, c, others, mine, saw, is, gives, trusted) after_it =
     let told : Replied Trusted (pass_state z v) (pass_state z (knows v.opening v.callers v.spare (history ++ Did c request ∷ []))) request reply =
-    record { history = history; grew = grew z v history (λ (n : ℕ). Did n request) c others mine saw (λ n. refl); replies = gives; trusted = trusted; trusted_after = subst (λ (k : M). Trusted (play_from v.opening k.0.seen)) is after_it }
+    record { history = history; grew = grew z v history (λ (n : ℕ). Did n request) c others mine saw (λ n. refl); replies = gives; trusted = trusted; trusted_after = subst (λ (k : M K). Trusted (play_from v.opening k.0.seen)) is after_it }
     in
-    subst (λ (k : M). Replied Trusted (pass_state z v) (pass_state z k.0) request reply) (sym is) told
+    subst (λ (k : M K). Replied Trusted (pass_state z v) (pass_state z k.0) request reply) (sym is) told
 
-pub voided : (Trusted : PlainSession → Type 0) (z : TableId) (v : Knowledge) (m : M) (request : Request) → Fails v m request → Trusted (play_from v.opening m.0.seen) → Voided Trusted (pass_state z v) (pass_state z m.0) request
-voided Trusted z v m request (history, c, others, mine, saw, is, due) after_it =
+pub voided : {K : Type 0} (Trusted : PlainSession → Type 0) (z : TableId) (v : Knowledge) (m : M K) (request : Request) → Misses (λ caller. Void caller) MayWantMemory v m request → Trusted (play_from v.opening m.0.seen) → Voided Trusted (pass_state z v) (pass_state z m.0) request
+voided {K} Trusted z v m request (history, c, others, mine, saw, is, due) after_it =
     let told : Voided Trusted (pass_state z v) (pass_state z (knows v.opening v.callers v.spare (history ++ Void c ∷ []))) request =
-    record { history = history; grew = grew z v history (λ (n : ℕ). Void n) c others mine saw (λ n. refl); due = due; trusted_after = subst (λ (k : M). Trusted (play_from v.opening k.0.seen)) is after_it }
+    record { history = history; grew = grew z v history (λ (n : ℕ). Void n) c others mine saw (λ n. refl); due = due; trusted_after = subst (λ (k : M K). Trusted (play_from v.opening k.0.seen)) is after_it }
     in
-    subst (λ (k : M). Voided Trusted (pass_state z v) (pass_state z k.0) request) (sym is) told
+    subst (λ (k : M K). Voided Trusted (pass_state z v) (pass_state z k.0) request) (sym is) told
 
-pub told_call : (Trusted : PlainSession → Type 0) (r : Result Reply WantOfMemory) (z z' : TableId) (v : Knowledge) (m : M) (p : PassState) (request : Request) → pass_state z v ≡ p → z' ≡ z
-    → MatchResult r (λ reply. AnswersRequest Trusted v m request reply) (λ _. Fails v m request) → Trusted (play_from v.opening m.0.seen) → MatchResult r (λ reply. Replied Trusted p (pass_state z' m.0) request reply) (λ _. Voided Trusted p (pass_state z' m.0) request)
-told_call Trusted (Ok reply) z z' v m p request view table h after_it = subst (λ (t : PassState × TableId). Replied Trusted t.0 (pass_state t.1 m.0) request reply) (λ i. (view i, sym table i)) (replied Trusted z v m request reply h after_it)
-told_call Trusted (Err want) z z' v m p request view table h after_it = subst (λ (t : PassState × TableId). Voided Trusted t.0 (pass_state t.1 m.0) request) (λ i. (view i, sym table i)) (voided Trusted z v m request h after_it)
+pub not_kept : {K : Type 0} (Trusted : PlainSession → Type 0) (shut : Type 0) (z : TableId) (v : Knowledge) (m : M K) (request : Request) → Misses (λ caller. Unkept caller) (λ reply. MayChange reply × shut) v m request → Trusted (play_from v.opening m.0.seen)
+    → NotKept Trusted shut (pass_state z v) (pass_state z m.0) request
+not_kept {K} Trusted shut z v m request (history, c, others, mine, saw, is, due) after_it =
+    let told : NotKept Trusted shut (pass_state z v) (pass_state z (knows v.opening v.callers v.spare (history ++ Unkept c ∷ []))) request =
+    record { history = history; grew = grew z v history (λ (n : ℕ). Unkept n) c others mine saw (λ n. refl); due = due.0; shut = due.1; trusted_after = subst (λ (k : M K). Trusted (play_from v.opening k.0.seen)) is after_it }
+    in
+    subst (λ (k : M K). NotKept Trusted shut (pass_state z v) (pass_state z k.0) request) (sym is) told
 
-pub call_kept : (Trusted : PlainSession → Type 0) (r : Result Reply WantOfMemory) (p q : PassState) (request : Request) → MatchResult r (λ reply. Replied Trusted p q request reply) (λ _. Voided Trusted p q request) → q ≡ record p { seen = q.seen }
-call_kept Trusted (Ok reply) p q request h = let e = h.grew.same in e ∙ ap (λ (l : List Item). record p { seen = l }) (sym (ap (λ (s : PassState). s.seen) e))
-call_kept Trusted (Err want) p q request h = let e = h.grew.same in e ∙ ap (λ (l : List Item). record p { seen = l }) (sym (ap (λ (s : PassState). s.seen) e))
+missed : {K : Type 0} (Trusted : PlainSession → Type 0) (shut : Type 0) (why : CallFault) (z : TableId) (v : Knowledge) (m : M K) (request : Request) → Fails shut v m request why → Trusted (play_from v.opening m.0.seen) → Missed Trusted shut (pass_state z v) (pass_state z m.0) request why
+missed Trusted shut fault.WantOfMemory z v m request h after_it = voided Trusted z v m request h after_it
+missed Trusted shut fault.Unkept z v m request h after_it = not_kept Trusted shut z v m request h after_it
 
--- what the seat knows after the work: it holds the ticket, has seen the whole history, and has the session in hand
-module _ (Trusted Told : PlainSession → Type 0) (tells : (s : PlainSession) → Trusted s → Told s) (slots id : ℕ) (m₀ m₁ m₂ m₃ : M) (ticket : ℕ) (history : List Item) (session y : PlainSession) (request : Request) (c : ℕ) (others : List ℕ) (one : slots ≡ 1) (no_kept : m₀.0.kept ≡ no_part) (no_other : m₀.0.other ≡ no_part) (mine : m₀.0.callers ≡ c ∷ others)
-    (e₁ : m₁ ≡ (with_ticket m₀.0 ticket, m₀.1)) (len : length history ≡ ticket) (e₂ : m₂ ≡ (with_turn m₁.0 history, (0, play_from m₁.0.opening history) ∷ [])) (in_hand : m₂.1 ≡ (0, session) ∷ []) (e₃ : m₃ ≡ (m₂.0, (0, y) ∷ [])) (y_sound : IsSoundSession y) where
+-- what a call is told
+abbrev IsToldCall : (PlainSession → Type 0) → Type 0 → PassState → PassState → Request → Result Reply CallFault → Type 0
+IsToldCall Trusted shut p q request r = MatchResult r (λ reply. Replied Trusted p q request reply) (λ why. Missed Trusted shut p q request why)
+
+pub told_call : {K : Type 0} (Trusted : PlainSession → Type 0) (shut : Type 0) (r : Result Reply CallFault) (z z' : TableId) (v : Knowledge) (m : M K) (p : PassState) (request : Request) → pass_state z v ≡ p → z' ≡ z
+    → MatchResult r (λ reply. AnswersRequest Trusted v m request reply) (λ why. Fails shut v m request why) → Trusted (play_from v.opening m.0.seen) → IsToldCall Trusted shut p (pass_state z' m.0) request r
+told_call Trusted shut (Ok reply) z z' v m p request view table h after_it = subst (λ (t : PassState × TableId). Replied Trusted t.0 (pass_state t.1 m.0) request reply) (λ i. (view i, sym table i)) (replied Trusted z v m request reply h after_it)
+told_call Trusted shut (Err why) z z' v m p request view table h after_it = subst (λ (t : PassState × TableId). Missed Trusted shut t.0 (pass_state t.1 m.0) request why) (λ i. (view i, sym table i)) (missed Trusted shut why z v m request h after_it)
+
+same_but_seen : (p q : PassState) (history : List Item) (item : Item) → Grew p q history item → q ≡ record p { seen = q.seen }
+same_but_seen p q history item h = h.same ∙ ap (λ (l : List Item). record p { seen = l }) (sym (ap (λ (s : PassState). s.seen) h.same))
+
+pub call_kept : (Trusted : PlainSession → Type 0) (shut : Type 0) (r : Result Reply CallFault) (p q : PassState) (request : Request) → IsToldCall Trusted shut p q request r → q ≡ record p { seen = q.seen }
+call_kept Trusted shut (Ok reply) p q request h = same_but_seen p q _ _ h.grew
+call_kept Trusted shut (Err fault.WantOfMemory) p q request h = same_but_seen p q _ _ h.grew
+call_kept Trusted shut (Err fault.Unkept) p q request h = same_but_seen p q _ _ h.grew
+
+-- What the seat knows after the work: it holds the ticket, has seen the whole history, and has the session in hand. The rule
+-- and what is told speak of one count of faults.
+module _ {K : Type 0} (holds : K → PlainSession → Type 0) (shut : K → Type 0) (faults : K → ℕ) (first told_first : ℕ) (same_first : first ≡ told_first) (Trusted Told : PlainSession → Type 0) (tells : (s : PlainSession) → Trusted s → Told s) (slots id : ℕ) (m₀ m₁ m₂ m₃ : M K) (ticket : ℕ) (request : Request)
+    (result : Result Reply CallFault) (c : ℕ) (others : List ℕ) (one : slots ≡ 1) (no_kept : m₀.0.kept ≡ no_part) (no_other : m₀.0.other ≡ no_part) (mine : m₀.0.callers ≡ c ∷ others) (e₁ : m₁ ≡ (with_ticket m₀.0 ticket, m₀.1))
+    (turn : HasTurn Told (KeepsPlay holds shut faults told_first) m₁ ticket m₂) (work : Works holds shut faults m₂ request result m₃) where
   abbrev pub the_play : PlainSession
-  the_play = play_from m₁.0.opening history
+  the_play = play_from m₁.0.opening turn.history
 
-  abbrev pub the_session : session ≡ the_play
-  the_session = let e : (0, session) ∷ [] ≡ (0, the_play) ∷ [] = sym in_hand ∙ ap (λ (m : M). m.1) e₂ in ap (λ (l : List (ℕ × PlainSession)). (Rattle.std.proofs.Common.get_or l 0 (0, first_session)).1) e
+  pub was_taken : work.before ≡ turn.taken
+  was_taken = let e : (0, work.before) ∷ [] ≡ (0, turn.taken) ∷ [] = sym work.had ∙ ap (λ (m : M K). m.1) turn.is in ap (λ (l : List (ℕ × KeptSession K)). (Rattle.std.proofs.Common.get_or l 0 (0, turn.taken)).1) e
 
-  ends : (item : ℕ → Item) → caller_of (item c) ≡ c → y ≡ after_item the_play (item c) → (IsSoundSession the_play → IsSoundSession (after_item the_play (item c)) → Trusted the_play → Trusted (after_item the_play (item c)))
-      → Allows (Locks Trusted) slots id m₃ 1 (λ n. (n + 1) % 2 ^ 64) (Finishes Told item (step slots 1 1 0 none) m₃)
-  ends item by is stays =
-      let told : m₃ ≡ (with_turn m₁.0 history, (0, y) ∷ []) = e₃ ∙ ap (λ (m : M). (m.0, (0, y) ∷ [])) e₂ in
-      subst (λ (m : M). Allows (Locks Trusted) slots id m 1 (λ n. (n + 1) % 2 ^ 64) (Finishes Told item (step slots 1 1 0 none) m)) (sym told)
-      (finishes_me Trusted Told tells slots id (with_turn m₁.0 history, (0, y) ∷ []) y item c others one refl (ap (λ (m : M). m.0.callers) e₁ ∙ mine) by refl (ap (λ (m : M). m.0.ticket) e₁ ∙ ap (λ (n : ℕ). Some n) (sym len))
-      (ap (λ (m : M). m.0.kept) e₁ ∙ no_kept) (ap (λ (m : M). m.0.other) e₁ ∙ no_other) is y_sound stays)
+  abbrev pub the_session : work.before.session ≡ the_play
+  the_session = ap (λ (k : KeptSession K). k.session) was_taken ∙ turn.plays
 
-  pub ends_did : (reply : Reply) → with_reply y reply ≡ answer session request → (IsSoundSession the_play → IsSoundSession (answer the_play request).session → Trusted the_play → Trusted (answer the_play request).session) → Allows (Locks Trusted) slots id m₃ 1 (λ n. (n + 1) % 2 ^ 64) (Finishes Told (λ caller. Did caller request) (step slots 1 1 0 none) m₃)
-  ends_did reply is stays = ends (λ caller. Did caller request) refl (ap (λ (o : SessionOutcome). o.session) is ∙ ap (λ (s : PlainSession). (answer s request).session) the_session) stays
+  kept_pace : (x : Item) → work.after.session ≡ after_item the_play x → (is_unkept x ≡ true → shut work.after.keeper) → KeepsPlay holds shut faults first m₁.0.opening (turn.history ++ x ∷ []) work.after.keeper
+  kept_pace x is why =
+      let before : KeepsPlay holds shut faults first m₁.0.opening turn.history work.before.keeper =
+      subst (λ (t : ℕ × K). KeepsPlay holds shut faults t.0 m₁.0.opening turn.history t.1) (λ i. (sym same_first i, (sym was_taken i).keeper)) turn.keeps in
+      let pace : KeepsPace holds shut faults work.before.keeper work.after.keeper the_play (after_item the_play x) =
+      subst (λ (t : PlainSession × PlainSession). KeepsPace holds shut faults work.before.keeper work.after.keeper t.0 t.1) (λ i. (the_session i, is i)) work.pace in
+      keeps_item holds shut faults first m₁.0.opening turn.history x work.before.keeper work.after.keeper before pace why
 
-  pub ends_void : y ≡ session → Allows (Locks Trusted) slots id m₃ 1 (λ n. (n + 1) % 2 ^ 64) (Finishes Told (λ caller. Void caller) (step slots 1 1 0 none) m₃)
-  ends_void is = ends (λ caller. Void caller) refl (is ∙ the_session) (λ _ _ h. h)
+  ends : (item : ℕ → Item) → caller_of (item c) ≡ c → work.after.session ≡ after_item the_play (item c) → (is_unkept (item c) ≡ true → shut work.after.keeper)
+      → (IsSoundSession the_play → IsSoundSession (after_item the_play (item c)) → Trusted the_play → Trusted (after_item the_play (item c)))
+      → Allows (Locks Trusted (KeepsPlay holds shut faults first)) slots id m₃ 1 (λ n. (n + 1) % 2 ^ 64) (Finishes Told item (step slots 1 1 0 none) m₃)
+  ends item by is why stays =
+      let told : m₃ ≡ (with_turn m₁.0 turn.history, (0, work.after) ∷ []) = work.has ∙ ap (λ (m : M K). (m.0, (0, work.after) ∷ [])) turn.is in
+      subst (λ (m : M K). Allows (Locks Trusted (KeepsPlay holds shut faults first)) slots id m 1 (λ n. (n + 1) % 2 ^ 64) (Finishes Told item (step slots 1 1 0 none) m)) (sym told)
+      (finishes_me Trusted (KeepsPlay holds shut faults first) Told tells slots id (with_turn m₁.0 turn.history, (0, work.after) ∷ []) work.after item c others one refl (ap (λ (m : M K). m.0.callers) e₁ ∙ mine) by refl (ap (λ (m : M K). m.0.ticket) e₁ ∙ ap (λ (n : ℕ). Some n) (sym turn.len))
+      (ap (λ (m : M K). m.0.kept) e₁ ∙ no_kept) (ap (λ (m : M K). m.0.other) e₁ ∙ no_other) is (kept_pace (item c) is why) work.sound stays)
 
-abbrev Settled : M → M → Type 0
+  pub ends_did : (reply : Reply) → with_reply work.after.session reply ≡ answer work.before.session request → (IsSoundSession the_play → IsSoundSession (answer the_play request).session → Trusted the_play → Trusted (answer the_play request).session)
+      → Allows (Locks Trusted (KeepsPlay holds shut faults first)) slots id m₃ 1 (λ n. (n + 1) % 2 ^ 64) (Finishes Told (λ caller. Did caller request) (step slots 1 1 0 none) m₃)
+  ends_did reply is stays =
+      ends (λ caller. Did caller request) refl (ap (λ (o : SessionOutcome). o.session) is ∙ ap (λ (s : PlainSession). (answer s request).session) the_session) (λ e. absurd cc) stays
+
+  pub ends_void : work.after.session ≡ work.before.session → Allows (Locks Trusted (KeepsPlay holds shut faults first)) slots id m₃ 1 (λ n. (n + 1) % 2 ^ 64) (Finishes Told (λ caller. Void caller) (step slots 1 1 0 none) m₃)
+  ends_void is = ends (λ caller. Void caller) refl (is ∙ the_session) (λ e. absurd cc) (λ _ _ h. h)
+
+  pub ends_unkept : work.after.session ≡ work.before.session → shut work.after.keeper → Allows (Locks Trusted (KeepsPlay holds shut faults first)) slots id m₃ 1 (λ n. (n + 1) % 2 ^ 64) (Finishes Told (λ caller. Unkept caller) (step slots 1 1 0 none) m₃)
+  ends_unkept is why = ends (λ caller. Unkept caller) refl (is ∙ the_session) (λ _. why) (λ _ _ h. h)
+
+abbrev Settled : {K : Type 0} → M K → M K → Type 0
 Settled m m' = (m' ≡ (record m.0 { kept = no_part; other = no_part }, m.1)) × Saw m.0.kept.callers m.0.kept.seen m.0.seen × Saw m.0.other.callers m.0.other.seen m.0.seen × HoldsOnce m.0
 
 -- what is known once the two views were put together and looked at
-pub put_together : (m₀ m₁ m₂ : M) (w : Knowledge) → m₁ ≡ (join_left m₀.0 w, m₀.1) → Settled m₁ m₂
+pub put_together : {K : Type 0} (m₀ m₁ m₂ : M K) (w : Knowledge) → m₁ ≡ (join_left m₀.0 w, m₀.1) → Settled m₁ m₂
     → (m₂ ≡ (record (join_left m₀.0 w) { kept = no_part; other = no_part }, m₀.1)) × Saw m₀.0.callers m₀.0.seen (longer m₀.0.seen w.seen) × Saw w.callers w.seen (longer m₀.0.seen w.seen) × HoldsOnce (join_left m₀.0 w)
-put_together m₀ m₁ m₂ w e settled = subst (λ (m : M). Settled m m₂) e settled
+put_together {K} m₀ m₁ m₂ w e settled = subst (λ (m : M K). Settled m m₂) e settled
 
-pub merged_told : (z z₁ z₂ : TableId) (m₀ m₁ m₂ : M) (w : Knowledge) (p q : PassState) → pass_state z m₀.0 ≡ p → pass_state z₁ w ≡ q → z₂ ≡ z → m₁ ≡ (join_left m₀.0 w, m₀.1) → Settled m₁ m₂ → Merged p q (pass_state z₂ m₂.0)
-merged_told z z₁ z₂ m₀ m₁ m₂ w p q view view' table e settled =
+pub merged_told : {K : Type 0} (z z₁ z₂ : TableId) (m₀ m₁ m₂ : M K) (w : Knowledge) (p q : PassState) → pass_state z m₀.0 ≡ p → pass_state z₁ w ≡ q → z₂ ≡ z → m₁ ≡ (join_left m₀.0 w, m₀.1) → Settled m₁ m₂ → Merged p q (pass_state z₂ m₂.0)
+merged_told {K} z z₁ z₂ m₀ m₁ m₂ w p q view view' table e settled =
     let t = put_together m₀ m₁ m₂ w e settled in
     let told : Merged (pass_state z m₀.0) (pass_state z₁ w) (pass_state z (join_left m₀.0 w)) =
     record {
@@ -115,13 +158,13 @@ merged_told z z₁ z₂ m₀ m₁ m₂ w p q view view' table e settled =
       each_other = saw_each w.callers w.seen (longer m₀.0.seen w.seen) t.2;
     }
     in
-    subst (λ (x : (PassState × PassState) × (TableId × M)). Merged x.0.0 x.0.1 (pass_state x.1.0 x.1.1.0)) (λ i. ((view i, view' i), (sym table i, sym t.0 i))) told
+    subst (λ (x : (PassState × PassState) × (TableId × M K)). Merged x.0.0 x.0.1 (pass_state x.1.0 x.1.1.0)) (λ i. ((view i, view' i), (sym table i, sym t.0 i))) told
 
-pub merged_count : (z z₁ z₂ : TableId) (m₀ m₁ m₂ : M) (w : Knowledge) (p q : PassState) → pass_state z m₀.0 ≡ p → pass_state z₁ w ≡ q → m₁ ≡ (join_left m₀.0 w, m₀.1) → Settled m₁ m₂
+pub merged_count : {K : Type 0} (z z₁ z₂ : TableId) (m₀ m₁ m₂ : M K) (w : Knowledge) (p q : PassState) → pass_state z m₀.0 ≡ p → pass_state z₁ w ≡ q → m₁ ≡ (join_left m₀.0 w, m₀.1) → Settled m₁ m₂
     → numbers_held (pass_state z₂ m₂.0) ≡ numbers_held p + numbers_held q
-merged_count z z₁ z₂ m₀ m₁ m₂ w p q view view' e settled =
+merged_count {K} z z₁ z₂ m₀ m₁ m₂ w p q view view' e settled =
     let t = put_together m₀ m₁ m₂ w e settled in
-    let a = ap (λ (m : M). numbers_held (pass_state z₂ m.0)) t.0 in
+    let a = ap (λ (m : M K). numbers_held (pass_state z₂ m.0)) t.0 in
     let b = ap numbers_held view in
     let c = ap numbers_held view' in
     let d = length-append m₀.0.callers w.callers in
@@ -129,7 +172,7 @@ merged_count z z₁ z₂ m₀ m₁ m₂ w p q view view' e settled =
     omega (arith, a, b, c, d, f)
 
 -- the numbers of the two are distinct, and the pass stays its own caller's
-pub merged_apart : (z z₁ : TableId) (m₀ m₁ m₂ : M) (w : Knowledge) (p q : PassState) → pass_state z m₀.0 ≡ p → pass_state z₁ w ≡ q → m₁ ≡ (join_left m₀.0 w, m₀.1) → Settled m₁ m₂ → HeldOnce p q
+pub merged_apart : {K : Type 0} (z z₁ : TableId) (m₀ m₁ m₂ : M K) (w : Knowledge) (p q : PassState) → pass_state z m₀.0 ≡ p → pass_state z₁ w ≡ q → m₁ ≡ (join_left m₀.0 w, m₀.1) → Settled m₁ m₂ → HeldOnce p q
 merged_apart z z₁ m₀ m₁ m₂ w p q view view' e settled n =
     let once = (put_together m₀ m₁ m₂ w e settled).3 n in
     let a = ap (times_held n) view in
@@ -144,10 +187,10 @@ merged_caller z v p q r c others view mine merged =
     let both : r.callers ≡ c ∷ (others ++ q.callers) = ap (λ (s : PassState). s.callers) merged.same ∙ ap (λ (l : List ℕ). l ++ q.callers) is in
     (subst (λ (l : List ℕ). 0 < length l) (sym is) (omega arith), ap (λ (l : List ℕ). slice_index l 0) both ∙ sym (ap (λ (l : List ℕ). slice_index l 0) is))
 
-pub given_new : (z z' : TableId) (v : Knowledge) (m : M) (p : PassState) (n : ℕ) → pass_state z v ≡ p → z' ≡ z → m ≡ (split_right n v, []) → 0 < n → n ≤ count_of v.spare → ((x : ℕ) → 0 < in_ranges x v.spare → calls_of (x ∷ []) v.seen ≡ [])
+pub given_new : {K : Type 0} (z z' : TableId) (v : Knowledge) (m : M K) (p : PassState) (n : ℕ) → pass_state z v ≡ p → z' ≡ z → m ≡ (split_right n v, []) → 0 < n → n ≤ count_of v.spare → ((x : ℕ) → 0 < in_ranges x v.spare → calls_of (x ∷ []) v.seen ≡ [])
     → Given p n (pass_state z' m.0)
-given_new z z' v m p n view table is some_number enough unused =
-    subst (λ (t : PassState × (TableId × M)). Given t.0 n (pass_state t.1.0 t.1.1.0)) (λ i. (view i, (sym table i, sym is i))) (record { same = refl; own = unused (first_of_ranges (take_numbers n v.spare)) (first_is_spare n v some_number enough) })
+given_new {K} z z' v m p n view table is some_number enough unused =
+    subst (λ (t : PassState × (TableId × M K)). Given t.0 n (pass_state t.1.0 t.1.1.0)) (λ i. (view i, (sym table i, sym is i))) (record { same = refl; own = unused (first_of_ranges (take_numbers n v.spare)) (first_is_spare n v some_number enough) })
 
 -- no number is with both
 pub given_apart : (z z' : TableId) (v left right : Knowledge) (n : ℕ) → left ≡ split_left n v → right ≡ split_right n v → 0 < n → n ≤ count_of v.spare → HoldsOnce v → HeldOnce (pass_state z left) (pass_state z' right)
@@ -162,11 +205,11 @@ pub spare_unused : (z : TableId) (v : Knowledge) (p : PassState) → pass_state 
 spare_unused z v p view unused = subst UsedNoSpare view unused
 
 -- the numbers of the new pass, and those that are left
-pub given_count : (z : TableId) (v : Knowledge) (m : M) (n : ℕ) → m ≡ (split_right (n + 1) v, []) → n < count_of v.spare → (numbers_held (pass_state z m.0) ≡ n + 1) × (count_of m.0.spare ≡ n)
-given_count z v m n is enough =
-    let a = ap (λ (k : M). numbers_held (pass_state z k.0)) is in
+pub given_count : {K : Type 0} (z : TableId) (v : Knowledge) (m : M K) (n : ℕ) → m ≡ (split_right (n + 1) v, []) → n < count_of v.spare → (numbers_held (pass_state z m.0) ≡ n + 1) × (count_of m.0.spare ≡ n)
+given_count {K} z v m n is enough =
+    let a = ap (λ (k : M K). numbers_held (pass_state z k.0)) is in
     let b = right_size (n + 1) v (omega arith) (omega (arith, enough)) in
-    let c = ap (λ (k : M). count_of k.0.spare) is in
+    let c = ap (λ (k : M K). count_of k.0.spare) is in
     (omega (arith, a, b), omega (arith, b, c))
 
 pub left_count : (z z' : TableId) (v w : Knowledge) (p : PassState) (n : ℕ) → pass_state z v ≡ p → w ≡ split_left (n + 1) v → n < count_of v.spare → (numbers_held (pass_state z' w) + (n + 1) ≡ numbers_held p) × (count_of w.spare + (n + 1) ≡ count_of p.spare)

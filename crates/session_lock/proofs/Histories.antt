@@ -6,7 +6,7 @@ use Rattle.std.proofs.lemmas.Bool.{eqb-true}
 use Rattle.std.proofs.lemmas.List.{append-nil}
 use Rattle.session_lock.specs.declared.knowledge.Item.{Item}
 use Rattle.reflector_core.specs.PlainSession.{PlainSession, IsSoundSession}
-use Rattle.session_lock.specs.declared.knowledge.Item.TheVariants.{Did, Void}
+use Rattle.session_lock.specs.declared.knowledge.Item.TheVariants.{Did, Void, Unkept}
 use Rattle.reflector_core.specs.Answer.{answer}
 use Rattle.reflector_core.specs.Play.{after_all}
 use Rattle.reflector_core.specs.Growth.{GrowsTo}
@@ -21,11 +21,12 @@ play_from_append s (x ∷ xs) ys = play_from_append (after_item s x) xs ys
 pub play_snoc : (s : PlainSession) (history : List Item) (x : Item) → play_from s (history ++ x ∷ []) ≡ after_item (play_from s history) x
 play_snoc s history x = play_from_append s history (x ∷ [])
 
--- a Void changes nothing
+-- a Void changes nothing, and neither does an Unkept
 pub play_requests : (s : PlainSession) (xs : List Item) → play_from s xs ≡ after_all s (history_requests xs)
 play_requests s [] = refl
 play_requests s (Did caller request ∷ xs) = play_requests (answer s request).session xs
 play_requests s (Void caller ∷ xs) = play_requests s xs
+play_requests s (Unkept caller ∷ xs) = play_requests s xs
 
 -- the log of a beginning grows
 pub history_grows : (s : PlainSession) (beginning rest : List Item) → GrowsTo (play_from s beginning) (play_from s (beginning ++ rest))

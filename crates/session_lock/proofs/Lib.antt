@@ -1,9 +1,11 @@
 pub mod Totals
 pub mod Ranges
 pub mod Histories
+pub mod KeepingLaws
 pub mod TrustLaws
 pub mod StepLaws
 pub mod Shares
 pub mod Closing
 pub mod Contracts
+pub mod Working
 pub mod Crossings

@@ -51,14 +51,14 @@ module _ (n : ℕ) (v : Knowledge) (n_some : 0 < n) (enough : n ≤ count_of v.s
   pub left_size : number_count (split_left n v) + n ≡ number_count v
   left_size = let a = cut_count n v.spare in let c = taken_count n v.spare enough in omega (arith, a, c)
 
-  pub splits : (Trusted : PlainSession → Type 0) (id : ℕ) → Splits (Locks Trusted) id v (split_left n v) (split_right n v)
-  splits Trusted id s (history, k) at =
+  pub splits : {K : Type 0} (Trusted : PlainSession → Type 0) (Keeps : PlainSession → List Item → K → Type 0) (id : ℕ) → Splits (Locks Trusted Keeps) id v (split_left n v) (split_right n v)
+  splits {K} Trusted Keeps id s (history, k) at =
       let l : Knowledge = split_left n v in
       let r : Knowledge = split_right n v in
       let first : ℕ = first_of_ranges the_taken in
       let both : (f : Knowledge → ℕ) → views_total f (set s.views id l ++ r ∷ []) + f v ≡ views_total f s.views + (f l + f r) = λ f. (let a = total_set f s.views id v l at in let b = total_snoc f (set s.views id l) r in omega (arith, a, b)) in
       let caller_is : 0 < length v.callers = some_of v.callers (λ e. (let t = k.spent id v at e in let gone : count_of v.spare ≡ 0 = ap count_of t.0 in omega (arith, gone, n_some, enough))) in
-      let unused : views_total (calls_as first) s.views ≡ 0 = no_caller Trusted history s k id v first at first_is_spare in (
+      let unused : views_total (calls_as first) s.views ≡ 0 = no_caller Trusted Keeps history s k id v first at first_is_spare in (
         history,
         record {
           opening = k.opening;
@@ -126,8 +126,8 @@ total_join : (f : Knowledge → ℕ) (views : List Knowledge) (id other : ℕ) (
     → views_total f (set (set views id both) other gone) ≡ views_total f views
 total_join f views id other v w both gone at also same = let a = total_set f views id v both at in let b = total_set f (set views id both) other w gone also in omega (arith, a, b, same)
 
-pub merges : (Trusted : PlainSession → Type 0) (id other : ℕ) (v w : Knowledge) → v.ticket ≡ None → v.holding ≡ false → w.ticket ≡ None → w.holding ≡ false → 0 < length v.callers → Joins (Locks Trusted) id v other w (join_left v w) join_right
-merges Trusted id other v w idle free idle' free' caller_is s (history, k) at ne also =
+pub merges : {K : Type 0} (Trusted : PlainSession → Type 0) (Keeps : PlainSession → List Item → K → Type 0) (id other : ℕ) (v w : Knowledge) → v.ticket ≡ None → v.holding ≡ false → w.ticket ≡ None → w.holding ≡ false → 0 < length v.callers → Joins (Locks Trusted Keeps) id v other w (join_left v w) join_right
+merges {K} Trusted Keeps id other v w idle free idle' free' caller_is s (history, k) at ne also =
     let m : Knowledge = join_left v w in
     let views : List Knowledge = set (set s.views id m) other join_right in
     let atw : get_elem? s.views other ≡ some w = sym (set_else s.views id other m ne) ∙ also in

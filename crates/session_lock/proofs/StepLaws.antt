@@ -12,15 +12,16 @@ use Rattle.reflector_core.specs.PlainSession.{PlainSession, IsSoundSession}
 use Rattle.session_lock.specs.declared.knowledge.Item.{Item}
 use Rattle.session_lock.specs.declared.knowledge.Part.{Part}
 use Rattle.session_lock.specs.declared.knowledge.Knowledge.{Knowledge}
+use Rattle.session_lock.specs.declared.held.KeptSession.{KeptSession}
 use Rattle.session_lock.specs.History.{caller_of, after_item, play_from, has, calls_of, Saw, IsSoundThrough}
 use Rattle.session_lock.specs.Numbers.{times, in_ranges, count_of, one_between}
-use Rattle.session_lock.specs.Rules.{all_numbers, views_total, is_ticket, has_ticket, one_if, is_holding, calls_as, holds_number, number_count, HoldsOnce, HoldsInTurn, SpentHoldsNothing, PartFits, PartsFit, KnowsOpening, IsSeenWhole, IsInOrder, Locks, no_part}
+use Rattle.session_lock.specs.Rules.{all_numbers, views_total, is_ticket, has_ticket, one_if, is_holding, calls_as, holds_number, number_count, HoldsOnce, HoldsInTurn, SpentHoldsNothing, PartFits, PartsFit, KnowsOpening, IsSeenWhole, IsHome, IsInOrder, Locks, no_part}
 use Rattle.session_lock.specs.Steps.{Unused, Settles, M, with_ticket, with_turn, with_seen_item, Draws, Looks, Finishes, CountsHistory}
 use Rattle.session_lock.proofs.Totals.{total_set, total_same, total_has, total_two, total_none, total_only, every_set, every_set_else}
 use Rattle.session_lock.proofs.Histories.{play_snoc, sound_more, sound_end, calls_append, saw_all, saw_more, saw_whole, saw_length, saw_nothing, saw_between, nothing_first, has_times}
 
-abbrev St : Type 0
-St = State PlainSession Knowledge
+abbrev St : Type 0 → Type 0
+St K = State (KeptSession K) Knowledge
 
 -- tests and counts
 between_more : (low next t : ℕ) → low ≤ next → one_between low next t + (if eqb t next then 1 else 0) ≡ one_between low (next + 1) t
@@ -71,14 +72,14 @@ part_none history w p is = subst (λ (q : Part). PartFits history w q) (sym is) 
 pub has_callers : (w : Knowledge) → 0 < length w.callers → SpentHoldsNothing w
 has_callers w caller_is e = let none_of : length w.callers ≡ 0 = ap length e in absurd (omega (arith, caller_is, none_of))
 
-module _ (Trusted : PlainSession → Type 0) where
+module _ {K : Type 0} (Trusted : PlainSession → Type 0) (Keeps : PlainSession → List Item → K → Type 0) where
   -- nothing changed
-  unmoved : (s : St) (i n id : ℕ) (c : List (ℕ × PlainSession)) (v : Knowledge) → get_elem? s.views id ≡ some v → set s.words i n ≡ s.words → Locks Trusted s → Locks Trusted (stepped s i n id c v keeps)
+  unmoved : (s : St K) (i n id : ℕ) (c : List (ℕ × KeptSession K)) (v : Knowledge) → get_elem? s.views id ≡ some v → set s.words i n ≡ s.words → Locks Trusted Keeps s → Locks Trusted Keeps (stepped s i n id c v keeps)
   unmoved s i n id c v at words k =
-      subst (λ (z : List ℕ × List Knowledge). Locks Trusted (record { words = z.0; homes = s.homes; views = z.1 })) (λ j. (sym words j, sym (set_again s.views id v at) j)) k
+      subst (λ (z : List ℕ × List Knowledge). Locks Trusted Keeps (record { words = z.0; homes = s.homes; views = z.1 })) (λ j. (sym words j, sym (set_again s.views id v at) j)) k
 
   -- a word that is read stays
-  read_word : (history : List Item) (s : St) → IsInOrder Trusted history s → (i : ℕ) → i < 2 → set s.words i (get_or s.words i 0) ≡ s.words
+  read_word : (history : List Item) (s : St K) → IsInOrder Trusted Keeps history s → (i : ℕ) → i < 2 → set s.words i (get_or s.words i 0) ≡ s.words
   read_word history s k i within = subst (λ (l : List ℕ). set l i (get_or l i 0) ≡ l) (sym k.words) (read i within)
     where
       read : (i : ℕ) → i < 2 → set (k.next ∷ length history ∷ []) i (get_or (k.next ∷ length history ∷ []) i 0) ≡ k.next ∷ length history ∷ []
@@ -86,8 +87,8 @@ module _ (Trusted : PlainSession → Type 0) where
       read (suc zero) lt = refl
       read (suc (suc i)) lt = absurd (omega arith)
 
-  pub draws : (slots id : ℕ) (me : M) (old : ℕ) → me.0.ticket ≡ None → me.0.holding ≡ false → 0 < length me.0.callers → old < 18446744073709551615
-      → Allows (Locks Trusted) slots id me 0 (λ n. either (eqb n old) (old + 1) n) (Draws (step slots 0 old (old + 1) none) me)
+  pub draws : (slots id : ℕ) (me : M K) (old : ℕ) → me.0.ticket ≡ None → me.0.holding ≡ false → 0 < length me.0.callers → old < 18446744073709551615
+      → Allows (Locks Trusted Keeps) slots id me 0 (λ n. either (eqb n old) (old + 1) n) (Draws (step slots 0 old (old + 1) none) me)
   draws slots id me old idle free caller_is fits s (history, k) wide at small = let x : ℕ = get_or s.words 0 0 in let is : x ≡ k.next = ap (λ (l : List ℕ). get_or l 0 0) k.words in dite (ℕ_discrete x old)
       (λ hit. let v : Knowledge = me.0 in let w : Knowledge = with_ticket v x in (
         w,
@@ -136,7 +137,7 @@ module _ (Trusted : PlainSession → Type 0) where
       ))
 
   -- no other view has this ticket
-  alone : (history : List Item) (s : St) (k : IsInOrder Trusted history s) (id : ℕ) (v : Knowledge) (t : ℕ) → get_elem? s.views id ≡ some v → v.ticket ≡ Some t
+  alone : (history : List Item) (s : St K) (k : IsInOrder Trusted Keeps history s) (id : ℕ) (v : Knowledge) (t : ℕ) → get_elem? s.views id ≡ some v → v.ticket ≡ Some t
       → (j : ℕ) (u : Knowledge) → get_elem? s.views j ≡ some u → j ≢ id → u.ticket ≢ Some t
   alone history s k id v t at has_it j u atj ne also =
       let both = total_two (has_ticket t) s.views j id u v atj at ne in
@@ -151,28 +152,28 @@ module _ (Trusted : PlainSession → Type 0) where
   not_holding false h = refl
 
   -- before the turn begins nobody holds the session
-  nobody_holds : (history : List Item) (s : St) (k : IsInOrder Trusted history s) (id : ℕ) (v : Knowledge) → get_elem? s.views id ≡ some v → v.ticket ≡ Some (length history) → v.holding ≡ false → views_total is_holding s.views ≡ 0
+  nobody_holds : (history : List Item) (s : St K) (k : IsInOrder Trusted Keeps history s) (id : ℕ) (v : Knowledge) → get_elem? s.views id ≡ some v → v.ticket ≡ Some (length history) → v.holding ≡ false → views_total is_holding s.views ≡ 0
   nobody_holds history s k id v at has_it free = total_none is_holding s.views (λ j u e. dite (ℕ_discrete j id)
       (λ here. let same : u ≡ v = some-injective u v (sym e ∙ (ap (λ (n : ℕ). get_elem? s.views n) here ∙ at)) in ap one_if (ap (λ (z : Knowledge). z.holding) same ∙ free))
       (λ other. not_holding u.holding (λ holds. alone history s k id v (length history) at has_it j u e other (k.turn j u e holds).0)))
 
   -- in its turn who holds the session is the only one
-  one_holds : (history : List Item) (s : St) (k : IsInOrder Trusted history s) (id : ℕ) (v : Knowledge) → get_elem? s.views id ≡ some v → v.ticket ≡ Some (length history) → v.holding ≡ true → (views_total is_holding s.views ≡ 1) × (is_holding v ≡ 1)
+  one_holds : (history : List Item) (s : St K) (k : IsInOrder Trusted Keeps history s) (id : ℕ) (v : Knowledge) → get_elem? s.views id ≡ some v → v.ticket ≡ Some (length history) → v.holding ≡ true → (views_total is_holding s.views ≡ 1) × (is_holding v ≡ 1)
   one_holds history s k id v at has_it holds =
       let one : is_holding v ≡ 1 = ap one_if holds in
       (total_only is_holding s.views id v at (λ j u atj other. not_holding u.holding (λ also. alone history s k id v (length history) at has_it j u atj other (k.turn j u atj also).0)) ∙ one, one)
 
-  pub looks : (Told : PlainSession → Type 0) → ((s : PlainSession) → Trusted s → Told s) → (slots id : ℕ) (v : Knowledge) (t : ℕ) → v.ticket ≡ Some t → v.holding ≡ false → 0 < length v.callers → Allows (Locks Trusted) slots id (v, []) 1 (λ n. n) (Looks Told (step slots 1 0 0 none) (v, []))
-  looks Told tells slots id v t has_it free caller_is s (history, k) wide at small = let x : ℕ = get_or s.words 1 0 in let is : x ≡ length history = ap (λ (l : List ℕ). get_or l 1 0) k.words in
+  pub looks : (Told : PlainSession → Type 0) → ((s : PlainSession) → Trusted s → Told s) → (ToldKeeps : PlainSession → List Item → K → Type 0) → ((o : PlainSession) (h : List Item) (k : K) → Keeps o h k → ToldKeeps o h k) → (slots id : ℕ) (v : Knowledge) (t : ℕ) → v.ticket ≡ Some t → v.holding ≡ false → 0 < length v.callers → Allows (Locks Trusted Keeps) slots id (v, []) 1 (λ n. n) (Looks Told ToldKeeps (step slots 1 0 0 none) (v, []))
+  looks Told tells ToldKeeps tells_keeps slots id v t has_it free caller_is s (history, k) wide at small = let x : ℕ = get_or s.words 1 0 in let is : x ≡ length history = ap (λ (l : List ℕ). get_or l 1 0) k.words in
       let same_words : set s.words 1 x ≡ s.words = read_word history s k 1 (omega arith) in
       dite (ℕ_discrete x t)
       (λ hit. let w : Knowledge = with_turn v history in let served : v.ticket ≡ Some (length history) = has_it ∙ ap (λ (n : ℕ). Some n) (sym hit ∙ is) in
       let same : k.opening ≡ v.opening = sym (k.opened id v at caller_is) in
-      let home : s.homes ≡ some (play_from v.opening history) ∷ [] = subst (λ (o : PlainSession). s.homes ≡ some (play_from o history) ∷ []) same (k.home (nobody_holds history s k id v at served free)) in
+      let home : IsHome Keeps v.opening history s.homes = subst (λ (o : PlainSession). IsHome Keeps o history s.homes) same (k.home (nobody_holds history s k id v at served free)) in
       let well : Told (play_from v.opening history) × IsSoundThrough v.opening history = subst (λ (o : PlainSession). Told (play_from o history) × IsSoundThrough o history) same (tells (play_from k.opening history) k.trusted, k.sound) in (
         w,
-        takes 0 (play_from v.opening history),
-        ap (λ (l : List _). get_elem? l 0) home,
+        takes 0 home.there,
+        ap (λ (l : List (mathlib.Core.Option.Option (KeptSession K))). get_elem? l 0) home.at,
         (
           history,
           record {
@@ -194,10 +195,10 @@ module _ (Trusted : PlainSession → Type 0) where
             trusted = k.trusted;
             sound = k.sound;
             home = λ nobody. let one = total_has is_holding (set s.views id w) id w (set_at s.views id v w at) in absurd (omega (arith, one, nobody));
-            away = λ _. ap (λ (l : List (mathlib.Core.Option.Option PlainSession)). set l 0 none) home;
+            away = λ _. ap (λ (l : List (mathlib.Core.Option.Option (KeptSession K))). set l 0 none) home.at;
           },
         ),
-        ((λ _. (history, sym is, k.seen id v at, refl, well.0, well.1)), λ not. absurd (not (has_it ∙ ap (λ (n : ℕ). Some n) (sym hit)))),
+        ((λ _. record { history = history; taken = home.there; len = sym is; saw = k.seen id v at; is = refl; plays = home.plays; keeps = tells_keeps v.opening history home.there.keeper home.keeps; trusted = well.0; sound = well.1 }), λ not. absurd (not (has_it ∙ ap (λ (n : ℕ). Some n) (sym hit)))),
       ))
       (λ miss. (
         v,
@@ -210,18 +211,18 @@ module _ (Trusted : PlainSession → Type 0) where
   holds_own : (n : ℕ) (others : List ℕ) → 0 < times n (n ∷ others)
   holds_own n others = rw (eq-eqb n n refl) (omega arith)
 
-  only_home : (homes : List (mathlib.Core.Option.Option PlainSession)) (y : PlainSession) → length homes ≡ 1 → set homes 0 (some y) ≡ some y ∷ []
+  only_home : (homes : List (mathlib.Core.Option.Option (KeptSession K))) (y : KeptSession K) → length homes ≡ 1 → set homes 0 (some y) ≡ some y ∷ []
   only_home [] y e = absurd (omega arith)
   only_home (h ∷ []) y e = refl
   only_home (h ∷ (g ∷ gs)) y e = absurd (omega arith)
 
-  pub finishes : (Told : PlainSession → Type 0) → ((s : PlainSession) → Trusted s → Told s) → (id : ℕ) (v : Knowledge) (y : PlainSession) (item : ℕ → Item) (c : ℕ) (others : List ℕ) → v.callers ≡ c ∷ others → caller_of (item c) ≡ c → v.holding ≡ true → v.ticket ≡ Some (length v.seen) → v.kept ≡ no_part → v.other ≡ no_part
-      → y ≡ after_item (play_from v.opening v.seen) (item c) → IsSoundSession y → (IsSoundSession (play_from v.opening v.seen) → IsSoundSession (after_item (play_from v.opening v.seen) (item c)) → Trusted (play_from v.opening v.seen) → Trusted (after_item (play_from v.opening v.seen) (item c)))
-      → Allows (Locks Trusted) 1 id (v, (0, y) ∷ []) 1 (λ n. (n + 1) % 2 ^ 64) (Finishes Told item (step 1 1 1 0 none) (v, (0, y) ∷ []))
-  finishes Told tells id v y item c others mine by holding has_it no_kept no_other is_play y_sound stays s (history, k₀) wide at small =
+  pub finishes : (Told : PlainSession → Type 0) → ((s : PlainSession) → Trusted s → Told s) → (id : ℕ) (v : Knowledge) (y : KeptSession K) (item : ℕ → Item) (c : ℕ) (others : List ℕ) → v.callers ≡ c ∷ others → caller_of (item c) ≡ c → v.holding ≡ true → v.ticket ≡ Some (length v.seen) → v.kept ≡ no_part → v.other ≡ no_part
+      → y.session ≡ after_item (play_from v.opening v.seen) (item c) → Keeps v.opening (v.seen ++ item c ∷ []) y.keeper → IsSoundSession y.session → (IsSoundSession (play_from v.opening v.seen) → IsSoundSession (after_item (play_from v.opening v.seen) (item c)) → Trusted (play_from v.opening v.seen) → Trusted (after_item (play_from v.opening v.seen) (item c)))
+      → Allows (Locks Trusted Keeps) 1 id (v, (0, y) ∷ []) 1 (λ n. (n + 1) % 2 ^ 64) (Finishes Told item (step 1 1 1 0 none) (v, (0, y) ∷ []))
+  finishes Told tells id v y item c others mine by holding has_it no_kept no_other is_play keeps_pace y_sound stays s (history, k₀) wide at small =
       let same : v.seen ≡ history = saw_whole v.callers v.seen history (k₀.seen id v at) (let t : Some (length history) ≡ Some (length v.seen) = sym (k₀.turn id v at holding).0 ∙ has_it in let e : length history ≡ length v.seen = cc in omega arith) in
       let h : List Item = v.seen in
-      let k : IsInOrder Trusted h s = subst (λ (l : List Item). IsInOrder Trusted l s) (sym same) k₀ in
+      let k : IsInOrder Trusted Keeps h s = subst (λ (l : List Item). IsInOrder Trusted Keeps l s) (sym same) k₀ in
       let x : Item = item c in
       let w : Knowledge = with_seen_item v x in
       let some_caller : 0 < length v.callers = subst (λ (l : List ℕ). 0 < length l) (sym mine) (omega arith) in
@@ -281,7 +282,7 @@ module _ (Trusted : PlainSession → Type 0) where
             spent = every_set SpentHoldsNothing s.views id w k.spent (has_callers w some_caller);
             trusted = trusted_now;
             sound = sound_more o h x well.1 sound_now;
-            home = λ nobody. only_home s.homes y wide ∙ ap (λ (z : PlainSession). some z ∷ []) (is_play ∙ sym (play_snoc o h x));
+            home = λ nobody. record { there = y; at = only_home s.homes y wide; plays = is_play ∙ sym (play_snoc o h x); keeps = keeps_pace };
             away = λ one. let was = total_set is_holding s.views id v w at in let only = one_holds h s k id v at has_it holding in absurd (omega (arith, one, was, only.0, only.1));
           },
         ),
@@ -289,9 +290,9 @@ module _ (Trusted : PlainSession → Type 0) where
       )
 
   -- a view that knows more, of the same callers, numbers and ticket
-  renewed : (history : List Item) (s : St) → IsInOrder Trusted history s → (i id : ℕ) (c : List (ℕ × PlainSession)) (v w : Knowledge) → get_elem? s.views id ≡ some v → set s.words i (get_or s.words i 0) ≡ s.words
+  renewed : (history : List Item) (s : St K) → IsInOrder Trusted Keeps history s → (i id : ℕ) (c : List (ℕ × KeptSession K)) (v w : Knowledge) → get_elem? s.views id ≡ some v → set s.words i (get_or s.words i 0) ≡ s.words
       → w.opening ≡ v.opening → w.callers ≡ v.callers → w.spare ≡ v.spare → w.ticket ≡ v.ticket → w.holding ≡ v.holding → Saw w.callers w.seen history → PartsFit history w → (v.seen ≡ history → w.seen ≡ history)
-      → IsInOrder Trusted history (stepped s i (get_or s.words i 0) id c w keeps)
+      → IsInOrder Trusted Keeps history (stepped s i (get_or s.words i 0) id c w keeps)
   renewed history s k i id c v w at same_words opens callers spare ticket holding saw fits told = record {
     opening = k.opening;
     opened = every_set (KnowsOpening k.opening) s.views id w k.opened (λ some_of. opens ∙ k.opened id v at (subst (λ (l : List ℕ). 0 < length l) callers some_of));
@@ -314,7 +315,7 @@ module _ (Trusted : PlainSession → Type 0) where
     away = λ one. k.away (sym (total_same is_holding s.views id v w at (ap one_if holding)) ∙ one);
   }
 
-  pub counts : (Told : PlainSession → Type 0) → ((s : PlainSession) → Trusted s → Told s) → (slots id : ℕ) (v : Knowledge) (carried : List (ℕ × PlainSession)) → 0 < length v.callers → Allows (Locks Trusted) slots id (v, carried) 1 (λ n. n) (CountsHistory Told (step slots 1 0 0 none) (v, carried))
+  pub counts : (Told : PlainSession → Type 0) → ((s : PlainSession) → Trusted s → Told s) → (slots id : ℕ) (v : Knowledge) (carried : List (ℕ × KeptSession K)) → 0 < length v.callers → Allows (Locks Trusted Keeps) slots id (v, carried) 1 (λ n. n) (CountsHistory Told (step slots 1 0 0 none) (v, carried))
   counts Told tells slots id v carried caller_is s (history, k) wide at small = let w : Knowledge = record v { seen = history } in (
     w,
     keeps,
@@ -323,37 +324,37 @@ module _ (Trusted : PlainSession → Type 0) where
     (history, sym (ap (λ (l : List ℕ). get_or l 1 0) k.words), k.seen id v at, refl, subst (λ (o : PlainSession). Told (play_from o history) × IsSoundThrough o history) (sym (k.opened id v at caller_is)) (tells (play_from k.opening history) k.trusted, k.sound)),
   )
 
-  pub looks_me : (Told : PlainSession → Type 0) → ((s : PlainSession) → Trusted s → Told s) → (slots id : ℕ) (me : M) (t : ℕ) → me.1 ≡ [] → me.0.ticket ≡ Some t → me.0.holding ≡ false → 0 < length me.0.callers → Allows (Locks Trusted) slots id me 1 (λ n. n) (Looks Told (step slots 1 0 0 none) me)
-  looks_me Told tells slots id me t empty has_it free caller_is =
-      subst (λ (c : List (ℕ × PlainSession)). Allows (Locks Trusted) slots id (me.0, c) 1 (λ n. n) (Looks Told (step slots 1 0 0 none) (me.0, c))) (sym empty) (looks Told tells slots id me.0 t has_it free caller_is)
+  pub looks_me : (Told : PlainSession → Type 0) → ((s : PlainSession) → Trusted s → Told s) → (ToldKeeps : PlainSession → List Item → K → Type 0) → ((o : PlainSession) (h : List Item) (k : K) → Keeps o h k → ToldKeeps o h k) → (slots id : ℕ) (me : M K) (t : ℕ) → me.1 ≡ [] → me.0.ticket ≡ Some t → me.0.holding ≡ false → 0 < length me.0.callers → Allows (Locks Trusted Keeps) slots id me 1 (λ n. n) (Looks Told ToldKeeps (step slots 1 0 0 none) me)
+  looks_me Told tells ToldKeeps tells_keeps slots id me t empty has_it free caller_is =
+      subst (λ (c : List (ℕ × KeptSession K)). Allows (Locks Trusted Keeps) slots id (me.0, c) 1 (λ n. n) (Looks Told ToldKeeps (step slots 1 0 0 none) (me.0, c))) (sym empty) (looks Told tells ToldKeeps tells_keeps slots id me.0 t has_it free caller_is)
 
-  pub counts_me : (Told : PlainSession → Type 0) → ((s : PlainSession) → Trusted s → Told s) → (slots id : ℕ) (me : M) → 0 < length me.0.callers → Allows (Locks Trusted) slots id me 1 (λ n. n) (CountsHistory Told (step slots 1 0 0 none) me)
+  pub counts_me : (Told : PlainSession → Type 0) → ((s : PlainSession) → Trusted s → Told s) → (slots id : ℕ) (me : M K) → 0 < length me.0.callers → Allows (Locks Trusted Keeps) slots id me 1 (λ n. n) (CountsHistory Told (step slots 1 0 0 none) me)
   counts_me Told tells slots id me caller_is = counts Told tells slots id me.0 me.1 caller_is
 
-  pub finishes_me : (Told : PlainSession → Type 0) → ((s : PlainSession) → Trusted s → Told s) → (slots id : ℕ) (me : M) (y : PlainSession) (item : ℕ → Item) (c : ℕ) (others : List ℕ) → slots ≡ 1 → me.1 ≡ (0, y) ∷ [] → me.0.callers ≡ c ∷ others → caller_of (item c) ≡ c → me.0.holding ≡ true → me.0.ticket ≡ Some (length me.0.seen) → me.0.kept ≡ no_part → me.0.other ≡ no_part
-      → y ≡ after_item (play_from me.0.opening me.0.seen) (item c) → IsSoundSession y → (IsSoundSession (play_from me.0.opening me.0.seen) → IsSoundSession (after_item (play_from me.0.opening me.0.seen) (item c)) → Trusted (play_from me.0.opening me.0.seen) → Trusted (after_item (play_from me.0.opening me.0.seen) (item c)))
-      → Allows (Locks Trusted) slots id me 1 (λ n. (n + 1) % 2 ^ 64) (Finishes Told item (step slots 1 1 0 none) me)
-  finishes_me Told tells slots id me y item c others one carried mine by holding has_it no_kept no_other is_play y_sound stays =
-      subst (λ (z : ℕ × List (ℕ × PlainSession)). Allows (Locks Trusted) z.0 id (me.0, z.1) 1 (λ n. (n + 1) % 2 ^ 64) (Finishes Told item (step z.0 1 1 0 none) (me.0, z.1))) (λ i. (sym one i, sym carried i))
-      (finishes Told tells id me.0 y item c others mine by holding has_it no_kept no_other is_play y_sound stays)
+  pub finishes_me : (Told : PlainSession → Type 0) → ((s : PlainSession) → Trusted s → Told s) → (slots id : ℕ) (me : M K) (y : KeptSession K) (item : ℕ → Item) (c : ℕ) (others : List ℕ) → slots ≡ 1 → me.1 ≡ (0, y) ∷ [] → me.0.callers ≡ c ∷ others → caller_of (item c) ≡ c → me.0.holding ≡ true → me.0.ticket ≡ Some (length me.0.seen) → me.0.kept ≡ no_part → me.0.other ≡ no_part
+      → y.session ≡ after_item (play_from me.0.opening me.0.seen) (item c) → Keeps me.0.opening (me.0.seen ++ item c ∷ []) y.keeper → IsSoundSession y.session → (IsSoundSession (play_from me.0.opening me.0.seen) → IsSoundSession (after_item (play_from me.0.opening me.0.seen) (item c)) → Trusted (play_from me.0.opening me.0.seen) → Trusted (after_item (play_from me.0.opening me.0.seen) (item c)))
+      → Allows (Locks Trusted Keeps) slots id me 1 (λ n. (n + 1) % 2 ^ 64) (Finishes Told item (step slots 1 1 0 none) me)
+  finishes_me Told tells slots id me y item c others one carried mine by holding has_it no_kept no_other is_play keeps_pace y_sound stays =
+      subst (λ (z : ℕ × List (ℕ × KeptSession K)). Allows (Locks Trusted Keeps) z.0 id (me.0, z.1) 1 (λ n. (n + 1) % 2 ^ 64) (Finishes Told item (step z.0 1 1 0 none) (me.0, z.1))) (λ i. (sym one i, sym carried i))
+      (finishes Told tells id me.0 y item c others mine by holding has_it no_kept no_other is_play keeps_pace y_sound stays)
 
   total_add : (f g h : Knowledge → ℕ) (views : List Knowledge) → ((v : Knowledge) → h v ≡ f v + g v) → views_total h views ≡ views_total f views + views_total g views
   total_add f g h [] e = refl
   total_add f g h (v ∷ vs) e = let r = total_add f g h vs e in let is = e v in omega (arith, r, is)
 
   -- no view holds a number twice
-  pub holds_once : (history : List Item) (s : St) (k : IsInOrder Trusted history s) (id : ℕ) (v : Knowledge) → get_elem? s.views id ≡ some v → HoldsOnce v
+  pub holds_once : (history : List Item) (s : St K) (k : IsInOrder Trusted Keeps history s) (id : ℕ) (v : Knowledge) → get_elem? s.views id ≡ some v → HoldsOnce v
   holds_once history s k id v at n = let a = total_has (holds_number n) s.views id v at in let b = k.numbers n in omega (arith, a, b)
 
   abbrev pub spare_as : ℕ → Knowledge → ℕ
   spare_as n v = in_ranges n v.spare
 
   -- a spare number is no caller's
-  pub no_caller : (history : List Item) (s : St) (k : IsInOrder Trusted history s) (id : ℕ) (v : Knowledge) (n : ℕ) → get_elem? s.views id ≡ some v → 0 < in_ranges n v.spare → views_total (calls_as n) s.views ≡ 0
+  pub no_caller : (history : List Item) (s : St K) (k : IsInOrder Trusted Keeps history s) (id : ℕ) (v : Knowledge) (n : ℕ) → get_elem? s.views id ≡ some v → 0 < in_ranges n v.spare → views_total (calls_as n) s.views ≡ 0
   no_caller history s k id v n at is_spare =
       let a = total_add (calls_as n) (spare_as n) (holds_number n) s.views (λ u. refl) in let b = total_has (spare_as n) s.views id v at in let c = k.numbers n in let d = between_most 0 all_numbers n in omega (arith, a, b, c, d, is_spare)
 
-  pub sees_unused : (slots id : ℕ) (me : M) → Allows (Locks Trusted) slots id me 0 (λ n. n) (Unused (step slots 0 0 0 none) me)
+  pub sees_unused : (slots id : ℕ) (me : M K) → Allows (Locks Trusted Keeps) slots id me 0 (λ n. n) (Unused (step slots 0 0 0 none) me)
   sees_unused slots id me s (history, k) wide at small = (
     me.0,
     keeps,
@@ -367,7 +368,7 @@ module _ (Trusted : PlainSession → Type 0) where
     ),
   )
 
-  pub settles : (slots id : ℕ) (v : Knowledge) (c : List (ℕ × PlainSession)) → Allows (Locks Trusted) slots id (v, c) 0 (λ n. n) (Settles (step slots 0 0 0 none) (v, c))
+  pub settles : (slots id : ℕ) (v : Knowledge) (c : List (ℕ × KeptSession K)) → Allows (Locks Trusted Keeps) slots id (v, c) 0 (λ n. n) (Settles (step slots 0 0 0 none) (v, c))
   settles slots id v c s (history, k) wide at small = let w : Knowledge = record v { kept = no_part; other = no_part } in let fits = k.parts id v at in (
     w,
     keeps,
@@ -381,5 +382,5 @@ module _ (Trusted : PlainSession → Type 0) where
     ),
   )
 
-  pub settles_me : (slots id : ℕ) (me : M) → Allows (Locks Trusted) slots id me 0 (λ n. n) (Settles (step slots 0 0 0 none) me)
+  pub settles_me : (slots id : ℕ) (me : M K) → Allows (Locks Trusted Keeps) slots id me 0 (λ n. n) (Settles (step slots 0 0 0 none) me)
   settles_me slots id me = settles slots id me.0 me.1

@@ -7,7 +7,7 @@ use Rattle.reflector_core.specs.declared.request.Request.TheVariants.{Join, Send
 use Rattle.reflector_core.specs.PlainSession.{PlainSession, IsSoundSession}
 use Rattle.reflector_core.specs.Answer.{answer}
 use Rattle.session_lock.specs.declared.knowledge.Item.{Item}
-use Rattle.session_lock.specs.declared.knowledge.Item.TheVariants.{Did, Void}
+use Rattle.session_lock.specs.declared.knowledge.Item.TheVariants.{Did, Void, Unkept}
 use Rattle.atomic_table.specs.Seated.{TableId}
 use Rattle.session_lock.specs.Passes.{SharedState, shared_state}
 use Rattle.session_lock.specs.Trusts.{Allowing, TrustAllows, IsTrusted, Stays, MayBeAsked}
@@ -43,6 +43,7 @@ module _ {T : Type 0} (allows : Allowing T) (stays : Stays allows) (trust : T) (
       let s' : PlainSession = (answer s request).session in
       later s' xs time bytes sound.1 (stays trust id s request time bytes sound.0 (sound_start s' xs sound.1) a)
   later s (Void c ∷ xs) time bytes sound a = later s xs time bytes sound.1 a
+  later s (Unkept c ∷ xs) time bytes sound a = later s xs time bytes sound.1 a
 
   -- what may be asked of the session that was seen may be asked later
   pub asked_later : (o : PlainSession) (cs : List ℕ) (seen history : List Item) (request : Request) → IsSoundThrough o history → Saw cs seen history → MayBeAsked allows trust id (play_from o seen) request → MayBeAsked allows trust id (play_from o history) request
@@ -56,8 +57,13 @@ module _ {T : Type 0} (allows : Allowing T) (stays : Stays allows) (trust : T) (
   asked_later o cs seen history (Pull after limit) sound saw ok = ok
 
 -- what is trusted by what the table was told is trusted by what a contract sees of it, and what may be asked goes back
-pub trusted_outside : {T K : Type 0} (allows : Allowing T) (session : TableId) (key : SessionId × T × K) (seen : SharedState T) → shared_state session key ≡ seen → (s : PlainSession) → IsTrusted allows key.1 key.0 s → IsTrusted allows seen.trust seen.id s
-trusted_outside {T} {K} allows session key seen is s h = subst (λ (v : SharedState T). IsTrusted allows v.trust v.id s) is h
+module _ {T K : Type 0} (allows : Allowing T) (session : TableId) (key : SessionId × T × K) (faults : ℕ) (seen : SharedState T) (is : shared_state session key faults ≡ seen) where
+  pub trusted_outside : (s : PlainSession) → IsTrusted allows key.1 key.0 s → IsTrusted allows seen.trust seen.id s
+  trusted_outside s h = subst (λ (v : SharedState T). IsTrusted allows v.trust v.id s) is h
 
-pub asked_inside : {T K : Type 0} (allows : Allowing T) (session : TableId) (key : SessionId × T × K) (seen : SharedState T) → shared_state session key ≡ seen → (s : PlainSession) (request : Request) → MayBeAsked allows seen.trust seen.id s request → MayBeAsked allows key.1 key.0 s request
-asked_inside {T} {K} allows session key seen is s request h = subst (λ (v : SharedState T). MayBeAsked allows v.trust v.id s request) (sym is) h
+  pub asked_inside : (s : PlainSession) (request : Request) → MayBeAsked allows seen.trust seen.id s request → MayBeAsked allows key.1 key.0 s request
+  asked_inside s request h = subst (λ (v : SharedState T). MayBeAsked allows v.trust v.id s request) (sym is) h
+
+  -- the count of faults that the lock began with
+  pub first_inside : (first : ℕ) → seen.faults ≡ first → faults ≡ first
+  first_inside first e = ap (λ (v : SharedState T). v.faults) is ∙ e

@@ -6,16 +6,18 @@ use Rattle.reflector_core.specs.Play.{first_session}
 use Rattle.reflector_core.specs.declared.request.Request.{Request}
 use Rattle.reflector_core.specs.declared.request.Reply.{Reply}
 use Rattle.session_lock.specs.declared.knowledge.Item.{Item}
-use Rattle.session_lock.specs.declared.knowledge.Item.TheVariants.{Did, Void}
+use Rattle.session_lock.specs.declared.knowledge.Item.TheVariants.{Did, Void, Unkept}
 
 abbrev pub caller_of : Item → ℕ
 caller_of (Did caller request) = caller
 caller_of (Void caller) = caller
+caller_of (Unkept caller) = caller
 
 -- the session after one item
 abbrev pub after_item : PlainSession → Item → PlainSession
 after_item session (Did caller request) = (answer session request).session
 after_item session (Void caller) = session
+after_item session (Unkept caller) = session
 
 abbrev pub play_from : PlainSession → List Item → PlainSession
 play_from session [] = session
@@ -30,11 +32,34 @@ abbrev pub history_requests : List Item → List Request
 history_requests [] = []
 history_requests (Did caller request ∷ xs) = request ∷ history_requests xs
 history_requests (Void caller ∷ xs) = history_requests xs
+history_requests (Unkept caller ∷ xs) = history_requests xs
 
 -- the session is sound, and so it is after each of the items
 abbrev pub IsSoundThrough : PlainSession → List Item → Type 0
 IsSoundThrough session [] = IsSoundSession session
 IsSoundThrough session (x ∷ xs) = IsSoundSession session × IsSoundThrough (after_item session x) xs
+
+abbrev pub is_unkept : Item → Bool
+is_unkept (Did caller request) = false
+is_unkept (Void caller) = false
+is_unkept (Unkept caller) = true
+
+-- some call was Unkept
+abbrev pub has_unkept : List Item → Bool
+has_unkept [] = false
+has_unkept (x ∷ xs) = is_unkept x || has_unkept xs
+
+-- no item changes the session
+abbrev pub Stays : PlainSession → List Item → Type 0
+Stays session [] = Unit {0}
+Stays session (x ∷ xs) = (after_item session x ≡ session) × Stays session xs
+
+-- after a call that was Unkept nothing changes
+abbrev pub StopsAtUnkept : PlainSession → List Item → Type 0
+StopsAtUnkept session [] = Unit {0}
+StopsAtUnkept session (Did caller request ∷ xs) = StopsAtUnkept (answer session request).session xs
+StopsAtUnkept session (Void caller ∷ xs) = StopsAtUnkept session xs
+StopsAtUnkept session (Unkept caller ∷ xs) = Stays session xs
 
 -- what is answered to the request after the history, from a session on
 abbrev pub reply_from : PlainSession → List Item → Request → Reply

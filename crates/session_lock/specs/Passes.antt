@@ -4,24 +4,29 @@ use Rattle.atomic_table.specs.Seated.{TableId}
 use Rattle.tea_base.specs.declared.entry.SessionId.{SessionId}
 use Rattle.reflector_core.specs.PlainSession.{PlainSession}
 use Rattle.reflector_core.specs.Answer.{MayWantMemory}
+use Rattle.reflector_core.specs.Keeping.{MayChange}
+use Rattle.reflector_core.specs.declared.keeper.CallFault.{CallFault}
+use Rattle.reflector_core.specs.declared.keeper.CallFault.TheVariants as fault
 use Rattle.reflector_core.specs.declared.request.Request.{Request}
 use Rattle.reflector_core.specs.declared.request.Reply.{Reply}
 use Rattle.session_lock.specs.declared.knowledge.Item.{Item}
-use Rattle.session_lock.specs.declared.knowledge.Item.TheVariants.{Did, Void}
+use Rattle.session_lock.specs.declared.knowledge.Item.TheVariants.{Did, Void, Unkept}
 use Rattle.session_lock.specs.declared.knowledge.Range.{Range}
 use Rattle.session_lock.specs.declared.knowledge.Knowledge.{Knowledge}
 use Rattle.session_lock.specs.History.{play_from, reply_from, has, calls_of, SameCallsOfEach, Saw}
 use Rattle.session_lock.specs.Numbers.{times, in_ranges, one_between, count_of, take_numbers, drop_numbers, first_of_ranges}
 use Rattle.session_lock.specs.Rules.{all_numbers, longer}
 
--- what no other shared session has, its session's id, and the trust that it was made with
+-- what no other shared session has, its session's id, the trust that it was made with, and how often the keeper that it
+-- was made with had failed
 pub record SharedState (T : Type 0) : Type 0 where
   pub session : TableId
   pub id : SessionId
   pub trust : T
+  pub faults : ℕ
 
-abbrev pub shared_state : {T K : Type 0} → TableId → SessionId × T × K → SharedState T
-shared_state session key = record { session = session; id = key.0; trust = key.1 }
+abbrev pub shared_state : {T K : Type 0} → TableId → SessionId × T × K → ℕ → SharedState T
+shared_state session key faults = record { session = session; id = key.0; trust = key.1; faults = faults }
 
 -- of which shared session it is a pass, the session that this began with, its callers' numbers, its own caller's first,
 -- its spare numbers, and the history that it has seen
@@ -86,6 +91,19 @@ pub record Voided (IsTrusted : PlainSession → Type 0) (before after : PassStat
   pub grew : Grew before after history (Void (caller before))
   pub due : MayWantMemory (reply_from before.opening history request)
   pub trusted_after : IsTrusted (play_from before.opening after.seen)
+
+-- the same of a call that was not kept: the reply due at that place may change the session, and a keeper is shut
+pub record NotKept (IsTrusted : PlainSession → Type 0) (Shut : Type 0) (before after : PassState) (request : Request) : Type 0 where
+  pub history : List Item
+  pub grew : Grew before after history (Unkept (caller before))
+  pub due : MayChange (reply_from before.opening history request)
+  pub shut : Shut
+  pub trusted_after : IsTrusted (play_from before.opening after.seen)
+
+-- a call that has no answer, by why
+abbrev pub Missed : (PlainSession → Type 0) → Type 0 → PassState → PassState → Request → CallFault → Type 0
+Missed IsTrusted shut before after request fault.WantOfMemory = Voided IsTrusted before after request
+Missed IsTrusted shut before after request fault.Unkept = NotKept IsTrusted shut before after request
 
 -- the pass has seen a history that begins with all that it had seen, and has made no call; what is kept is trusted
 pub record Caught (IsTrusted : PlainSession → Type 0) (before after : PassState) : Type 0 where

@@ -8,6 +8,7 @@ use Rattle.session_lock.specs.declared.knowledge.Item.{Item}
 use Rattle.session_lock.specs.declared.knowledge.Range.{Range}
 use Rattle.session_lock.specs.declared.knowledge.Part.{Part}
 use Rattle.session_lock.specs.declared.knowledge.Knowledge.{Knowledge}
+use Rattle.session_lock.specs.declared.held.KeptSession.{KeptSession}
 use Rattle.session_lock.specs.History.{play_from, calls_of, Saw, IsSoundThrough}
 use Rattle.session_lock.specs.Numbers.{times, in_ranges, count_of, one_between}
 
@@ -80,8 +81,15 @@ KnowsOpening opening v = 0 < length v.callers → v.opening ≡ opening
 abbrev pub IsSeenWhole : List Item → List Knowledge → Type 0
 IsSeenWhole history views = (i : ℕ) × (v : Knowledge) × (get_elem? views i ≡ some v) × (v.seen ≡ history) × (0 < length v.callers)
 
--- What holds of a history, of the table and of the trust. A view with no caller is that of a pass which was merged.
-pub record IsInOrder (Trusted : PlainSession → Type 0) (history : List Item) (s : State PlainSession Knowledge) : Type 0 where
+-- the session lies in the slot with its keeper, and is the play of the history, with which the keeper has kept pace
+pub record IsHome {K : Type 0} (Keeps : PlainSession → List Item → K → Type 0) (opening : PlainSession) (history : List Item) (homes : List (mathlib.Core.Option.Option (KeptSession K))) : Type 0 where
+  pub there : KeptSession K
+  pub at : homes ≡ some there ∷ []
+  pub plays : there.session ≡ play_from opening history
+  pub keeps : Keeps opening history there.keeper
+
+-- What holds of a history, of the table, of the trust and of the keeper. A view with no caller is that of a pass which was merged.
+pub record IsInOrder {K : Type 0} (Trusted : PlainSession → Type 0) (Keeps : PlainSession → List Item → K → Type 0) (history : List Item) (s : State (KeptSession K) Knowledge) : Type 0 where
   -- the session that the lock began with, which each view knows
   pub opening : PlainSession
   pub opened : Every (KnowsOpening opening) s.views
@@ -106,8 +114,8 @@ pub record IsInOrder (Trusted : PlainSession → Type 0) (history : List Item) (
   pub trusted : Trusted (play_from opening history)
   -- the session is sound from the opening on
   pub sound : IsSoundThrough opening history
-  -- where no view holds it, the session lies in the slot, and is the play of the history
-  pub home : views_total is_holding s.views ≡ 0 → s.homes ≡ some (play_from opening history) ∷ []
+  -- where no view holds it, the session lies in the slot
+  pub home : views_total is_holding s.views ≡ 0 → IsHome Keeps opening history s.homes
   -- where a view holds it, the slot is empty
   pub away : views_total is_holding s.views ≡ 1 → s.homes ≡ none ∷ []
 
@@ -116,8 +124,8 @@ abbrev pub PlaysWell : (PlainSession → Type 0) → PlainSession → List Item 
 PlaysWell Trusted opening history = Trusted (play_from opening history) × IsSoundThrough opening history
 
 -- there is one history that holds of the table
-abbrev pub Locks : (PlainSession → Type 0) → State PlainSession Knowledge → Type 0
-Locks Trusted s = (history : List Item) × IsInOrder Trusted history s
+abbrev pub Locks : {K : Type 0} → (PlainSession → Type 0) → (PlainSession → List Item → K → Type 0) → State (KeptSession K) Knowledge → Type 0
+Locks Trusted Keeps s = (history : List Item) × IsInOrder Trusted Keeps history s
 
 abbrev pub merge_part : List ℕ → List Item → Part
 merge_part callers seen = record { callers = callers; seen = seen }

@@ -1,11 +1,11 @@
 //! The session as the lock's slot holds it.
 ghost use Rattle.std.specs.Prelude.{◌≡◌, IfOk, OnErr};
 ghost use Rattle.reflector_core.specs.PlainSession.{IsSoundSession};
-ghost use Rattle.reflector_core.specs.Answer.{answer, with_reply, MayWantMemory};
+ghost use Rattle.reflector_core.specs.Answer.{answer, with_reply};
+ghost use Rattle.reflector_core.specs.Keeping.{HasCause, KeepsPace};
 
-use reflector_core::{Reply, Request, Session};
+use reflector_core::{CallFault, Keeper, Reply, Request, Session};
 use std::marker::Model;
-use tea_base::WantOfMemory;
 
 /// A session, of which what its log has room for is not seen.
 #[derive(Drop)]
@@ -38,12 +38,50 @@ impl Held {
         session
     }
 
-    pub(crate) fn call(&mut self, request: &Request) -> Result<Reply, WantOfMemory>
+    fn call<K: Keeper>(&mut self, keeper: &mut K, request: &Request) -> Result<Reply, CallFault>
         ensures ok { IfOk result (λ reply. with_reply self.new reply ≡ answer self.old request.now) }
         ensures err { OnErr result (self.new ≡ self.old) }
         ensures sound { IsSoundSession self.new }
-        ensures memory { OnErr result (MayWantMemory (answer self.old request.now).reply) }
+        ensures cause { HasCause (answer self.old request.now).reply (K.shut keeper.new) result }
+        ensures pace { KeepsPace K.holds K.shut K.faults keeper.old keeper.new self.old self.new }
     {
-        self.session.call(request)
+        self.session.call_kept(keeper, request)
+    }
+}
+
+/// A session with its keeper.
+#[derive(Drop)]
+pub struct KeptSession<K> {
+    pub(crate) session: Held,
+    pub(crate) keeper: K,
+}
+
+impl<K: Keeper> KeptSession<K> {
+    pub(crate) fn of(session: Session, keeper: K) -> KeptSession<K>
+        ensures session { result.session ≡ session.plain }
+        ensures keeper { result.keeper ≡ keeper }
+        ensures sound { IsSoundSession result.session }
+    {
+        KeptSession {
+            session: Held::of(session),
+            keeper,
+        }
+    }
+
+    pub(crate) fn into_parts(self) -> (Session, K)
+        ensures { (result.0.plain ≡ self.session) × (result.1 ≡ self.keeper) }
+    {
+        let KeptSession { session, keeper } = self;
+        (session.into_session(), keeper)
+    }
+
+    pub(crate) fn call(&mut self, request: &Request) -> Result<Reply, CallFault>
+        ensures ok { IfOk result (λ reply. with_reply self.new.session reply ≡ answer self.old.session request.now) }
+        ensures err { OnErr result (self.new.session ≡ self.old.session) }
+        ensures sound { IsSoundSession self.new.session }
+        ensures cause { HasCause (answer self.old.session request.now).reply (K.shut self.new.keeper) result }
+        ensures pace { KeepsPace K.holds K.shut K.faults self.old.keeper self.new.keeper self.old.session self.new.session }
+    {
+        self.session.call(&mut self.keeper, request)
     }
 }

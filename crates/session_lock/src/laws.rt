@@ -9,6 +9,7 @@ ghost use Rattle.session_lock.specs.contracts.lock.Pass as pass;
 ghost use Rattle.session_lock.specs.contracts.lock.SharedSession as shared;
 
 use crate::trust::Trust;
+use reflector_core::Keeper;
 
 /// What a pass is told to be sound all the way is sound at each place: each beginning of the history plays to a sound
 /// session, and so does the whole.
@@ -26,12 +27,12 @@ pub fn history_goes_on()
         GrowsTo (play_from opening beginning) (play_from opening (beginning ++ rest)) }
 {}
 
-/// A pass may move to another thread.
-pub fn pass_crosses_threads()
-    ensures { IsSend pass.the_row }
+/// A pass may move to another thread, if the keeper may.
+pub fn pass_crosses_threads<K: Send>()
+    ensures { IsSend (pass.the_row K.row) }
 {}
 
-/// A session may be shared by threads, if its trust may.
-pub fn session_crosses_threads<T: Trust + Sync>()
-    ensures { IsSync (shared.the_row T.row T.Trust) }
+/// A session may be shared by threads, if its trust may and its keeper may move to another.
+pub fn session_crosses_threads<T: Trust + Sync, K: Keeper + Send>()
+    ensures { IsSync (shared.the_row T.row K.row T.Trust K.Keeper) }
 {}

@@ -9,17 +9,20 @@ ghost use Rattle.session_lock.specs.History.{play_from, calls_of, history_reques
 ghost use Rattle.session_lock.specs.Rules.{all_numbers, HoldsOnce, PlaysWell};
 ghost use Rattle.session_lock.specs.Steps.{with_ticket, Waits, HasTurn, HasCounted, Works, IsIdle, AnswersRequest, Fails, split_left, split_right};
 ghost use Rattle.session_lock.specs.Numbers.{count_of, in_ranges, drop_numbers};
-ghost use Rattle.session_lock.specs.Passes.{Replied, Voided, Caught, Given, Merged, HeldOnce, HoldsEach, UsedNoSpare, first_pass, caller, numbers_held, own_calls};
+ghost use Rattle.reflector_core.specs.Keeping.{IsCovered};
+ghost use Rattle.session_lock.specs.Keeping.{KeepsPlay, SomeShut};
+ghost use Rattle.session_lock.specs.declared.held.KeptSession.{KeptSession};
+ghost use Rattle.session_lock.specs.Passes.{Replied, Voided, Missed, Caught, Given, Merged, HeldOnce, HoldsEach, UsedNoSpare, first_pass, caller, numbers_held, own_calls};
 
-use crate::held::Held;
+use crate::held::KeptSession;
 use crate::knowledge::Knowledge;
 use crate::rule::{
-    Asking, CountAll, Cut, Draw, FinishDid, FinishVoid, Glue, Law, Look, LookUnused, Mark, Marking,
-    Settle, Sharing, Trusting,
+    Asking, CountAll, Cut, Draw, FinishDid, FinishUnkept, FinishVoid, Glue, Law, Look, LookUnused,
+    Mark, Marking, Settle, Sharing, Trusting,
 };
 use crate::trust::Trust;
 use atomic_table::{Refused, Seat, Table};
-use reflector_core::{Reply, Request, Session};
+use reflector_core::{CallFault, Keeper, NoKeeper, Reply, Request, Session};
 use std::alloc::{AllocFailed, Global};
 use std::marker::{Brand, Model};
 use std::sync::Wait;
@@ -32,17 +35,17 @@ const NEXT: usize = 0;
 /// The word with the ticket that is served, which is the length of the history.
 const SERVING: usize = 1;
 
-type Place = Seat<Held, Knowledge>;
+type Place<K> = Seat<KeptSession<K>, Knowledge>;
 
 /// A caller's token for one shared session. It has no bytes. Contracts see its callers' numbers, its own caller's first,
 /// its spare numbers, the session that the lock began with, and the history that it has seen. A number is held by one pass at most; a spare one was never used.
 /// A pass that is let go takes its numbers with it, and the session can then not be closed.
 #[derive(Drop)]
-pub struct Pass {
-    seat: Place,
+pub struct Pass<K = NoKeeper> {
+    seat: Place<K>,
 }
 
-impl Model for Pass {
+impl<K> Model for Pass<K> {
     ghost use Rattle.std.specs.Prelude.{◌≡◌, ◌<◌, length};
     ghost use Rattle.session_lock.specs.Passes.{PassState, pass_state};
     ghost use Rattle.session_lock.specs.Steps.{IsIdle};
@@ -54,34 +57,47 @@ impl Model for Pass {
     ghost invariant = { λ pass. IsIdle pass.seat.me };
 }
 
-/// A session that threads share by `&`. However they call it, there is one history, and the session is its play.
+/// A session that threads share by `&`, with its keeper. However they call it, there is one history, and the session is
+/// its play.
 #[derive(Drop)]
-pub struct SharedSession<T: Trust> {
-    table: Table<Held, Knowledge, (SessionId, T, Mark), Law<T>, Global>,
+pub struct SharedSession<T: Trust, K: Keeper = NoKeeper> {
+    table: Table<KeptSession<K>, Knowledge, (SessionId, T, Mark<K>), Law<T, K>, Global>,
 }
 
-impl<T: Trust> Model for SharedSession<T> {
+impl<T: Trust, K: Keeper> Model for SharedSession<T, K> {
     ghost use Rattle.std.specs.Prelude.{◌≡◌};
     ghost use Rattle.session_lock.specs.Passes.{SharedState, shared_state};
 
     ghost Value = { SharedState T };
 
-    ghost view = { λ shared. shared_state shared.table.shared.table_id shared.table.shared.key };
+    ghost view = { λ shared. shared_state shared.table.shared.table_id shared.table.shared.key (K.faults shared.table.shared.key.2.me.0.keeper) };
 
     ghost invariant = { λ shared. (shared.table.shared.table_id.words ≡ 2) × (shared.table.shared.table_id.slots ≡ 1) };
 }
 
-/// There was no memory for the lock. The session and the trust come back.
+/// There was no memory for the lock. The session, the keeper and the trust come back.
 #[derive(Drop)]
-pub struct Unmade<T: Trust> {
+pub struct Unmade<T: Trust, K: Keeper = NoKeeper> {
     pub session: Session,
+    pub keeper: K,
     pub trust: T,
 }
 
+impl<T: Trust, K: Keeper> Unmade<T, K> {
+    fn of(kept: KeptSession<K>, trust: T) -> Unmade<T, K>
+        ensures { (result.session.plain ≡ kept.session) × (result.keeper ≡ kept.keeper) × (result.trust ≡ trust) }
+    {
+        let (session, keeper) = kept.into_parts();
+        Unmade {
+            session,
+            keeper,
+            trust,
+        }
+    }
+}
+
 impl<T: Trust> SharedSession<T> {
-    /// Shares a session, which the passes then know as their opening. The pass is caller 0, has seen nothing, and holds
-    /// all other numbers below 2^32 as spare ones. The trust says which snapshots may be kept under this id, and allows
-    /// the one that the session keeps, if it keeps one. All of this serves proofs alone, so the trust is let go.
+    /// Shares a session with no keeper. Else it is as `with_keeper`.
     pub fn new(
         alloc: Global,
         id: SessionId,
@@ -93,46 +109,12 @@ impl<T: Trust> SharedSession<T> {
         ensures trust { IfOk result (λ made. (made.0.id ≡ id) × (made.0.trust ≡ trust)) }
         ensures unmade { IfErr result (λ unmade. (unmade.session.plain ≡ session.plain) × (unmade.trust ≡ trust)) }
     {
-        let held = Held::of(session);
-        let (_, mark) = match Table::<u8, Held, Held, Marking, Global>::of_words(
-            alloc,
-            &[0],
-            &held,
-        ) {
-            Ok(made) => made,
-            Err(_) => {
-                return Err(Unmade {
-                    session: held.into_session(),
-                    trust,
-                });
-            }
-        };
-        let key = (id, trust, mark);
-        let mut slots = Vec::new(alloc);
-        if let Err(AllocFailed { value: held }) = slots.push(held) {
-            return Err(Unmade {
-                session: held.into_session(),
-                trust: key.1,
-            });
-        }
-        match Table::new(alloc, &[0, 0], slots, &key) {
-            Ok((table, seat)) => Ok((SharedSession { table }, Pass { seat })),
-            Err(Refused { mut slots }) => {
-                let Some(held) = slots.pop() else {
-                    unreachable!()
-                };
-                Err(Unmade {
-                    session: held.into_session(),
-                    trust: key.1,
-                })
-            }
-        }
+        // tells that the session is sound, so that it covers itself
+        let _horizon = session.horizon();
+        SharedSession::with_keeper(alloc, id, session, NoKeeper, trust)
     }
 
-    /// Makes a call that is no offer, in its turn, which it waits for. It adds one item to the history: what was asked,
-    /// or, without memory, a Void. The reply is the session's at that place of the history, and at each place that the
-    /// pass has then seen the session was sound. Once 2^64 - 1 tickets were drawn, by calls that need not all have ended,
-    /// it draws none, adds nothing and waits for good.
+    /// Makes a call of a session with no keeper. It is as `call_kept`, and never Unkept.
     pub fn call<R: Wait>(
         &self,
         rt: &R,
@@ -147,10 +129,14 @@ impl<T: Trust> SharedSession<T> {
             (λ _. Voided (IsTrusted T.allows self.now.trust self.now.id) pass.old pass.new request.now) }
         ensures sound { IsSoundThrough pass.old.opening pass.new.seen }
     {
-        self.ask(rt, pass, request)
+        match self.call_kept(rt, pass, request) {
+            Ok(reply) => Ok(reply),
+            Err(CallFault::WantOfMemory) => Err(WantOfMemory),
+            Err(CallFault::Unkept) => unreachable!(),
+        }
     }
 
-    /// Offers a snapshot that the trust allows for the session that the pass has seen. Else it is as `call`.
+    /// Makes an offer to a session with no keeper. It is as `offer_kept`, and never Unkept.
     pub fn offer<R: Wait>(
         &self,
         rt: &R,
@@ -166,12 +152,123 @@ impl<T: Trust> SharedSession<T> {
             (λ _. Voided (IsTrusted T.allows self.now.trust self.now.id) pass.old pass.new request.now) }
         ensures sound { IsSoundThrough pass.old.opening pass.new.seen }
     {
+        match self.offer_kept(rt, pass, request) {
+            Ok(reply) => Ok(reply),
+            Err(CallFault::WantOfMemory) => Err(WantOfMemory),
+            Err(CallFault::Unkept) => unreachable!(),
+        }
+    }
+
+    /// The session in the end, without a keeper. Else it is as `close_kept`.
+    pub fn close(self, pass: Pass) -> Session
+        requires session { pass.session ≡ self.session }
+        requires whole { numbers_held pass ≡ all_numbers }
+        ensures play { result.plain ≡ play_from pass.opening pass.seen }
+        ensures calls { own_calls pass ≡ pass.seen }
+        ensures numbers { HoldsEach pass }
+        ensures trusted { IsTrusted T.allows self.trust self.id result.plain }
+        ensures sound { IsSoundThrough pass.opening pass.seen }
+        ensures events { TellsItsEvents pass.opening.log (history_requests pass.seen)
+            (replies_from pass.opening (history_requests pass.seen)) result.plain.log }
+    {
+        let (session, _keeper) = self.close_kept(pass);
+        session
+    }
+}
+
+impl<T: Trust, K: Keeper> SharedSession<T, K> {
+    /// Shares a session, which the passes then know as their opening, and its keeper. What the keeper holds covers the
+    /// session, and keeps the same snapshot. The pass is caller 0, has seen nothing, and holds all other numbers below
+    /// 2^32 as spare ones. The trust says which snapshots may be kept under this id, and allows the one that the session
+    /// keeps, if it keeps one. It serves proofs alone, so it is let go.
+    pub fn with_keeper(
+        alloc: Global,
+        id: SessionId,
+        session: Session,
+        keeper: K,
+        trust: T,
+    ) -> Result<(SharedSession<T, K>, Pass<K>), Unmade<T, K>>
+        requires trusted { IsTrusted T.allows trust id session.plain }
+        requires covered { IsCovered (K.holds keeper) session.plain.kept session.plain }
+        requires unshut { K.shut keeper → ⊥ }
+        ensures pass { IfOk result (λ made. made.1 ≡ first_pass made.0.session session.plain) }
+        ensures trust { IfOk result (λ made. (made.0.id ≡ id) × (made.0.trust ≡ trust)) }
+        ensures faults { IfOk result (λ made. made.0.faults ≡ K.faults keeper) }
+        ensures unmade { IfErr result (λ unmade. (unmade.session.plain ≡ session.plain) × (unmade.trust ≡ trust)) }
+        ensures unused { IfErr result (λ unmade. unmade.keeper ≡ keeper) }
+    {
+        let kept = KeptSession::of(session, keeper);
+        let (_, mark) = match Table::<
+            u8,
+            KeptSession<K>,
+            KeptSession<K>,
+            Marking,
+            Global,
+        >::of_words(alloc, &[0], &kept)
+        {
+            Ok(made) => made,
+            Err(_) => return Err(Unmade::of(kept, trust)),
+        };
+        let key = (id, trust, mark);
+        let mut slots = Vec::new(alloc);
+        if let Err(AllocFailed { value: kept }) = slots.push(kept) {
+            return Err(Unmade::of(kept, key.1));
+        }
+        match Table::new(alloc, &[0, 0], slots, &key) {
+            Ok((table, seat)) => Ok((SharedSession { table }, Pass { seat })),
+            Err(Refused { mut slots }) => {
+                let Some(kept) = slots.pop() else {
+                    unreachable!()
+                };
+                Err(Unmade::of(kept, key.1))
+            }
+        }
+    }
+
+    /// Makes a call that is no offer, in its turn, which it waits for. It adds one item to the history: what was asked;
+    /// or, without memory, a Void; or, where what would change is not kept, an Unkept. The reply is the session's at that
+    /// place of the history, and what the keeper holds then covers the session at the place behind it. At each place that
+    /// the pass has then seen the session was sound. Once 2^64 - 1 tickets were drawn, by calls that need not all have
+    /// ended, it draws none, adds nothing and waits for good.
+    pub fn call_kept<R: Wait>(
+        &self,
+        rt: &R,
+        pass: &mut Pass<K>,
+        request: &Request,
+    ) -> Result<Reply, CallFault>
+        requires session { pass.old.session ≡ self.now.session }
+        requires kind { is_offer request.now ≡ false }
+        ensures kept { pass.new ≡ record pass.old { seen = pass.new.seen } }
+        ensures call { MatchResult result
+            (λ reply. Replied (IsTrusted T.allows self.now.trust self.now.id) pass.old pass.new request.now reply)
+            (λ fault. Missed (IsTrusted T.allows self.now.trust self.now.id) (SomeShut K.shut) pass.old pass.new request.now fault) }
+        ensures sound { IsSoundThrough pass.old.opening pass.new.seen }
+    {
+        self.ask(rt, pass, request)
+    }
+
+    /// Offers a snapshot that the trust allows for the session that the pass has seen. Else it is as `call_kept`.
+    pub fn offer_kept<R: Wait>(
+        &self,
+        rt: &R,
+        pass: &mut Pass<K>,
+        request: &Request,
+    ) -> Result<Reply, CallFault>
+        requires session { pass.old.session ≡ self.now.session }
+        requires kind { is_offer request.now ≡ true }
+        requires allowed { MayBeAsked T.allows self.now.trust self.now.id (play_from pass.old.opening pass.old.seen) request.now }
+        ensures kept { pass.new ≡ record pass.old { seen = pass.new.seen } }
+        ensures call { MatchResult result
+            (λ reply. Replied (IsTrusted T.allows self.now.trust self.now.id) pass.old pass.new request.now reply)
+            (λ fault. Missed (IsTrusted T.allows self.now.trust self.now.id) (SomeShut K.shut) pass.old pass.new request.now fault) }
+        ensures sound { IsSoundThrough pass.old.opening pass.new.seen }
+    {
         self.ask(rt, pass, request)
     }
 
     /// The length of the history, which the pass has seen from then on. At each place of it the session was sound. It
     /// waits for nobody, and takes no memory.
-    pub fn calls_done(&self, pass: &mut Pass) -> u64
+    pub fn calls_done(&self, pass: &mut Pass<K>) -> u64
         requires { pass.old.session ≡ self.now.session }
         ensures length { result ≡ length pass.new.seen }
         ensures seen { Caught (IsTrusted T.allows self.now.trust self.now.id) pass.old pass.new }
@@ -182,7 +279,7 @@ impl<T: Trust> SharedSession<T> {
 
     /// A pass for a new caller, which has seen the same and has no calls. It takes `spare + 1` of the spare numbers: one
     /// for its caller, and the others as spare ones of its own. The answer is Ok, since this takes no memory.
-    pub fn split(&self, pass: &mut Pass, spare: u32) -> Result<Pass, WantOfMemory>
+    pub fn split(&self, pass: &mut Pass<K>, spare: u32) -> Result<Pass<K>, WantOfMemory>
         requires session { pass.old.session ≡ self.now.session }
         requires enough { spare < count_of pass.old.spare }
         ensures made { IsOk result }
@@ -200,7 +297,7 @@ impl<T: Trust> SharedSession<T> {
 
     /// Puts another pass into the one that is kept, which stays its own caller's. It has then seen the longer history. The
     /// calls of each caller of either pass are in it just those that its own pass had seen, in their order. Takes no memory.
-    pub fn merge(&self, keep: &mut Pass, other: Pass)
+    pub fn merge(&self, keep: &mut Pass<K>, other: Pass<K>)
         requires keep_session { keep.old.session ≡ self.now.session }
         requires other_session { other.session ≡ self.now.session }
         ensures merged { Merged keep.old other keep.new }
@@ -213,30 +310,32 @@ impl<T: Trust> SharedSession<T> {
         self.table.shared.load::<Settle>(&mut keep.seat, NEXT);
     }
 
-    /// The session in the end. The pass holds all numbers: every other one was merged into it, and no call is under way.
-    /// All that was ever called is among its calls, and at each place of it the session was sound. The log has just the
-    /// events of the opening session and, after them, those that were answered Stamped.
-    pub fn close(self, pass: Pass) -> Session
+    /// The session in the end, and its keeper. The pass holds all numbers: every other one was merged into it, and no call
+    /// is under way. All that was ever called is among its calls, and at each place of it the session was sound. The log
+    /// has just the events of the opening session and, after them, those that were answered Stamped. What the keeper holds
+    /// covers the session. If a call was Unkept, the keeper's faults have risen, and nothing changed after that call.
+    pub fn close_kept(self, pass: Pass<K>) -> (Session, K)
         requires session { pass.session ≡ self.session }
         requires whole { numbers_held pass ≡ all_numbers }
-        ensures play { result.plain ≡ play_from pass.opening pass.seen }
+        ensures play { result.0.plain ≡ play_from pass.opening pass.seen }
+        ensures keeper { KeepsPlay K.holds K.shut K.faults self.faults pass.opening pass.seen result.1 }
         ensures calls { own_calls pass ≡ pass.seen }
         ensures numbers { HoldsEach pass }
-        ensures trusted { IsTrusted T.allows self.trust self.id result.plain }
+        ensures trusted { IsTrusted T.allows self.trust self.id result.0.plain }
         ensures sound { IsSoundThrough pass.opening pass.seen }
         ensures events { TellsItsEvents pass.opening.log (history_requests pass.seen)
-            (replies_from pass.opening (history_requests pass.seen)) result.plain.log }
+            (replies_from pass.opening (history_requests pass.seen)) result.0.plain.log }
     {
         let SharedSession { table } = self;
         let Pass { seat } = pass;
         let mut closed = table.close_with(seat);
-        let held = closed.take(0);
+        let kept = closed.take(0);
         closed.free();
-        held.into_session()
+        kept.into_parts()
     }
 
     // Looks at the whole history, and gives its length.
-    fn count<J: Trusting>(&self, seat: &mut Place) -> u64
+    fn count<J: Trusting>(&self, seat: &mut Place<K>) -> u64
         requires table { seat.old.table_id ≡ self.now.session }
         requires trusted { (s : PlainSession) → IsTrusted T.allows self.now.trust self.now.id s → J.trusted s }
         requires caller { 0 < length seat.old.me.0.callers }
@@ -250,15 +349,15 @@ impl<T: Trust> SharedSession<T> {
     fn ask<R: Wait>(
         &self,
         rt: &R,
-        pass: &mut Pass,
+        pass: &mut Pass<K>,
         request: &Request,
-    ) -> Result<Reply, WantOfMemory>
+    ) -> Result<Reply, CallFault>
         requires session { pass.old.session ≡ self.now.session }
         requires allowed { MayBeAsked T.allows self.now.trust self.now.id (play_from pass.old.opening pass.old.seen) request.now }
         ensures kept { pass.new ≡ record pass.old { seen = pass.new.seen } }
         ensures call { MatchResult result
             (λ reply. Replied (IsTrusted T.allows self.now.trust self.now.id) pass.old pass.new request.now reply)
-            (λ _. Voided (IsTrusted T.allows self.now.trust self.now.id) pass.old pass.new request.now) }
+            (λ fault. Missed (IsTrusted T.allows self.now.trust self.now.id) (SomeShut K.shut) pass.old pass.new request.now fault) }
         ensures sound { IsSoundThrough pass.old.opening pass.new.seen }
     {
         self.make::<Brand, R>(rt, &mut pass.seat, request)
@@ -268,18 +367,19 @@ impl<T: Trust> SharedSession<T> {
     fn make<J: Asking + Trusting, R: Wait>(
         &self,
         rt: &R,
-        seat: &mut Place,
+        seat: &mut Place<K>,
         request: &Request,
-    ) -> Result<Reply, WantOfMemory>
+    ) -> Result<Reply, CallFault>
         requires table { seat.old.table_id ≡ self.now.session }
         requires asked { request.now ≡ J.request }
         requires trusted { (s : PlainSession) → IsTrusted T.allows self.now.trust self.now.id s → J.trusted s }
+        requires first { self.now.faults ≡ J.first }
         requires allowed { MayBeAsked T.allows self.now.trust self.now.id (play_from seat.old.me.0.opening seat.old.me.0.seen) request.now }
         requires idle { IsIdle seat.old.me }
         ensures table { seat.new.table_id ≡ self.now.session }
         ensures made { MatchResult result
             (λ reply. AnswersRequest J.trusted seat.old.me.0 seat.new.me request.now reply)
-            (λ _. Fails seat.old.me.0 seat.new.me request.now) }
+            (λ fault. Fails (SomeShut K.shut) seat.old.me.0 seat.new.me request.now fault) }
         ensures plays { PlaysWell J.trusted seat.old.me.0.opening seat.new.me.0.seen }
     {
         let ticket = self.draw(rt, seat);
@@ -292,18 +392,25 @@ impl<T: Trust> SharedSession<T> {
                 self.table.shared.wake_all(SERVING);
                 Ok(reply)
             }
-            Err(want) => {
+            Err(CallFault::WantOfMemory) => {
                 self.table
                     .shared
                     .fetch_add::<FinishVoid<J>>(seat, SERVING, 1);
                 self.table.shared.wake_all(SERVING);
-                Err(want)
+                Err(CallFault::WantOfMemory)
+            }
+            Err(CallFault::Unkept) => {
+                self.table
+                    .shared
+                    .fetch_add::<FinishUnkept<J>>(seat, SERVING, 1);
+                self.table.shared.wake_all(SERVING);
+                Err(CallFault::Unkept)
             }
         }
     }
 
     // Draws a ticket. Once 2^64 - 1 were drawn it waits for good.
-    fn draw<R: Wait>(&self, rt: &R, seat: &mut Place) -> u64
+    fn draw<R: Wait>(&self, rt: &R, seat: &mut Place<K>) -> u64
         requires table { seat.old.table_id ≡ self.now.session }
         requires idle { (seat.old.me.0.ticket ≡ None) × (seat.old.me.0.holding ≡ false) }
         requires caller { 0 < length seat.old.me.0.callers }
@@ -325,12 +432,13 @@ impl<T: Trust> SharedSession<T> {
     }
 
     // Waits until the ticket is served, and takes the session. Between two looks it sleeps until a call has ended.
-    fn take_turn<J: Trusting, R: Wait>(&self, rt: &R, seat: &mut Place, ticket: u64)
+    fn take_turn<J: Trusting, R: Wait>(&self, rt: &R, seat: &mut Place<K>, ticket: u64)
         requires table { seat.old.table_id ≡ self.now.session }
         requires trusted { (s : PlainSession) → IsTrusted T.allows self.now.trust self.now.id s → J.trusted s }
+        requires first { self.now.faults ≡ J.first }
         requires drawn { Waits seat.old.me ticket }
         ensures table { seat.new.table_id ≡ self.now.session }
-        ensures turn { HasTurn J.trusted seat.old.me ticket seat.new.me }
+        ensures turn { HasTurn J.trusted (KeepsPlay K.holds K.shut K.faults J.first) seat.old.me ticket seat.new.me }
     {
         for _ in rt.forever() {
             let found = self.table.shared.load::<Look<J>>(seat, SERVING);
@@ -345,18 +453,18 @@ impl<T: Trust> SharedSession<T> {
     }
 
     // Calls the session in hand.
-    fn work(&self, seat: &mut Place, request: &Request) -> Result<Reply, WantOfMemory>
+    fn work(&self, seat: &mut Place<K>, request: &Request) -> Result<Reply, CallFault>
         requires table { seat.old.table_id ≡ self.now.session }
-        requires hand { (session : PlainSession) × (seat.old.me.1 ≡ (0, session) ∷ []) }
+        requires hand { (kept : KeptSession K) × (seat.old.me.1 ≡ (0, kept) ∷ []) }
         ensures table { seat.new.table_id ≡ self.now.session }
-        ensures reply { Works seat.old.me request.now result seat.new.me }
+        ensures reply { Works K.holds K.shut K.faults seat.old.me request.now result seat.new.me }
     {
-        let held = seat.slot_mut(&self.table.shared, 0);
-        held.call(request)
+        let kept = seat.slot_mut(&self.table.shared, 0);
+        kept.call(request)
     }
 
     // The seat of a new pass, with the first number that is taken as its caller's.
-    fn cut<J: Sharing>(&self, seat: &mut Place, spare: u32) -> Place
+    fn cut<J: Sharing>(&self, seat: &mut Place<K>, spare: u32) -> Place<K>
         requires table { seat.old.table_id ≡ self.now.session }
         requires asked { spare ≡ J.spare }
         requires enough { spare < count_of seat.old.me.0.spare }

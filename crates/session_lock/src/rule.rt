@@ -1,36 +1,39 @@
 //! The rule of the lock's table, and what each step on it tells. These types are for the proofs alone.
-use crate::held::Held;
+use crate::held::KeptSession;
 use crate::knowledge::Knowledge;
 use crate::trust::Trust;
 use atomic_table::{Join, Play, Seat, Split, TableRule};
-use reflector_core::Request;
+use reflector_core::{Keeper, Request};
 use std::marker::{Brand, PhantomData};
 use tea_base::SessionId;
 
-/// What a small table is made for: its seat knows the session that was lent to it as its key, and goes on to know it.
+/// What a small table is made for: its seat knows what was lent to it as its key, and goes on to know it.
 pub(crate) struct Marking;
 
-impl TableRule<u8, Held, Held> for Marking {
+impl<K> TableRule<u8, KeptSession<K>, KeptSession<K>> for Marking {
     ghost holds = { λ _ _. Unit {0} };
 
-    ghost first = { λ session. session };
+    ghost first = { λ kept. kept };
 }
 
-/// It has no bytes, and means a session.
-pub(crate) type Mark = Seat<u8, Held>;
+/// It has no bytes, and means a session with its keeper.
+pub(crate) type Mark<K> = Seat<u8, KeptSession<K>>;
 
-/// The rule. The table is told the session's id, its trust and the session that it began with.
-pub(crate) struct Law<T> {
+/// The rule. The table is told the session's id, its trust, and the session and the keeper that it began with.
+pub(crate) struct Law<T, K> {
     trust: PhantomData<T>,
+    keeper: PhantomData<K>,
 }
 
-impl<T: Trust> TableRule<Held, Knowledge, (SessionId, T, Mark)> for Law<T> {
+impl<T: Trust, K: Keeper> TableRule<KeptSession<K>, Knowledge, (SessionId, T, Mark<K>)>
+    for Law<T, K> {
     ghost use Rattle.session_lock.specs.Trusts.{IsTrusted};
+    ghost use Rattle.session_lock.specs.Keeping.{KeepsPlay};
     ghost use Rattle.session_lock.specs.Rules.{Locks, first_knowledge};
 
-    ghost holds = { λ key. Locks (IsTrusted T.allows key.1 key.0) };
+    ghost holds = { λ key. Locks (IsTrusted T.allows key.1 key.0) (KeepsPlay K.holds K.shut K.faults (K.faults key.2.me.0.keeper)) };
 
-    ghost first = { λ key. first_knowledge key.2.me.0 };
+    ghost first = { λ key. first_knowledge key.2.me.0.session };
 }
 
 /// What a caller asks. Each call picks it.
@@ -46,20 +49,26 @@ impl Asking for Brand {
     ghost request = { Pull 0 0 };
 }
 
-/// Which sessions keep what is trusted, since a step can't read that of the table. Each call picks it.
+/// Which sessions keep what is trusted, and how many faults the keeper had when the lock began, since a step can't read
+/// that of the table. Each call picks them.
 pub(crate) trait Trusting {
+    ghost use Rattle.std.specs.Prelude.{ℕ};
     ghost use Rattle.reflector_core.specs.PlainSession.{PlainSession};
 
     ghost trusted: { PlainSession → Type 0 };
+
+    ghost first: { ℕ };
 }
 
 impl Trusting for Brand {
     ghost trusted = { λ _. Unit {0} };
+
+    ghost first = { 0 };
 }
 
 pub(crate) struct Draw;
 
-impl Play<Held, Knowledge> for Draw {
+impl<K> Play<KeptSession<K>, Knowledge> for Draw {
     ghost use Rattle.session_lock.specs.Steps.{Draws};
 
     ghost then = { Draws };
@@ -69,10 +78,11 @@ pub(crate) struct Look<J> {
     trusting: PhantomData<J>,
 }
 
-impl<J: Trusting> Play<Held, Knowledge> for Look<J> {
+impl<J: Trusting, K: Keeper> Play<KeptSession<K>, Knowledge> for Look<J> {
+    ghost use Rattle.session_lock.specs.Keeping.{KeepsPlay};
     ghost use Rattle.session_lock.specs.Steps.{Looks};
 
-    ghost then = { Looks J.trusted };
+    ghost then = { Looks J.trusted (KeepsPlay K.holds K.shut K.faults J.first) };
 }
 
 /// The call was made.
@@ -80,7 +90,7 @@ pub(crate) struct FinishDid<J> {
     asking: PhantomData<J>,
 }
 
-impl<J: Asking + Trusting> Play<Held, Knowledge> for FinishDid<J> {
+impl<J: Asking + Trusting, K> Play<KeptSession<K>, Knowledge> for FinishDid<J> {
     ghost use Rattle.session_lock.specs.declared.knowledge.Item.TheVariants.{Did};
     ghost use Rattle.session_lock.specs.Steps.{Finishes};
 
@@ -92,18 +102,30 @@ pub(crate) struct FinishVoid<J> {
     trusting: PhantomData<J>,
 }
 
-impl<J: Trusting> Play<Held, Knowledge> for FinishVoid<J> {
+impl<J: Trusting, K> Play<KeptSession<K>, Knowledge> for FinishVoid<J> {
     ghost use Rattle.session_lock.specs.declared.knowledge.Item.TheVariants.{Void};
     ghost use Rattle.session_lock.specs.Steps.{Finishes};
 
     ghost then = { Finishes J.trusted (λ caller. Void caller) };
 }
 
+/// What the call would have changed was not kept.
+pub(crate) struct FinishUnkept<J> {
+    trusting: PhantomData<J>,
+}
+
+impl<J: Trusting, K> Play<KeptSession<K>, Knowledge> for FinishUnkept<J> {
+    ghost use Rattle.session_lock.specs.declared.knowledge.Item.TheVariants.{Unkept};
+    ghost use Rattle.session_lock.specs.Steps.{Finishes};
+
+    ghost then = { Finishes J.trusted (λ caller. Unkept caller) };
+}
+
 pub(crate) struct CountAll<J> {
     trusting: PhantomData<J>,
 }
 
-impl<J: Trusting> Play<Held, Knowledge> for CountAll<J> {
+impl<J: Trusting, K> Play<KeptSession<K>, Knowledge> for CountAll<J> {
     ghost use Rattle.session_lock.specs.Steps.{CountsHistory};
 
     ghost then = { CountsHistory J.trusted };
@@ -123,7 +145,7 @@ impl Sharing for Brand {
 /// Looks that no spare number was used.
 pub(crate) struct LookUnused;
 
-impl Play<Held, Knowledge> for LookUnused {
+impl<K> Play<KeptSession<K>, Knowledge> for LookUnused {
     ghost use Rattle.session_lock.specs.Steps.{Unused};
 
     ghost then = { Unused };
@@ -155,7 +177,7 @@ impl Join<Knowledge> for Glue {
 /// Looks at what two passes knew that were just put together.
 pub(crate) struct Settle;
 
-impl Play<Held, Knowledge> for Settle {
+impl<K> Play<KeptSession<K>, Knowledge> for Settle {
     ghost use Rattle.session_lock.specs.Steps.{Settles};
 
     ghost then = { Settles };

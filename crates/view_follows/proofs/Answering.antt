@@ -38,10 +38,10 @@ use Rattle.replica_plain.proofs.FrameSteps.{SameWorld, StandsAt, behind_frame, s
 use Rattle.replica_plain.proofs.SyncSteps.{sync_begins}
 use Rattle.replica_plain.proofs.Numbers.{BeginsEvents, SyncAnswers, sync_answers}
 use Rattle.run_steps.specs.Steps.{Step, Prints, Connects, Returns, Hears, Sends}
-use Rattle.view_script.specs.PlainLine.{PlainLine, Publish, Watch, Wait, Settle, Snap, Cut, Quit}
+use Rattle.view_script.specs.PlainLine.{PlainLine, Publish, Watch, Wait, WaitFor, Settle, Snap, Cut, Quit, Mark}
 use Rattle.view_shell.specs.declared.ending.ViewEnd.{ViewEnd}
 use Rattle.view_shell.specs.declared.ending.ViewEnd.TheVariants as ending
-use Rattle.view_shell.specs.Phases.{Viewer, Phase, Aim, Task, ToJoin, ToReach, ToSettle, ToCatchUp, ToSnap, Receives, Begins, TellsText, Leaves, Connecting, Sending, Receiving, Printing, Leaving, PrintingLast, Returning, Over, Hearing, Moves, Walks, after_frame, after_giving, after_publish, alive, begin_task, enter_session, go_on, has_caught_up, heard_frame, heard_quiet, leave_session, most_receives, phase_behind_frame, reads, receive, run, send_all, settle_on, with_lines, with_taken}
+use Rattle.view_shell.specs.Phases.{Viewer, Phase, Aim, Task, ToJoin, ToReach, ToSettle, ToCatchUp, ToSnap, Receives, Begins, TellsText, Leaves, Connecting, Sending, Receiving, Printing, Leaving, PrintingLast, Returning, Over, Hearing, Moves, Walks, after_frame, after_giving, after_publish, alive, begin_task, enter_session, go_on, has_caught_up, heard_frame, heard_quiet, leave_session, most_receives, phase_behind_frame, reads, receive, run, send_all, settle_on, with_lines, with_taken, time_after}
 use Rattle.view_shell.proofs.Keeping.{taken_keeps}
 use Rattle.view_follows.specs.Answered.{AreAnswered, CountsEvents, IsAnswered, SyncsCountEvents, new_link}
 use Rattle.view_follows.specs.Links.{BeginsHonestly, LinkTalk}
@@ -329,10 +329,12 @@ module _ (m : RealWorlds) (log : List Entry) (view : ℕ) where
       send_stands (after_giving w) (unsent w.replica) (Receives ToCatchUp) link (reads_given v.worlds (publishes v.replica payload) link (reads_published v.worlds v.replica payload link reads))
   run_stands v (Watch scope event handling ∷ rest) link reads = reads_told v.worlds v.replica link reads
   run_stands v (Wait time ∷ rest) link reads = reach_stands (with_lines v rest) time link reads
+  run_stands v (WaitFor span ∷ rest) link reads = reach_stands (with_lines v rest) (time_after v.replica.world.time span) link reads
   run_stands v (Settle ∷ rest) link reads = send_stands (after_giving (with_lines v rest)) (unsent v.replica) (Receives ToSettle) link (reads_given v.worlds v.replica link reads)
   run_stands v (Snap ∷ rest) link reads = with_events v.worlds v.replica v.replica link [] _ (record { world = refl; seen = refl; broken = refl; synced = refl }) refl reads reads.has
   run_stands v (Cut ∷ rest) link reads = reads_know v.worlds v.replica link reads
   run_stands v (Quit ∷ rest) link reads = leave_stands (with_lines v rest) link
+  run_stands v (Mark word ∷ rest) link reads = reads_told v.worlds v.replica link reads
 
   -- an ALIVE is sent before the other frames
   await_alive : (how : How) (own : RealWorlds) (r : RealReplica) (link : LinkTalk) (test : Bool) → Awaits how own r link [] → Awaits how own r link ((if test then client.Alive ∷ [] else []) ++ [])

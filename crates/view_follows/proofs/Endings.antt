@@ -20,10 +20,10 @@ use Rattle.replica_plain.specs.PlainReplica.{published_count}
 use Rattle.replica_plain.specs.Calls.{unsent}
 use Rattle.replica_plain.specs.Taking.{Taken, begins_with, begins_with_world, faults, take_done, take_sync, taken, takes}
 use Rattle.run_steps.specs.Steps.{Step, Prints, Connects, Returns, Hears, Sends}
-use Rattle.view_script.specs.PlainLine.{PlainLine, Publish, Watch, Wait, Settle, Snap, Cut, Quit}
+use Rattle.view_script.specs.PlainLine.{PlainLine, Publish, Watch, Wait, WaitFor, Settle, Snap, Cut, Quit, Mark}
 use Rattle.view_shell.specs.declared.ending.ViewEnd.{ViewEnd}
 use Rattle.view_shell.specs.declared.ending.ViewEnd.TheVariants as ending
-use Rattle.view_shell.specs.Phases.{Viewer, Phase, Aim, Task, ToJoin, ToReach, ToSettle, ToCatchUp, ToSnap, Receives, Begins, TellsText, Leaves, Connecting, Sending, Receiving, Printing, Leaving, PrintingLast, Returning, Over, Hearing, Moves, Walks, after_frame, after_giving, after_publish, after_sync, alive, bad_base, begin_task, enter_session, go_on, has_caught_up, heard_frame, heard_quiet, leave_session, phase_behind_frame, reads, receive, run, send_all, settle_on, with_lines, with_taken}
+use Rattle.view_shell.specs.Phases.{Viewer, Phase, Aim, Task, ToJoin, ToReach, ToSettle, ToCatchUp, ToSnap, Receives, Begins, TellsText, Leaves, Connecting, Sending, Receiving, Printing, Leaving, PrintingLast, Returning, Over, Hearing, Moves, Walks, after_frame, after_giving, after_publish, after_sync, alive, bad_base, begin_task, enter_session, go_on, has_caught_up, heard_frame, heard_quiet, leave_session, phase_behind_frame, reads, receive, run, send_all, settle_on, with_lines, with_taken, time_after}
 use Rattle.view_follows.specs.Answered.{GoOn, RefuseNoOther, RefusesNoOther}
 use Rattle.view_follows.proofs.Stands.{RealReplica, RealWorlds}
 
@@ -123,10 +123,12 @@ module _ (P : ViewEnd → Type 0) (done : P ending.Done) (peer : P ending.Peer) 
       send_keeps (after_giving w) (unsent w.replica) (Receives ToCatchUp) quiets is
   run_keeps v (Watch scope event handling ∷ rest) quiets is = is
   run_keeps v (Wait time ∷ rest) quiets is = receive_keeps (with_lines v rest) (ToReach time) quiets is
+  run_keeps v (WaitFor span ∷ rest) quiets is = receive_keeps (with_lines v rest) (ToReach (time_after v.replica.world.time span)) quiets is
   run_keeps v (Settle ∷ rest) quiets is = send_keeps (after_giving (with_lines v rest)) (unsent v.replica) (Receives ToSettle) quiets is
   run_keeps v (Snap ∷ rest) quiets is = is
   run_keeps v (Cut ∷ rest) quiets is = tt
   run_keeps v (Quit ∷ rest) quiets is = leave_keeps (with_lines v rest) quiets is
+  run_keeps v (Mark word ∷ rest) quiets is = is
 
   go_on_keeps : (v : Viewer) (frames : List ClientFrame) (task : Task) (quiets : ℕ) → v.quiets ≡ quiets → Keeps (go_on v frames task) quiets
   go_on_keeps v frames task quiets is = send_keeps v (alive v ++ frames) task quiets is

@@ -27,7 +27,7 @@ use Rattle.reflector_core.specs.declared.request.Request.{Request}
 use Rattle.reflector_core.specs.declared.request.Request.TheVariants.{Join, Send, Tick, Leave, Offer, Pull}
 use Rattle.reflector_core.proofs.GrowthLaws.{kept-offer, kept-others}
 use Rattle.session_lock.specs.declared.knowledge.Item.{Item}
-use Rattle.session_lock.specs.declared.knowledge.Item.TheVariants.{Did, Void}
+use Rattle.session_lock.specs.declared.knowledge.Item.TheVariants.{Did, Void, Unkept}
 use Rattle.session_lock.specs.History.{after_item, calls_of, play_from}
 use Rattle.session_lock.proofs.Histories.{play_snoc}
 use Rattle.connection.specs.Exchanges.{exchanges_in}
@@ -264,6 +264,7 @@ module _ {C L : Type 0} (gives : C → ℕ → Type 0) (id : SessionId) (links :
 
     next_kept : (before : List Item) (item : Item) (behind : List Item) → before ++ item ∷ behind ≡ run.history → KeptUntil (length before) → IsHonestBase m log (after_item (play_from run.opening before) item).kept
     next_kept before (Void caller) behind is kept = kept before (Void caller ∷ behind) is (omega arith)
+    next_kept before (Unkept caller) behind is kept = kept before (Unkept caller ∷ behind) is (omega arith)
     next_kept before (Did caller (Offer view joined time bytes)) behind is kept = elim (kept-offer (play_from run.opening before) view joined time bytes) [
       | inl same ↦ subst (IsHonestBase m log) (sym same) (kept before (Did caller (Offer view joined time bytes) ∷ behind) is (omega arith))
       | inr fresh ↦ subst (IsHonestBase m log) (sym fresh) (offer_is_honest (length before) kept before behind caller view joined time bytes is (omega arith))

@@ -5,7 +5,7 @@ use Rattle.tea_base.specs.declared.entry.SessionId.{SessionId}
 use Rattle.reflector_core.specs.Answer.{answer}
 use Rattle.reflector_core.specs.PlainSession.{PlainSession, IsSoundSession}
 use Rattle.session_lock.specs.declared.knowledge.Item.{Item}
-use Rattle.session_lock.specs.declared.knowledge.Item.TheVariants.{Did, Void}
+use Rattle.session_lock.specs.declared.knowledge.Item.TheVariants.{Did, Void, Unkept}
 use Rattle.session_lock.specs.History.{IsSoundThrough, after_item, calls_of, play_from}
 use Rattle.session_lock.proofs.Histories.{play_from_append, sound_end}
 use Rattle.reflect_server.specs.Connections.{ServedConnection, callers_of}
@@ -17,6 +17,7 @@ use Rattle.view_follows.specs.Sessions.{IsReflectorRun, ReflectorRun, TakeUp, la
 abbrev made_by : ℕ → Item → Item
 made_by caller (Did who request) = Did caller request
 made_by caller (Void who) = Void caller
+made_by caller (Unkept who) = Unkept caller
 
 abbrev all_made_by : ℕ → List Item → List Item
 all_made_by caller [] = []
@@ -27,11 +28,13 @@ play_made : (caller : ℕ) (s : PlainSession) (items : List Item) → play_from 
 play_made caller s [] = refl
 play_made caller s (Did who request ∷ items) = play_made caller (answer s request).session items
 play_made caller s (Void who ∷ items) = play_made caller s items
+play_made caller s (Unkept who ∷ items) = play_made caller s items
 
 sound_made : (caller : ℕ) (s : PlainSession) (items : List Item) → IsSoundThrough s items → IsSoundThrough s (all_made_by caller items)
 sound_made caller s [] sound = sound
 sound_made caller s (Did who request ∷ items) sound = (sound.0, sound_made caller (answer s request).session items sound.1)
 sound_made caller s (Void who ∷ items) sound = (sound.0, sound_made caller s items sound.1)
+sound_made caller s (Unkept who ∷ items) sound = (sound.0, sound_made caller s items sound.1)
 
 none_made : (caller other : ℕ) (items : List Item) → eqb caller other ≡ false → calls_of (other ∷ []) (all_made_by caller items) ≡ []
 none_made caller other [] is = refl
@@ -41,6 +44,9 @@ none_made caller other (Did who request ∷ items) is =
 none_made caller other (Void who ∷ items) is =
     let rest = calls_of (other ∷ []) (all_made_by caller items) in
     ap (λ (b : Bool). if b || false then Void caller ∷ rest else rest) is ∙ none_made caller other items is
+none_made caller other (Unkept who ∷ items) is =
+    let rest = calls_of (other ∷ []) (all_made_by caller items) in
+    ap (λ (b : Bool). if b || false then Unkept caller ∷ rest else rest) is ∙ none_made caller other items is
 
 -- a number above all of these
 abbrev above : List ℕ → ℕ

@@ -27,7 +27,7 @@ use Rattle.join_sync.specs.Answers.{first_cursor, join_answer}
 use Rattle.join_sync.specs.Refusals.{early_code, refused_frame}
 use Rattle.join_sync.specs.Requests.{IsJoin, first_request}
 use Rattle.session_lock.specs.declared.knowledge.Item.{Item}
-use Rattle.session_lock.specs.declared.knowledge.Item.TheVariants.{Did, Void}
+use Rattle.session_lock.specs.declared.knowledge.Item.TheVariants.{Did, Void, Unkept}
 use Rattle.session_lock.specs.History.{after_item, calls_of, play_from}
 use Rattle.system_plain.specs.Steps.{joined_view}
 use Rattle.system_plain.proofs.AnswerFrames.{refused_form}
@@ -191,11 +191,19 @@ void_calls true s who items caller asked given more own is later = absurd (cc (i
 void_calls false s who items caller asked given more own is later =
     one_more s (Void who) items caller asked given (eqb who caller) own (λ front. refl) (later is)
 
+unkept_calls : (own : Bool) (s : PlainSession) (who : ℕ) (items : List Item) (caller : ℕ) (asked : Request) (given : Reply) (more : List Exchange) → eqb who caller ≡ own
+    → (if own then Unanswered ∷ [] else []) ++ exchanges_from s caller items ≡ Answered asked given ∷ more
+    → (exchanges_from s caller items ≡ Answered asked given ∷ more → FirstCall s items caller asked given) → FirstCall s (Unkept who ∷ items) caller asked given
+unkept_calls true s who items caller asked given more own is later = absurd (cc (is))
+unkept_calls false s who items caller asked given more own is later =
+    one_more s (Unkept who) items caller asked given (eqb who caller) own (λ front. refl) (later is)
+
 pub first_call : (s : PlainSession) (history : List Item) (caller : ℕ) (asked : Request) (given : Reply) (more : List Exchange) → exchanges_from s caller history ≡ Answered asked given ∷ more → FirstCall s history caller asked given
 first_call s [] caller asked given more is = absurd (cc (is))
 first_call s (Did who made ∷ items) caller asked given more is =
     did_calls (eqb who caller) s who made items caller asked given more refl is (λ later. first_call (answer s made).session items caller asked given more later)
 first_call s (Void who ∷ items) caller asked given more is = void_calls (eqb who caller) s who items caller asked given more refl is (λ later. first_call s items caller asked given more later)
+first_call s (Unkept who ∷ items) caller asked given more is = unkept_calls (eqb who caller) s who items caller asked given more refl is (λ later. first_call s items caller asked given more later)
 
 -- ---- the base that a Join is answered with
 

@@ -34,10 +34,10 @@ use Rattle.replica_plain.specs.Following.{FollowsLog, IsHonestBase, MayJoin}
 use Rattle.replica_plain.proofs.FrameSteps.{StandsAt, behind_frame}
 use Rattle.replica_plain.proofs.SyncSteps.{SyncBegins, sync_begins}
 use Rattle.run_steps.specs.Steps.{Step, Prints, Connects, Returns, Hears, Sends}
-use Rattle.view_script.specs.PlainLine.{PlainLine, Publish, Watch, Wait, Settle, Snap, Cut, Quit}
+use Rattle.view_script.specs.PlainLine.{PlainLine, Publish, Watch, Wait, WaitFor, Settle, Snap, Cut, Quit, Mark}
 use Rattle.view_shell.specs.declared.ending.ViewEnd.{ViewEnd}
 use Rattle.view_shell.specs.declared.ending.ViewEnd.TheVariants as ending
-use Rattle.view_shell.specs.Phases.{Viewer, Phase, Aim, Task, ToJoin, ToReach, ToSettle, ToCatchUp, ToSnap, Receives, Begins, TellsText, Leaves, Connecting, Sending, Receiving, Printing, Leaving, PrintingLast, Returning, Over, Hearing, IsReadAsWorld, Moves, Walks, after_frame, after_giving, after_publish, alive, begin_task, enter_session, go_on, has_caught_up, heard_frame, heard_quiet, leave_session, most_receives, phase_behind_frame, quiet, reads, receive, run, send_all, settle_on, with_lines, with_taken}
+use Rattle.view_shell.specs.Phases.{Viewer, Phase, Aim, Task, ToJoin, ToReach, ToSettle, ToCatchUp, ToSnap, Receives, Begins, TellsText, Leaves, Connecting, Sending, Receiving, Printing, Leaving, PrintingLast, Returning, Over, Hearing, IsReadAsWorld, Moves, Walks, after_frame, after_giving, after_publish, alive, begin_task, enter_session, go_on, has_caught_up, heard_frame, heard_quiet, leave_session, most_receives, phase_behind_frame, quiet, reads, receive, run, send_all, settle_on, with_lines, with_taken, time_after}
 use Rattle.view_shell.proofs.Keeping.{taken_keeps}
 use Rattle.view_follows.specs.Links.{BeginsHonestly, IsServedBy, LinkTalk, heard_in, heard_then, links_in, sent_in}
 use Rattle.view_follows.specs.Offers.{IsOfFollower, OffersFollow}
@@ -91,11 +91,13 @@ module _ (m : RealWorlds) (laws : AreWorlds m) (log : List Entry) (legal : IsLeg
       (reads_given m log view v.worlds (publishes v.replica payload) heard (reads_published m log view v.worlds v.replica heard payload reads)) (own_unsent m log view v.worlds (after_giving w).replica w.replica)
   run_stands v (Watch scope event handling ∷ rest) heard reads = reads_told m log view v.worlds v.replica heard reads
   run_stands v (Wait time ∷ rest) heard reads = reach_stands (with_lines v rest) time heard reads
+  run_stands v (WaitFor span ∷ rest) heard reads = reach_stands (with_lines v rest) (time_after v.replica.world.time span) heard reads
   run_stands v (Settle ∷ rest) heard reads =
       send_stands (after_giving (with_lines v rest)) (unsent v.replica) (Receives ToSettle) heard (reads_given m log view v.worlds v.replica heard reads) (own_unsent m log view v.worlds (after_giving v).replica v.replica)
   run_stands v (Snap ∷ rest) heard reads = (reads, (own_snap m log view v.worlds v.replica heard reads, tt))
   run_stands v (Cut ∷ rest) heard reads = knows_read m log view v.worlds v.replica heard reads
   run_stands v (Quit ∷ rest) heard reads = leave_stands (with_lines v rest) heard reads
+  run_stands v (Mark word ∷ rest) heard reads = reads_told m log view v.worlds v.replica heard reads
 
   go_on_stands : (v : Viewer) (frames : List ClientFrame) (task : Task) (heard : List (Option ServerFrame)) → StandsTo m log view task v.worlds v.replica heard → AreOwnFrames m log v.worlds v.replica frames → StandsIn m log view (go_on v frames task) heard
   go_on_stands v frames task heard stands own = send_stands v (alive v ++ frames) task heard stands (own_behind m log view v.worlds v.replica (v.receives == most_receives) frames own)

@@ -14,21 +14,28 @@ pub data PlainLine : Type 0 where
   Publish : List ℕ → List ℕ → PlainValue → PlainLine
   -- a scope and an event
   Watch : List ℕ → List ℕ → Handling → PlainLine
+  -- a time
   Wait : ℕ → PlainLine
+  -- so long from where the view is
+  WaitFor : ℕ → PlainLine
   Settle : PlainLine
   Snap : PlainLine
   Cut : PlainLine
   Quit : PlainLine
+  -- a word
+  Mark : List ℕ → PlainLine
 
 -- a line in memory, with its value as a plain tree
 abbrev pub plain_line : ViewLine → PlainLine
 plain_line (line.Publish scope event value) = Publish scope event (plain value)
 plain_line (line.Watch scope event handling) = Watch scope event handling
 plain_line (line.Wait time) = Wait time
+plain_line (line.WaitFor span) = WaitFor span
 plain_line line.Settle = Settle
 plain_line line.Snap = Snap
 plain_line line.Cut = Cut
 plain_line line.Quit = Quit
+plain_line (line.Mark word) = Mark word
 
 abbrev pub plain_lines : List ViewLine → List PlainLine
 plain_lines = map plain_line
@@ -43,25 +50,29 @@ payload_length scope event value = length (payload_spelling (record { scope = sc
 abbrev pub payload_fits : List ℕ → List ℕ → PlainValue → Bool
 payload_fits scope event value = nat_le (payload_length scope event value) most_payload
 
--- an event's value is in bounds and its payload not too long, and a time is not too late
+-- an event's value is in bounds and its payload not too long, and a time is not too late, or a span too long
 abbrev pub LineFits : PlainLine → Type 0
 LineFits (Publish scope event value) = InBounds value × (payload_length scope event value ≤ most_payload)
 LineFits (Watch scope event handling) = Unit {0}
 LineFits (Wait time) = time < time_limit
+LineFits (WaitFor span) = span < time_limit
 LineFits Settle = Unit {0}
 LineFits Snap = Unit {0}
 LineFits Cut = Unit {0}
 LineFits Quit = Unit {0}
+LineFits (Mark word) = Unit {0}
 
 -- a line that publishes counts 1, and any other 0
 abbrev pub line_publishes : PlainLine → ℕ
 line_publishes (Publish scope event value) = 1
 line_publishes (Watch scope event handling) = 0
 line_publishes (Wait time) = 0
+line_publishes (WaitFor span) = 0
 line_publishes Settle = 0
 line_publishes Snap = 0
 line_publishes Cut = 0
 line_publishes Quit = 0
+line_publishes (Mark word) = 0
 
 -- how many lines publish
 abbrev pub publish_count : List PlainLine → ℕ

@@ -1,7 +1,7 @@
 -- The grammar of a view script, over plain lists: lines and words. Texts are seen as their UTF-8.
 use Rattle.std.specs.Prelude.{ℕ, nat_le, ◌==◌, if◌then◌else◌, List, [], ◌∷◌, ◌++◌, Option, Some, None, codes}
 use Rattle.std.specs.Option.{option_map}
-use Rattle.std.specs.Str.{bytes_eq, is_utf8}
+use Rattle.std.specs.Str.{bytes_eq, chars, is_utf8}
 use Rattle.std.specs.Str.Lines.{lines}
 use Rattle.byte_fields.specs.Fields.{whole}
 use Rattle.text_lines.specs.Lines.{LineWord, is_skipped, time_of_word}
@@ -10,7 +10,7 @@ use Rattle.model_value.specs.Plain.{PlainValue}
 use Rattle.value_text.specs.Reading.{value_of_text}
 use Rattle.view_bridge.specs.declared.topic.Handling.{Handling}
 use Rattle.view_bridge.specs.declared.topic.Handling.TheVariants.{Queued, OncePerFrame}
-use Rattle.view_script.specs.PlainLine.{PlainLine, Publish, Watch, Wait, Settle, Snap, Cut, Quit, payload_fits, publish_count, most_publishes}
+use Rattle.view_script.specs.PlainLine.{PlainLine, Publish, Watch, Wait, WaitFor, Settle, Snap, Cut, Quit, Mark, payload_fits, publish_count, most_publishes}
 use Rattle.view_script.specs.Words.{script_words_of}
 
 -- the text of a word that is one text literal: a quote, and what ends with the next one
@@ -43,10 +43,28 @@ abbrev pub watch_of : List LineWord → Option PlainLine
 watch_of (scope ∷ event ∷ handling ∷ []) = watch_with (literal_of scope) (literal_of event) (handling_of_word handling)
 watch_of words = None
 
--- `T`
+-- what stands behind the plus that a word begins with
+abbrev pub behind_plus : LineWord → Option LineWord
+behind_plus [] = None
+behind_plus (byte ∷ bytes) = if byte == 43 then Some bytes else None
+
+abbrev pub wait_with : LineWord → Option LineWord → Option PlainLine
+wait_with time None = option_map Wait (time_of_word time)
+wait_with word (Some span) = option_map WaitFor (time_of_word span)
+
+-- `T | +T`
 abbrev pub wait_of : List LineWord → Option PlainLine
-wait_of (time ∷ []) = option_map Wait (time_of_word time)
+wait_of (word ∷ []) = wait_with word (behind_plus word)
 wait_of words = None
+
+-- the characters of a word, if it is UTF-8, as each word of a script is
+abbrev pub text_of_word : LineWord → Option (List ℕ)
+text_of_word word = if is_utf8 word then Some (chars word) else None
+
+-- `WORD`
+abbrev pub mark_of : List LineWord → Option PlainLine
+mark_of (word ∷ []) = option_map Mark (text_of_word word)
+mark_of words = None
 
 -- a line without fields
 abbrev pub line_alone : PlainLine → List LineWord → Option PlainLine
@@ -64,7 +82,8 @@ line_of (name ∷ fields) =
     else (if bytes_eq name (codes "snap") then line_alone Snap fields
     else (if bytes_eq name (codes "cut") then line_alone Cut fields
     else (if bytes_eq name (codes "quit") then line_alone Quit fields
-    else None))))))
+    else (if bytes_eq name (codes "mark") then mark_of fields
+    else None)))))))
 
 -- these lines, and then those
 abbrev pub then_lines : List PlainLine → Option (List PlainLine) → Option (List PlainLine)

@@ -8,13 +8,13 @@ ghost use Rattle.model_value.specs.View.{plain};
 ghost use Rattle.tea_base.specs.Limits.{time_limit};
 ghost use Rattle.text_lines.specs.Lines.{time_of_word};
 ghost use Rattle.value_text.specs.Reading.{value_of_text};
-ghost use Rattle.view_script.specs.ViewScript.{literal_of, handling_of_word};
+ghost use Rattle.view_script.specs.ViewScript.{literal_of, handling_of_word, text_of_word};
 
 use crate::fault::ScriptFault;
 use model_tokens::{TokenFault, read_literal};
 use model_value::{Value, ValueFault};
 use std::alloc::Global;
-use tea_base::Text;
+use tea_base::{Text, TextFault};
 use text_lines::time_of_word;
 use value_text::read_value;
 use view_bridge::Handling;
@@ -50,6 +50,17 @@ pub fn word_value(alloc: Global, word: &[u8]) -> Result<Value, ScriptFault>
         Ok(value) => Ok(value),
         Err(ValueFault::BadValue) => Err(ScriptFault::Bad),
         Err(ValueFault::WantOfMemory) => Err(ScriptFault::WantOfMemory),
+    }
+}
+
+/// The characters of a word.
+pub fn word_text(alloc: Global, word: &[u8]) -> Result<Text, ScriptFault>
+    ensures { Decodes ScriptFault.Bad (λ text. text) result (text_of_word word.now) }
+{
+    match Text::read(alloc, word) {
+        Ok(text) => Ok(text),
+        Err(TextFault::NotUtf8) => Err(ScriptFault::Bad),
+        Err(TextFault::WantOfMemory) => Err(ScriptFault::WantOfMemory),
     }
 }
 

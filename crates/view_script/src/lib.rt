@@ -11,10 +11,12 @@
 //! | `watch SCOPE EVENT queued` | subscribes to an event in a scope, and handles each |
 //! | `watch SCOPE EVENT once` | the same, and of those handled together the last alone |
 //! | `wait T` | waits for a time, in microseconds of TeaTime, below 2^53 |
+//! | `wait +T` | waits for so many microseconds, below 2^53, from its own time at that line on |
 //! | `settle` | waits until each event that it published is acknowledged |
 //! | `snap` | offers a snapshot, and waits for the answer |
 //! | `cut` | cuts its connection, and joins again on another one |
 //! | `quit` | leaves |
+//! | `mark WORD` | prints the word, behind all that the lines before it print |
 //!
 //! A scope and an event are text literals of the language, and a value is the text of a value in bounds. Numbers are
 //! decimal, without a sign or leading zeros. At most 1,048,576 lines publish.
@@ -30,4 +32,5 @@ mod words;
 
 pub use fault::ScriptFault;
 pub use line::ViewLine;
+pub use reading::publish_count;
 pub use script::{ViewScript, parse_script};

@@ -22,6 +22,10 @@ pub enum ViewLine {
     Wait {
         time: u64,
     },
+    /// It waits for so long, in microseconds of TeaTime, from its own time on.
+    WaitFor {
+        span: u64,
+    },
     /// It sends what it has not sent, and waits until each event that it published is acknowledged.
     Settle,
     /// It offers a snapshot, and waits for the answer.
@@ -30,4 +34,8 @@ pub enum ViewLine {
     Cut,
     /// It ends.
     Quit,
+    /// It prints a word, behind all that the lines before it print.
+    Mark {
+        word: Text,
+    },
 }

@@ -56,7 +56,7 @@ fn read_lines(alloc: Global, script: &str) -> Result<Vec<ViewLine>, ScriptFault>
 }
 
 /// How many lines publish.
-fn publish_count(lines: &[ViewLine]) -> usize
+pub fn publish_count(lines: &[ViewLine]) -> usize
     ensures { result ≡ count_publishes (plain_lines lines.now) }
 {
     let mut count = 0;

@@ -1,13 +1,14 @@
 //! What the words of a line spell: a row for each kind of line.
 ghost use Rattle.std.specs.Prelude.{◌≡◌, map, IfOk};
+ghost use Rattle.std.specs.Option.{option_map};
 ghost use Rattle.byte_fields.specs.Fields.{Decodes};
 ghost use Rattle.model_value.specs.Plain.{InBounds};
 ghost use Rattle.model_value.specs.View.{plain};
 ghost use Rattle.view_script.specs.PlainLine.{plain_line, LineFits, payload_fits as fits_payload};
-ghost use Rattle.view_script.specs.ViewScript.{publish_of, watch_of, wait_of, line_alone, line_of};
+ghost use Rattle.view_script.specs.ViewScript.{publish_of, watch_of, behind_plus as plus_and, wait_of, line_alone, line_of, mark_of};
 
 use crate::fault::ScriptFault;
-use crate::fields::{handling_in, is_word, literal, time_in, word_value};
+use crate::fields::{handling_in, is_word, literal, time_in, word_text, word_value};
 use crate::line::ViewLine;
 use model_value::{Value, payload};
 use std::alloc::Global;
@@ -69,16 +70,46 @@ fn watch(alloc: Global, fields: &[&[u8]]) -> Result<ViewLine, ScriptFault>
     })
 }
 
-/// `T`
+/// What stands behind the plus that a word begins with.
+fn behind_plus<'a>(word: &'a [u8]) -> Option<&'a [u8]>
+    ensures { option_map (λ rest. rest.now) result ≡ plus_and word.now }
+{
+    match word.split_first() {
+        Some((b'+', rest)) => Some(rest),
+        _ => None,
+    }
+}
+
+/// `T | +T`
 fn wait(fields: &[&[u8]]) -> Result<ViewLine, ScriptFault>
     ensures read { Decodes ScriptFault.Bad plain_line result (wait_of (map (λ word. word.now) fields.now)) }
     ensures fits { IfOk result (λ line. LineFits (plain_line line)) }
 {
-    let [time] = fields else {
+    let [word] = fields else {
         return Err(ScriptFault::Bad);
     };
-    let time = time_in(time).ok_or(ScriptFault::Bad)?;
-    Ok(ViewLine::Wait { time })
+    match behind_plus(word) {
+        None => {
+            let time = time_in(word).ok_or(ScriptFault::Bad)?;
+            Ok(ViewLine::Wait { time })
+        }
+        Some(span) => {
+            let span = time_in(span).ok_or(ScriptFault::Bad)?;
+            Ok(ViewLine::WaitFor { span })
+        }
+    }
+}
+
+/// `WORD`
+fn mark(alloc: Global, fields: &[&[u8]]) -> Result<ViewLine, ScriptFault>
+    ensures read { Decodes ScriptFault.Bad plain_line result (mark_of (map (λ word. word.now) fields.now)) }
+    ensures fits { IfOk result (λ line. LineFits (plain_line line)) }
+{
+    let [word] = fields else {
+        return Err(ScriptFault::Bad);
+    };
+    let word = word_text(alloc, word)?;
+    Ok(ViewLine::Mark { word })
 }
 
 /// A line without fields.
@@ -116,6 +147,8 @@ pub fn line(alloc: Global, words: &[&[u8]]) -> Result<ViewLine, ScriptFault>
         alone(ViewLine::Cut, fields)
     } else if is_word(name, "quit") {
         alone(ViewLine::Quit, fields)
+    } else if is_word(name, "mark") {
+        mark(alloc, fields)
     } else {
         Err(ScriptFault::Bad)
     }

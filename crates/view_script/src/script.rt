@@ -43,6 +43,15 @@ impl ViewScript {
     {
         &self.held
     }
+
+    /// The lines in order, as a vector of the caller's own. Takes no memory.
+    pub fn into_lines(self) -> Vec<ViewLine>
+        ensures lines { result.items ≡ self }
+        ensures script { IsViewScript (plain_lines result.items) }
+    {
+        let ViewScript { held } = self;
+        held
+    }
 }
 
 /// The script that the bytes spell. `Bad` comes exactly where they spell none.

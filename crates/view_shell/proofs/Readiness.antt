@@ -32,6 +32,12 @@ pub viewer_told : (address : List ℕ) (lines : List PlainLine) (w w' : Watcher)
 viewer_told address lines w w' kept is =
     ap (λ (one : Watcher). viewer address one lines) kept ∙ ap (λ (r : ReplicaView). viewer address (record w { replica = r }) lines) is
 
+-- a view that told a line, or had no memory for it
+pub viewer_finished : (address : List ℕ) (lines : List PlainLine) (w w' : Watcher) (done : Result ⊤ ViewEnd) → w' ≡ record w { replica = w'.replica } → OnOk done (w'.replica ≡ with_plain w.replica (takes_out w.replica.plain))
+    → OnOk done (viewer address w' lines ≡ record (viewer address w lines) { replica = takes_out w.replica.plain })
+viewer_finished address lines w w' (Ok it) kept is = viewer_told address lines w w' kept is
+viewer_finished address lines w w' (Err end) kept is = tt
+
 -- a view that rested
 pub viewer_at_rest : (address : List ℕ) (lines : List PlainLine) (w w' : Watcher) → w' ≡ record w { replica = w'.replica } → w'.replica ≡ with_plain w.replica (rested (worlds_of w.replica) w.replica.plain)
     → viewer address w' lines ≡ after_rest (viewer address w lines)

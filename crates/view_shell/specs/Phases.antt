@@ -1,6 +1,7 @@
 -- The run of a view, phase by phase: where it stands, which step is due, and what the step makes of it.
-use Rattle.std.specs.Prelude.{◌≡◌, ℕ, ◌+◌, ◌==◌, nat_le, Bool, ◌&&◌, if◌then◌else◌, sum_by, List, [], ◌∷◌, ◌++◌, length, Option, Some, None}
+use Rattle.std.specs.Prelude.{◌≡◌, ℕ, ◌+◌, ◌-◌, ◌==◌, min, nat_le, Bool, ◌&&◌, if◌then◌else◌, sum_by, List, [], ◌∷◌, ◌++◌, length, Option, Some, None}
 use Rattle.byte_fields.specs.Fields.{whole}
+use Rattle.tea_base.specs.Limits.{time_limit}
 use Rattle.tea_io.specs.declared.link.Heard.{Heard}
 use Rattle.tea_io.specs.declared.link.Heard.TheVariants as heard
 use Rattle.tea_io.specs.Links.{most_quiets}
@@ -24,11 +25,11 @@ use Rattle.replica_plain.specs.Taking.{Taken, taken}
 use Rattle.replica_plain.specs.Calls.{joining, join_frame, publishes, unsent, gives, takes_out, snap_frame}
 use Rattle.view_bridge.specs.declared.topic.Topic.{Topic}
 use Rattle.view_bridge.specs.Topics.{subscribes, handled_events}
-use Rattle.view_script.specs.PlainLine.{PlainLine, Publish, Watch, Wait, Settle, Snap, Cut, Quit}
+use Rattle.view_script.specs.PlainLine.{PlainLine, Publish, Watch, Wait, WaitFor, Settle, Snap, Cut, Quit, Mark}
 use Rattle.run_steps.specs.Steps.{Step, Prints, Connects, Returns, Hears, Sends}
 use Rattle.view_shell.specs.declared.ending.ViewEnd.{ViewEnd}
 use Rattle.view_shell.specs.declared.ending.ViewEnd.TheVariants as ending
-use Rattle.view_shell.specs.ViewText.{events_text, time_line, settled_line, snapped_line, snap_refused_line, rejoined_line, view_line}
+use Rattle.view_shell.specs.ViewText.{events_text, time_line, settled_line, snapped_line, snap_refused_line, rejoined_line, mark_line, view_line}
 
 -- what becomes of a replica that takes a tick of its own time
 abbrev pub rested : Worlds WorldRecord PlainOutgoing → PlainReplica WorldRecord PlainOutgoing → PlainReplica WorldRecord PlainOutgoing
@@ -157,6 +158,10 @@ abbrev pub send_all : Viewer → List ClientFrame → Task → Phase
 send_all v [] task = begin_task v task
 send_all v (frame ∷ frames) task = Sending v frame frames task
 
+-- the time that comes so long after this one, or the last one that there is
+abbrev pub time_after : ℕ → ℕ → ℕ
+time_after time span = min (time + span) (time_limit - 1)
+
 -- the first of these lines: a row for each kind
 abbrev pub run : Viewer → List PlainLine → Phase
 run v [] = leave_session v
@@ -165,10 +170,12 @@ run v (Publish scope event value ∷ rest) =
     send_all (after_giving w) (unsent w.replica) (Receives ToCatchUp)
 run v (Watch scope event handling ∷ rest) = finish (record v { lines = rest; topics = subscribes v.topics scope event handling }) []
 run v (Wait time ∷ rest) = receive (with_lines v rest) (ToReach time)
+run v (WaitFor span ∷ rest) = receive (with_lines v rest) (ToReach (time_after v.replica.world.time span))
 run v (Settle ∷ rest) = send_all (after_giving (with_lines v rest)) (unsent v.replica) (Receives ToSettle)
 run v (Snap ∷ rest) = Sending (with_lines v rest) (snap_frame v.worlds v.replica) [] (Receives ToSnap)
 run v (Cut ∷ rest) = Returning (with_lines v rest) Resume
 run v (Quit ∷ rest) = leave_session (with_lines v rest)
+run v (Mark word ∷ rest) = finish (with_lines v rest) (mark_line word)
 
 -- ---- joining
 

@@ -1,5 +1,6 @@
 -- The lines that a view prints.
 use Rattle.std.specs.Prelude.{ℕ, List, [], ◌∷◌, ◌++◌, codes, flat_map}
+use Rattle.std.specs.Str.{encode_utf8_all}
 use Rattle.hex.specs.Hex.{encode_lower}
 use Rattle.sha2.specs.Sha256.{sha256}
 use Rattle.text_lines.specs.Lines.{spell_numbers}
@@ -42,6 +43,10 @@ snap_refused_line code kept = numbers_line (codes "snap-refused") (code ∷ kept
 -- the view has joined again, by this entry, and goes on behind so many entries
 abbrev pub rejoined_line : ℕ → ℕ → List ℕ
 rejoined_line joined from = numbers_line (codes "rejoined") (joined ∷ from ∷ [])
+
+-- a word of the view's own
+abbrev pub mark_line : List ℕ → List ℕ
+mark_line word = (codes "mark " ++ encode_utf8_all word) ++ 10 ∷ []
 
 -- a view, its time, how many entries it has seen, and a digest
 abbrev pub digested_view_line : PlainReplica WorldRecord PlainOutgoing → List ℕ → List ℕ

@@ -1,5 +1,5 @@
 //! What a view hears its link for.
-ghost use Rattle.std.specs.Prelude.{◌≡◌, ℕ, List, [], ◌<◌, ◌+◌, None, Some, OnOk, MatchResult};
+ghost use Rattle.std.specs.Prelude.{◌≡◌, ℕ, List, [], ◌<◌, ◌+◌, None, Some, IfOk, OnOk, MatchResult};
 ghost use Rattle.byte_fields.specs.Fields.{whole};
 ghost use Rattle.wire_frames.specs.Reading.{server_at};
 ghost use Rattle.run_steps.specs.Outside.{links_tell};
@@ -52,10 +52,11 @@ fn stop_for(fault: ReplicaFault) -> Stop
 }
 
 /// The frame that bytes spell, once the replica has taken it.
-fn take(watcher: &mut Watcher, bytes: &Blob) -> Result<ServerFrame, Stop>
+pub fn take(watcher: &mut Watcher, bytes: &Blob) -> Result<ServerFrame, Stop>
     ensures kept { watcher.new ≡ record watcher.old { replica = watcher.new.replica } }
     ensures session { KeepsSession watcher.old.replica watcher.new.replica }
     ensures knows { KnowsItself watcher.old → KnowsItself watcher.new }
+    ensures frame { IfOk result (λ frame. whole server_at bytes.now ≡ Some frame) }
     ensures taken { (address : List ℕ) (lines : List PlainLine) (aim : Aim) → MatchResult result
         (λ frame. reads (viewer address watcher.old lines) aim (whole server_at bytes.now) ≡ after_frame (viewer address watcher.new lines) aim frame)
         (λ stop. StopsAt stop (reads (viewer address watcher.old lines) aim (whole server_at bytes.now)) (viewer address watcher.new lines) aim) }
@@ -172,7 +173,7 @@ pub fn settle<R: Wait, L: Link>(rt: &R, watcher: &mut Watcher, link: &mut L) -> 
 }
 
 /// Whether few enough events are not acknowledged.
-fn has_caught_up(replica: &Replica) -> bool
+pub fn has_caught_up(replica: &Replica) -> bool
     ensures { result ≡ has_caught_up replica.now.plain }
 {
     replica.unacknowledged() <= MOST_UNANSWERED

@@ -2,6 +2,8 @@
 //!
 //! [`run_view`] connects to a session's reflector, joins, does the script line by line, prints what the view shows, and leaves. What it
 //! does to the outside is stated phase by phase.
+//!
+//! What a view does at a line and at a frame, but for the link and the output, is lent to views that are fed otherwise.
 #![tactic(auto)]
 
 mod ending;
@@ -14,5 +16,10 @@ mod view;
 mod watcher;
 
 pub use ending::ViewEnd;
+pub use hearing::{Stop, has_caught_up, take};
 pub use laws::one_run;
+pub use lines::{last_line, publish, rest, shown_text, snap_frame, time_after};
+pub use sending::{MOST_RECEIVES, spelling};
+pub use text::{mark_line, numbers_line};
 pub use view::{Visit, run_view};
+pub use watcher::Watcher;

@@ -10,8 +10,8 @@ ghost use Rattle.tea_base.specs.Limits.{most_payload};
 ghost use Rattle.view_bridge.specs.Topics.{subscribes};
 ghost use Rattle.view_script.specs.PlainLine.{LineFits, PlainLine, most_publishes, payload_length, plain_line, plain_lines, line_publishes};
 ghost use Rattle.std.specs.List.{AllByRecursion};
-ghost use Rattle.view_shell.specs.Phases.{IsReadAsWorld, Over, Viewer, Receives, Sending, TellsText, ToReach, ToSettle, ToCatchUp, ToSnap, finish, after_giving, after_rest, leave_session, receive, rested, run, send_all, shown_text};
-ghost use Rattle.view_shell.specs.ViewText.{digested_view_line, numbers_line, view_line};
+ghost use Rattle.view_shell.specs.Phases.{IsReadAsWorld, Over, Viewer, Receives, Sending, TellsText, ToReach, ToSettle, ToCatchUp, ToSnap, finish, after_giving, after_rest, leave_session, receive, rested, run, send_all, shown_text, time_after};
+ghost use Rattle.view_shell.specs.ViewText.{digested_view_line, mark_line as line_of_mark, numbers_line, view_line};
 ghost use Rattle.view_shell.specs.Viewers.{HasRoomBehind, HasRoomFor, IsReady, KnowsItself, viewer};
 ghost use Rattle.view_shell.specs.Flows.{departure_phase, flow_of, flow_phase};
 ghost use Rattle.view_shell.specs.ViewRun.{GoesOrStops, LinkActs, StopsPrinting};
@@ -20,15 +20,15 @@ ghost use Rattle.view_shell.specs.Hearing.{answer_line, rejoined_text};
 use crate::ending::ViewEnd;
 use crate::hearing::{SnapAnswer, Synced, await_answer, catch_up, reach, settle};
 use crate::sending::{send, send_unsent};
-use crate::text::{events_text, numbers_line};
+use crate::text::{events_text, mark_line, numbers_line};
 use crate::watcher::Watcher;
 use model_value::Value;
-use replica::worlds_stand;
+use replica::{Replica, worlds_stand};
 use replica_plain::{How, PublishRefusal};
 use run_steps::{CallFault, print_text};
 use snapshot_codec::digest;
 use std::sync::Wait;
-use tea_base::{Text, WantOfMemory};
+use tea_base::{TIME_LIMIT, Text, WantOfMemory};
 use tea_io::{Link, Sink};
 use text_lines::spell_numbers;
 use view_bridge::Handling;
@@ -73,7 +73,7 @@ fn print<W: Sink>(out: &mut W, text: &[u8]) -> Result<(), ViewEnd>
 }
 
 /// The lines of the events that models published, as they are handled, and then a text.
-fn shown_text(watcher: &mut Watcher, text: &str) -> Result<String, WantOfMemory>
+pub fn shown_text(watcher: &mut Watcher, text: &str) -> Result<String, WantOfMemory>
     ensures kept { watcher.new ≡ record watcher.old { replica = with_plain watcher.old.replica (takes_out watcher.old.replica.plain) } }
     ensures shown { (address : List ℕ) (lines : List PlainLine) → IfOk result (λ shown. string_bytes shown ≡ shown_text (viewer address watcher.old lines) text.now) }
 {
@@ -116,7 +116,30 @@ fn finish_with<W: Sink>(
     finish(watcher, out, text.as_str())
 }
 
+/// Prints a word.
+fn mark<W: Sink>(watcher: &mut Watcher, out: &mut W, word: &Text) -> Result<(), ViewEnd>
+    requires ready { IsReady watcher.old }
+    ensures kept { watcher.new ≡ record watcher.old { replica = watcher.new.replica } }
+    ensures ready { OnOk result (IsReady watcher.new) }
+    ensures ok { OnOk result (watcher.new.replica ≡ with_plain watcher.old.replica (takes_out watcher.old.replica.plain)) }
+    ensures printed { (address : List ℕ) (lines : List PlainLine) → OnOk result (PrintsText (output_tells W.written W.faults W.wants) Well (shown_text (viewer address watcher.old lines) (line_of_mark word.now)) out.old out.new) }
+    ensures err { (address : List ℕ) (lines : List PlainLine) → IfErr result (λ end. StopsPrinting (output_tells W.written W.faults W.wants) end (shown_text (viewer address watcher.old lines) (line_of_mark word.now)) out.old out.new) }
+{
+    let text = match mark_line(watcher.alloc, word) {
+        Ok(text) => text,
+        Err(WantOfMemory) => return Err(ViewEnd::WantOfMemory),
+    };
+    finish(watcher, out, text.as_str())
+}
+
 // ---- lines
+
+/// The time that comes so long after the replica's, or the last one that there is.
+pub fn time_after(replica: &Replica, span: u64) -> u64
+    ensures { result ≡ time_after replica.now.plain.world.time span }
+{
+    replica.time().saturating_add(span).min(TIME_LIMIT - 1)
+}
 
 /// Waits for a time.
 fn wait<R: Wait, L: Link, W: Sink>(
@@ -168,7 +191,7 @@ fn await_settled<R: Wait, L: Link, W: Sink>(
 }
 
 /// The frame that offers the replica's snapshot.
-fn snap_frame(watcher: &Watcher) -> Result<ClientFrame, ViewEnd>
+pub fn snap_frame(watcher: &Watcher) -> Result<ClientFrame, ViewEnd>
     ensures frame { IfOk result (λ frame. frame ≡ snap_frame (worlds_of watcher.now.replica) watcher.now.replica.plain) }
     ensures world { (address : List ℕ) (lines : List PlainLine) → IfOk result (λ frame. IsReadAsWorld (viewer address watcher.now lines) frame) }
     ensures want { IfErr result (λ end. end ≡ ViewEnd.WantOfMemory) }
@@ -252,7 +275,12 @@ fn snap<R: Wait, L: Link, W: Sink>(
 }
 
 /// Publishes an event.
-fn publish(watcher: &mut Watcher, scope: &Text, event: &Text, value: &Value) -> Result<(), ViewEnd>
+pub fn publish(
+    watcher: &mut Watcher,
+    scope: &Text,
+    event: &Text,
+    value: &Value,
+) -> Result<(), ViewEnd>
     requires ready { IsReady watcher.old }
     requires bounds { InBounds (plain value.now) }
     requires short { payload_length scope.now event.now (plain value.now) ≤ most_payload }
@@ -260,6 +288,7 @@ fn publish(watcher: &mut Watcher, scope: &Text, event: &Text, value: &Value) -> 
     ensures kept { watcher.new ≡ record watcher.old { replica = watcher.new.replica; published = watcher.new.published } }
     ensures count { OnOk result (watcher.new.published ≡ watcher.old.published + 1) }
     ensures ready { OnOk result (IsReady watcher.new) }
+    ensures knows { KnowsItself watcher.new }
     ensures publishes { OnOk result (watcher.new.replica ≡ with_plain watcher.old.replica
         (publishes watcher.old.replica.plain (payload_spelling (record { scope = scope.now; event = event.now; value = plain value.now })))) }
     ensures want { IfErr result (λ end. end ≡ ViewEnd.WantOfMemory) }
@@ -412,7 +441,7 @@ fn view_line(watcher: &Watcher, digest: &[u8; 32]) -> Result<String, WantOfMemor
 }
 
 /// The last line.
-fn last_line(watcher: &Watcher) -> Result<String, WantOfMemory>
+pub fn last_line(watcher: &Watcher) -> Result<String, WantOfMemory>
     requires knows { KnowsItself watcher.now }
     ensures { IfOk result (λ line. string_bytes line ≡ view_line watcher.now.replica.plain) }
 {
@@ -424,11 +453,12 @@ fn last_line(watcher: &Watcher) -> Result<String, WantOfMemory>
 }
 
 /// Takes a tick of its own time, so that nothing is due at that time: the world is then the replay of the log to it.
-fn rest(watcher: &mut Watcher) -> Result<(), ViewEnd>
+pub fn rest(watcher: &mut Watcher) -> Result<(), ViewEnd>
     requires ready { IsReady watcher.old }
     ensures kept { watcher.new ≡ record watcher.old { replica = watcher.new.replica } }
     ensures rests { OnOk result (watcher.new.replica ≡ with_plain watcher.old.replica (rested (worlds_of watcher.old.replica) watcher.old.replica.plain)) }
     ensures ready { OnOk result (IsReady watcher.new) }
+    ensures knows { KnowsItself watcher.new }
     ensures want { IfErr result (λ end. end ≡ ViewEnd.WantOfMemory) }
 {
     worlds_stand();
@@ -527,6 +557,10 @@ fn run_line<R: Wait, L: Link, W: Sink>(
             handling,
         } => flow_of(watch(watcher, out, scope, event, *handling)),
         ViewLine::Wait { time } => flow_of(wait(rt, watcher, link, out, *time)),
+        ViewLine::WaitFor { span } => {
+            let time = time_after(&watcher.replica, *span);
+            flow_of(wait(rt, watcher, link, out, time))
+        }
         ViewLine::Settle => match send_unsent(watcher, link) {
             Ok(()) => flow_of(await_settled(rt, watcher, link, out)),
             Err(end) => Err(end),
@@ -537,6 +571,7 @@ fn run_line<R: Wait, L: Link, W: Sink>(
             Ok(()) => Ok(LineOutcome::Leaves),
             Err(end) => Err(end),
         },
+        ViewLine::Mark { word } => flow_of(mark(watcher, out, word)),
     }
 }
 

@@ -47,7 +47,7 @@ fn fits(frame: &ClientFrame) -> bool
 }
 
 /// The spelling of a frame. A replica makes no frame that does not fit; one that did would count as want of memory.
-fn spelling(alloc: Global, frame: &ClientFrame) -> Result<Blob, WantOfMemory>
+pub fn spelling(alloc: Global, frame: &ClientFrame) -> Result<Blob, WantOfMemory>
     ensures spelled { IfOk result (λ bytes. bytes ≡ client_spelling frame.now) }
     ensures fits { OnOk result (IsClientFrame frame.now) }
 {

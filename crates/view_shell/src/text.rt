@@ -2,10 +2,10 @@
 ghost use Rattle.std.specs.Prelude.{◌≡◌, ◌++◌, [], IfOk, OnOk, string_bytes, map};
 ghost use Rattle.text_lines.specs.Lines.{spell_numbers};
 ghost use Rattle.world_plain.specs.Messages.{plain_outgoing};
-ghost use Rattle.view_shell.specs.ViewText.{event_line, events_text, numbers_line};
+ghost use Rattle.view_shell.specs.ViewText.{event_line, events_text, mark_line as line_of_mark, numbers_line};
 
 use std::alloc::Global;
-use tea_base::WantOfMemory;
+use tea_base::{Text, WantOfMemory};
 use text_lines::spell_numbers;
 use value_text::{push_text, push_value};
 use world_plain::{Outgoing, Published};
@@ -15,6 +15,16 @@ pub fn numbers_line(alloc: Global, word: &str, numbers: &[u64]) -> Result<String
     ensures { IfOk result (λ line. string_bytes line ≡ numbers_line word.now numbers.now) }
 {
     let mut line = spell_numbers(alloc, word, numbers)?;
+    line.push_str("\n")?;
+    Ok(line)
+}
+
+/// The line of a mark.
+pub fn mark_line(alloc: Global, word: &Text) -> Result<String, WantOfMemory>
+    ensures { IfOk result (λ line. string_bytes line ≡ line_of_mark word.now) }
+{
+    let mut line = String::from_str(alloc, "mark ")?;
+    line.push_str(word.as_str())?;
     line.push_str("\n")?;
     Ok(line)
 }

@@ -151,7 +151,7 @@ opened_time_if : (later : Bool) (t : ℕ) (m : PlainMessage) (rest : List PlainM
 opened_time_if true t m rest w le due = due
 opened_time_if false t m rest w le due = le
 
-handled-time : (counts : List ℕ) (program : ProgramTree) (t : ℕ) (m : PlainMessage) (rest : List PlainMessage) (s : Scene) → Fits counts program → s.world.time ≤ t → m.time ≤ t → (after_message program m rest s).world.time ≤ t
+pub handled-time : (counts : List ℕ) (program : ProgramTree) (t : ℕ) (m : PlainMessage) (rest : List PlainMessage) (s : Scene) → Fits counts program → s.world.time ≤ t → m.time ≤ t → (after_message program m rest s).world.time ≤ t
 handled-time counts program t m rest s fits le due =
     let o : Scene = scene_with_world s (opened m rest s.world) in
     let same = (ran-keeps counts program m.object m.method m.args o fits).time in

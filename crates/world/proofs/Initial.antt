@@ -36,7 +36,7 @@ on_ok (Ok x) P Q f h = f h
 on_ok (Err e) P Q f h = tt
 
 -- the method that is found has as many parameters as it resolves to
-takes_as : (s : Bor Solved) (tree : ProgramTree) (n : ℕ) (x : Name) (root : ClassTree) → FindsMethod (Some s) tree n x → slice_get tree n ≡ Some root → nat_eq s.now.params 2 ≡ takes_two (method_named x root.methods)
+pub takes_as : (s : Bor Solved) (tree : ProgramTree) (n : ℕ) (x : Name) (root : ClassTree) → FindsMethod (Some s) tree n x → slice_get tree n ≡ Some root → nat_eq s.now.params 2 ≡ takes_two (method_named x root.methods)
 takes_as s tree n x root h e =
     ap (λ (count : ℕ). nat_eq count 2) h.4.0 ∙ ap takes_two (sym h.3 ∙ of_class tree n x root e)
 

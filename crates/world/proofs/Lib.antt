@@ -4,11 +4,13 @@ pub mod Places
 pub mod Advancing
 pub mod Entries
 pub mod Turn
+pub mod TurnLaws
 pub mod Texts
 pub mod Rooted
 pub mod Initial
 pub mod Roots
 pub mod FirstWorld
+pub mod FirstMessages
 pub mod Silent
 pub mod ByWorld
 pub mod Following

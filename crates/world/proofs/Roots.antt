@@ -57,7 +57,7 @@ root_at classes seen (d ∷ cs) k (suc i) c none at named =
     let number : k + 1 + i ≡ k + suc i = omega arith in
     rw other (root_at classes (seen ++ d.name ∷ []) cs (k + 1) i c behind at named ∙ ap (λ (n : ℕ). Some (n, c)) number)
 
-first_root : (tree : ProgramTree) (n : ℕ) (is : IsClass tree n root_name) → first_fault tree ≡ None → root_from 0 tree ≡ Some (n, is.0)
+pub first_root : (tree : ProgramTree) (n : ℕ) (is : IsClass tree n root_name) → first_fault tree ≡ None → root_from 0 tree ≡ Some (n, is.0)
 first_root tree n is none =
     let classes = none-left (faults_of_classes (class_names tree) [] tree) (missing_from (class_names tree) root_name NoRoot) none in
     let number : 0 + n ≡ n = omega arith in

@@ -10,6 +10,9 @@ use Rattle.world_state.specs.declared.state.State.{State}
 use Rattle.world_state.specs.Answer.{world_of}
 use Rattle.world_plain.specs.Valid.{Valid}
 use Rattle.model_solved.specs.Founding.{CheckedView, checked_tree, founding_of, IsFounding}
+use Rattle.model_value.specs.View.{plain_values}
+use Rattle.world.specs.declared.told.RanMessage.{RanMessage}
+use Rattle.world.specs.Turns.{PlainRan}
 use Rattle.world.specs.declared.fault.WorldFault.{WorldFault}
 use Rattle.world.specs.declared.fault.WorldFault.TheVariants as fault
 use Rattle.world.specs.Worlds.{Scene, scene_with_world, due, without_view, field_counts}
@@ -22,6 +25,10 @@ abbrev pub TakesDue : Option Message → ℕ → Scene → Scene → Type 0
 TakesDue None t before after = (due t before.world.pending ≡ None) × (after ≡ before)
 TakesDue (Some m) t before after =
     (rest : List PlainMessage) × (due t before.world.pending ≡ Some (plain_message m, rest)) × (after ≡ scene_with_world before (record (before.world) { pending = rest }))
+
+-- a message that ran, with plain values in it
+abbrev pub plain_ran : RanMessage → PlainRan
+plain_ran ran = record { time = ran.time; object = ran.object; class = Some ran.class; method = ran.method; args = plain_values ran.args }
 
 -- each message is of a later time
 abbrev pub AreBehind : ℕ → List PlainMessage → Type 0
@@ -61,6 +68,11 @@ MovesOn (Ok done) old new back meant = (old.broken ≡ false) × (back ≡ false
 MovesOn (Err fault.Broken) old new back meant = (old.broken ≡ true) × (new ≡ old)
 MovesOn (Err (fault.Back time)) old new back meant = (old.broken ≡ false) × (back ≡ true) × (time ≡ old.scene.world.time) × (new ≡ old)
 MovesOn (Err fault.WantOfMemory) old new back meant = (old.broken ≡ false) × (back ≡ false) × (new.broken ≡ true) × (new.scene.published ≡ []) × (new.program ≡ old.program)
+
+-- the same call, whatever it tells
+abbrev pub done : {A : Type 0} → Result A WorldFault → Result ⊤ WorldFault
+done (Ok told) = Ok tt
+done (Err fault) = Err fault
 
 -- a copy of the world as plain data
 abbrev pub Copies : Result PlainWorld WorldFault → WorldView → Type 0

@@ -1,15 +1,17 @@
 //! The laws of TeaTime: how a world advances, and how one that was put away goes on.
-ghost use Rattle.std.specs.Prelude.{◌≡◌, ◌≤◌, ◌<◌, ℕ, nat_le, List};
+ghost use Rattle.std.specs.Prelude.{◌≡◌, ◌≤◌, ◌<◌, ℕ, nat_le, List, None};
 ghost use Rattle.std.specs.List.{fold, filter};
 ghost use Rattle.std.specs.Thread.{IsSend};
 ghost use Rattle.tea_base.specs.Legal.{IsLegal};
 ghost use Rattle.tea_base.specs.declared.entry.Entry.{Entry};
+ghost use Rattle.tea_base.specs.declared.entry.What.{What};
 ghost use Rattle.world_plain.specs.World.{WorldRecord};
 ghost use Rattle.world_plain.specs.Valid.{Valid};
 ghost use Rattle.tea_base.specs.Limits.{time_limit};
 ghost use Rattle.model_tree.specs.Tree.{ProgramTree};
 ghost use Rattle.model_tree.specs.Program.{IsProgram};
-ghost use Rattle.world.specs.Worlds.{Scene, Founding, IsFounding, field_counts, first_scene, advance, due, on_due, external, replay, take_up, replay_on, Follows};
+ghost use Rattle.world.specs.Worlds.{Scene, Founding, IsFounding, field_counts, scene_with_world, first_scene, at_later_time, advance, due, on_due, external, replay, take_up, replay_on, Follows};
+ghost use Rattle.world.specs.Turns.{next_ran, after_turn, after_turns, begun, first_ran, after_first, heard_of, TellsHeard};
 ghost use Rattle.world.specs.View.{AreBehind};
 ghost use Rattle.world.specs.contracts.world.World as world;
 
@@ -30,6 +32,27 @@ pub fn advance_twice()
 /// To advance is to run the least message if it is due and to advance from there, and else to arrive.
 pub fn advance_steps()
     ensures { (program : ProgramTree) (t : ℕ) (a : Scene) → IsProgram program → Valid (field_counts program) a.world → advance program t a ≡ on_due program t (advance program t) (due t a.world.pending) a }
+{}
+
+/// One turn after the other, until none is due up to t, and then an arrival at t are the advance to t.
+pub fn turns_advance()
+    ensures arrive { (program : ProgramTree) (t : ℕ) (a : Scene) → IsProgram program → Valid (field_counts program) a.world →
+        (n : ℕ) × (next_ran t (after_turns program t n a).world ≡ None)
+        × (advance program t a ≡ scene_with_world (after_turns program t n a) (at_later_time t (after_turns program t n a).world)) }
+    ensures goes_on { (program : ProgramTree) (t : ℕ) (a : Scene) → IsProgram program → Valid (field_counts program) a.world → advance program t (after_turn program t a) ≡ advance program t a }
+    ensures rests { (program : ProgramTree) (t : ℕ) (a : Scene) → IsProgram program → Valid (field_counts program) a.world → next_ran t a.world ≡ None → advance program t a ≡ scene_with_world a (at_later_time t a.world) }
+    ensures early { (program : ProgramTree) (t : ℕ) (a : Scene) → IsProgram program → a.world.time ≤ t → (after_turn program t a).world.time ≤ t }
+{}
+
+/// A session begins with the message that is told as its first, if there is one.
+pub fn first_message_opens()
+    ensures { (founding : Founding) (id : List ℕ) → first_scene founding id ≡ after_first founding.tree (first_ran founding) (begun founding id) }
+{}
+
+/// Models are told of an entry just the event that is said to be heard, by the handlers that are subscribed as it comes. Where none is
+/// said to be heard, the entry changes nothing but counts of faults.
+pub fn entry_tells_what_is_heard()
+    ensures { (program : ProgramTree) (what : What) (view : ℕ) (s : Scene) → TellsHeard program what view s (heard_of s.world view what) }
 {}
 
 /// A world that advanced to t is at rest there: each pending message lies behind t, which is its time. It is valid, and of

@@ -7,12 +7,16 @@ mod messages;
 mod opening;
 mod resuming;
 mod simulation;
+mod told;
+mod turns;
 mod world;
 
 pub use fault::WorldFault;
 pub use laws::{
-    advance_rests, advance_steps, advance_twice, at_rest_stays, external_after,
-    external_keeps_valid, first_world_is_valid, replay_folds, replay_follows, resumed_follows,
-    resumed_world_is_valid, world_crosses_threads, world_decides,
+    advance_rests, advance_steps, advance_twice, at_rest_stays, entry_tells_what_is_heard,
+    external_after, external_keeps_valid, first_message_opens, first_world_is_valid, replay_folds,
+    replay_follows, resumed_follows, resumed_world_is_valid, turns_advance, world_crosses_threads,
+    world_decides,
 };
+pub use told::{HeardEvent, RanMessage};
 pub use world::World;

@@ -1,6 +1,7 @@
 //! The first world of a session.
 ghost use Rattle.std.specs.Prelude.{◌≡◌, ◌≤◌, ◌∷◌, [], length, nat_eq, IfOk, OnOk, Some, slice_get, take};
 ghost use Rattle.std.specs.Int.{from_le_bytes, w64};
+ghost use Rattle.std.specs.Option.{option_map};
 ghost use Rattle.model_value.specs.Plain.{nil};
 ghost use Rattle.model_value.specs.View.{plain, plain_values};
 ghost use Rattle.model_tree.specs.Tree.{ClassTree};
@@ -8,9 +9,11 @@ ghost use Rattle.model_solved.specs.Founding.{checked_tree, founding_of, IsFound
 ghost use Rattle.model_eval.specs.Arguments.{one_or_both};
 ghost use Rattle.model_tree.specs.Bounds.{most_members};
 ghost use Rattle.world.specs.Worlds.{empty_world, model_root, with_root, scene_with_world, first_scene as first_of, with_root_init};
-ghost use Rattle.world.specs.View.{scene};
+ghost use Rattle.world.specs.Turns.{first_ran};
+ghost use Rattle.world.specs.View.{scene, plain_ran};
 
 use crate::messages::{begin, run};
+use crate::told::RanMessage;
 use known_names::Names;
 use message_queue::Queue;
 use model_eval::{Call, both};
@@ -121,6 +124,27 @@ fn initialise(
         args,
     };
     run(alloc, program, state, call)
+}
+
+/// The message with which each session of a program begins, if there is one: the `init` of the first object.
+pub fn first_message(alloc: Global, program: &Checked) -> Result<Option<RanMessage>, WantOfMemory>
+    ensures { IfOk result (λ ran. option_map plain_ran ran ≡ first_ran (founding_of program.now)) }
+{
+    let class = program.root();
+    // The program itself tells that no two of its classes have one name.
+    let _program = program.program();
+    let init = Text::copy(alloc, "init")?;
+    let Some(method) = program.method(class, &init) else {
+        return Ok(None);
+    };
+    let args = init_args(alloc, method, program.persisted())?;
+    Ok(Some(RanMessage {
+        time: 0,
+        object: 1,
+        class,
+        method: init,
+        args,
+    }))
 }
 
 /// What the `init` of the first object starts with: nil, and where it has two parameters the persisted value too.

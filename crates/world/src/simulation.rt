@@ -150,20 +150,20 @@ fn tell_of(
 }
 
 /// The event of a view that comes.
-fn join_event(alloc: Global) -> Result<Text, WantOfMemory>
+pub fn join_event(alloc: Global) -> Result<Text, WantOfMemory>
     ensures { IfOk result (λ name. name ≡ view_join) }
 {
     Text::copy(alloc, "view-join")
 }
 
 /// The event of a view that goes.
-fn exit_event(alloc: Global) -> Result<Text, WantOfMemory>
+pub fn exit_event(alloc: Global) -> Result<Text, WantOfMemory>
     ensures { IfOk result (λ name. name ≡ view_exit) }
 {
     Text::copy(alloc, "view-exit")
 }
 
-fn is_here(views: &[u32], view: u32) -> bool
+pub fn is_here(views: &[u32], view: u32) -> bool
     ensures { result ≡ is_view_here view views.now }
 {
     for other in views {

@@ -1,16 +1,19 @@
 //! Worlds.
 ghost use Rattle.std.specs.Prelude.{◌≡◌, ◌<◌, [], map, nat_lt, nat_le, IfOk, OnOk, false};
 ghost use Rattle.std.specs.Arc.{arc_value};
+ghost use Rattle.std.specs.Option.{option_map};
 ghost use Rattle.world_plain.specs.Messages.{plain_outgoing};
 ghost use Rattle.world_plain.specs.Valid.{Valid};
 ghost use Rattle.tea_base.specs.Limits.{time_limit};
 ghost use Rattle.world_plain.specs.World.{world_record};
 ghost use Rattle.model_solved.specs.Founding.{checked_tree, founding_of};
 ghost use Rattle.world.specs.Worlds.{field_counts, first_scene as first_of, advance as advanced, external as entered_by, take_up};
-ghost use Rattle.world.specs.View.{MovesOn, Copies, IsSoundWorld};
+ghost use Rattle.world.specs.Turns.{first_ran, next_ran, after_turn, heard_of};
+ghost use Rattle.world.specs.View.{MovesOn, Copies, IsSoundWorld, done, plain_ran};
 
 use crate::fault::WorldFault;
-use crate::{opening, resuming, simulation};
+use crate::told::{HeardEvent, RanMessage};
+use crate::{opening, resuming, simulation, turns};
 use model_solved::Checked;
 use std::alloc::Global;
 use std::marker::Model;
@@ -155,6 +158,73 @@ impl World {
         }
     }
 
+    /// The message with which each session of a program begins, if there is one: the `init` that `first` starts. Fails for want of
+    /// memory alone.
+    pub fn first_message(
+        alloc: Global,
+        program: &Checked,
+    ) -> Result<Option<RanMessage>, WantOfMemory>
+        ensures { IfOk result (λ ran. option_map plain_ran ran ≡ first_ran (founding_of program.now)) }
+    {
+        opening::first_message(alloc, program)
+    }
+
+    /// Runs the message that is due first, if one is due up to a time, and tells which it was. The world's time becomes the
+    /// message's. Turns until none is due, and then an advance to that time, are the advance to it.
+    ///
+    /// # Errors
+    ///
+    /// `Broken` exactly where the world is broken, which changes nothing. Want of memory breaks the world. `Back` never comes: a
+    /// message is not due before the world's time.
+    pub fn turn(&mut self, until: u64) -> Result<Option<RanMessage>, WorldFault>
+        ensures moves { MovesOn (done result) self.old self.new false (after_turn (checked_tree self.old.program) until self.old.scene) }
+        ensures told { IfOk result (λ ran. option_map plain_ran ran ≡ next_ran until self.old.scene.world) }
+        ensures sound { IsSoundWorld self.new }
+    {
+        if self.broken {
+            return Err(WorldFault::Broken);
+        }
+        match turns::turn(self.alloc, &self.program, &mut self.state, until) {
+            Ok(ran) => Ok(ran),
+            Err(WantOfMemory) => {
+                self.broken = true;
+                self.state.published = List::new(self.alloc);
+                Err(WorldFault::WantOfMemory)
+            }
+        }
+    }
+
+    /// Handles an entry of the log as `external` does, and tells which event models heard of it, if they heard of any. Other than
+    /// there it may be of the world's own time, where turns came to that.
+    ///
+    /// # Errors
+    ///
+    /// `Broken` exactly where the world is broken, then `Back` exactly where the entry's time is below the world's; both
+    /// change nothing. Want of memory breaks the world.
+    pub fn enter(&mut self, entry: &Entry) -> Result<Option<HeardEvent>, WorldFault>
+        requires { entry.now.time < time_limit }
+        ensures moves { MovesOn (done result) self.old self.new (nat_lt entry.now.time self.old.scene.world.time) (entered_by (checked_tree self.old.program) entry.now self.old.scene) }
+        ensures arrives { OnOk result (self.new.scene.world.time ≡ entry.now.time) }
+        ensures told { IfOk result (λ heard. heard ≡ heard_of (advanced (checked_tree self.old.program) entry.now.time self.old.scene).world entry.now.view entry.now.what) }
+    {
+        if self.broken {
+            return Err(WorldFault::Broken);
+        }
+        if entry.time < self.state.time {
+            return Err(WorldFault::Back {
+                time: self.state.time,
+            });
+        }
+        match turns::enter(self.alloc, &self.program, &mut self.state, entry) {
+            Ok(heard) => Ok(heard),
+            Err(WantOfMemory) => {
+                self.broken = true;
+                self.state.published = List::new(self.alloc);
+                Err(WorldFault::WantOfMemory)
+            }
+        }
+    }
+
     /// The world as plain data.
     ///
     /// # Errors
@@ -185,6 +255,15 @@ impl World {
         ensures sound { IsSoundWorld self.now }
     {
         self.state.time
+    }
+
+    /// How often each kind of fault ended a message, and last how many events could not be read. A message that ends with a fault
+    /// raises one of these counts by 1, up to 2^64 - 1. Takes no memory.
+    pub fn faults(&self) -> [u64; 14]
+        ensures faults { result ≡ self.now.scene.world.faults }
+        ensures sound { IsSoundWorld self.now }
+    {
+        self.state.faults
     }
 
     /// Whether the world is broken. Takes no memory.

@@ -7,7 +7,7 @@ use std::alloc::Global;
 use tea_base::WantOfMemory;
 
 /// The kind of fault that has its count at a place.
-fn fault_word(place: usize) -> &'static str
+pub fn fault_word(place: usize) -> &'static str
     requires { place < 14 }
     ensures { result.now ≡ slice_index_or fault_words place [] }
 {

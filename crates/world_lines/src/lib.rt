@@ -17,4 +17,6 @@ mod lines;
 mod names;
 mod words;
 
+pub use faults::fault_word;
 pub use lines::world_lines;
+pub use words::{push_arguments, push_literal, push_method, push_number, push_word};

@@ -1,17 +1,27 @@
 //! The events that views send.
-ghost use Rattle.std.specs.Prelude.{◌≡◌, ◌+◌, ◌<◌, ◌≤◌, ◌||◌, nat_lt, true, length, IfOk, IsOk, OnErr};
+ghost use Rattle.std.specs.Prelude.{◌≡◌, ◌+◌, ◌<◌, ◌≤◌, ◌||◌, nat_lt, true, length, IfOk, OnErr};
 ghost use Rattle.tea_base.specs.Readings.{payload_bytes, view_event, is_here, last_number};
 ghost use Rattle.tea_base.specs.Limits.{most_payload, most_bytes, most_open_entries, end_of_time};
 ghost use Rattle.reflector_core.specs.SessionState.{UsesAtMost};
 ghost use Rattle.reflector_core.specs.declared.request.Reply.{Reply};
-ghost use Rattle.reflector_core.specs.Answer.{with_reply, MayWantMemory, reply_length, is_closed, repeats, stamps, send_event};
+ghost use Rattle.reflector_core.specs.Answer.{with_reply, reply_length, is_closed, repeats, stamps, send_event};
+ghost use Rattle.reflector_core.specs.Keeping.{FoundMemory, HasCause, KeepsPace};
 
+use crate::keeper::{CallFault, Keeper};
 use crate::request::{Refusal, Reply};
 use crate::session::Session;
-use crate::session::room::make_room;
-use crate::session::times::stamp;
-use resend_table::Kind;
-use tea_base::{END_OF_TIME, MOST_BYTES, MOST_PAYLOAD, WantOfMemory};
+use entry_fields::LentWhat;
+use tea_base::{END_OF_TIME, MOST_BYTES, MOST_PAYLOAD};
+
+/// What a Send asks.
+#[derive(Clone, Copy)]
+pub(super) struct Sent<'a> {
+    pub view: u32,
+    pub joined: u32,
+    pub number: u32,
+    pub payload: &'a [u8],
+    pub now: u64,
+}
 
 /// A length as a reply gives it.
 pub(super) fn cap_len(len: usize) -> u32
@@ -22,23 +32,29 @@ pub(super) fn cap_len(len: usize) -> u32
 
 impl Session {
     /// Answers a Send.
-    pub(super) fn send(
+    pub(super) fn send<K: Keeper>(
         &mut self,
-        view: u32,
-        joined: u32,
-        number: u32,
-        payload: &[u8],
-        now: u64,
-    ) -> Result<Reply, WantOfMemory>
+        keeper: &mut K,
+        sent: Sent<'_>,
+    ) -> Result<Reply, CallFault>
         ensures ok { IfOk result (λ reply. with_reply self.new.plain reply ≡
-            send_event self.old.plain view joined number payload.now now) }
-        ensures prepared { 0 < self.old.ready_entries → length payload.now ≤ self.old.ready_bytes →
-            IsOk result }
-        ensures used { UsesAtMost self.old self.new 1 (length payload.now) }
-        ensures memory { OnErr result
-            (MayWantMemory (send_event self.old.plain view joined number payload.now now).reply) }
+            send_event self.old.plain sent.entry.view sent.entry.joined sent.entry.number sent.entry.payload.now sent.entry.now) }
+        ensures prepared { 0 < self.old.ready_entries → length sent.entry.payload.now ≤ self.old.ready_bytes →
+            FoundMemory result }
+        ensures used { UsesAtMost self.old self.new 1 (length sent.entry.payload.now) }
         ensures err { OnErr result (self.new.plain ≡ self.old.plain) }
+        ensures cause { HasCause (send_event self.old.plain sent.entry.view sent.entry.joined sent.entry.number sent.entry.payload.now sent.entry.now).reply
+            (K.shut keeper.new) result }
+        ensures pace { KeepsPace K.holds K.shut K.faults keeper.old keeper.new
+            self.old.plain self.new.plain }
     {
+        let Sent {
+            view,
+            joined,
+            number,
+            payload,
+            now,
+        } = sent;
         if self.is_stale(view, joined) {
             return Ok(Reply::Refused(self.stale(view)));
         }
@@ -65,7 +81,7 @@ impl Session {
                 horizon: self.horizon,
             }));
         }
-        self.append_event(view, number, payload, now)
+        self.append_event(keeper, view, number, payload, now)
     }
 
     /// Whether nothing is added to the log but Exits, or it has no room for so many payload bytes.
@@ -100,13 +116,14 @@ impl Session {
     }
 
     /// Appends an event that nothing refuses.
-    fn append_event(
+    fn append_event<K: Keeper>(
         &mut self,
+        keeper: &mut K,
         view: u32,
         number: u32,
         payload: &[u8],
         now: u64,
-    ) -> Result<Reply, WantOfMemory>
+    ) -> Result<Reply, CallFault>
         requires here { is_here self.old.plain.log view ≡ true }
         requires next { number ≡ last_number self.old.plain.log view + 1 }
         requires short { length payload.now ≤ most_payload }
@@ -116,15 +133,18 @@ impl Session {
         ensures ok { IfOk result (λ reply. with_reply self.new.plain reply ≡
             stamps self.old.plain view number payload.now now) }
         ensures prepared { 0 < self.old.ready_entries → length payload.now ≤ self.old.ready_bytes →
-            IsOk result }
+            FoundMemory result }
         ensures used { UsesAtMost self.old self.new 1 (length payload.now) }
         ensures err { OnErr result (self.new.plain ≡ self.old.plain) }
+        ensures cause { HasCause (stamps self.old.plain view number payload.now now).reply (K.shut keeper.new) result }
+        ensures pace { KeepsPace K.holds K.shut K.faults keeper.old keeper.new
+            self.old.plain self.new.plain }
     {
-        make_room(&mut self.log, &mut self.resend, 1, payload.len() as u64)?;
-        let time = stamp(self.horizon, now);
-        let seq = self.log.push_event(time, view, number, payload);
-        self.resend.note(seq, view, Kind::Event);
-        self.horizon = time;
-        Ok(Reply::Stamped { seq, time })
+        // opens the session, whose invariant tells that it is sound
+        let _ = &self.horizon;
+        match self.append(keeper, view, LentWhat::Event { number, payload }, now) {
+            Err(fault) => Err(fault),
+            Ok((seq, time)) => Ok(Reply::Stamped { seq, time }),
+        }
     }
 }

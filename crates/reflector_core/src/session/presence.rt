@@ -1,16 +1,16 @@
 //! The coming and going of views.
-ghost use Rattle.std.specs.Prelude.{◌≡◌, ◌≢◌, ◌<◌, false, length, IfOk, IsOk, OnErr};
+ghost use Rattle.std.specs.Prelude.{◌≡◌, ◌≢◌, ◌<◌, false, length, IfOk, OnErr};
 ghost use Rattle.tea_base.specs.Readings.{current, here_count, is_here};
 ghost use Rattle.tea_base.specs.Limits.{most_here, most_open_entries, end_of_time};
 ghost use Rattle.reflector_core.specs.SessionState.{UsesAtMost};
-ghost use Rattle.reflector_core.specs.Answer.{with_reply, MayWantMemory, is_stale, is_closed, log_full, joins, join, leave};
+ghost use Rattle.reflector_core.specs.Answer.{with_reply, is_stale, is_closed, log_full, joins, join, leave};
+ghost use Rattle.reflector_core.specs.Keeping.{FoundMemory, HasCause, KeepsPace};
 
+use crate::keeper::{CallFault, Keeper};
 use crate::request::{Refusal, Reply};
 use crate::session::Session;
-use crate::session::room::make_room;
-use crate::session::times::stamp;
-use resend_table::Kind;
-use tea_base::{END_OF_TIME, MOST_HERE, MOST_OPEN_ENTRIES, WantOfMemory, What};
+use entry_fields::LentWhat;
+use tea_base::{END_OF_TIME, MOST_HERE, MOST_OPEN_ENTRIES};
 use wire_frames::Want;
 
 impl Session {
@@ -48,12 +48,20 @@ impl Session {
     }
 
     /// Answers a Join.
-    pub(super) fn join(&mut self, view: u32, now: u64, want: Want) -> Result<Reply, WantOfMemory>
+    pub(super) fn join<K: Keeper>(
+        &mut self,
+        keeper: &mut K,
+        view: u32,
+        now: u64,
+        want: Want,
+    ) -> Result<Reply, CallFault>
         ensures ok { IfOk result (λ reply. with_reply self.new.plain reply ≡
             join self.old.plain view now want) }
         ensures used { UsesAtMost self.old self.new 1 0 }
-        ensures memory { OnErr result (MayWantMemory (join self.old.plain view now want).reply) }
         ensures err { OnErr result (self.new.plain ≡ self.old.plain) }
+        ensures cause { HasCause (join self.old.plain view now want).reply (K.shut keeper.new) result }
+        ensures pace { KeepsPace K.holds K.shut K.faults keeper.old keeper.new
+            self.old.plain self.new.plain }
     {
         if view == 0 {
             return Ok(Reply::Refused(Refusal::BadView));
@@ -76,11 +84,17 @@ impl Session {
                 horizon: self.horizon,
             }));
         }
-        self.append_join(view, now, want)
+        self.append_join(keeper, view, now, want)
     }
 
     /// Appends a Join that nothing refuses.
-    fn append_join(&mut self, view: u32, now: u64, want: Want) -> Result<Reply, WantOfMemory>
+    fn append_join<K: Keeper>(
+        &mut self,
+        keeper: &mut K,
+        view: u32,
+        now: u64,
+        want: Want,
+    ) -> Result<Reply, CallFault>
         requires named { view ≢ 0 }
         requires room { is_here self.old.plain.log view ≡ false →
             here_count self.old.plain.log < most_here }
@@ -90,42 +104,53 @@ impl Session {
             joins self.old.plain view now want) }
         ensures used { UsesAtMost self.old self.new 1 0 }
         ensures err { OnErr result (self.new.plain ≡ self.old.plain) }
+        ensures cause { HasCause (joins self.old.plain view now want).reply (K.shut keeper.new) result }
+        ensures pace { KeepsPace K.holds K.shut K.faults keeper.old keeper.new
+            self.old.plain self.new.plain }
     {
+        // opens the session, whose invariant tells that it is sound
+        let _ = &self.horizon;
         let base = self.base_for(want)?;
         let from = self.from_for(want);
         let last = self.last_number(view);
-        make_room(&mut self.log, &mut self.resend, 1, 0)?;
-        let time = stamp(self.horizon, now);
-        let seq = self.log.push(time, view, &What::Join);
-        self.resend.note(seq, view, Kind::Join);
-        self.horizon = time;
-        Ok(Reply::Joined {
-            seq,
-            time,
-            last,
-            from,
-            base,
-        })
+        match self.append(keeper, view, LentWhat::Join, now) {
+            Err(fault) => Err(fault),
+            Ok((seq, time)) => Ok(Reply::Joined {
+                seq,
+                time,
+                last,
+                from,
+                base,
+            }),
+        }
     }
 
     /// Answers a Leave. A view that is here can always leave: its Exit has room in the log, and
     /// time.
-    pub(super) fn leave(&mut self, view: u32, joined: u32, now: u64) -> Result<Reply, WantOfMemory>
+    pub(super) fn leave<K: Keeper>(
+        &mut self,
+        keeper: &mut K,
+        view: u32,
+        joined: u32,
+        now: u64,
+    ) -> Result<Reply, CallFault>
         ensures ok { IfOk result (λ reply. with_reply self.new.plain reply ≡
             leave self.old.plain view joined now) }
-        ensures prepared { 0 < self.old.ready_entries → IsOk result }
+        ensures prepared { 0 < self.old.ready_entries → FoundMemory result }
         ensures used { UsesAtMost self.old self.new 1 0 }
-        ensures memory { OnErr result (MayWantMemory (leave self.old.plain view joined now).reply) }
         ensures err { OnErr result (self.new.plain ≡ self.old.plain) }
+        ensures cause { HasCause (leave self.old.plain view joined now).reply (K.shut keeper.new) result }
+        ensures pace { KeepsPace K.holds K.shut K.faults keeper.old keeper.new
+            self.old.plain self.new.plain }
     {
         if self.is_stale(view, joined) {
             return Ok(Reply::Refused(self.stale(view)));
         }
-        make_room(&mut self.log, &mut self.resend, 1, 0)?;
-        let time = stamp(self.horizon, now);
-        let seq = self.log.push(time, view, &What::Exit);
-        self.resend.note(seq, view, Kind::Exit);
-        self.horizon = time;
-        Ok(Reply::Left { seq, time })
+        // opens the session, whose invariant tells that it is sound
+        let _ = &self.horizon;
+        match self.append(keeper, view, LentWhat::Exit, now) {
+            Err(fault) => Err(fault),
+            Ok((seq, time)) => Ok(Reply::Left { seq, time }),
+        }
     }
 }

@@ -1,8 +1,12 @@
 //! The kept snapshot, and what a joining view gets of it.
-ghost use Rattle.std.specs.Prelude.{◌≡◌, IfOk, OnErr};
+ghost use Rattle.std.specs.Prelude.{◌≡◌, ◌≤◌, length, IfOk, OnErr};
+ghost use Rattle.tea_base.specs.Limits.{most_snapshot};
+ghost use Rattle.reflector_core.specs.declared.request.Reply.{Reply};
 ghost use Rattle.reflector_core.specs.SessionState.{UsesAtMost};
-ghost use Rattle.reflector_core.specs.Answer.{with_reply, MayWantMemory, is_ahead, from_for, base_for, offer};
+ghost use Rattle.reflector_core.specs.Answer.{with_reply, is_ahead, from_for, base_for, offer};
+ghost use Rattle.reflector_core.specs.Keeping.{HasCause, KeepsPace, with_snapshot};
 
+use crate::keeper::{CallFault, Keeper};
 use crate::request::{Refusal, Reply};
 use crate::session::Session;
 use crate::session::events::cap_len;
@@ -11,19 +15,22 @@ use wire_frames::{Base, Want};
 
 impl Session {
     /// Answers an Offer.
-    pub(super) fn offer(
+    pub(super) fn offer<K: Keeper>(
         &mut self,
+        keeper: &mut K,
         view: u32,
         joined: u32,
         time: u64,
         bytes: &Blob,
-    ) -> Result<Reply, WantOfMemory>
+    ) -> Result<Reply, CallFault>
         ensures ok { IfOk result (λ reply. with_reply self.new.plain reply ≡
             offer self.old.plain view joined time bytes.now) }
         ensures used { UsesAtMost self.old self.new 0 0 }
-        ensures memory { OnErr result
-            (MayWantMemory (offer self.old.plain view joined time bytes.now).reply) }
         ensures err { OnErr result (self.new.plain ≡ self.old.plain) }
+        ensures cause { HasCause (offer self.old.plain view joined time bytes.now).reply
+            (K.shut keeper.new) result }
+        ensures pace { KeepsPace K.holds K.shut K.faults keeper.old keeper.new
+            self.old.plain self.new.plain }
     {
         if self.is_stale(view, joined) {
             return Ok(Reply::Refused(self.stale(view)));
@@ -43,11 +50,39 @@ impl Session {
                 return Ok(Reply::Refused(Refusal::Older { kept: base.time }));
             }
         }
-        self.kept = Some(Base {
-            time,
-            bytes: bytes.clone()?,
-        });
-        Ok(Reply::Kept)
+        self.keep_offered(keeper, time, bytes)
+    }
+
+    /// Keeps a snapshot in place of the one before it, once the keeper has kept it.
+    fn keep_offered<K: Keeper>(
+        &mut self,
+        keeper: &mut K,
+        time: u64,
+        bytes: &Blob,
+    ) -> Result<Reply, CallFault>
+        requires past { time ≤ self.old.plain.horizon }
+        requires short { length bytes.now ≤ most_snapshot }
+        ensures ok { IfOk result (λ reply. with_reply self.new.plain reply ≡
+            with_reply (with_snapshot self.old.plain time bytes.now) Reply.Kept) }
+        ensures used { UsesAtMost self.old self.new 0 0 }
+        ensures err { OnErr result (self.new.plain ≡ self.old.plain) }
+        ensures cause { HasCause Reply.Kept (K.shut keeper.new) result }
+        ensures pace { KeepsPace K.holds K.shut K.faults keeper.old keeper.new
+            self.old.plain self.new.plain }
+    {
+        let Ok(copied) = bytes.clone() else {
+            return Err(CallFault::WantOfMemory);
+        };
+        match keeper.keep_snapshot(time, bytes.bytes()) {
+            Err(_) => Err(CallFault::Unkept),
+            Ok(()) => {
+                self.kept = Some(Base {
+                    time,
+                    bytes: copied,
+                });
+                Ok(Reply::Kept)
+            }
+        }
     }
 
     /// Whether a want asks for what comes after a time that has not come.

@@ -1,4 +1,4 @@
-use Rattle.std.proofs.Common.{inr, sym}
+use Rattle.std.proofs.Common.{inr}
 use Rattle.reflector_core.specs.PlainSession.{PlainSession}
 use Rattle.commands.specs.Verdict.{Coming, Only, stamp_verdict}
 use Rattle.commands.proofs.OpeningLaws.{opened_by_file, opened_freely}

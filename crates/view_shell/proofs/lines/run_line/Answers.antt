@@ -1,4 +1,4 @@
-use Rattle.std.proofs.Common.{◌≡◌, [], ◌∷◌, refl, ap, ◌∙◌}
+use Rattle.std.proofs.Common.{◌≡◌, ℕ, [], ◌∷◌, refl, sym, ap, ◌∙◌}
 use Rattle.run_steps.specs.Outside.{Acts, links_tell, output_tells, window, window_tells}
 use Rattle.model_value.specs.Payload.{payload_spelling}
 use Rattle.model_value.specs.View.{plain}
@@ -8,11 +8,12 @@ use Rattle.view_bridge.specs.Topics.{subscribes}
 use Rattle.view_script.specs.PlainLine.{plain_line}
 use Rattle.view_script.specs.declared.line.ViewLine.{ViewLine}
 use Rattle.view_shell.specs.declared.ending.ViewEnd.TheVariants as ending
-use Rattle.view_shell.specs.Phases.{Viewer, Over, Receives, Sending, ToReach, ToSettle, ToCatchUp, ToSnap, finish, after_giving, leave_session, after_publish, receive, run, send_all}
+use Rattle.view_shell.specs.Phases.{Viewer, Over, Receives, Sending, ToReach, ToSettle, ToCatchUp, ToSnap, time_after, finish, after_giving, leave_session, after_publish, receive, run, send_all}
+use Rattle.view_shell.specs.ViewText.{mark_line}
 use Rattle.view_shell.specs.Viewers.{viewer}
 use Rattle.view_shell.proofs.Flowing.{done_behind, done_printing, flow_from}
 use Rattle.view_shell.proofs.Going.{all_acts_behind, goes_from, goes_in_window, stops_from, stops_in_window, wants}
-use Rattle.view_shell.proofs.Readiness.{viewer_published, viewer_watched}
+use Rattle.view_shell.proofs.Readiness.{viewer_finished, viewer_published, viewer_watched}
 use Rattle.view_shell.proofs.lines.run_line.Goals as goal
 
 pub returns-in-Ok-clause-talk : goal.returns-in-Ok-clause-talk
@@ -59,6 +60,30 @@ returns-in-Wait-clause-talk g c address lines =
     let first = run (viewer address old (plain_line c.args.line.now ∷ lines)) (plain_line c.args.line.now ∷ lines) in
     flow_from (Acts (window_tells out links)) first (receive (viewer address old lines) (ToReach c.in-Wait.time)) (viewer address c.wait.new.watcher lines) lines (window c.args.out.now c.args.link.now) (window c.wait.new.out c.wait.new.link)
     c.wait.result c.flow_of-in-Wait.result c.flow_of-in-Wait.ensures (ap (λ (l : ViewLine). run (viewer address old (plain_line l ∷ lines)) (plain_line l ∷ lines)) c.in-Wait.is) (c.wait.ensures.talk address lines)
+
+pub returns-in-WaitFor-clause-talk : goal.returns-in-WaitFor-clause-talk
+returns-in-WaitFor-clause-talk g c address lines =
+    let out = output_tells g.W.Sink.written g.W.Sink.faults g.W.Sink.wants in
+    let links = links_tell g.L.Link.coming g.L.Link.heard g.L.Link.sent g.L.Link.counts in
+    let old = c.args.watcher.now in
+    let first = run (viewer address old (plain_line c.args.line.now ∷ lines)) (plain_line c.args.line.now ∷ lines) in
+    flow_from (Acts (window_tells out links)) first (receive (viewer address old lines) (ToReach c.time_after-time.result)) (viewer address c.wait-in-WaitFor.new.watcher lines) lines (window c.args.out.now c.args.link.now) (window c.wait-in-WaitFor.new.out c.wait-in-WaitFor.new.link)
+    c.wait-in-WaitFor.result c.flow_of-in-WaitFor.result c.flow_of-in-WaitFor.ensures
+    (ap (λ (l : ViewLine). run (viewer address old (plain_line l ∷ lines)) (plain_line l ∷ lines)) c.in-WaitFor.is ∙ ap (λ (t : ℕ). receive (viewer address old lines) (ToReach t)) (sym c.time_after-time.ensures))
+    (c.wait-in-WaitFor.ensures.talk address lines)
+
+pub returns-in-Mark-clause-talk : goal.returns-in-Mark-clause-talk
+returns-in-Mark-clause-talk g c address lines =
+    let out = output_tells g.W.Sink.written g.W.Sink.faults g.W.Sink.wants in
+    let links = links_tell g.L.Link.coming g.L.Link.heard g.L.Link.sent g.L.Link.counts in
+    let old = c.args.watcher.now in
+    let first = run (viewer address old (plain_line c.args.line.now ∷ lines)) (plain_line c.args.line.now ∷ lines) in
+    let v = viewer address old lines in
+    let u = viewer address c.mark.new.watcher lines in
+    flow_from (Acts (window_tells out links)) first (finish v (mark_line c.in-Mark.word)) u lines (window c.args.out.now c.args.link.now) (window c.mark.new.out c.args.link.now)
+    c.mark.result c.flow_of-in-Mark.result c.flow_of-in-Mark.ensures (ap (λ (l : ViewLine). run (viewer address old (plain_line l ∷ lines)) (plain_line l ∷ lines)) c.in-Mark.is)
+    (done_printing out links c.args.link.now c.args.out.now c.mark.new.out v u (mark_line c.in-Mark.word) c.mark.result
+    (viewer_finished address lines old c.mark.new.watcher c.mark.result c.mark.ensures.kept c.mark.ensures.ok) (c.mark.ensures.printed address lines) (c.mark.ensures.err address lines))
 
 pub returns-in-Ok-send_unsent-clause-talk : goal.returns-in-Ok-send_unsent-clause-talk
 returns-in-Ok-send_unsent-clause-talk g c address lines =

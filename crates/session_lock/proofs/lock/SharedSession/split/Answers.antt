@@ -15,17 +15,17 @@ returns-clause-numbers g c = given_count c.cut-seat.result.table_id c.pass.insid
 
 pub returns-clause-numbers_left : goal.returns-clause-numbers_left
 returns-clause-numbers_left g c =
-    (left_count c.pass.inside.seat.table_id c.cut-seat.new.seat.table_id c.pass.inside.seat.me.0 c.cut-seat.new.seat.me.0 c.args.pass.now c.args.spare c.pass.view_is (ap (λ (m : M). m.0) c.cut-seat.ensures.kept)
+    (left_count c.pass.inside.seat.table_id c.cut-seat.new.seat.table_id c.pass.inside.seat.me.0 c.cut-seat.new.seat.me.0 c.args.pass.now c.args.spare c.pass.view_is (ap (λ (m : M _). m.0) c.cut-seat.ensures.kept)
     (omega (arith, c.requires.enough, ap (λ (p : PassState). count_of p.spare) c.pass.view_is))).0
 
 pub returns-clause-spare_left : goal.returns-clause-spare_left
 returns-clause-spare_left g c =
-    (left_count c.pass.inside.seat.table_id c.cut-seat.new.seat.table_id c.pass.inside.seat.me.0 c.cut-seat.new.seat.me.0 c.args.pass.now c.args.spare c.pass.view_is (ap (λ (m : M). m.0) c.cut-seat.ensures.kept)
+    (left_count c.pass.inside.seat.table_id c.cut-seat.new.seat.table_id c.pass.inside.seat.me.0 c.cut-seat.new.seat.me.0 c.args.pass.now c.args.spare c.pass.view_is (ap (λ (m : M _). m.0) c.cut-seat.ensures.kept)
     (omega (arith, c.requires.enough, ap (λ (p : PassState). count_of p.spare) c.pass.view_is))).1
 
 pub returns-clause-apart : goal.returns-clause-apart
 returns-clause-apart g c =
-    given_apart c.cut-seat.new.seat.table_id c.cut-seat.result.table_id c.pass.inside.seat.me.0 c.cut-seat.new.seat.me.0 c.cut-seat.result.me.0 (c.args.spare + 1) (ap (λ (m : M). m.0) c.cut-seat.ensures.kept) (ap (λ (m : M). m.0) c.cut-seat.ensures.given)
+    given_apart c.cut-seat.new.seat.table_id c.cut-seat.result.table_id c.pass.inside.seat.me.0 c.cut-seat.new.seat.me.0 c.cut-seat.result.me.0 (c.args.spare + 1) (ap (λ (m : M _). m.0) c.cut-seat.ensures.kept) (ap (λ (m : M _). m.0) c.cut-seat.ensures.given)
     (omega arith) (omega (arith, c.requires.enough, ap (λ (p : PassState). count_of p.spare) c.pass.view_is)) c.cut-seat.ensures.once
 
 pub returns-clause-unused : goal.returns-clause-unused

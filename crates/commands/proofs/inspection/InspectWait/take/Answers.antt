@@ -1,0 +1,12 @@
+use Rattle.std.proofs.Common.{subst, List, ℕ}
+use Rattle.model_solved.specs.Founding.{founding_of}
+use Rattle.command_inspect.specs.Queries.{queries_of}
+use Rattle.commands.specs.Verdict.{Free, OfQueries}
+use Rattle.commands.proofs.inspection.InspectWait.take.Goals as goal
+
+pub returns-in-Queries-clause-leads : goal.returns-in-Queries-clause-leads
+returns-in-Queries-clause-leads c verdict comes =
+    let line = c.in-Queries.wait.line in
+    rw c.in-Queries.is
+    (subst (λ (bytes : List ℕ). Free (OfQueries (founding_of line.program) line.id line.entries (queries_of bytes)) verdict) c.bytes-in-Queries-2.ensures
+    (c.take_queries.ensures.leads verdict comes))

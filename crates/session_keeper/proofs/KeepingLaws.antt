@@ -1,0 +1,91 @@
+-- The journal's session goes on as the session does.
+use Rattle.std.proofs.Common.{◌≡◌, ◌⊎◌, inl, inr, ℕ, ◌+◌, ◌^◌, ◌≤◌, ◌<◌, max, min, nat_le, nat_lt, Bool, true, false, cond, ◌&&◌, List, [], ◌∷◌, ◌++◌, length, Option, Some, None, refl, sym, ap, ◌∙◌, subst, arith}
+use Rattle.std.proofs.lemmas.Bool.Decides.{nat_tests}
+use Rattle.std.proofs.lemmas.List.Sums.{length-filter, count_by-le-length}
+use Rattle.tea_base.specs.declared.entry.Entry.{Entry}
+use Rattle.tea_base.specs.declared.entry.What.{What}
+use Rattle.tea_base.specs.declared.entry.What.TheVariants as what
+use Rattle.tea_base.specs.Legal.{MayFollow}
+use Rattle.tea_base.specs.Limits.{time_limit, end_of_time, most_payload, most_snapshot}
+use Rattle.tea_base.specs.Readings.{here_count, payload_len, is_event_of}
+use Rattle.entry_fields.specs.Spelling.{FitsWhat, IsTypedWhat}
+use Rattle.session_log.specs.LogState.{next_entry, with_next}
+use Rattle.session_log.specs.Legality.{may_follow}
+use Rattle.session_log.specs.Stored.{PlainStored, plain_of}
+use Rattle.session_log.proofs.LegalityLaws.{may_follow-Decides}
+use Rattle.session_journal.specs.declared.change.Change.TheVariants.{Came, Reached, Kept}
+use Rattle.session_journal.specs.declared.keeper.Journal.{Journal}
+use Rattle.session_journal.specs.Changes.{IsTypedChange}
+use Rattle.session_journal.specs.State.{after_change, has_room, may_add, may_come}
+use Rattle.session_journal.specs.Keeper.{IsKeptBy, lease, reached_to}
+use Rattle.reflector_core.specs.PlainSession.{PlainSession, IsSoundSession}
+use Rattle.reflector_core.specs.Stored.{session_of}
+use Rattle.reflector_core.specs.Keeping.{with_entry, with_snapshot}
+
+tested_lt : (a b : ℕ) → a < b → nat_lt a b ≡ true
+tested_lt a b lt = grind (arith, nat_tests)
+
+tested_le : (a b : ℕ) → a ≤ b → nat_le a b ≡ true
+tested_le a b le = grind (arith, nat_tests)
+
+both_true : (a b : Bool) → a ≡ true → b ≡ true → (a && b) ≡ true
+both_true true b first second = second
+both_true false b first second = absurd cc
+
+-- ---- what a change is made of has its type
+
+pub typed_what : (s : PlainSession) (time view : ℕ) (recorded : What) → IsSoundSession s → MayFollow s.log (next_entry s.log time view recorded) → payload_len recorded ≤ most_payload → FitsWhat recorded × IsTypedWhat recorded
+typed_what s time view what.Join sound follows short = (tt, tt)
+typed_what s time view what.Exit sound follows short = (tt, tt)
+typed_what s time view (what.Event number payload) sound follows short =
+    let sent = length-filter (is_event_of view) s.log in
+    let most = count_by-le-length (is_event_of view) s.log in
+    let next = follows.allowed.1 in
+    (omega (arith, short), omega (arith, sent, most, next, sound.room))
+
+-- ---- what may come
+
+pub entry_may_come : (state : PlainStored) (s : PlainSession) (time view : ℕ) (recorded : What) → session_of state ≡ s → MayFollow s.log (next_entry s.log time view recorded) → IsSoundSession (with_entry s time view recorded)
+    → may_come state (Came time view recorded) ≡ true
+entry_may_come state s time view recorded same follows sound =
+    let log_is : s.log ≡ state.log = sym (ap (λ (t : PlainSession). t.log) same) in
+    let follows_here : MayFollow state.log (next_entry state.log time view recorded) = subst (λ (log : List Entry). MayFollow log (next_entry log time view recorded)) log_is follows in
+    let bounded : max state.horizon time + here_count (with_next state.log time view recorded) < time_limit =
+    subst (λ (t : PlainSession). max t.horizon time + here_count (with_next t.log time view recorded) < time_limit) (sym same) sound.bounded in
+    both_true (may_follow state.log (next_entry state.log time view recorded)) (has_room (after_change state (Came time view recorded)))
+    ((may_follow-Decides state.log (next_entry state.log time view recorded) refl follows_here.view_bound).1 follows_here)
+    (tested_lt (max state.horizon time + here_count (with_next state.log time view recorded)) time_limit bounded)
+
+pub lease_has_room : (state : PlainStored) (s : PlainSession) (time : ℕ) → session_of state ≡ s → IsSoundSession s → time + here_count s.log < time_limit → has_room (plain_of state.log (lease time) state.kept) ≡ true
+lease_has_room state s time same sound room =
+    let counts : here_count state.log ≡ here_count s.log = ap (λ (t : PlainSession). here_count t.log) same in
+    tested_lt (lease time + here_count state.log) time_limit (omega (arith, counts, room, sound.here))
+
+pub snapshot_may_come : (state : PlainStored) (s : PlainSession) (time : ℕ) (bytes : List ℕ) → session_of state ≡ s → IsSoundSession s → time ≤ s.horizon → length bytes ≤ most_snapshot → may_come state (Kept time bytes) ≡ true
+snapshot_may_come state s time bytes same sound past short =
+    let horizon_is : state.horizon ≡ s.horizon = ap (λ (t : PlainSession). t.horizon) same in
+    let counts : here_count state.log ≡ here_count s.log = ap (λ (t : PlainSession). here_count t.log) same in
+    both_true (nat_le time state.horizon && nat_le (length bytes) most_snapshot) (has_room (after_change state (Kept time bytes)))
+    (both_true (nat_le time state.horizon) (nat_le (length bytes) most_snapshot) (tested_le time state.horizon (omega (arith, horizon_is, past))) (tested_le (length bytes) most_snapshot short))
+    (tested_lt (state.horizon + here_count state.log) time_limit (omega (arith, horizon_is, counts, sound.bounded)))
+
+-- ---- how far a journal is written ahead
+
+reached_if : (b : Bool) (state : PlainStored) (time : ℕ) → nat_le time state.horizon ≡ b → (max state.horizon time ≤ (cond b state (plain_of state.log (lease time) state.kept)).horizon)
+    × ((cond b state (plain_of state.log (lease time) state.kept)).horizon ≤ max (max state.horizon time) end_of_time)
+reached_if true state time is = (let le : time ≤ state.horizon = grind (arith, nat_tests) in omega (arith, le), omega arith)
+reached_if false state time is = (let lt : state.horizon < time = grind (arith, nat_tests) in omega (arith, lt), omega arith)
+
+pub reached_far : (state : PlainStored) (s : PlainSession) (time : ℕ) → session_of state ≡ s → (max s.horizon time ≤ (reached_to time state).horizon) × ((reached_to time state).horizon ≤ max (max s.horizon time) end_of_time)
+reached_far state s time same =
+    subst (λ (t : PlainSession). (max t.horizon time ≤ (reached_to time state).horizon) × ((reached_to time state).horizon ≤ max (max t.horizon time) end_of_time)) same
+    (reached_if (nat_le time state.horizon) state time refl)
+
+reached_if_session : (b : Bool) (state : PlainStored) (time : ℕ)
+    → session_of (cond b state (plain_of state.log (lease time) state.kept)) ≡ record (session_of state) { horizon = (cond b state (plain_of state.log (lease time) state.kept)).horizon }
+reached_if_session true state time = refl
+reached_if_session false state time = refl
+
+pub reached_session : (state : PlainStored) (s : PlainSession) (time : ℕ) → session_of state ≡ s → session_of (reached_to time state) ≡ record { log = s.log; horizon = (reached_to time state).horizon; kept = s.kept }
+reached_session state s time same =
+    reached_if_session (nat_le time state.horizon) state time ∙ ap (λ (t : PlainSession). record t { horizon = (reached_to time state).horizon }) same

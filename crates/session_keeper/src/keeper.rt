@@ -1,0 +1,69 @@
+//! A journal that keeps a session.
+use entry_fields::LentWhat;
+use reflector_core::{Keeper, Unkept};
+use session_journal::{Journal, KeepFault, LentChange};
+use store_io::Store;
+use tea_base::SessionId;
+
+/// A session's journal, as its keeper.
+#[derive(Drop)]
+pub struct JournalKeeper<S> {
+    /// Of the session.
+    pub id: SessionId,
+    pub journal: Journal<S>,
+    /// An entry or a horizon had no room in the journal. Nothing more is written then.
+    pub full: bool,
+}
+
+impl<S: Store + Drop> Keeper for JournalKeeper<S> {
+    ghost use Rattle.session_keeper.specs.Keeping.{IsJournalOf, IsShut, fault_count};
+
+    ghost holds = { IsJournalOf S.bytes S.safe };
+
+    ghost shut = { IsShut };
+
+    ghost faults = { fault_count S.faults };
+
+    fn keep_entry(&mut self, time: u64, view: u32, what: LentWhat<'_>) -> Result<(), Unkept> {
+        if self.full {
+            return Err(Unkept);
+        }
+        match self.journal.keep(LentChange::Came { time, view, what }) {
+            Ok(()) => Ok(()),
+            Err(KeepFault::Full) => {
+                self.full = true;
+                Err(Unkept)
+            }
+            Err(KeepFault::Unkept) => Err(Unkept),
+        }
+    }
+
+    fn keep_tick(&mut self, time: u64) -> Result<(), Unkept> {
+        if self.full {
+            return Err(Unkept);
+        }
+        match self.journal.reach(time) {
+            Ok(()) => Ok(()),
+            Err(KeepFault::Full) => {
+                self.full = true;
+                Err(Unkept)
+            }
+            Err(KeepFault::Unkept) => Err(Unkept),
+        }
+    }
+
+    fn keep_snapshot(&mut self, time: u64, bytes: &[u8]) -> Result<(), Unkept> {
+        if self.full || self.journal.shut {
+            return Err(Unkept);
+        }
+        if !self.journal.is_due(bytes.len() as u64) {
+            return Ok(());
+        }
+        match self.journal.keep(LentChange::Kept { time, bytes }) {
+            Ok(()) => Ok(()),
+            // a snapshot for which there is no room is left out
+            Err(KeepFault::Full) => Ok(()),
+            Err(KeepFault::Unkept) => Err(Unkept),
+        }
+    }
+}
