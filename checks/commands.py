@@ -309,7 +309,7 @@ PARTS = {
     "saved": lambda: each("saved", "saved", check_saved),
     "jsons": lambda: each("data", "jsons", check_json),
     "inspects": lambda: each("inspects", "inspects", check_inspect),
-    "traces": lambda: reference_cases("traces", "traces"),
+    "traces": lambda: each("traces", "traces", check_trace),
     "spoiled": spoiled_cases,
     "commands": command_cases,
 }

@@ -15,6 +15,7 @@ from stand_in_links import Failed, LinkEnd
 COMMANDS = {"stamp": (1, {"--from", "--log"}, set()), "check": (1, set(), set()),
             "replay": (4, {"--persisted", "--from", "--snapshot", "--saved"}, set()),
             "inspect": (5, {"--persisted"}, set()),
+            "trace": (5, {"--persisted"}, set()),
             "join": (5, {"--persisted"}, set()),
             "reflect": (3, {"--persisted", "--from", "--connections", "--journal", "--log"}, {"--connections"}),
             "drill": (3, {"--log", "--snapshots"}, {"--log", "--snapshots"})}
@@ -214,6 +215,13 @@ def inspect(plain, options):
     recorded = read_recorded(plain, options)
     croquet.check_every(recorded.entries, every)
     for line in croquet.inspected(recorded, every, read_file(plain[4], "queries")):
+        say(line)
+
+
+def trace(plain, options):
+    check_name(plain[1])
+    begin, end = (number(word, 0, croquet.TIME_LIMIT) for word in plain[3:])
+    for line in croquet.traced(read_recorded(plain, options), begin, end):
         say(line)
 
 

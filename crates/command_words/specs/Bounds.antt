@@ -4,11 +4,12 @@ use Rattle.tea_base.specs.Limits.{time_limit}
 use Rattle.run_steps.specs.Limits.{most_connections, most_drill_events, most_drill_views}
 use Rattle.command_words.specs.declared.words.ReplayRequest.{ReplayRequest}
 use Rattle.command_words.specs.declared.words.InspectRequest.{InspectRequest}
+use Rattle.command_words.specs.declared.words.TraceRequest.{TraceRequest}
 use Rattle.command_words.specs.declared.words.JoinRequest.{JoinRequest}
 use Rattle.command_words.specs.declared.words.ReflectRequest.{ReflectRequest}
 use Rattle.command_words.specs.declared.words.DrillRequest.{DrillRequest}
 use Rattle.command_words.specs.declared.words.Command.{Command}
-use Rattle.command_words.specs.declared.words.Command.TheVariants.{Stamp, Check, Replay, Inspect, Join, Reflect, Drill}
+use Rattle.command_words.specs.declared.words.Command.TheVariants.{Stamp, Check, Replay, Inspect, Trace, Join, Reflect, Drill}
 use Rattle.command_words.specs.CommandWords.{most_name}
 
 -- the words ask for a command that uses a net: join or reflect
@@ -24,6 +25,10 @@ IsBounded request = (length (encode_utf8_all request.name) ≤ most_name) × (re
 -- an inspect has a name of at most so many bytes too, and keeps a world after one entry or more
 abbrev pub IsBoundedInspect : InspectRequest → Type 0
 IsBoundedInspect request = (length (encode_utf8_all request.name) ≤ most_name) × (1 ≤ request.every)
+
+-- a trace has a name of at most so many bytes too, and its stretch ends below the limit of times
+abbrev pub IsBoundedTrace : TraceRequest → Type 0
+IsBoundedTrace request = (length (encode_utf8_all request.name) ≤ most_name) × (request.to < time_limit)
 
 -- a join has a name of at most so many bytes too, and a view from 1
 abbrev pub IsBoundedJoin : JoinRequest → Type 0
@@ -50,6 +55,7 @@ IsWithinBounds (Stamp script from log) = ⊤
 IsWithinBounds (Check program) = ⊤
 IsWithinBounds (Replay request) = IsBounded request
 IsWithinBounds (Inspect request) = IsBoundedInspect request
+IsWithinBounds (Trace request) = IsBoundedTrace request
 IsWithinBounds (Join request) = IsBoundedJoin request
 IsWithinBounds (Reflect request) = IsBoundedReflect request
 IsWithinBounds (Drill request) = IsBoundedDrill request

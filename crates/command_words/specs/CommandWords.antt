@@ -5,11 +5,12 @@ use Rattle.run_steps.specs.Limits.{most_connections, most_drill_events, most_dri
 use Rattle.text_lines.specs.Lines.{LineWord, number_of_word, time_of_word}
 use Rattle.command_words.specs.declared.words.ReplayRequest.{ReplayRequest}
 use Rattle.command_words.specs.declared.words.InspectRequest.{InspectRequest}
+use Rattle.command_words.specs.declared.words.TraceRequest.{TraceRequest}
 use Rattle.command_words.specs.declared.words.JoinRequest.{JoinRequest}
 use Rattle.command_words.specs.declared.words.ReflectRequest.{ReflectRequest}
 use Rattle.command_words.specs.declared.words.DrillRequest.{DrillRequest}
 use Rattle.command_words.specs.declared.words.Command.{Command}
-use Rattle.command_words.specs.declared.words.Command.TheVariants.{Stamp, Check, Replay, Inspect, Join, Reflect, Drill}
+use Rattle.command_words.specs.declared.words.Command.TheVariants.{Stamp, Check, Replay, Inspect, Trace, Join, Reflect, Drill}
 use Rattle.command_words.specs.Parts.{Parts, all_parts, are_all_taken, behind_first, without_option, first_positional, value_of}
 
 -- ---- what one word may be
@@ -100,6 +101,18 @@ inspect_row = (
 )
 
 -- `[--persisted JSON]`
+abbrev pub trace_options : TraceRequest → Reading
+trace_options request = free (codes "--persisted") (λ persisted. asks (Trace (record request { persisted = persisted })))
+
+-- `trace PROGRAM NAME LOG FROM TO`, and its option
+abbrev pub trace_row : Row
+trace_row = (
+  codes "trace",
+  positional a_word (λ program. positional a_name (λ name. positional a_word (λ log. positional a_time (λ from. positional a_time (λ to.
+      trace_options (record { program = program; name = name; log = log; from = from; to = to; persisted = None })))))),
+)
+
+-- `[--persisted JSON]`
 abbrev pub join_options : JoinRequest → Reading
 join_options request = free (codes "--persisted") (λ persisted. asks (Join (record request { persisted = persisted })))
 
@@ -136,7 +149,7 @@ drill_row = (
 )
 
 abbrev pub rows : List Row
-rows = stamp_row ∷ check_row ∷ replay_row ∷ inspect_row ∷ join_row ∷ reflect_row ∷ drill_row ∷ []
+rows = stamp_row ∷ check_row ∷ replay_row ∷ inspect_row ∷ trace_row ∷ join_row ∷ reflect_row ∷ drill_row ∷ []
 
 -- what the row of this name makes of the parts
 abbrev pub read_by : List Row → LineWord → Reading

@@ -8,5 +8,6 @@ mod words;
 
 pub use address::is_address;
 pub use words::{
-    Command, DrillRequest, InspectRequest, JoinRequest, ReflectRequest, ReplayRequest, read_command,
+    Command, DrillRequest, InspectRequest, JoinRequest, ReflectRequest, ReplayRequest,
+    TraceRequest, read_command,
 };

@@ -3,8 +3,8 @@ ghost use Rattle.std.specs.Prelude.{◌≡◌, ◌≤◌, ◌<◌, IfOk, IfSome,
 ghost use Rattle.std.specs.Option.{option_and_then};
 ghost use Rattle.tea_base.specs.Limits.{time_limit};
 ghost use Rattle.command_words.specs.Parts.{behind_first, first_positional};
-ghost use Rattle.command_words.specs.CommandWords.{a_name, a_number, a_time, asks, check_row, command_of, drill_row, inspect_options, inspect_row, join_row, join_options, most_name, read_by, reflect_options, reflect_row, replay_options, replay_puts, replay_row, rows, stamp_row, reflect_ends};
-ghost use Rattle.command_words.specs.Bounds.{IsBounded, IsBoundedInspect, IsBoundedJoin, IsBoundedReflect, IsWithinBounds};
+ghost use Rattle.command_words.specs.CommandWords.{a_name, a_number, a_time, asks, check_row, command_of, drill_row, inspect_options, inspect_row, join_row, join_options, most_name, read_by, reflect_options, reflect_row, replay_options, replay_puts, replay_row, rows, stamp_row, reflect_ends, trace_options, trace_row};
+ghost use Rattle.command_words.specs.Bounds.{IsBounded, IsBoundedInspect, IsBoundedJoin, IsBoundedReflect, IsBoundedTrace, IsWithinBounds};
 
 use crate::parts::{Parts, is_word, read_parts};
 use run_steps::{MOST_CONNECTIONS, MOST_DRILL_EVENTS, MOST_DRILL_VIEWS};
@@ -35,6 +35,8 @@ pub enum Command {
     Replay(ReplayRequest),
     /// `inspect PROGRAM NAME LOG EVERY QUERIES [--persisted JSON]`
     Inspect(InspectRequest),
+    /// `trace PROGRAM NAME LOG FROM TO [--persisted JSON]`
+    Trace(TraceRequest),
     /// `join PROGRAM NAME ADDRESS VIEW SCRIPT [--persisted JSON]`
     Join(JoinRequest),
     /// `reflect PROGRAM NAME ADDRESS [--persisted JSON] [--from LOG] --connections N --log FILE`
@@ -73,6 +75,21 @@ pub struct InspectRequest {
     pub every: u32,
     /// The file of the queries.
     pub queries: Text,
+    /// The JSON of the persisted value.
+    pub persisted: Option<Text>,
+}
+
+/// What is asked about what ran in a stretch of time of a recorded session.
+#[derive(Drop)]
+pub struct TraceRequest {
+    pub program: Text,
+    /// The name of the session, of at most 255 bytes.
+    pub name: Text,
+    pub log: Text,
+    /// Where the stretch begins, in microseconds of TeaTime, below 2^53.
+    pub from: u64,
+    /// Where it ends.
+    pub to: u64,
     /// The JSON of the persisted value.
     pub persisted: Option<Text>,
 }
@@ -288,6 +305,37 @@ fn inspect(mut parts: Parts) -> Option<Command>
     inspect_options(parts, request)
 }
 
+/// The option of `trace`: `[--persisted JSON]`
+fn trace_options(mut parts: Parts, mut request: TraceRequest) -> Option<Command>
+    requires { IsBoundedTrace request }
+    ensures read { result ≡ trace_options request parts }
+    ensures bounds { IfSome result IsWithinBounds }
+{
+    request.persisted = parts.option("--persisted");
+    ask(Command::Trace(request), &parts)
+}
+
+/// `trace PROGRAM NAME LOG FROM TO`, and its option
+fn trace(mut parts: Parts) -> Option<Command>
+    ensures read { result ≡ trace_row.1 parts }
+    ensures bounds { IfSome result IsWithinBounds }
+{
+    let program = parts.positional()?;
+    let name = next_name(&mut parts)?;
+    let log = parts.positional()?;
+    let from = next_time(&mut parts)?;
+    let to = next_time(&mut parts)?;
+    let request = TraceRequest {
+        program,
+        name,
+        log,
+        from,
+        to,
+        persisted: None,
+    };
+    trace_options(parts, request)
+}
+
 /// The option of `join`: `[--persisted JSON]`
 fn join_options(mut parts: Parts, mut request: JoinRequest) -> Option<Command>
     requires { IsBoundedJoin request }
@@ -394,6 +442,8 @@ fn command_named(name: &Text, parts: Parts) -> Option<Command>
         replay(parts)
     } else if is_word(name, "inspect") {
         inspect(parts)
+    } else if is_word(name, "trace") {
+        trace(parts)
     } else if is_word(name, "join") {
         join(parts)
     } else if is_word(name, "reflect") {

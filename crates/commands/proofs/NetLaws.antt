@@ -17,8 +17,9 @@ use Rattle.command_outcome.specs.declared.outcome.CommandRefusal.{CommandRefusal
 use Rattle.command_outcome.specs.declared.outcome.CommandRefusal.TheVariants as refusal
 use Rattle.command_words.specs.declared.words.ReplayRequest.{ReplayRequest}
 use Rattle.command_words.specs.declared.words.InspectRequest.{InspectRequest}
+use Rattle.command_words.specs.declared.words.TraceRequest.{TraceRequest}
 use Rattle.command_words.specs.declared.words.Command.{Command}
-use Rattle.command_words.specs.declared.words.Command.TheVariants.{Stamp, Check, Replay, Inspect, Join, Reflect, Drill}
+use Rattle.command_words.specs.declared.words.Command.TheVariants.{Stamp, Check, Replay, Inspect, Trace, Join, Reflect, Drill}
 use Rattle.command_words.specs.Bounds.{UsesNet}
 use Rattle.command_stamp.specs.Script.{script_of}
 use Rattle.command_inspect.specs.declared.query.Query.{Query}
@@ -27,7 +28,7 @@ use Rattle.model_tree.specs.Bounds.{most_program_bytes}
 use Rattle.persist_json.specs.JsonOf.{most_json}
 use Rattle.tea_base.specs.Limits.{most_snapshot}
 use Rattle.commands.specs.Work.{RunsOn}
-use Rattle.commands.specs.Verdict.{ByDrill, ByNetFault, ByRefusal, ByReflecting, ByVisit, ByWant, Closing, Coming, Comes, Fine, Free, Only, OfFile, OfFounded, OfGiven, OfInspect, OfInspectedLog, OfJson, OfKeyframes, OfPersisted, OfProgram, OfQueries, OfRecorded, OfRight, OfScript, OfSnapshot, OfTimeLine, OfTree, OfWords, Starts, Verdict, ask_file, at_once, count_verdict, fine, founded, inspect_verdict, keeps_few, stamp_verdict, most_queries, most_script, most_log, OfOpening, OfStored, session_id_of}
+use Rattle.commands.specs.Verdict.{ByDrill, ByNetFault, ByRefusal, ByReflecting, ByVisit, ByWant, Closing, Coming, Comes, Fine, Free, Only, OfFile, OfFounded, OfGiven, OfInspect, OfInspectedLog, OfJson, OfKeyframes, OfPersisted, OfProgram, OfQueries, OfRecorded, OfRight, OfScript, OfSnapshot, OfTimeLine, OfTrace, OfTraced, OfTracedLog, OfTree, OfWords, Starts, Verdict, ask_file, at_once, count_verdict, fine, founded, inspect_verdict, keeps_few, stamp_verdict, trace_verdict, most_queries, most_script, most_log, OfOpening, OfStored, session_id_of}
 
 -- the run goes on
 abbrev pub IsGoingOn : Closing → Type 0
@@ -138,6 +139,15 @@ inspect_never request text tree =
     file_never input.Log (ask_file request.log most_log) (OfStored (λ stored. OfInspectedLog request text tree stored.log))
     (λ bytes. stored_never (λ stored. OfInspectedLog request text tree stored.log) bytes (λ stored. inspected_log_never request text tree stored.log))
 
+traced_log_never : (request : TraceRequest) (text : List ℕ) (tree : ProgramTree) (log : List Entry) → NeverGoesOn (OfTracedLog request text tree log)
+traced_log_never request text tree log =
+    persisted_never request.persisted (λ v. OfTraced request text log (founded tree v)) (λ v. fine_never (trace_verdict (founded tree v) (session_id_of request.name text v) log request.from request.to).steps)
+
+trace_never : (request : TraceRequest) (text : List ℕ) (tree : ProgramTree) → NeverGoesOn (OfTrace request text tree)
+trace_never request text tree =
+    file_never input.Log (ask_file request.log most_log) (OfStored (λ stored. OfTracedLog request text tree stored.log))
+    (λ bytes. stored_never (λ stored. OfTracedLog request text tree stored.log) bytes (λ stored. traced_log_never request text tree stored.log))
+
 words_never : (command : Option Command) → ¬ RunsOn command → NeverGoesOn (OfWords command)
 words_never None other = refused_never refusal.Usage
 words_never (Some (Stamp script from log)) other =
@@ -151,6 +161,9 @@ words_never (Some (Replay request)) other =
 words_never (Some (Inspect request)) other =
     file_never input.Program (ask_file request.program most_program_bytes) (λ bytes. OfProgram (OfInspect request bytes) bytes)
     (λ bytes. program_never (OfInspect request bytes) bytes (inspect_never request bytes))
+words_never (Some (Trace request)) other =
+    file_never input.Program (ask_file request.program most_program_bytes) (λ bytes. OfProgram (OfTrace request bytes) bytes)
+    (λ bytes. program_never (OfTrace request bytes) bytes (trace_never request bytes))
 words_never (Some (Join request)) other = absurd (other tt)
 words_never (Some (Reflect request)) other = absurd (other tt)
 words_never (Some (Drill request)) other = absurd (other tt)
@@ -183,6 +196,7 @@ never_on_net (Some (Stamp script from log)) other verdict comes on = never_goes_
 never_on_net (Some (Check program)) other verdict comes on = never_goes_on (Some (Check program)) (λ runs. absurd runs) verdict comes (on_net_goes_on verdict.closing on)
 never_on_net (Some (Replay request)) other verdict comes on = never_goes_on (Some (Replay request)) (λ runs. absurd runs) verdict comes (on_net_goes_on verdict.closing on)
 never_on_net (Some (Inspect request)) other verdict comes on = never_goes_on (Some (Inspect request)) (λ runs. absurd runs) verdict comes (on_net_goes_on verdict.closing on)
+never_on_net (Some (Trace request)) other verdict comes on = never_goes_on (Some (Trace request)) (λ runs. absurd runs) verdict comes (on_net_goes_on verdict.closing on)
 never_on_net (Some (Join request)) other verdict comes on = absurd (other tt)
 never_on_net (Some (Reflect request)) other verdict comes on = absurd (other tt)
 never_on_net (Some (Drill request)) other verdict (inl want) on = absurd (subst (λ (v : Verdict). IsOnNet v.closing) want on)

@@ -34,10 +34,11 @@ use Rattle.view_script.specs.ViewScript.{view_script_of}
 use Rattle.command_words.specs.Address.{is_address}
 use Rattle.command_words.specs.declared.words.ReplayRequest.{ReplayRequest}
 use Rattle.command_words.specs.declared.words.InspectRequest.{InspectRequest}
+use Rattle.command_words.specs.declared.words.TraceRequest.{TraceRequest}
 use Rattle.command_words.specs.declared.words.JoinRequest.{JoinRequest}
 use Rattle.command_words.specs.declared.words.ReflectRequest.{ReflectRequest}
 use Rattle.command_words.specs.declared.words.Command.{Command}
-use Rattle.command_words.specs.declared.words.Command.TheVariants.{Stamp, Check, Replay, Inspect, Join, Reflect, Drill}
+use Rattle.command_words.specs.declared.words.Command.TheVariants.{Stamp, Check, Replay, Inspect, Trace, Join, Reflect, Drill}
 use Rattle.command_outcome.specs.ProgramText.{syntax_line}
 use Rattle.command_stamp.specs.Script.{script_of}
 use Rattle.command_inspect.specs.declared.query.Query.{Query}
@@ -46,7 +47,7 @@ use Rattle.command_outcome.specs.ProgramEnd.{IsLineOf, IsRefused, IsRefusedBy}
 use Rattle.model_tree.specs.Bounds.{most_program_bytes}
 use Rattle.tea_base.specs.Limits.{most_snapshot}
 use Rattle.commands.specs.Laws.{AreAlike, AreDoneAlike, IsOneVerdict, IsFunction}
-use Rattle.commands.specs.Verdict.{Closing, ByDrill, ByRefusal, ByReflecting, ByVisit, ByWant, Verdict, Coming, Free, OfFile, OfFounded, OfGiven, OfInspect, OfInspectedLog, OfJoin, OfJson, OfKeyframes, OfPersisted, OfProgram, OfQueries, OfRecorded, OfReflect, OfRight, OfScript, OfSnapshot, OfTimeLine, OfTree, OfView, OfViewScript, OfWords, Only, Starts, before, ask_file, at_once, count_verdict, founded, inspect_verdict, keeps_few, reflection_of, resumed_verdict, stamp_verdict, visit_to, most_queries, most_script, most_log, OfOpening, OfServed, OfStored, session_id_of}
+use Rattle.commands.specs.Verdict.{Closing, ByDrill, ByRefusal, ByReflecting, ByVisit, ByWant, Verdict, Coming, Free, OfFile, OfFounded, OfGiven, OfInspect, OfInspectedLog, OfJoin, OfJson, OfKeyframes, OfPersisted, OfProgram, OfQueries, OfRecorded, OfReflect, OfRight, OfScript, OfSnapshot, OfTimeLine, OfTrace, OfTraced, OfTracedLog, OfTree, OfView, OfViewScript, OfWords, Only, Starts, before, ask_file, at_once, count_verdict, founded, inspect_verdict, keeps_few, reflection_of, resumed_verdict, stamp_verdict, trace_verdict, visit_to, most_queries, most_script, most_log, OfOpening, OfServed, OfStored, session_id_of}
 
 -- what `model_lang::one_reading` says
 abbrev pub IsOneReading : Type 0
@@ -244,6 +245,17 @@ one_inspect request text tree =
     one_file input.Log (ask_file request.log most_log) (OfStored (λ stored. OfInspectedLog request text tree stored.log))
     (one_stored (λ stored. OfInspectedLog request text tree stored.log) (λ stored. one_inspected_log request text tree stored.log))
 
+-- ---- trace
+
+one_traced_log : (request : TraceRequest) (text : List ℕ) (tree : ProgramTree) (log : List Entry) → IsOneVerdict (OfTracedLog request text tree log)
+one_traced_log request text tree log =
+    one_persisted request.persisted (λ v. OfTraced request text log (founded tree v)) (λ v. one_only (trace_verdict (founded tree v) (session_id_of request.name text v) log request.from request.to))
+
+one_trace : (request : TraceRequest) (text : List ℕ) (tree : ProgramTree) → IsOneVerdict (OfTrace request text tree)
+one_trace request text tree =
+    one_file input.Log (ask_file request.log most_log) (OfStored (λ stored. OfTracedLog request text tree stored.log))
+    (one_stored (λ stored. OfTracedLog request text tree stored.log) (λ stored. one_traced_log request text tree stored.log))
+
 -- ---- join
 
 one_view_script : (request : JoinRequest) (text : List ℕ) (tree : ProgramTree) (script : Option (List PlainLine)) → IsOneVerdict (OfViewScript request text tree script)
@@ -284,6 +296,9 @@ one_words one (Some (Replay request)) =
 one_words one (Some (Inspect request)) =
     one_file input.Program (ask_file request.program most_program_bytes) (λ bytes. OfProgram (OfInspect request bytes) bytes)
     (λ bytes. one_program one (OfInspect request bytes) (one_inspect request bytes) bytes)
+one_words one (Some (Trace request)) =
+    one_file input.Program (ask_file request.program most_program_bytes) (λ bytes. OfProgram (OfTrace request bytes) bytes)
+    (λ bytes. one_program one (OfTrace request bytes) (one_trace request bytes) bytes)
 one_words one (Some (Join request)) =
     one_file input.Program (ask_file request.program most_program_bytes) (λ bytes. OfProgram (OfJoin request bytes) bytes)
     (λ bytes. one_program one (OfJoin request bytes) (one_join request bytes) bytes)

@@ -23,23 +23,25 @@ use Rattle.view_script.specs.ViewScript.{view_script_of}
 use Rattle.command_words.specs.Address.{is_address}
 use Rattle.command_words.specs.declared.words.ReplayRequest.{ReplayRequest}
 use Rattle.command_words.specs.declared.words.InspectRequest.{InspectRequest}
+use Rattle.command_words.specs.declared.words.TraceRequest.{TraceRequest}
 use Rattle.command_words.specs.declared.words.JoinRequest.{JoinRequest}
 use Rattle.command_words.specs.declared.words.ReflectRequest.{ReflectRequest}
 use Rattle.command_words.specs.declared.words.DrillRequest.{DrillRequest}
 use Rattle.command_words.specs.declared.words.Command.{Command}
-use Rattle.command_words.specs.declared.words.Command.TheVariants.{Stamp, Check, Replay, Inspect, Join, Reflect, Drill}
+use Rattle.command_words.specs.declared.words.Command.TheVariants.{Stamp, Check, Replay, Inspect, Trace, Join, Reflect, Drill}
 use Rattle.command_outcome.specs.ProgramText.{check_line, counts_line, syntax_line, too_large_line}
 use Rattle.command_stamp.specs.Script.{script_of}
 use Rattle.command_inspect.specs.declared.query.Query.{Query}
 use Rattle.command_inspect.specs.InspectText.{inspect_text}
 use Rattle.command_inspect.specs.Queries.{queries_of}
+use Rattle.command_trace.specs.TraceText.{trace_text}
 use Rattle.command_outcome.specs.Outcome.{steps_of}
 use Rattle.command_outcome.specs.ProgramEnd.{IsLineOf}
 use Rattle.model_tree.specs.Bounds.{most_program_bytes}
 use Rattle.persist_json.specs.JsonOf.{most_json}
 use Rattle.tea_base.specs.Limits.{most_snapshot}
 use Rattle.commands.specs.Laws.{AreGiven, IsOnlyWant, SomeVerdictComes}
-use Rattle.commands.specs.Verdict.{PlainVisit, Fine, ByDrill, ByRefusal, ByReflecting, ByVisit, ByWant, Coming, OfCommand, OfFile, OfFounded, OfGiven, OfInspect, OfInspectedLog, OfJoin, OfJson, OfKeyframes, OfPersisted, OfProgram, OfQueries, OfRecorded, OfReflect, OfRight, OfScript, OfSnapshot, OfTimeLine, OfTree, OfView, OfViewScript, Only, Starts, ask_file, at_once, before, count_verdict, fine, founded, keeps_few, reflection_of, stamp_verdict, visit_to, most_queries, most_script, most_log, PlainReflection, OfOpening, OfServed, OfStored, session_id_of}
+use Rattle.commands.specs.Verdict.{PlainVisit, Fine, ByDrill, ByRefusal, ByReflecting, ByVisit, ByWant, Coming, OfCommand, OfFile, OfFounded, OfGiven, OfInspect, OfInspectedLog, OfJoin, OfJson, OfKeyframes, OfPersisted, OfProgram, OfQueries, OfRecorded, OfReflect, OfRight, OfScript, OfSnapshot, OfTimeLine, OfTrace, OfTraced, OfTracedLog, OfTree, OfView, OfViewScript, Only, Starts, ask_file, at_once, before, count_verdict, fine, founded, keeps_few, reflection_of, stamp_verdict, visit_to, most_queries, most_script, most_log, PlainReflection, OfOpening, OfServed, OfStored, session_id_of}
 
 abbrev pub Told : Type 0
 Told = Ask → Option (List ℕ)
@@ -186,6 +188,18 @@ inspect_not_want told request text tree =
     file_not_want told input.Log (ask_file request.log most_log) (OfStored (λ stored. OfInspectedLog request text tree stored.log))
     (λ bytes. stored_not_want told (λ stored. OfInspectedLog request text tree stored.log) bytes (λ stored. inspected_log_not_want told request text tree stored.log))
 
+-- ---- trace
+
+traced_log_not_want : (told : Told) (request : TraceRequest) (text : List ℕ) (tree : ProgramTree) (log : List Entry) → ¬ IsOnlyWant told (OfTracedLog request text tree log)
+traced_log_not_want told request text tree log =
+    persisted_not_want told request.persisted (λ v. OfTraced request text log (founded tree v))
+    (λ v. fine_not_want told (OfTraced request text log (founded tree v)) [] (trace_text (founded tree v) (session_id_of request.name text v) log request.from request.to) refl)
+
+trace_not_want : (told : Told) (request : TraceRequest) (text : List ℕ) (tree : ProgramTree) → ¬ IsOnlyWant told (OfTrace request text tree)
+trace_not_want told request text tree =
+    file_not_want told input.Log (ask_file request.log most_log) (OfStored (λ stored. OfTracedLog request text tree stored.log))
+    (λ bytes. stored_not_want told (λ stored. OfTracedLog request text tree stored.log) bytes (λ stored. traced_log_not_want told request text tree stored.log))
+
 -- ---- join
 
 view_script_not_want : (told : Told) (request : JoinRequest) (text : List ℕ) (tree : ProgramTree) (script : Option (List PlainLine)) → ¬ IsOnlyWant told (OfViewScript request text tree script)
@@ -226,6 +240,9 @@ command_not_want some told (Replay request) =
 command_not_want some told (Inspect request) =
     file_not_want told input.Program (ask_file request.program most_program_bytes) (λ bytes. OfProgram (OfInspect request bytes) bytes)
     (λ bytes. program_not_want some told (OfInspect request bytes) bytes (inspect_not_want told request bytes))
+command_not_want some told (Trace request) =
+    file_not_want told input.Program (ask_file request.program most_program_bytes) (λ bytes. OfProgram (OfTrace request bytes) bytes)
+    (λ bytes. program_not_want some told (OfTrace request bytes) bytes (trace_not_want told request bytes))
 command_not_want some told (Join request) =
     file_not_want told input.Program (ask_file request.program most_program_bytes) (λ bytes. OfProgram (OfJoin request bytes) bytes)
     (λ bytes. program_not_want some told (OfJoin request bytes) bytes (join_not_want told request bytes))

@@ -9,6 +9,7 @@ use Rattle.commands.specs.declared.work.Waiting.TheVariants as waiting
 use Rattle.commands.specs.declared.stamp.StampWait.TheVariants as stamp_wait
 use Rattle.commands.specs.declared.recording.ReplayWait.TheVariants as replay_wait
 use Rattle.commands.specs.declared.inspection.InspectWait.TheVariants as inspect_wait
+use Rattle.commands.specs.declared.tracing.TraceWait.TheVariants as trace_wait
 use Rattle.commands.specs.declared.visit.JoinWait.TheVariants as join_wait
 use Rattle.commands.specs.declared.reflection.ReflectWait.TheVariants as reflect_wait
 use Rattle.commands.specs.Verdict.{ByRefusal, Free, Verdict, before, at_once}
@@ -34,6 +35,9 @@ some_left (waiting.Inspect (inspect_wait.Program request)) = omega arith
 some_left (waiting.Inspect (inspect_wait.Log wait)) = omega arith
 some_left (waiting.Inspect (inspect_wait.Value wait)) = omega arith
 some_left (waiting.Inspect (inspect_wait.Queries wait)) = omega arith
+some_left (waiting.Trace (trace_wait.Program request)) = omega arith
+some_left (waiting.Trace (trace_wait.Log wait)) = omega arith
+some_left (waiting.Trace (trace_wait.Value wait)) = omega arith
 some_left (waiting.Join (join_wait.Program request)) = omega arith
 some_left (waiting.Join (join_wait.Script wait)) = omega arith
 some_left (waiting.Join (join_wait.Value wait)) = omega arith

@@ -29,11 +29,12 @@ use Rattle.command_outcome.specs.declared.outcome.CommandRefusal.{CommandRefusal
 use Rattle.command_outcome.specs.declared.outcome.CommandRefusal.TheVariants as refusal
 use Rattle.command_words.specs.declared.words.ReplayRequest.{ReplayRequest}
 use Rattle.command_words.specs.declared.words.InspectRequest.{InspectRequest}
+use Rattle.command_words.specs.declared.words.TraceRequest.{TraceRequest}
 use Rattle.command_words.specs.declared.words.JoinRequest.{JoinRequest}
 use Rattle.command_words.specs.declared.words.ReflectRequest.{ReflectRequest}
 use Rattle.command_words.specs.declared.words.DrillRequest.{DrillRequest}
 use Rattle.command_words.specs.declared.words.Command.{Command}
-use Rattle.command_words.specs.declared.words.Command.TheVariants.{Stamp, Check, Replay, Inspect, Join, Reflect, Drill}
+use Rattle.command_words.specs.declared.words.Command.TheVariants.{Stamp, Check, Replay, Inspect, Trace, Join, Reflect, Drill}
 use Rattle.command_words.specs.Address.{is_address}
 use Rattle.command_stamp.specs.Script.{script_of}
 use Rattle.command_outcome.specs.Outcome.{optional_put, steps_of}
@@ -46,6 +47,7 @@ use Rattle.time_line.specs.Keyframes.{most_frames}
 use Rattle.command_inspect.specs.declared.query.Query.{Query}
 use Rattle.command_inspect.specs.InspectText.{inspect_text}
 use Rattle.command_inspect.specs.Queries.{queries_of}
+use Rattle.command_trace.specs.TraceText.{trace_text}
 use Rattle.command_outcome.specs.declared.outcome.Put.{Put}
 use Rattle.command_reflect.specs.ReflectedSteps.{reflected_steps}
 use Rattle.command_drill.specs.DrilledSteps.{drilled_steps}
@@ -276,6 +278,24 @@ OfInspectedLog request text tree log = OfPersisted request.persisted (λ v. OfTi
 abbrev pub OfInspect : InspectRequest → List ℕ → ProgramTree → Coming
 OfInspect request text tree = OfFile input.Log (ask_file request.log most_log) (OfStored (λ stored. OfInspectedLog request text tree stored.log))
 
+-- ---- trace
+
+-- what is printed of what ran in a recorded session from one time to another
+abbrev pub trace_verdict : Founding → List ℕ → List Entry → ℕ → ℕ → Verdict
+trace_verdict founding id log from to = fine (steps_of [] (trace_text founding id log from to))
+
+-- once the persisted value is known, what ran is printed
+abbrev pub OfTraced : TraceRequest → List ℕ → List Entry → Founding → Coming
+OfTraced request text log founding = Only (trace_verdict founding (session_id_of request.name text founding.persisted) log request.from request.to)
+
+-- once the log was read, the persisted value is
+abbrev pub OfTracedLog : TraceRequest → List ℕ → ProgramTree → List Entry → Coming
+OfTracedLog request text tree log = OfPersisted request.persisted (λ v. OfTraced request text log (founded tree v))
+
+-- once the program was read, the log of a stored session is
+abbrev pub OfTrace : TraceRequest → List ℕ → ProgramTree → Coming
+OfTrace request text tree = OfFile input.Log (ask_file request.log most_log) (OfStored (λ stored. OfTracedLog request text tree stored.log))
+
 -- ---- join
 
 abbrev pub visit_to : JoinRequest → List ℕ → List PlainLine → Founding → PlainVisit
@@ -332,6 +352,8 @@ OfCommand (Replay request) =
     OfFile input.Program (ask_file request.program most_program_bytes) (λ bytes. OfProgram (OfTree request bytes) bytes)
 OfCommand (Inspect request) =
     OfFile input.Program (ask_file request.program most_program_bytes) (λ bytes. OfProgram (OfInspect request bytes) bytes)
+OfCommand (Trace request) =
+    OfFile input.Program (ask_file request.program most_program_bytes) (λ bytes. OfProgram (OfTrace request bytes) bytes)
 OfCommand (Join request) =
     OfFile input.Program (ask_file request.program most_program_bytes) (λ bytes. OfProgram (OfJoin request bytes) bytes)
 OfCommand (Reflect request) =

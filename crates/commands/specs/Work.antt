@@ -19,6 +19,7 @@ use Rattle.commands.specs.declared.work.Waiting.TheVariants as waiting
 use Rattle.commands.specs.declared.stamp.StampWait.TheVariants as stamp_wait
 use Rattle.commands.specs.declared.recording.ReplayWait.TheVariants as replay_wait
 use Rattle.commands.specs.declared.inspection.InspectWait.TheVariants as inspect_wait
+use Rattle.commands.specs.declared.tracing.TraceWait.TheVariants as trace_wait
 use Rattle.commands.specs.declared.visit.JoinWait.TheVariants as join_wait
 use Rattle.commands.specs.declared.reflection.ReflectWait.TheVariants as reflect_wait
 use Rattle.command_stamp.specs.Script.{script_of}
@@ -31,9 +32,9 @@ use Rattle.view_script.specs.ViewScript.{view_script_of}
 use Rattle.commands.specs.declared.work.Next.{Next}
 use Rattle.commands.specs.declared.work.Next.TheVariants as next
 use Rattle.view_script.specs.PlainLine.{plain_lines}
-use Rattle.command_words.specs.Bounds.{AreConnections, IsBounded, IsBoundedDrill, IsBoundedInspect, IsBoundedJoin, IsBoundedReflect}
+use Rattle.command_words.specs.Bounds.{AreConnections, IsBounded, IsBoundedDrill, IsBoundedInspect, IsBoundedJoin, IsBoundedReflect, IsBoundedTrace}
 use Rattle.command_outcome.specs.Outcome.{steps_of}
-use Rattle.commands.specs.Verdict.{Verdict, PlainReflection, PlainVisit, ByDrill, ByRefusal, ByReflecting, ByVisit, ByWant, Coming, Only, OfFile, OfFounded, OfInspect, OfJoin, OfJson, OfTimeLine, OfInspectedLog, OfProgram, OfQueries, OfRecorded, OfReflect, OfScript, OfServed, OfSnapshot, OfStored, OfTree, OfViewScript, ask_file, at_once, count_verdict, fine, founded, keeps_few, most_log, most_queries, most_script, reflection_of, session_id_of, stamp_verdict, visit_to}
+use Rattle.commands.specs.Verdict.{Verdict, PlainReflection, PlainVisit, ByDrill, ByRefusal, ByReflecting, ByVisit, ByWant, Coming, Only, OfFile, OfFounded, OfInspect, OfJoin, OfJson, OfTimeLine, OfInspectedLog, OfProgram, OfQueries, OfRecorded, OfReflect, OfScript, OfServed, OfSnapshot, OfStored, OfTrace, OfTraced, OfTracedLog, OfTree, OfViewScript, ask_file, at_once, count_verdict, fine, founded, keeps_few, most_log, most_queries, most_script, reflection_of, session_id_of, stamp_verdict, visit_to}
 
 -- ---- a command that waits for a file
 
@@ -50,6 +51,9 @@ input_of (waiting.Inspect (inspect_wait.Program request)) = input.Program
 input_of (waiting.Inspect (inspect_wait.Log wait)) = input.Log
 input_of (waiting.Inspect (inspect_wait.Value wait)) = input.Persisted
 input_of (waiting.Inspect (inspect_wait.Queries wait)) = input.Queries
+input_of (waiting.Trace (trace_wait.Program request)) = input.Program
+input_of (waiting.Trace (trace_wait.Log wait)) = input.Log
+input_of (waiting.Trace (trace_wait.Value wait)) = input.Persisted
 input_of (waiting.Join (join_wait.Program request)) = input.Program
 input_of (waiting.Join (join_wait.Script wait)) = input.Script
 input_of (waiting.Join (join_wait.Value wait)) = input.Persisted
@@ -70,6 +74,9 @@ file_of (waiting.Inspect (inspect_wait.Program request)) = request.program
 file_of (waiting.Inspect (inspect_wait.Log wait)) = wait.request.log
 file_of (waiting.Inspect (inspect_wait.Value wait)) = wait.persisted
 file_of (waiting.Inspect (inspect_wait.Queries wait)) = wait.queries
+file_of (waiting.Trace (trace_wait.Program request)) = request.program
+file_of (waiting.Trace (trace_wait.Log wait)) = wait.request.log
+file_of (waiting.Trace (trace_wait.Value wait)) = wait.persisted
 file_of (waiting.Join (join_wait.Program request)) = request.program
 file_of (waiting.Join (join_wait.Script wait)) = wait.request.script
 file_of (waiting.Join (join_wait.Value wait)) = wait.persisted
@@ -112,6 +119,11 @@ next_of (waiting.Inspect (inspect_wait.Value wait)) bytes =
     let read = wait.read in
     OfJson (λ v. OfTimeLine read.request read.text read.log.entries (founded (checked_tree read.program) v)) bytes
 next_of (waiting.Inspect (inspect_wait.Queries wait)) bytes = OfQueries (founding_of wait.line.program) wait.line.id wait.line.entries (queries_of bytes)
+next_of (waiting.Trace (trace_wait.Program request)) bytes = OfProgram (OfTrace request bytes) bytes
+next_of (waiting.Trace (trace_wait.Log wait)) bytes = OfStored (λ stored. OfTracedLog wait.request wait.text (checked_tree wait.program) stored.log) bytes
+next_of (waiting.Trace (trace_wait.Value wait)) bytes =
+    let read = wait.read in
+    OfJson (λ v. OfTraced read.request read.text read.log.entries (founded (checked_tree read.program) v)) bytes
 next_of (waiting.Join (join_wait.Program request)) bytes = OfProgram (OfJoin request bytes) bytes
 next_of (waiting.Join (join_wait.Script wait)) bytes = OfViewScript wait.request wait.text (checked_tree wait.program) (view_script_of bytes)
 next_of (waiting.Join (join_wait.Value wait)) bytes =
@@ -139,6 +151,9 @@ files_left (waiting.Inspect (inspect_wait.Program request)) = 4
 files_left (waiting.Inspect (inspect_wait.Log wait)) = 3
 files_left (waiting.Inspect (inspect_wait.Value wait)) = 2
 files_left (waiting.Inspect (inspect_wait.Queries wait)) = 1
+files_left (waiting.Trace (trace_wait.Program request)) = 3
+files_left (waiting.Trace (trace_wait.Log wait)) = 2
+files_left (waiting.Trace (trace_wait.Value wait)) = 1
 files_left (waiting.Join (join_wait.Program request)) = 3
 files_left (waiting.Join (join_wait.Script wait)) = 2
 files_left (waiting.Join (join_wait.Value wait)) = 1
@@ -158,6 +173,9 @@ IsBoundedWait (waiting.Inspect (inspect_wait.Program request)) = IsBoundedInspec
 IsBoundedWait (waiting.Inspect (inspect_wait.Log wait)) = IsBoundedInspect wait.request
 IsBoundedWait (waiting.Inspect (inspect_wait.Value wait)) = IsBoundedInspect wait.read.request
 IsBoundedWait (waiting.Inspect (inspect_wait.Queries wait)) = ⊤
+IsBoundedWait (waiting.Trace (trace_wait.Program request)) = IsBoundedTrace request
+IsBoundedWait (waiting.Trace (trace_wait.Log wait)) = IsBoundedTrace wait.request
+IsBoundedWait (waiting.Trace (trace_wait.Value wait)) = IsBoundedTrace wait.read.request
 IsBoundedWait (waiting.Join (join_wait.Program request)) = IsBoundedJoin request
 IsBoundedWait (waiting.Join (join_wait.Script wait)) = IsBoundedJoin wait.request
 IsBoundedWait (waiting.Join (join_wait.Value wait)) = IsBoundedJoin wait.read.request

@@ -5,7 +5,7 @@
 //! until it is refused, or gives what it puts and prints, or goes on as a view's run, a reflector's, or a drill.
 //!
 //! The words of commands stand in `command_words`, what comes of them in `command_outcome`, and what each of them gives in a crate of its own:
-//! `command_stamp`, `command_replay`, `command_inspect`, `command_reflect` and `command_drill`.
+//! `command_stamp`, `command_replay`, `command_inspect`, `command_trace`, `command_reflect` and `command_drill`.
 #![tactic(auto)]
 
 mod check;
@@ -15,6 +15,7 @@ mod opening;
 mod recording;
 mod reflection;
 mod stamp;
+mod tracing;
 mod visit;
 mod work;
 
@@ -23,5 +24,6 @@ pub use laws::{logs_tell_their_events, one_verdict, snapshots_agree, some_verdic
 pub use recording::{LogWait, ReadReplay, ReplayValueWait, ReplayWait, SnapshotWait};
 pub use reflection::{ReflectLogWait, ReflectValueWait, ReflectWait};
 pub use stamp::{StampLogWait, StampWait};
+pub use tracing::{ReadTrace, TraceLogWait, TraceValueWait, TraceWait};
 pub use visit::{JoinValueWait, JoinWait, ScriptWait, VisitRequest};
 pub use work::{Next, Waiting};

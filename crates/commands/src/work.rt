@@ -13,6 +13,7 @@ use crate::inspection::InspectWait;
 use crate::recording::ReplayWait;
 use crate::reflection::ReflectWait;
 use crate::stamp::StampWait;
+use crate::tracing::TraceWait;
 use crate::visit::{JoinWait, VisitRequest};
 use command_outcome::{CommandRefusal, Input, Outcome};
 use command_reflect::Reflection;
@@ -30,6 +31,7 @@ pub enum Waiting {
     Check { program: Text },
     Replay(ReplayWait),
     Inspect(InspectWait),
+    Trace(TraceWait),
     Join(JoinWait),
     Reflect(ReflectWait),
 }
@@ -79,6 +81,9 @@ impl Next {
             Some(Command::Inspect(request)) => {
                 Next::Reads(Waiting::Inspect(InspectWait::Program(request)))
             }
+            Some(Command::Trace(request)) => {
+                Next::Reads(Waiting::Trace(TraceWait::Program(request)))
+            }
             Some(Command::Join(request)) => Next::Reads(Waiting::Join(JoinWait::Program(request))),
             Some(Command::Reflect(request)) => {
                 Next::Reads(Waiting::Reflect(ReflectWait::Program(request)))
@@ -99,6 +104,7 @@ impl Waiting {
             Waiting::Check { program } => program,
             Waiting::Replay(wait) => wait.name(),
             Waiting::Inspect(wait) => wait.name(),
+            Waiting::Trace(wait) => wait.name(),
             Waiting::Join(wait) => wait.name(),
             Waiting::Reflect(wait) => wait.name(),
         }
@@ -113,6 +119,7 @@ impl Waiting {
             Waiting::Check { .. } => Input::Program,
             Waiting::Replay(wait) => wait.input(),
             Waiting::Inspect(wait) => wait.input(),
+            Waiting::Trace(wait) => wait.input(),
             Waiting::Join(wait) => wait.input(),
             Waiting::Reflect(wait) => wait.input(),
         }
@@ -147,6 +154,7 @@ impl Waiting {
             Waiting::Check { program: _program } => check(alloc, bytes.bytes()),
             Waiting::Replay(wait) => wait.take(alloc, bytes),
             Waiting::Inspect(wait) => wait.take(alloc, bytes),
+            Waiting::Trace(wait) => wait.take(alloc, bytes),
             Waiting::Join(wait) => wait.take(alloc, bytes),
             Waiting::Reflect(wait) => wait.take(alloc, bytes),
         }

@@ -29,18 +29,20 @@ use Rattle.command_replay.specs.WorldText.{world_line}
 use Rattle.command_inspect.specs.declared.query.Query.{Query}
 use Rattle.command_inspect.specs.InspectText.{inspect_text}
 use Rattle.command_inspect.specs.Queries.{queries_of}
+use Rattle.command_trace.specs.TraceText.{trace_text}
 use Rattle.command_words.specs.Address.{is_address}
 use Rattle.command_words.specs.declared.words.ReplayRequest.{ReplayRequest}
 use Rattle.command_words.specs.declared.words.InspectRequest.{InspectRequest}
+use Rattle.command_words.specs.declared.words.TraceRequest.{TraceRequest}
 use Rattle.command_words.specs.declared.words.JoinRequest.{JoinRequest}
 use Rattle.command_words.specs.declared.words.ReflectRequest.{ReflectRequest}
 use Rattle.command_words.specs.declared.words.Command.{Command}
-use Rattle.command_words.specs.declared.words.Command.TheVariants.{Stamp, Check, Replay, Inspect, Join, Reflect, Drill}
+use Rattle.command_words.specs.declared.words.Command.TheVariants.{Stamp, Check, Replay, Inspect, Trace, Join, Reflect, Drill}
 use Rattle.model_tree.specs.Bounds.{most_program_bytes}
 use Rattle.tea_base.specs.Limits.{most_snapshot}
-use Rattle.commands.specs.Verdict.{ByDrill, ByReflecting, ByVisit, Closing, Coming, Fine, OfFile, OfInspectedLog, OfInspect, OfJoin, OfKeyframes, OfOpening, OfProgram, OfQueries, OfReflect, OfRight, OfScript, OfServed, OfSnapshot, OfStored, OfTimeLine, OfTree, OfView, OfViewScript, OfWords, Only, Starts, Verdict, OfFounded, OfJson, OfPersisted, OfRecorded, ask_file, at_once, before, count_verdict, fine, founded, inspect_verdict, keeps_few, most_queries, most_script, reflection_of, session_id_of, stamp_verdict, visit_to, world_puts, most_log}
+use Rattle.commands.specs.Verdict.{ByDrill, ByReflecting, ByVisit, Closing, Coming, Fine, OfFile, OfInspectedLog, OfInspect, OfJoin, OfKeyframes, OfOpening, OfProgram, OfQueries, OfReflect, OfRight, OfScript, OfServed, OfSnapshot, OfStored, OfTimeLine, OfTrace, OfTraced, OfTracedLog, OfTree, OfView, OfViewScript, OfWords, Only, Starts, Verdict, OfFounded, OfJson, OfPersisted, OfRecorded, ask_file, at_once, before, count_verdict, fine, founded, inspect_verdict, keeps_few, most_queries, most_script, reflection_of, session_id_of, stamp_verdict, visit_to, world_puts, most_log}
 use Rattle.commands.proofs.Agreement.{late_verdict}
-use Rattle.croquet.specs.Complete.{HasRightInput, HoldsFile, HoldsInspection, HoldsOpening, HoldsPersisted, HoldsProgram, HoldsRecording, HoldsStart, IsJsonText, IsQueriesText, IsScriptText, IsSnapshotUntil, IsStoredText, IsProgramText, IsViewScriptText, NamesAddress, persisted_in}
+use Rattle.croquet.specs.Complete.{HasRightInput, HoldsFile, HoldsInspection, HoldsOpening, HoldsPersisted, HoldsProgram, HoldsRecording, HoldsStart, HoldsTrace, IsJsonText, IsQueriesText, IsScriptText, IsSnapshotUntil, IsStoredText, IsProgramText, IsViewScriptText, NamesAddress, persisted_in}
 use Rattle.croquet.proofs.RightSteps.{AreRight, GivesHeld, IsGiving, giving_are_right}
 
 -- what is put and printed is put and printed alone
@@ -192,6 +194,20 @@ module _ {F : Type 0} (files : FilesTell F) (old : F) where
       (persisted_right ClosesWell request.persisted inspection.persisted (λ v. OfTimeLine request program.bytes stored.log (founded tree v))
       (keyframes_right request.every request.queries (founded tree v) (session_id_of request.name program.bytes v) stored.log (le-leb _ _ inspection.few) inspection.queries))))
 
+  trace_right : (request : TraceRequest) → HoldsTrace files old request → ComesRight (files.held old) ClosesWell (OfWords (Some (Trace request)))
+  trace_right request trace =
+      let program = trace.program in
+      let tree = program.right.0 in
+      let stored = trace.log.right.0 in
+      let next : PlainStored → Coming = λ stored. OfTracedLog request program.bytes tree stored.log in
+      let v = persisted_in files old request.persisted trace.persisted in
+      let traced : PlainValue → Coming = λ v. OfTraced request program.bytes stored.log (founded tree v) in
+      read_program ClosesWell request.program program (λ bytes tree. OfTrace request bytes tree)
+      (read_right ClosesWell input.Log (ask_file request.log most_log) (OfStored next) IsStoredText trace.log
+      (stored_right (files.held old) ClosesWell next trace.log.bytes stored trace.log.right.1 trace.log.right.2
+      (persisted_right ClosesWell request.persisted trace.persisted traced
+      (fine_right (files.held old) [] (trace_text (founded tree v) (session_id_of request.name program.bytes v) stored.log request.from request.to) (traced v) refl))))
+
   reflect_right : (request : ReflectRequest) → HoldsProgram files old request.program → NamesAddress request.address → HoldsPersisted files old request.persisted → HoldsOpening files old request.from
       → ComesRight (files.held old) ClosesWell (OfWords (Some (Reflect request)))
   reflect_right request program address persisted opening =
@@ -232,6 +248,7 @@ module _ {F : Type 0} (files : FilesTell F) (old : F) where
       read_program ClosesWell program right (λ bytes tree. Only (count_verdict tree)) (fine_right (files.held old) [] (counts_line right.right.0) (Only (count_verdict right.right.0)) refl)
   words_right (Some (Replay request)) right = recording_right request right
   words_right (Some (Inspect request)) right = inspection_right request right
+  words_right (Some (Trace request)) right = trace_right request right
   words_right (Some (Reflect request)) right = reflect_right request right.0 right.1 right.2 right.3
   words_right (Some (Drill request)) right = closed_right (files.held old) ClosesWell (ByDrill request) (OfWords (Some (Drill request))) tt refl
   words_right (Some (Join request)) right = join_right request right.0 right.1 right.2 right.3

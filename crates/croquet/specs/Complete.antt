@@ -21,8 +21,9 @@ use Rattle.view_follows.specs.Answered.{GoOn, IsAnsweredVisit, RefuseNoOther}
 use Rattle.command_words.specs.Address.{is_address}
 use Rattle.command_words.specs.declared.words.ReplayRequest.{ReplayRequest}
 use Rattle.command_words.specs.declared.words.InspectRequest.{InspectRequest}
+use Rattle.command_words.specs.declared.words.TraceRequest.{TraceRequest}
 use Rattle.command_words.specs.declared.words.Command.{Command}
-use Rattle.command_words.specs.declared.words.Command.TheVariants.{Stamp, Check, Replay, Inspect, Join, Reflect, Drill}
+use Rattle.command_words.specs.declared.words.Command.TheVariants.{Stamp, Check, Replay, Inspect, Trace, Join, Reflect, Drill}
 use Rattle.command_stamp.specs.Script.{script_of}
 use Rattle.time_line.specs.Keyframes.{most_frames}
 use Rattle.command_inspect.specs.declared.query.Query.{Query}
@@ -105,6 +106,12 @@ pub record HoldsInspection {F : Type 0} (files : FilesTell F) (old : F) (request
   pub few : length log.right.0.log / request.every ≤ most_frames
   pub queries : HoldsFile files old request.queries most_queries IsQueriesText
 
+-- the files of a trace
+pub record HoldsTrace {F : Type 0} (files : FilesTell F) (old : F) (request : TraceRequest) : Type 0 where
+  pub program : HoldsProgram files old request.program
+  pub log : HoldsFile files old request.log most_log IsStoredText
+  pub persisted : HoldsPersisted files old request.persisted
+
 -- a word is the address of a net
 abbrev pub NamesAddress : List ℕ → Type 0
 NamesAddress word = is_address (encode_utf8_all word) ≡ true
@@ -116,6 +123,7 @@ HasRightInput files old (Some (Stamp script from log)) = HoldsFile files old scr
 HasRightInput files old (Some (Check program)) = HoldsProgram files old program
 HasRightInput files old (Some (Replay request)) = HoldsRecording files old request
 HasRightInput files old (Some (Inspect request)) = HoldsInspection files old request
+HasRightInput files old (Some (Trace request)) = HoldsTrace files old request
 HasRightInput files old (Some (Join request)) =
     HoldsProgram files old request.program × NamesAddress request.address × HoldsFile files old request.script most_script IsViewScriptText × HoldsPersisted files old request.persisted
 HasRightInput files old (Some (Reflect request)) =

@@ -85,7 +85,7 @@ fn go_on<F: Files, W: Sink>(alloc: Global, next: Next, files: &mut F, out: &mut 
 }
 
 /// Runs what the words ask for up to its end, or up to a view's run, a reflector's, or a drill. [`croquet`] begins so. It waits for nobody, so it
-/// returns: `stamp`, `check`, `replay` and `inspect` are over then, and so are words that are refused.
+/// returns: `stamp`, `check`, `replay`, `inspect` and `trace` are over then, and so are words that are refused.
 pub fn begin<F: Files, W: Sink>(alloc: Global, words: &Words, files: &mut F, out: &mut W) -> Turn
     ensures turns { Turns (desk_tells (files_tell F.held F.asked F.faults F.wants) (output_tells W.written W.faults W.wants))
         result (Comes (command_of words.now)) (desk files.old out.old) (desk files.new out.new) }

@@ -3,7 +3,7 @@ use crate::net_case::{NetCase, NetCommand};
 use crate::net_run::run_case;
 use crate::telling::told_run;
 use crate::words::text_of;
-use crate::{command, moments};
+use crate::{command, moments, stretch};
 use case_lines::CaseFault;
 use std::sync::Wait;
 use std::thread::Threads;
@@ -13,6 +13,7 @@ use std::thread::Threads;
 pub(crate) enum CommandCases {
     Commands,
     Inspects,
+    Traces,
     Views,
     Reflectors,
 }
@@ -23,6 +24,7 @@ impl CommandCases {
         match word {
             "commands" => Some(CommandCases::Commands),
             "inspects" => Some(CommandCases::Inspects),
+            "traces" => Some(CommandCases::Traces),
             "views" => Some(CommandCases::Views),
             "reflectors" => Some(CommandCases::Reflectors),
             _ => None,
@@ -40,6 +42,7 @@ pub(crate) fn outcome<R: Threads + Wait + Sync + AllocGlobal>(
     match kind {
         CommandCases::Commands => command::outcome(rt, case),
         CommandCases::Inspects => moments::outcome(rt, case),
+        CommandCases::Traces => stretch::outcome(rt, case),
         CommandCases::Views => tell_net_case(rt, NetCommand::Join, case),
         CommandCases::Reflectors => tell_net_case(rt, NetCommand::Reflect, case),
     }

@@ -1,4 +1,4 @@
-//! Cases of the program's commands in which a call fails, wants memory or is quiet, and some of `inspect`. `croquet_cases KIND FILE ..`
+//! Cases of the program's commands in which a call fails, wants memory or is quiet, and some of `inspect` and `trace`. `croquet_cases KIND FILE ..`
 //! runs each line of the files, and prints it with ` = ` and what it comes to. What else needs no such call is tested over the program
 //! itself.
 //!
@@ -6,6 +6,7 @@
 //! |---|---|---|
 //! | `commands` | `WORDS ; NAME=CONTENT ; NAME:HEX ; .. ; fail file N ; want output N` | what the command prints, and the file `f` |
 //! | `inspects` | `NAME EVERY SCRIPT \| QUERIES \| PROGRAM` | what `inspect` prints of the log that `stamp` makes of the script |
+//! | `traces` | `NAME FROM TO SCRIPT \| PROGRAM` | what `trace` prints of such a log |
 //! | `views` | `NAME VIEW SCRIPT \| PROGRAM \| LINK \| LINK ..` | what `join` of this session as this view, with this script, does over a net that gives these links |
 //! | `reflectors` | `NAME N \| PROGRAM \| LINK \| LINK ..` | what `reflect` of this session to N connections does over such a net |
 //!
@@ -37,7 +38,9 @@ mod link;
 mod moments;
 mod net_case;
 mod net_run;
+mod recorded;
 mod run;
+mod stretch;
 mod telling;
 mod words;
 
