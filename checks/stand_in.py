@@ -346,7 +346,7 @@ def reflect(plain, options):
     for thread in threads:
         thread.join()
     links.close_all(accepted)
-    if "--log" in options and not is_shut(shared):
+    if "--log" in options:
         write_file(options["--log"], shared.session.encoded())
     for place in range(len(accepted)):
         say(f"connection {place} {words[place]}")
@@ -362,8 +362,6 @@ def is_shut(shared):
 
 def shared_session(ident, options):
     """The session that links share, and what their talks are."""
-    if "--log" in options:
-        look_at_folder(options["--log"])
     if "--journal" not in options:
         return Reflecting(ident, opening_session(options), lambda: links.now()), Talk
     name = options["--journal"]
@@ -371,14 +369,10 @@ def shared_session(ident, options):
     if kept.torn:
         write_file(f"{name}.torn", kept.torn)
         say(f"torn {len(kept.torn)}")
+    if "--log" in options:
+        write_file(options["--log"], kept.session.encoded())
     kept.cut()
     return journals.Reflecting(ident, kept, lambda: links.now()), journals.Talk
-
-
-def look_at_folder(name):
-    """Where a file cannot be put, that is found before anything listens."""
-    if not os.access(os.path.dirname(name) or ".", os.W_OK) and not os.access(name, os.W_OK):
-        raise croquet.Ended("write-fault", 5)
 
 
 # ---------------------------------------------------------------- the program

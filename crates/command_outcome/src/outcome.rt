@@ -11,6 +11,8 @@ pub enum Input {
     Script,
     Program,
     Log,
+    /// The journal of a session.
+    Journal,
     Snapshot,
     /// The JSON of a persisted value.
     Persisted,

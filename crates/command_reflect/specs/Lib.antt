@@ -1,1 +1,2 @@
 pub mod ReflectedSteps
+pub mod KeptSteps

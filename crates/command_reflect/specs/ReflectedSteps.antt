@@ -1,5 +1,5 @@
 -- What is put and printed of a session that was reflected.
-use Rattle.std.specs.Prelude.{ℕ, ◌+◌, List, [], ◌∷◌, ◌++◌, length, codes}
+use Rattle.std.specs.Prelude.{ℕ, ◌+◌, List, [], ◌∷◌, ◌++◌, length, codes, Option}
 use Rattle.text_lines.specs.Lines.{spell_numbers}
 use Rattle.session_log.specs.Stored.{stored_spelling}
 use Rattle.reflector_core.specs.PlainSession.{PlainSession}
@@ -7,7 +7,7 @@ use Rattle.reflector_core.specs.Stored.{stored_of}
 use Rattle.connection.specs.declared.ending.Ended.{Ended}
 use Rattle.connection.specs.declared.ending.Ended.TheVariants as ended
 use Rattle.run_steps.specs.Steps.{Step}
-use Rattle.command_outcome.specs.Outcome.{steps_of}
+use Rattle.command_outcome.specs.Outcome.{optional_put, steps_of}
 
 -- how a connection has ended, and the value that comes with it
 abbrev pub end_part : Ended → List ℕ
@@ -18,6 +18,7 @@ end_part (ended.Idle quiets) = codes " idle"
 end_part (ended.Stale current) = spell_numbers (codes " stale") (current ∷ [])
 end_part (ended.Refused code) = spell_numbers (codes " refused") (code ∷ [])
 end_part ended.WantOfMemory = codes " memory"
+end_part ended.Unkept = codes " unkept"
 
 -- the line of the connection of this number
 abbrev pub end_line : ℕ → Ended → List ℕ
@@ -37,6 +38,6 @@ session_line session =
 abbrev pub reflected_text : List Ended → PlainSession → List ℕ
 reflected_text ends session = end_lines 0 ends ++ session_line session
 
--- a session that was reflected is told by how its connections ended, and it is put as it is stored
-abbrev pub reflected_steps : List ℕ → List Ended → PlainSession → List Step
-reflected_steps log ends session = steps_of (record { name = log; bytes = stored_spelling (stored_of session) } ∷ []) (reflected_text ends session)
+-- a session that was reflected is told by how its connections ended, and it is put as it is stored, if there is a name for it
+abbrev pub reflected_steps : Option (List ℕ) → List Ended → PlainSession → List Step
+reflected_steps log ends session = steps_of (optional_put log (stored_spelling (stored_of session))) (reflected_text ends session)

@@ -21,6 +21,7 @@ fn end_part(alloc: Global, ended: Ended) -> Result<String, WantOfMemory>
         Ended::Stale { current } => spell_numbers(alloc, " stale", &[u64::from(current)]),
         Ended::Refused { code } => spell_numbers(alloc, " refused", &[u64::from(code)]),
         Ended::WantOfMemory => spell_numbers(alloc, " memory", &[]),
+        Ended::Unkept => spell_numbers(alloc, " unkept", &[]),
     }
 }
 

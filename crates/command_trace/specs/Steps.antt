@@ -1,10 +1,10 @@
 -- What ran in a recorded session, in order: its first message, and then its entries, each after the messages that were due up to it.
-use Rattle.std.specs.Prelude.{ℕ, zero, suc, nat_le, if◌then◌else◌, List, [], ◌∷◌, ◌++◌, Option, Some, None}
+use Rattle.std.specs.Prelude.{◌≡◌, ℕ, zero, suc, nat_le, if◌then◌else◌, List, [], ◌∷◌, ◌++◌, Option, Some, None}
 use Rattle.tea_base.specs.declared.entry.Entry.{Entry}
 use Rattle.model_tree.specs.Tree.{ProgramTree}
 use Rattle.world_plain.specs.World.{WorldRecord}
 use Rattle.world.specs.declared.told.HeardEvent.{HeardEvent}
-use Rattle.world.specs.Worlds.{Scene, Founding, first_scene, enough, advance, external}
+use Rattle.world.specs.Worlds.{Scene, Founding, first_scene, at_later_time, enough, advance, external}
 use Rattle.world.specs.Turns.{PlainRan, next_ran, after_turn, begun, first_ran, heard_of}
 
 -- what ran: a message, or an entry with the event that models heard of it
@@ -69,3 +69,29 @@ first_steps founding id = first_step founding id (first_ran founding)
 -- all that ran up to t
 abbrev pub steps : Founding → List ℕ → List Entry → ℕ → List Step
 steps founding id entries t = first_steps founding id ++ steps_on founding.tree t entries (first_scene founding id)
+
+-- ---- what steps come to
+
+-- the world that the last step left; where nothing ran, this one
+abbrev pub left_by : WorldRecord → List Step → WorldRecord
+left_by w [] = w
+left_by w (step ∷ more) = left_by step.after more
+
+-- the world in which something runs: a message in the world as it is, an entry once that has come to its time
+abbrev pub world_before : Ran → WorldRecord → WorldRecord
+world_before (OfMessage ran) w = w
+world_before (OfEntry entry heard) w = at_later_time entry.time w
+
+-- each step begins in the world that the one before it left
+abbrev pub AreChained : WorldRecord → List Step → Type 0
+AreChained w [] = Unit {0}
+AreChained w (step ∷ more) = (step.before ≡ world_before step.ran w) × AreChained step.after more
+
+-- the entries among what ran
+abbrev pub with_entry : Ran → List Entry → List Entry
+with_entry (OfMessage ran) entries = entries
+with_entry (OfEntry entry heard) entries = entry ∷ entries
+
+abbrev pub entries_in : List Step → List Entry
+entries_in [] = []
+entries_in (step ∷ more) = with_entry step.ran (entries_in more)

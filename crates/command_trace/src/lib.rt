@@ -12,10 +12,12 @@
 //! ARGS is the text of the list of the arguments.
 #![tactic(auto)]
 
+mod laws;
 mod lines;
 mod running;
 mod stretch;
 mod tracing;
 
+pub use laws::steps_replay;
 pub use stretch::Stretch;
 pub use tracing::trace;

@@ -1,5 +1,5 @@
 -- What the words of the command line ask for: a row for each command. A word is seen as its characters.
-use Rattle.std.specs.Prelude.{ℕ, if◌then◌else◌, nat_le, length, encode_utf8_all, List, [], ◌∷◌, Option, Some, None, option_and_then, codes}
+use Rattle.std.specs.Prelude.{ℕ, Bool, ◌||◌, is_some, if◌then◌else◌, nat_le, length, encode_utf8_all, List, [], ◌∷◌, Option, Some, None, option_and_then, codes}
 use Rattle.std.specs.Str.{bytes_eq}
 use Rattle.run_steps.specs.Limits.{most_connections, most_drill_events, most_drill_views}
 use Rattle.text_lines.specs.Lines.{LineWord, number_of_word, time_of_word}
@@ -124,16 +124,29 @@ join_row = (
       join_options (record { program = program; name = name; address = address; view = view; script = script; persisted = None })))))),
 )
 
+-- a journal or a log is named, or both are
+abbrev pub writes_file : ReflectRequest → Bool
+writes_file request = is_some request.journal || is_some request.log
+
+-- where it writes a file, it is asked for
+abbrev pub asks_reflect : ReflectRequest → Reading
+asks_reflect request parts = if writes_file request then asks (Reflect request) parts else None
+
+-- `[--journal FILE] [--log FILE]`, one of them at least
+abbrev pub reflect_files : ReflectRequest → Reading
+reflect_files request =
+    free (codes "--journal") (λ journal. free (codes "--log") (λ log. asks_reflect (record request { journal = journal; log = log })))
+
 -- `[--persisted JSON] [--from LOG]`
 abbrev pub reflect_options : ReflectRequest → Reading
 reflect_options request =
-    free (codes "--persisted") (λ persisted. free (codes "--from") (λ from. asks (Reflect (record request { persisted = persisted; from = from }))))
+    free (codes "--persisted") (λ persisted. free (codes "--from") (λ from. reflect_files (record request { persisted = persisted; from = from })))
 
--- `--connections N --log FILE`, and what else may be said
+-- `--connections N`, and what else may be said
 abbrev pub reflect_ends : LineWord → LineWord → LineWord → Reading
 reflect_ends program name address =
-    needed (codes "--connections") (a_number 1 most_connections) (λ connections. needed (codes "--log") a_word (λ log.
-    reflect_options (record { program = program; name = name; address = address; persisted = None; from = None; connections = connections; log = log })))
+    needed (codes "--connections") (a_number 1 most_connections) (λ connections.
+    reflect_options (record { program = program; name = name; address = address; persisted = None; from = None; connections = connections; journal = None; log = None }))
 
 -- `reflect PROGRAM NAME ADDRESS`, and its options
 abbrev pub reflect_row : Row

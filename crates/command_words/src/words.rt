@@ -3,8 +3,8 @@ ghost use Rattle.std.specs.Prelude.{◌≡◌, ◌≤◌, ◌<◌, IfOk, IfSome,
 ghost use Rattle.std.specs.Option.{option_and_then};
 ghost use Rattle.tea_base.specs.Limits.{time_limit};
 ghost use Rattle.command_words.specs.Parts.{behind_first, first_positional};
-ghost use Rattle.command_words.specs.CommandWords.{a_name, a_number, a_time, asks, check_row, command_of, drill_row, inspect_options, inspect_row, join_row, join_options, most_name, read_by, reflect_options, reflect_row, replay_options, replay_puts, replay_row, rows, stamp_row, reflect_ends, trace_options, trace_row};
-ghost use Rattle.command_words.specs.Bounds.{IsBounded, IsBoundedInspect, IsBoundedJoin, IsBoundedReflect, IsBoundedTrace, IsWithinBounds};
+ghost use Rattle.command_words.specs.CommandWords.{a_name, a_number, a_time, asks, check_row, command_of, drill_row, inspect_options, inspect_row, join_row, join_options, most_name, read_by, reflect_files, reflect_options, reflect_row, replay_options, replay_puts, replay_row, rows, stamp_row, reflect_ends, trace_options, trace_row};
+ghost use Rattle.command_words.specs.Bounds.{IsBounded, IsBoundedInspect, IsBoundedJoin, IsBoundedReflect, IsWithinBounds, IsBoundedTrace};
 
 use crate::parts::{Parts, is_word, read_parts};
 use run_steps::{MOST_CONNECTIONS, MOST_DRILL_EVENTS, MOST_DRILL_VIEWS};
@@ -39,7 +39,8 @@ pub enum Command {
     Trace(TraceRequest),
     /// `join PROGRAM NAME ADDRESS VIEW SCRIPT [--persisted JSON]`
     Join(JoinRequest),
-    /// `reflect PROGRAM NAME ADDRESS [--persisted JSON] [--from LOG] --connections N --log FILE`
+    /// `reflect PROGRAM NAME ADDRESS [--persisted JSON] [--from LOG] [--journal FILE] [--log FILE] --connections N`, with a journal or a
+    /// log at least
     Reflect(ReflectRequest),
     /// `drill SEED VIEWS EVENTS --log FILE --snapshots PREFIX`
     Drill(DrillRequest),
@@ -121,8 +122,10 @@ pub struct ReflectRequest {
     pub from: Option<Text>,
     /// How many links it accepts, from 1 to 64.
     pub connections: u32,
-    /// Where the log of the session is put.
-    pub log: Text,
+    /// The journal of the session, which goes on from there if it is there.
+    pub journal: Option<Text>,
+    /// Where the log of the session is put in the end.
+    pub log: Option<Text>,
 }
 
 /// What a drill is asked for.
@@ -367,7 +370,21 @@ fn join(mut parts: Parts) -> Option<Command>
     join_options(parts, request)
 }
 
-/// What `reflect` may be told besides: `[--persisted JSON] [--from LOG]`
+/// What `reflect` writes: `[--journal FILE] [--log FILE]`, one of them at least
+fn reflect_files(mut parts: Parts, mut request: ReflectRequest) -> Option<Command>
+    requires { IsBoundedReflect request }
+    ensures read { result ≡ reflect_files request parts }
+    ensures bounds { IfSome result IsWithinBounds }
+{
+    request.journal = parts.option("--journal");
+    request.log = parts.option("--log");
+    if request.journal.is_none() && request.log.is_none() {
+        return None;
+    }
+    ask(Command::Reflect(request), &parts)
+}
+
+/// What `reflect` may read: `[--persisted JSON] [--from LOG]`
 fn reflect_options(mut parts: Parts, mut request: ReflectRequest) -> Option<Command>
     requires { IsBoundedReflect request }
     ensures read { result ≡ reflect_options request parts }
@@ -375,17 +392,16 @@ fn reflect_options(mut parts: Parts, mut request: ReflectRequest) -> Option<Comm
 {
     request.persisted = parts.option("--persisted");
     request.from = parts.option("--from");
-    ask(Command::Reflect(request), &parts)
+    reflect_files(parts, request)
 }
 
-/// The options of `reflect`: `--connections N --log FILE`, and what else it may be told
+/// The options of `reflect`: `--connections N`, and what it may be told
 fn reflect_ends(mut parts: Parts, program: Text, name: Text, address: Text) -> Option<Command>
     requires { length (encode_utf8_all name) ≤ most_name }
     ensures read { result ≡ reflect_ends program name address parts }
     ensures bounds { IfSome result IsWithinBounds }
 {
     let connections = number_within(&parts.option("--connections")?, 1, MOST_CONNECTIONS)?;
-    let log = parts.option("--log")?;
     let request = ReflectRequest {
         program,
         name,
@@ -393,7 +409,8 @@ fn reflect_ends(mut parts: Parts, program: Text, name: Text, address: Text) -> O
         persisted: None,
         from: None,
         connections,
-        log,
+        journal: None,
+        log: None,
     };
     reflect_options(parts, request)
 }

@@ -1,5 +1,5 @@
--- Only the commands join, reflect and drill go on, and only the first two of them with a net.
-use Rattle.std.proofs.Common.{inl, inr, ℕ, Bool, true, false, cond, nat_lt, List, Option, Some, None, subst}
+-- Only the commands join, reflect and drill go on, and only the first two of them with a net; without the word for it, no journal is opened.
+use Rattle.std.proofs.Common.{◌≡◌, ◌⊎◌, inl, inr, ℕ, Bool, true, false, cond, nat_lt, List, Option, Some, None, encode_utf8_all, subst}
 use Rattle.std.specs.Prelude.{⊤}
 use Rattle.tea_base.specs.declared.entry.Entry.{Entry}
 use Rattle.reflector_core.specs.declared.request.Request.{Request}
@@ -18,159 +18,256 @@ use Rattle.command_outcome.specs.declared.outcome.CommandRefusal.TheVariants as 
 use Rattle.command_words.specs.declared.words.ReplayRequest.{ReplayRequest}
 use Rattle.command_words.specs.declared.words.InspectRequest.{InspectRequest}
 use Rattle.command_words.specs.declared.words.TraceRequest.{TraceRequest}
+use Rattle.command_words.specs.declared.words.JoinRequest.{JoinRequest}
+use Rattle.command_words.specs.declared.words.ReflectRequest.{ReflectRequest}
 use Rattle.command_words.specs.declared.words.Command.{Command}
 use Rattle.command_words.specs.declared.words.Command.TheVariants.{Stamp, Check, Replay, Inspect, Trace, Join, Reflect, Drill}
+use Rattle.command_words.specs.Address.{is_address}
 use Rattle.command_words.specs.Bounds.{UsesNet}
+use Rattle.view_script.specs.PlainLine.{PlainLine}
+use Rattle.view_script.specs.ViewScript.{view_script_of}
 use Rattle.command_stamp.specs.Script.{script_of}
 use Rattle.command_inspect.specs.declared.query.Query.{Query}
 use Rattle.command_inspect.specs.Queries.{queries_of}
 use Rattle.model_tree.specs.Bounds.{most_program_bytes}
 use Rattle.persist_json.specs.JsonOf.{most_json}
 use Rattle.tea_base.specs.Limits.{most_snapshot}
-use Rattle.commands.specs.Work.{RunsOn}
-use Rattle.commands.specs.Verdict.{ByDrill, ByNetFault, ByRefusal, ByReflecting, ByVisit, ByWant, Closing, Coming, Comes, Fine, Free, Only, OfFile, OfFounded, OfGiven, OfInspect, OfInspectedLog, OfJson, OfKeyframes, OfPersisted, OfProgram, OfQueries, OfRecorded, OfRight, OfScript, OfSnapshot, OfTimeLine, OfTrace, OfTraced, OfTracedLog, OfTree, OfWords, Starts, Verdict, ask_file, at_once, count_verdict, fine, founded, inspect_verdict, keeps_few, stamp_verdict, trace_verdict, most_queries, most_script, most_log, OfOpening, OfStored, session_id_of}
+use Rattle.commands.specs.Work.{NamesNoJournal, RunsOn}
+use Rattle.commands.specs.Verdict.{ByDrill, ByGoingOn, ByKeeping, ByNetFault, ByReadFault, ByRefusal, ByReflecting, ByVisit, ByWant, ByWriteFault, Closing, Coming, Comes, Fine, Free, Only, OfFile, OfFounded, OfGiven, OfInspect, OfInspectedLog, OfJson, OfKeyframes, OfPersisted, OfProgram, OfQueries, OfRecorded, OfRight, OfScript, OfSnapshot, OfTimeLine, OfTree, OfWords, Starts, Verdict, ask_file, at_once, count_verdict, fine, founded, inspect_verdict, keeps_few, stamp_verdict, most_queries, most_script, most_log, OfOpening, OfStored, session_id_of, OfTrace, OfTraced, OfTracedLog, trace_verdict, OfJoin, OfJournal, OfReflect, OfServed, OfUnkept, OfView, OfViewScript, PlainKeeping, PlainReflection, PlainVisit, keeping_of, reflection_of, visit_to}
+
+map_right : {A B C : Type 0} → A ⊎ B → (B → C) → A ⊎ C
+map_right (inl a) f = inl a
+map_right (inr b) f = inr (f b)
+
+-- closings that are none of these: a command comes to them only where it goes on
+module _ (IsBad : Closing → Type 0) (not_fine : ¬ IsBad Fine) (not_refused : (why : CommandRefusal) → ¬ IsBad (ByRefusal why)) (not_want : ¬ IsBad ByWant) where
+  -- none of these verdicts is closed so
+  abbrev Never : Coming → Type 0
+  Never coming = (verdict : Verdict) → coming verdict → ¬ IsBad verdict.closing
+
+  only_never : (verdict : Verdict) → ¬ IsBad verdict.closing → Never (Only verdict)
+  only_never verdict never other is on = never (subst (λ (v : Verdict). IsBad v.closing) is on)
+
+  fine_never : (steps : List Step) → Never (Only (fine steps))
+  fine_never steps = only_never (fine steps) not_fine
+
+  refused_never : (why : CommandRefusal) → Never (Only (at_once (ByRefusal why)))
+  refused_never why = only_never (at_once (ByRefusal why)) (not_refused why)
+
+  want_never : Never (Only (at_once ByWant))
+  want_never = only_never (at_once ByWant) not_want
+
+  free_never : (next : Coming) → Never next → Never (Free next)
+  free_never next never verdict (inl want) on = want_never verdict want on
+  free_never next never verdict (inr comes) on = never verdict comes on
+
+  given_never : (at : Input) (given : Option (List ℕ)) (next : List ℕ → Coming) → ((bytes : List ℕ) → Never (next bytes)) → Never (OfGiven at given next)
+  given_never at None next each = refused_never (refusal.Input at)
+  given_never at (Some bytes) next each = each bytes
+
+  file_never : (at : Input) (ask : Ask) (next : List ℕ → Coming) → ((bytes : List ℕ) → Never (next bytes)) → Never (OfFile at ask next)
+  file_never at ask next each verdict (given, (rest, is, comes)) on =
+      free_never (OfGiven at given next) (given_never at given next each) rest comes (subst (λ (v : Verdict). IsBad v.closing) is on)
+
+  -- ---- the commands
+
+  stored_never : (next : PlainStored → Coming) (bytes : List ℕ) → ((stored : PlainStored) → Never (next stored)) → Never (OfStored next bytes)
+  stored_never next bytes each verdict (inl (stored, sound, is, comes)) on = each stored verdict comes on
+  stored_never next bytes each verdict (inr (none, comes)) on = refused_never (refusal.Input input.Log) verdict comes on
+
+  opening_never : (from : Option (List ℕ)) (next : PlainSession → Coming) → ((opening : PlainSession) → Never (next opening)) → Never (OfOpening from next)
+  opening_never None next each = each first_session
+  opening_never (Some name) next each =
+      file_never input.Log (ask_file name most_log) (OfStored (λ stored. next (session_of stored)))
+      (λ bytes. stored_never (λ stored. next (session_of stored)) bytes (λ stored. each (session_of stored)))
+
+  script_never : (from log : Option (List ℕ)) (requests : Option (List Request)) → Never (OfScript from log requests)
+  script_never from log None = refused_never (refusal.Input input.Script)
+  script_never from log (Some requests) =
+      opening_never from (λ opening. Only (stamp_verdict opening log requests)) (λ opening. fine_never (stamp_verdict opening log requests).steps)
+
+  program_never : (next : ProgramTree → Coming) (bytes : List ℕ) → ((tree : ProgramTree) → Never (next tree)) → Never (OfProgram next bytes)
+  program_never next bytes each verdict (inl (tree, sound, comes)) on = each tree verdict comes on
+  program_never next bytes each verdict (inr (line, refused, comes)) on = refused_never (refusal.Program line) verdict comes on
+
+  resumed_never : (early : Bool) (why : CommandRefusal) (steps : List Step) → Never (Only (cond early (at_once (ByRefusal why)) (fine steps)))
+  resumed_never true why steps = refused_never why
+  resumed_never false why steps = fine_never steps
+
+  snapshot_never : (request : ReplayRequest) (tree : ProgramTree) (id : List ℕ) (log : List Entry) (bytes : List ℕ) → Never (OfSnapshot request tree id log bytes)
+  snapshot_never request tree id log bytes verdict (inl (w, is, comes)) on =
+      resumed_never (nat_lt request.time w.time) (refusal.Input input.Time) _ verdict comes on
+  snapshot_never request tree id log bytes verdict (inr (none, comes)) on = refused_never (refusal.Input input.Snapshot) verdict comes on
+
+  starts_never : (from : Option (List ℕ)) (request : ReplayRequest) (founding : Founding) (id : List ℕ) (log : List Entry) → Never (Starts from request founding id log)
+  starts_never None request founding id log = fine_never _
+  starts_never (Some from) request founding id log = file_never input.Snapshot (ask_file from most_snapshot) (OfSnapshot request founding.tree id log) (snapshot_never request founding.tree id log)
+
+  json_never : (next : PlainValue → Coming) (bytes : List ℕ) → ((v : PlainValue) → Never (next v)) → Never (OfJson next bytes)
+  json_never next bytes each verdict (inl (v, is, comes)) on = each v verdict comes on
+  json_never next bytes each verdict (inr (none, comes)) on = refused_never (refusal.Input input.Persisted) verdict comes on
+
+  persisted_never : (name : Option (List ℕ)) (next : PlainValue → Coming) → ((v : PlainValue) → Never (next v)) → Never (OfPersisted name next)
+  persisted_never None next each = each nil
+  persisted_never (Some name) next each = file_never input.Persisted (ask_file name most_json) (OfJson next) (λ bytes. json_never next bytes each)
+
+  recorded_never : (request : ReplayRequest) (text : List ℕ) (tree : ProgramTree) (log : List Entry) → Never (OfRecorded request text tree log)
+  recorded_never request text tree log =
+      persisted_never request.persisted (λ v. OfFounded request text log (founded tree v)) (λ v. starts_never request.from request (founded tree v) (session_id_of request.name text v) log)
+
+  tree_never : (request : ReplayRequest) (text : List ℕ) (tree : ProgramTree) → Never (OfTree request text tree)
+  tree_never request text tree =
+      file_never input.Log (ask_file request.log most_log) (OfStored (λ stored. OfRecorded request text tree stored.log))
+      (λ bytes. stored_never (λ stored. OfRecorded request text tree stored.log) bytes (λ stored. recorded_never request text tree stored.log))
+
+  right_never : (at : Input) (is : Bool) (next : Coming) → Never next → Never (OfRight at is next)
+  right_never at true next never = never
+  right_never at false next never = refused_never (refusal.Input at)
+
+  queries_never : (founding : Founding) (id : List ℕ) (log : List Entry) (queries : Option (List Query)) → Never (OfQueries founding id log queries)
+  queries_never founding id log None = refused_never (refusal.Input input.Queries)
+  queries_never founding id log (Some queries) = fine_never (inspect_verdict founding id log queries).steps
+
+  keyframes_never : (every : ℕ) (queries : List ℕ) (founding : Founding) (id : List ℕ) (log : List Entry) → Never (OfKeyframes every queries founding id log)
+  keyframes_never every queries founding id log =
+      let of_bytes : List ℕ → Coming = λ bytes. OfQueries founding id log (queries_of bytes) in
+      right_never input.Every (keeps_few every log) (OfFile input.Queries (ask_file queries most_queries) of_bytes)
+      (file_never input.Queries (ask_file queries most_queries) of_bytes (λ bytes. queries_never founding id log (queries_of bytes)))
+
+  inspected_log_never : (request : InspectRequest) (text : List ℕ) (tree : ProgramTree) (log : List Entry) → Never (OfInspectedLog request text tree log)
+  inspected_log_never request text tree log =
+      persisted_never request.persisted (λ v. OfTimeLine request text log (founded tree v)) (λ v. keyframes_never request.every request.queries (founded tree v) (session_id_of request.name text v) log)
+
+  inspect_never : (request : InspectRequest) (text : List ℕ) (tree : ProgramTree) → Never (OfInspect request text tree)
+  inspect_never request text tree =
+      file_never input.Log (ask_file request.log most_log) (OfStored (λ stored. OfInspectedLog request text tree stored.log))
+      (λ bytes. stored_never (λ stored. OfInspectedLog request text tree stored.log) bytes (λ stored. inspected_log_never request text tree stored.log))
+
+  traced_log_never : (request : TraceRequest) (text : List ℕ) (tree : ProgramTree) (log : List Entry) → Never (OfTracedLog request text tree log)
+  traced_log_never request text tree log =
+      persisted_never request.persisted (λ v. OfTraced request text log (founded tree v)) (λ v. fine_never (trace_verdict (founded tree v) (session_id_of request.name text v) log request.from request.to).steps)
+
+  trace_never : (request : TraceRequest) (text : List ℕ) (tree : ProgramTree) → Never (OfTrace request text tree)
+  trace_never request text tree =
+      file_never input.Log (ask_file request.log most_log) (OfStored (λ stored. OfTracedLog request text tree stored.log))
+      (λ bytes. stored_never (λ stored. OfTracedLog request text tree stored.log) bytes (λ stored. traced_log_never request text tree stored.log))
+
+  -- ---- join
+
+  view_script_never : ((visit : PlainVisit) → ¬ IsBad (ByVisit visit)) → (request : JoinRequest) (text : List ℕ) (tree : ProgramTree) (script : Option (List PlainLine)) → Never (OfViewScript request text tree script)
+  view_script_never not_visit request text tree None = refused_never (refusal.Input input.Script)
+  view_script_never not_visit request text tree (Some lines) =
+      persisted_never request.persisted (λ v. Only (at_once (ByVisit (visit_to request text lines (founded tree v)))))
+      (λ v. only_never (at_once (ByVisit (visit_to request text lines (founded tree v)))) (not_visit (visit_to request text lines (founded tree v))))
+
+  join_never : ((visit : PlainVisit) → ¬ IsBad (ByVisit visit)) → (request : JoinRequest) (text : List ℕ) (tree : ProgramTree) → Never (OfJoin request text tree)
+  join_never not_visit request text tree =
+      right_never input.Address (is_address (encode_utf8_all request.address)) (OfView request text tree)
+      (file_never input.Script (ask_file request.script most_script) (λ bytes. OfViewScript request text tree (view_script_of bytes))
+      (λ bytes. view_script_never not_visit request text tree (view_script_of bytes)))
+
+  -- ---- reflect
+
+  journal_never : (journal : Option (List ℕ)) (without : Coming) (with_one : List ℕ → Coming) → Never without → (journal ≡ None) ⊎ ((name : List ℕ) → Never (with_one name)) → Never (OfJournal journal without with_one)
+  journal_never None without with_one none each = none
+  journal_never (Some name) without with_one none (inl is) = absurd cc
+  journal_never (Some name) without with_one none (inr each) = each name
+
+  served_never : ((reflection : PlainReflection) → ¬ IsBad (ByReflecting reflection)) → (request : ReflectRequest) → (request.journal ≡ None) ⊎ ((keeping : PlainKeeping) → ¬ IsBad (ByKeeping keeping)) → (id : List ℕ)
+      → Never (OfServed request id)
+  served_never not_reflecting request kept id =
+      journal_never request.journal (OfUnkept request id) (λ journal. Only (at_once (ByKeeping (keeping_of request id journal))))
+      (opening_never request.from (λ opening. Only (at_once (ByReflecting (reflection_of request id opening))))
+      (λ opening. only_never (at_once (ByReflecting (reflection_of request id opening))) (not_reflecting (reflection_of request id opening))))
+      (map_right kept (λ not_keeping name. only_never (at_once (ByKeeping (keeping_of request id name))) (not_keeping (keeping_of request id name))))
+
+  reflect_never : ((reflection : PlainReflection) → ¬ IsBad (ByReflecting reflection)) → (request : ReflectRequest) → (request.journal ≡ None) ⊎ ((keeping : PlainKeeping) → ¬ IsBad (ByKeeping keeping)) → (text : List ℕ)
+      → Never (OfReflect request text)
+  reflect_never not_reflecting request kept text =
+      let served : PlainValue → Coming = λ v. OfServed request (session_id_of request.name text v) in
+      right_never input.Address (is_address (encode_utf8_all request.address)) (OfPersisted request.persisted served)
+      (persisted_never request.persisted served (λ v. served_never not_reflecting request kept (session_id_of request.name text v)))
+
+  -- what has to be so of a command that goes on
+  abbrev pub GoesOnWell : Option Command → Type 0
+  GoesOnWell (Some (Join request)) = (visit : PlainVisit) → ¬ IsBad (ByVisit visit)
+  GoesOnWell (Some (Reflect request)) =
+      ((reflection : PlainReflection) → ¬ IsBad (ByReflecting reflection)) × ((request.journal ≡ None) ⊎ ((keeping : PlainKeeping) → ¬ IsBad (ByKeeping keeping)))
+  GoesOnWell (Some (Drill request)) = ¬ IsBad (ByDrill request)
+  GoesOnWell command = ⊤
+
+  words_never : (command : Option Command) → GoesOnWell command → Never (OfWords command)
+  words_never None other = refused_never refusal.Usage
+  words_never (Some (Stamp script from log)) other =
+      file_never input.Script (ask_file script most_script) (λ bytes. OfScript from log (script_of bytes)) (λ bytes. script_never from log (script_of bytes))
+  words_never (Some (Check program)) other =
+      file_never input.Program (ask_file program most_program_bytes) (OfProgram (λ tree. Only (count_verdict tree)))
+      (λ bytes. program_never (λ tree. Only (count_verdict tree)) bytes (λ tree. fine_never (count_verdict tree).steps))
+  words_never (Some (Replay request)) other =
+      file_never input.Program (ask_file request.program most_program_bytes) (λ bytes. OfProgram (OfTree request bytes) bytes)
+      (λ bytes. program_never (OfTree request bytes) bytes (tree_never request bytes))
+  words_never (Some (Inspect request)) other =
+      file_never input.Program (ask_file request.program most_program_bytes) (λ bytes. OfProgram (OfInspect request bytes) bytes)
+      (λ bytes. program_never (OfInspect request bytes) bytes (inspect_never request bytes))
+  words_never (Some (Trace request)) other =
+      file_never input.Program (ask_file request.program most_program_bytes) (λ bytes. OfProgram (OfTrace request bytes) bytes)
+      (λ bytes. program_never (OfTrace request bytes) bytes (trace_never request bytes))
+  words_never (Some (Join request)) well =
+      file_never input.Program (ask_file request.program most_program_bytes) (λ bytes. OfProgram (OfJoin request bytes) bytes)
+      (λ bytes. program_never (OfJoin request bytes) bytes (join_never well request bytes))
+  words_never (Some (Reflect request)) well =
+      file_never input.Program (ask_file request.program most_program_bytes) (λ bytes. OfProgram (λ tree. OfReflect request bytes) bytes)
+      (λ bytes. program_never (λ tree. OfReflect request bytes) bytes (λ tree. reflect_never well.0 request well.1 bytes))
+  words_never (Some (Drill request)) well = only_never (at_once (ByDrill request)) well
+
+  pub never : (command : Option Command) → GoesOnWell command → Never (Comes command)
+  never command well = free_never (OfWords command) (words_never command well)
 
 -- the run goes on
 abbrev pub IsGoingOn : Closing → Type 0
 IsGoingOn (ByVisit visit) = ⊤
 IsGoingOn (ByReflecting reflection) = ⊤
+IsGoingOn (ByKeeping keeping) = ⊤
+IsGoingOn (ByGoingOn keeping place) = ⊤
 IsGoingOn (ByDrill request) = ⊤
 IsGoingOn closing = ⊥
 
--- none of these verdicts does
-abbrev pub NeverGoesOn : Coming → Type 0
-NeverGoesOn coming = (verdict : Verdict) → coming verdict → ¬ IsGoingOn verdict.closing
-
-only_never : (verdict : Verdict) → ¬ IsGoingOn verdict.closing → NeverGoesOn (Only verdict)
-only_never verdict never other is on = never (subst (λ (v : Verdict). IsGoingOn v.closing) is on)
-
-fine_never : (steps : List Step) → NeverGoesOn (Only (fine steps))
-fine_never steps = only_never (fine steps) (λ on. absurd on)
-
-refused_never : (why : CommandRefusal) → NeverGoesOn (Only (at_once (ByRefusal why)))
-refused_never why = only_never (at_once (ByRefusal why)) (λ on. absurd on)
-
-want_never : NeverGoesOn (Only (at_once ByWant))
-want_never = only_never (at_once ByWant) (λ on. absurd on)
-
-free_never : (next : Coming) → NeverGoesOn next → NeverGoesOn (Free next)
-free_never next never verdict (inl want) on = want_never verdict want on
-free_never next never verdict (inr comes) on = never verdict comes on
-
-given_never : (at : Input) (given : Option (List ℕ)) (next : List ℕ → Coming) → ((bytes : List ℕ) → NeverGoesOn (next bytes)) → NeverGoesOn (OfGiven at given next)
-given_never at None next each = refused_never (refusal.Input at)
-given_never at (Some bytes) next each = each bytes
-
-file_never : (at : Input) (ask : Ask) (next : List ℕ → Coming) → ((bytes : List ℕ) → NeverGoesOn (next bytes)) → NeverGoesOn (OfFile at ask next)
-file_never at ask next each verdict (given, (rest, is, comes)) on =
-    free_never (OfGiven at given next) (given_never at given next each) rest comes (subst (λ (v : Verdict). IsGoingOn v.closing) is on)
-
--- ---- the commands
-
-stored_never : (next : PlainStored → Coming) (bytes : List ℕ) → ((stored : PlainStored) → NeverGoesOn (next stored)) → NeverGoesOn (OfStored next bytes)
-stored_never next bytes each verdict (inl (stored, sound, is, comes)) on = each stored verdict comes on
-stored_never next bytes each verdict (inr (none, comes)) on = refused_never (refusal.Input input.Log) verdict comes on
-
-opening_never : (from : Option (List ℕ)) (next : PlainSession → Coming) → ((opening : PlainSession) → NeverGoesOn (next opening)) → NeverGoesOn (OfOpening from next)
-opening_never None next each = each first_session
-opening_never (Some name) next each =
-    file_never input.Log (ask_file name most_log) (OfStored (λ stored. next (session_of stored)))
-    (λ bytes. stored_never (λ stored. next (session_of stored)) bytes (λ stored. each (session_of stored)))
-
-script_never : (from log : Option (List ℕ)) (requests : Option (List Request)) → NeverGoesOn (OfScript from log requests)
-script_never from log None = refused_never (refusal.Input input.Script)
-script_never from log (Some requests) =
-    opening_never from (λ opening. Only (stamp_verdict opening log requests)) (λ opening. fine_never (stamp_verdict opening log requests).steps)
-
-program_never : (next : ProgramTree → Coming) (bytes : List ℕ) → ((tree : ProgramTree) → NeverGoesOn (next tree)) → NeverGoesOn (OfProgram next bytes)
-program_never next bytes each verdict (inl (tree, sound, comes)) on = each tree verdict comes on
-program_never next bytes each verdict (inr (line, refused, comes)) on = refused_never (refusal.Program line) verdict comes on
-
-resumed_never : (early : Bool) (why : CommandRefusal) (steps : List Step) → NeverGoesOn (Only (cond early (at_once (ByRefusal why)) (fine steps)))
-resumed_never true why steps = refused_never why
-resumed_never false why steps = fine_never steps
-
-snapshot_never : (request : ReplayRequest) (tree : ProgramTree) (id : List ℕ) (log : List Entry) (bytes : List ℕ) → NeverGoesOn (OfSnapshot request tree id log bytes)
-snapshot_never request tree id log bytes verdict (inl (w, is, comes)) on =
-    resumed_never (nat_lt request.time w.time) (refusal.Input input.Time) _ verdict comes on
-snapshot_never request tree id log bytes verdict (inr (none, comes)) on = refused_never (refusal.Input input.Snapshot) verdict comes on
-
-starts_never : (from : Option (List ℕ)) (request : ReplayRequest) (founding : Founding) (id : List ℕ) (log : List Entry) → NeverGoesOn (Starts from request founding id log)
-starts_never None request founding id log = fine_never _
-starts_never (Some from) request founding id log = file_never input.Snapshot (ask_file from most_snapshot) (OfSnapshot request founding.tree id log) (snapshot_never request founding.tree id log)
-
-json_never : (next : PlainValue → Coming) (bytes : List ℕ) → ((v : PlainValue) → NeverGoesOn (next v)) → NeverGoesOn (OfJson next bytes)
-json_never next bytes each verdict (inl (v, is, comes)) on = each v verdict comes on
-json_never next bytes each verdict (inr (none, comes)) on = refused_never (refusal.Input input.Persisted) verdict comes on
-
-persisted_never : (name : Option (List ℕ)) (next : PlainValue → Coming) → ((v : PlainValue) → NeverGoesOn (next v)) → NeverGoesOn (OfPersisted name next)
-persisted_never None next each = each nil
-persisted_never (Some name) next each = file_never input.Persisted (ask_file name most_json) (OfJson next) (λ bytes. json_never next bytes each)
-
-recorded_never : (request : ReplayRequest) (text : List ℕ) (tree : ProgramTree) (log : List Entry) → NeverGoesOn (OfRecorded request text tree log)
-recorded_never request text tree log =
-    persisted_never request.persisted (λ v. OfFounded request text log (founded tree v)) (λ v. starts_never request.from request (founded tree v) (session_id_of request.name text v) log)
-
-tree_never : (request : ReplayRequest) (text : List ℕ) (tree : ProgramTree) → NeverGoesOn (OfTree request text tree)
-tree_never request text tree =
-    file_never input.Log (ask_file request.log most_log) (OfStored (λ stored. OfRecorded request text tree stored.log))
-    (λ bytes. stored_never (λ stored. OfRecorded request text tree stored.log) bytes (λ stored. recorded_never request text tree stored.log))
-
-right_never : (at : Input) (is : Bool) (next : Coming) → NeverGoesOn next → NeverGoesOn (OfRight at is next)
-right_never at true next never = never
-right_never at false next never = refused_never (refusal.Input at)
-
-queries_never : (founding : Founding) (id : List ℕ) (log : List Entry) (queries : Option (List Query)) → NeverGoesOn (OfQueries founding id log queries)
-queries_never founding id log None = refused_never (refusal.Input input.Queries)
-queries_never founding id log (Some queries) = fine_never (inspect_verdict founding id log queries).steps
-
-keyframes_never : (every : ℕ) (queries : List ℕ) (founding : Founding) (id : List ℕ) (log : List Entry) → NeverGoesOn (OfKeyframes every queries founding id log)
-keyframes_never every queries founding id log =
-    let of_bytes : List ℕ → Coming = λ bytes. OfQueries founding id log (queries_of bytes) in
-    right_never input.Every (keeps_few every log) (OfFile input.Queries (ask_file queries most_queries) of_bytes)
-    (file_never input.Queries (ask_file queries most_queries) of_bytes (λ bytes. queries_never founding id log (queries_of bytes)))
-
-inspected_log_never : (request : InspectRequest) (text : List ℕ) (tree : ProgramTree) (log : List Entry) → NeverGoesOn (OfInspectedLog request text tree log)
-inspected_log_never request text tree log =
-    persisted_never request.persisted (λ v. OfTimeLine request text log (founded tree v)) (λ v. keyframes_never request.every request.queries (founded tree v) (session_id_of request.name text v) log)
-
-inspect_never : (request : InspectRequest) (text : List ℕ) (tree : ProgramTree) → NeverGoesOn (OfInspect request text tree)
-inspect_never request text tree =
-    file_never input.Log (ask_file request.log most_log) (OfStored (λ stored. OfInspectedLog request text tree stored.log))
-    (λ bytes. stored_never (λ stored. OfInspectedLog request text tree stored.log) bytes (λ stored. inspected_log_never request text tree stored.log))
-
-traced_log_never : (request : TraceRequest) (text : List ℕ) (tree : ProgramTree) (log : List Entry) → NeverGoesOn (OfTracedLog request text tree log)
-traced_log_never request text tree log =
-    persisted_never request.persisted (λ v. OfTraced request text log (founded tree v)) (λ v. fine_never (trace_verdict (founded tree v) (session_id_of request.name text v) log request.from request.to).steps)
-
-trace_never : (request : TraceRequest) (text : List ℕ) (tree : ProgramTree) → NeverGoesOn (OfTrace request text tree)
-trace_never request text tree =
-    file_never input.Log (ask_file request.log most_log) (OfStored (λ stored. OfTracedLog request text tree stored.log))
-    (λ bytes. stored_never (λ stored. OfTracedLog request text tree stored.log) bytes (λ stored. traced_log_never request text tree stored.log))
-
-words_never : (command : Option Command) → ¬ RunsOn command → NeverGoesOn (OfWords command)
-words_never None other = refused_never refusal.Usage
-words_never (Some (Stamp script from log)) other =
-    file_never input.Script (ask_file script most_script) (λ bytes. OfScript from log (script_of bytes)) (λ bytes. script_never from log (script_of bytes))
-words_never (Some (Check program)) other =
-    file_never input.Program (ask_file program most_program_bytes) (OfProgram (λ tree. Only (count_verdict tree)))
-    (λ bytes. program_never (λ tree. Only (count_verdict tree)) bytes (λ tree. fine_never (count_verdict tree).steps))
-words_never (Some (Replay request)) other =
-    file_never input.Program (ask_file request.program most_program_bytes) (λ bytes. OfProgram (OfTree request bytes) bytes)
-    (λ bytes. program_never (OfTree request bytes) bytes (tree_never request bytes))
-words_never (Some (Inspect request)) other =
-    file_never input.Program (ask_file request.program most_program_bytes) (λ bytes. OfProgram (OfInspect request bytes) bytes)
-    (λ bytes. program_never (OfInspect request bytes) bytes (inspect_never request bytes))
-words_never (Some (Trace request)) other =
-    file_never input.Program (ask_file request.program most_program_bytes) (λ bytes. OfProgram (OfTrace request bytes) bytes)
-    (λ bytes. program_never (OfTrace request bytes) bytes (trace_never request bytes))
-words_never (Some (Join request)) other = absurd (other tt)
-words_never (Some (Reflect request)) other = absurd (other tt)
-words_never (Some (Drill request)) other = absurd (other tt)
+goes_on_never : (command : Option Command) → ¬ RunsOn command → GoesOnWell IsGoingOn (λ on. absurd on) (λ why on. absurd on) (λ on. absurd on) command
+goes_on_never None other = tt
+goes_on_never (Some (Stamp script from log)) other = tt
+goes_on_never (Some (Check program)) other = tt
+goes_on_never (Some (Replay request)) other = tt
+goes_on_never (Some (Inspect request)) other = tt
+goes_on_never (Some (Trace request)) other = tt
+goes_on_never (Some (Join request)) other = absurd (other tt)
+goes_on_never (Some (Reflect request)) other = absurd (other tt)
+goes_on_never (Some (Drill request)) other = absurd (other tt)
 
 -- what comes of another command does not go on
-pub never_goes_on : (command : Option Command) → ¬ RunsOn command → NeverGoesOn (Comes command)
-never_goes_on command other = free_never (OfWords command) (words_never command other)
+pub never_goes_on : (command : Option Command) → ¬ RunsOn command → (verdict : Verdict) → Comes command verdict → ¬ IsGoingOn verdict.closing
+never_goes_on command other = never IsGoingOn (λ on. absurd on) (λ why on. absurd on) (λ on. absurd on) command (goes_on_never command other)
+
+-- ---- with a journal
+
+-- a journal is to be opened
+abbrev pub IsKeeping : Closing → Type 0
+IsKeeping (ByKeeping keeping) = ⊤
+IsKeeping closing = ⊥
+
+keeps_none : (command : Option Command) → NamesNoJournal command → GoesOnWell IsKeeping (λ on. absurd on) (λ why on. absurd on) (λ on. absurd on) command
+keeps_none None none = tt
+keeps_none (Some (Stamp script from log)) none = tt
+keeps_none (Some (Check program)) none = tt
+keeps_none (Some (Replay request)) none = tt
+keeps_none (Some (Inspect request)) none = tt
+keeps_none (Some (Trace request)) none = tt
+keeps_none (Some (Join request)) none = λ visit on. absurd on
+keeps_none (Some (Reflect request)) none = (λ reflection on. absurd on, inl none)
+keeps_none (Some (Drill request)) none = λ on. absurd on
+
+-- where none is named, none is opened
+pub never_keeps : (command : Option Command) → NamesNoJournal command → (verdict : Verdict) → Comes command verdict → ¬ IsKeeping verdict.closing
+never_keeps command none = never IsKeeping (λ on. absurd on) (λ why on. absurd on) (λ on. absurd on) command (keeps_none command none)
 
 -- ---- on a net
 
@@ -178,15 +275,21 @@ never_goes_on command other = free_never (OfWords command) (words_never command 
 abbrev pub IsOnNet : Closing → Type 0
 IsOnNet (ByVisit visit) = ⊤
 IsOnNet (ByReflecting reflection) = ⊤
+IsOnNet (ByKeeping keeping) = ⊤
+IsOnNet (ByGoingOn keeping place) = ⊤
 IsOnNet closing = ⊥
 
 on_net_goes_on : (closing : Closing) → IsOnNet closing → IsGoingOn closing
 on_net_goes_on (ByVisit visit) on = tt
 on_net_goes_on (ByReflecting reflection) on = tt
+on_net_goes_on (ByKeeping keeping) on = tt
+on_net_goes_on (ByGoingOn keeping place) on = tt
 on_net_goes_on (ByDrill request) on = absurd on
 on_net_goes_on Fine on = absurd on
 on_net_goes_on (ByRefusal why) on = absurd on
 on_net_goes_on ByWant on = absurd on
+on_net_goes_on ByReadFault on = absurd on
+on_net_goes_on ByWriteFault on = absurd on
 on_net_goes_on ByNetFault on = absurd on
 
 -- what comes of another command than join and reflect does not go on with a net

@@ -47,7 +47,7 @@ use Rattle.command_outcome.specs.ProgramEnd.{IsLineOf, IsRefused, IsRefusedBy}
 use Rattle.model_tree.specs.Bounds.{most_program_bytes}
 use Rattle.tea_base.specs.Limits.{most_snapshot}
 use Rattle.commands.specs.Laws.{AreAlike, AreDoneAlike, IsOneVerdict, IsFunction}
-use Rattle.commands.specs.Verdict.{Closing, ByDrill, ByRefusal, ByReflecting, ByVisit, ByWant, Verdict, Coming, Free, OfFile, OfFounded, OfGiven, OfInspect, OfInspectedLog, OfJoin, OfJson, OfKeyframes, OfPersisted, OfProgram, OfQueries, OfRecorded, OfReflect, OfRight, OfScript, OfSnapshot, OfTimeLine, OfTrace, OfTraced, OfTracedLog, OfTree, OfView, OfViewScript, OfWords, Only, Starts, before, ask_file, at_once, count_verdict, founded, inspect_verdict, keeps_few, reflection_of, resumed_verdict, stamp_verdict, trace_verdict, visit_to, most_queries, most_script, most_log, OfOpening, OfServed, OfStored, session_id_of}
+use Rattle.commands.specs.Verdict.{Closing, ByDrill, ByKeeping, ByRefusal, ByReflecting, ByVisit, ByWant, Verdict, Coming, Free, OfFile, OfFounded, OfGiven, OfInspect, OfInspectedLog, OfJoin, OfJournal, OfJson, OfKeyframes, OfPersisted, OfProgram, OfQueries, OfRecorded, OfReflect, OfRight, OfScript, OfSnapshot, OfTimeLine, OfTree, OfView, OfViewScript, OfWords, Only, Starts, before, ask_file, at_once, count_verdict, founded, inspect_verdict, keeps_few, reflection_of, resumed_verdict, stamp_verdict, visit_to, most_queries, most_script, most_log, OfOpening, OfServed, OfStored, OfUnkept, keeping_of, session_id_of, OfTrace, OfTraced, OfTracedLog, trace_verdict}
 
 -- what `model_lang::one_reading` says
 abbrev pub IsOneReading : Type 0
@@ -272,9 +272,18 @@ one_join request text tree = one_right input.Address (is_address (encode_utf8_al
 
 -- ---- reflect
 
+one_unkept : (request : ReflectRequest) (id : List ℕ) → IsOneVerdict (OfUnkept request id)
+one_unkept request id =
+    one_opening request.from (λ opening. Only (at_once (ByReflecting (reflection_of request id opening)))) (λ opening. one_only (at_once (ByReflecting (reflection_of request id opening))))
+
+one_journal : (journal : Option (List ℕ)) (without : Coming) (with_one : List ℕ → Coming) → IsOneVerdict without → ((name : List ℕ) → IsOneVerdict (with_one name)) → IsOneVerdict (OfJournal journal without with_one)
+one_journal None without with_one one each = one
+one_journal (Some name) without with_one one each = each name
+
 one_served : (request : ReflectRequest) (id : List ℕ) → IsOneVerdict (OfServed request id)
 one_served request id =
-    one_opening request.from (λ opening. Only (at_once (ByReflecting (reflection_of request id opening)))) (λ opening. one_only (at_once (ByReflecting (reflection_of request id opening))))
+    one_journal request.journal (OfUnkept request id) (λ journal. Only (at_once (ByKeeping (keeping_of request id journal)))) (one_unkept request id)
+    (λ journal. one_only (at_once (ByKeeping (keeping_of request id journal))))
 
 one_reflect : (request : ReflectRequest) (text : List ℕ) → IsOneVerdict (OfReflect request text)
 one_reflect request text =

@@ -1,10 +1,13 @@
--- A session that goes on, or a first one.
-use Rattle.std.proofs.Common.{◌≡◌, ℕ, List, Option, Some, None, subst, sym}
+-- A session that goes on, or a first one; with a journal, or without one.
+use Rattle.std.proofs.Common.{◌≡◌, ℕ, List, Option, Some, None, inl, inr, subst, sym}
 use Rattle.command_outcome.specs.declared.outcome.Input.TheVariants as input
 use Rattle.reflector_core.specs.PlainSession.{PlainSession}
 use Rattle.reflector_core.specs.Play.{first_session}
 use Rattle.reflector_core.specs.Stored.{session_of}
-use Rattle.commands.specs.Verdict.{Coming, Free, OfFile, OfOpening, OfStored, Verdict, ask_file, most_log}
+use Rattle.session_log.specs.Stored.{PlainStored, IsStored, stored_spelling}
+use Rattle.session_journal.specs.State.{founded}
+use Rattle.commands.specs.Keeping.{OfFounding, founded_with}
+use Rattle.commands.specs.Verdict.{ByKeeping, Coming, Free, OfFile, OfJournal, OfOpening, OfStored, Only, PlainKeeping, Verdict, ask_file, at_once, most_log}
 
 -- a log is named
 pub opened_by_file : (from : Option (List ℕ)) (file : List ℕ) (next : PlainSession → Coming) (verdict : Verdict) → from ≡ Some file
@@ -21,3 +24,26 @@ pub opened_freely : (from : Option (List ℕ)) (session : PlainSession) (next : 
     → Free (next session) verdict → Free (OfOpening from next) verdict
 opened_freely from session next verdict is first comes =
     subst (λ (f : Option (List ℕ)). Free (OfOpening f next) verdict) (sym is) (subst (λ (s : PlainSession). Free (next s) verdict) first comes)
+
+-- ---- a journal
+
+pub with_journal : (journal : Option (List ℕ)) (name : List ℕ) (without : Coming) (with_one : List ℕ → Coming) (verdict : Verdict) → journal ≡ Some name → with_one name verdict → OfJournal journal without with_one verdict
+with_journal journal name without with_one verdict is comes = subst (λ (j : Option (List ℕ)). OfJournal j without with_one verdict) (sym is) comes
+
+pub without_journal : (journal : Option (List ℕ)) (without : Coming) (with_one : List ℕ → Coming) (verdict : Verdict) → journal ≡ None → without verdict → OfJournal journal without with_one verdict
+without_journal journal without with_one verdict is comes = subst (λ (j : Option (List ℕ)). OfJournal j without with_one verdict) (sym is) comes
+
+-- it is founded with a log
+pub founded_by_file : (from : Option (List ℕ)) (file : List ℕ) (keeping : PlainKeeping) (verdict : Verdict) → from ≡ Some file
+    → OfFile input.Log (ask_file file most_log) (OfStored (λ stored. Only (at_once (ByKeeping (founded_with keeping stored))))) verdict → OfFounding from keeping verdict
+founded_by_file from file keeping verdict is comes = subst (λ (f : Option (List ℕ)). OfFounding f keeping verdict) (sym is) comes
+
+-- it is founded with a first session
+pub founded_first : (from : Option (List ℕ)) (stored : PlainStored) (keeping : PlainKeeping) (verdict : Verdict) → from ≡ None → stored ≡ founded
+    → Only (at_once (ByKeeping (founded_with keeping stored))) verdict → OfFounding from keeping verdict
+founded_first from stored keeping verdict is first comes =
+    subst (λ (f : Option (List ℕ)). OfFounding f keeping verdict) (sym is) (subst (λ (s : PlainStored). Only (at_once (ByKeeping (founded_with keeping s))) verdict) first comes)
+
+-- it is founded with what is stored in these bytes
+pub founded_by_bytes : (next : PlainStored → Coming) (bytes : List ℕ) (stored : PlainStored) (verdict : Verdict) → IsStored stored → bytes ≡ stored_spelling stored → next stored verdict → Free (OfStored next bytes) verdict
+founded_by_bytes next bytes stored verdict sound is comes = inr (inl (stored, sound, is, comes))

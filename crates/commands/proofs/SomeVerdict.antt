@@ -41,7 +41,7 @@ use Rattle.model_tree.specs.Bounds.{most_program_bytes}
 use Rattle.persist_json.specs.JsonOf.{most_json}
 use Rattle.tea_base.specs.Limits.{most_snapshot}
 use Rattle.commands.specs.Laws.{AreGiven, IsOnlyWant, SomeVerdictComes}
-use Rattle.commands.specs.Verdict.{PlainVisit, Fine, ByDrill, ByRefusal, ByReflecting, ByVisit, ByWant, Coming, OfCommand, OfFile, OfFounded, OfGiven, OfInspect, OfInspectedLog, OfJoin, OfJson, OfKeyframes, OfPersisted, OfProgram, OfQueries, OfRecorded, OfReflect, OfRight, OfScript, OfSnapshot, OfTimeLine, OfTrace, OfTraced, OfTracedLog, OfTree, OfView, OfViewScript, Only, Starts, ask_file, at_once, before, count_verdict, fine, founded, keeps_few, reflection_of, stamp_verdict, visit_to, most_queries, most_script, most_log, PlainReflection, OfOpening, OfServed, OfStored, session_id_of}
+use Rattle.commands.specs.Verdict.{PlainKeeping, PlainVisit, Fine, ByDrill, ByKeeping, ByRefusal, ByReflecting, ByVisit, ByWant, Coming, OfCommand, OfFile, OfFounded, OfGiven, OfInspect, OfInspectedLog, OfJoin, OfJournal, OfJson, OfKeyframes, OfPersisted, OfProgram, OfQueries, OfRecorded, OfReflect, OfRight, OfScript, OfSnapshot, OfTimeLine, OfTree, OfView, OfViewScript, Only, Starts, ask_file, at_once, before, count_verdict, fine, founded, keeps_few, reflection_of, stamp_verdict, visit_to, most_queries, most_script, most_log, PlainReflection, OfOpening, OfServed, OfStored, OfUnkept, keeping_of, session_id_of, OfTrace, OfTraced, OfTracedLog}
 
 abbrev pub Told : Type 0
 Told = Ask → Option (List ℕ)
@@ -50,12 +50,15 @@ Told = Ask → Option (List ℕ)
 abbrev pub IsSomeReading : Type 0
 IsSomeReading = (text : List ℕ) → ¬ ((reading : Reading) → ¬ IsReading text reading)
 
--- a refusal is no want of memory, a visit is none, a reflection is none, a drill is none, and a text that was printed is none
+-- a refusal is no want of memory, a visit is none, a reflection is none, a keeping is none, a drill is none, and a text that was printed is none
 refused_not_want : (told : Told) (coming : Coming) (why : CommandRefusal) → coming (at_once (ByRefusal why)) → ¬ IsOnlyWant told coming
 refused_not_want told coming why comes only = let want : ByRefusal why ≡ ByWant = only (at_once (ByRefusal why)) comes tt in absurd cc
 
 visit_not_want : (told : Told) (coming : Coming) (visit : PlainVisit) → coming (at_once (ByVisit visit)) → ¬ IsOnlyWant told coming
 visit_not_want told coming visit comes only = let want : ByVisit visit ≡ ByWant = only (at_once (ByVisit visit)) comes tt in absurd cc
+
+keeping_not_want : (told : Told) (coming : Coming) (keeping : PlainKeeping) → coming (at_once (ByKeeping keeping)) → ¬ IsOnlyWant told coming
+keeping_not_want told coming keeping comes only = let want : ByKeeping keeping ≡ ByWant = only (at_once (ByKeeping keeping)) comes tt in absurd cc
 
 reflection_not_want : (told : Told) (coming : Coming) (reflection : PlainReflection) → coming (at_once (ByReflecting reflection)) → ¬ IsOnlyWant told coming
 reflection_not_want told coming reflection comes only = let want : ByReflecting reflection ≡ ByWant = only (at_once (ByReflecting reflection)) comes tt in absurd cc
@@ -216,10 +219,19 @@ join_not_want told request text tree =
 
 -- ---- reflect
 
-served_not_want : (told : Told) (request : ReflectRequest) (id : List ℕ) → ¬ IsOnlyWant told (OfServed request id)
-served_not_want told request id =
+unkept_not_want : (told : Told) (request : ReflectRequest) (id : List ℕ) → ¬ IsOnlyWant told (OfUnkept request id)
+unkept_not_want told request id =
     let reflects : PlainSession → Coming = λ opening. Only (at_once (ByReflecting (reflection_of request id opening))) in
     opening_not_want told request.from reflects (λ opening. reflection_not_want told (reflects opening) (reflection_of request id opening) refl)
+
+journal_not_want : (told : Told) (journal : Option (List ℕ)) (without : Coming) (with_one : List ℕ → Coming) → ¬ IsOnlyWant told without → ((name : List ℕ) → ¬ IsOnlyWant told (with_one name)) → ¬ IsOnlyWant told (OfJournal journal without with_one)
+journal_not_want told None without with_one none each = none
+journal_not_want told (Some name) without with_one none each = each name
+
+served_not_want : (told : Told) (request : ReflectRequest) (id : List ℕ) → ¬ IsOnlyWant told (OfServed request id)
+served_not_want told request id =
+    let keeps : List ℕ → Coming = λ journal. Only (at_once (ByKeeping (keeping_of request id journal))) in
+    journal_not_want told request.journal (OfUnkept request id) keeps (unkept_not_want told request id) (λ journal. keeping_not_want told (keeps journal) (keeping_of request id journal) refl)
 
 reflect_not_want : (told : Told) (request : ReflectRequest) (text : List ℕ) → ¬ IsOnlyWant told (OfReflect request text)
 reflect_not_want told request text =

@@ -44,6 +44,7 @@ some_left (waiting.Join (join_wait.Value wait)) = omega arith
 some_left (waiting.Reflect (reflect_wait.Program request)) = omega arith
 some_left (waiting.Reflect (reflect_wait.Value wait)) = omega arith
 some_left (waiting.Reflect (reflect_wait.Log wait)) = omega arith
+some_left (waiting.Reflect (reflect_wait.Founding wait)) = omega arith
 
 -- where its bytes were handed over, it goes on
 pub handed_on : (wait : Waiting) (bytes : List ℕ) (step : Next) (rest : Verdict) → Leads step (Free (next_of wait bytes)) → ComesNext step rest → Remains wait (before (Loads (ask_of wait) (Some bytes)) rest)

@@ -1,3 +1,4 @@
 pub mod Verdict
+pub mod Keeping
 pub mod Work
 pub mod Laws

@@ -5,6 +5,7 @@ use Rattle.connection.specs.declared.ending.Ended.{Ended}
 use Rattle.reflector_core.specs.PlainSession.{PlainSession}
 use Rattle.reflector_core.specs.Stored.{session_of, stored_of}
 use Rattle.session_log.specs.Stored.{PlainStored, IsStored, stored_spelling}
+use Rattle.session_journal.specs.Frames.{Place}
 use Rattle.reflector_core.specs.declared.request.Request.{Request}
 use Rattle.reflector_core.specs.Play.{first_session, after_all, replies_from}
 use Rattle.model_tree.specs.Bounds.{most_program_bytes}
@@ -61,13 +62,25 @@ pub record PlainVisit : Type 0 where
   pub address : List ℕ
   pub lines : List PlainLine
 
--- what a reflector serves: the session's id, the session that goes on, the address, how many links it accepts, and where it puts the session
+-- what a reflector serves: the session's id, the session that goes on, the address, how many links it accepts, and where it puts the session, if
+-- there is a name for that
 pub record PlainReflection : Type 0 where
   pub id : List ℕ
   pub opening : PlainSession
   pub address : List ℕ
   pub connections : ℕ
-  pub log : List ℕ
+  pub log : Option (List ℕ)
+
+-- what a reflector keeps: the session's id, the address, how many links it accepts, the file of the journal, the log of the session that goes on
+-- where there is no journal yet, what the journal is founded with once that is known, and where it puts the session, if there is a name for that
+pub record PlainKeeping : Type 0 where
+  pub id : List ℕ
+  pub address : List ℕ
+  pub connections : ℕ
+  pub journal : List ℕ
+  pub from : Option (List ℕ)
+  pub opening : Option PlainStored
+  pub log : Option (List ℕ)
 
 -- how a command is closed, behind all its steps
 pub data Closing : Type 0 where
@@ -77,12 +90,20 @@ pub data Closing : Type 0 where
   ByRefusal : CommandRefusal → Closing
   -- memory is wanted
   ByWant : Closing
+  -- a store has not given what it holds
+  ByReadFault : Closing
+  -- a store has not taken what it was to hold
+  ByWriteFault : Closing
   -- the net has failed
   ByNetFault : Closing
   -- the run goes on as this view's
   ByVisit : PlainVisit → Closing
   -- the run goes on as a reflector's, which serves this
   ByReflecting : PlainReflection → Closing
+  -- its journal is to be opened, and founded before that, if it is known with what
+  ByKeeping : PlainKeeping → Closing
+  -- the run goes on as that of a reflector whose journal goes on from here
+  ByGoingOn : PlainKeeping → Place PlainStored → Closing
   -- the run goes on as this drill
   ByDrill : DrillRequest → Closing
 
@@ -322,19 +343,37 @@ abbrev pub reflection_of : ReflectRequest → List ℕ → PlainSession → Plai
 reflection_of request id opening =
     record { id = id; opening = opening; address = request.address; connections = request.connections; log = request.log }
 
--- once the id is known, the session begins, and is reflected
+-- a reflector that keeps the journal of this name, of which nothing is known yet
+abbrev pub keeping_of : ReflectRequest → List ℕ → List ℕ → PlainKeeping
+keeping_of request id journal =
+    record { id = id; address = request.address; connections = request.connections; journal = journal; from = request.from; opening = None; log = request.log }
+
+-- the one without a journal, the other with one
+abbrev pub OfJournal : Option (List ℕ) → Coming → (List ℕ → Coming) → Coming
+OfJournal None without with_one = without
+OfJournal (Some journal) without with_one = with_one journal
+
+-- without a journal the session begins, and is reflected
+abbrev pub OfUnkept : ReflectRequest → List ℕ → Coming
+OfUnkept request id = OfOpening request.from (λ opening. Only (at_once (ByReflecting (reflection_of request id opening))))
+
+-- once the id is known, the journal is opened, if one is named
 abbrev pub OfServed : ReflectRequest → List ℕ → Coming
-OfServed request id = OfOpening request.from (λ opening. Only (at_once (ByReflecting (reflection_of request id opening))))
+OfServed request id = OfJournal request.journal (OfUnkept request id) (λ journal. Only (at_once (ByKeeping (keeping_of request id journal))))
 
 -- once the program was read, the address is checked, then the persisted value is read, and then the session begins
 abbrev pub OfReflect : ReflectRequest → List ℕ → Coming
 OfReflect request text =
     OfRight input.Address (is_address (encode_utf8_all request.address)) (OfPersisted request.persisted (λ v. OfServed request (session_id_of request.name text v)))
 
--- what comes of a session behind its reflector, whose net may have failed
-abbrev pub reflected_verdict : List ℕ → List Ended → PlainSession → Bool → Verdict
-reflected_verdict log ends session net_failed =
-    record { steps = reflected_steps log ends session; closing = if net_failed then ByNetFault else Fine }
+-- how a session is closed behind its reflector: a call was not kept, or the net has failed, or all went well
+abbrev pub reflected_closing : Bool → Bool → Closing
+reflected_closing unkept net_failed = if unkept then ByWriteFault else if net_failed then ByNetFault else Fine
+
+-- what comes of a session behind its reflector
+abbrev pub reflected_verdict : Option (List ℕ) → List Ended → PlainSession → Bool → Bool → Verdict
+reflected_verdict log ends session unkept net_failed =
+    record { steps = reflected_steps log ends session; closing = reflected_closing unkept net_failed }
 
 -- ---- drill
 

@@ -1,5 +1,5 @@
 -- What the parts of a command's work make of what comes.
-use Rattle.std.specs.Prelude.{◌≡◌, ◌≤◌, ℕ, ⊤, true, false, List, Option, Some, Result, Ok, Err}
+use Rattle.std.specs.Prelude.{◌≡◌, ◌≤◌, ℕ, ⊤, true, false, List, Option, Some, None, option_map, Result, Ok, Err}
 use Rattle.tea_base.specs.Limits.{most_snapshot}
 use Rattle.model_tree.specs.Bounds.{most_program_bytes}
 use Rattle.persist_json.specs.JsonOf.{most_json}
@@ -11,8 +11,10 @@ use Rattle.command_words.specs.declared.words.Command.{Command}
 use Rattle.command_words.specs.declared.words.Command.TheVariants.{Join, Reflect, Drill}
 use Rattle.reflector_core.specs.PlainSession.{PlainSession}
 use Rattle.reflector_core.specs.Stored.{session_of}
-use Rattle.session_log.specs.Stored.{PlainStored, IsStored, stored_spelling}
+use Rattle.session_log.specs.Stored.{PlainStored, IsStored, plain_stored, stored_spelling}
+use Rattle.session_log.specs.declared.stored.Stored.{Stored}
 use Rattle.command_reflect.specs.declared.reflection.Reflection.{Reflection}
+use Rattle.command_reflect.specs.declared.keeping.Keeping.{Keeping}
 use Rattle.commands.specs.declared.visit.VisitRequest.{VisitRequest}
 use Rattle.commands.specs.declared.work.Waiting.{Waiting}
 use Rattle.commands.specs.declared.work.Waiting.TheVariants as waiting
@@ -34,7 +36,8 @@ use Rattle.commands.specs.declared.work.Next.TheVariants as next
 use Rattle.view_script.specs.PlainLine.{plain_lines}
 use Rattle.command_words.specs.Bounds.{AreConnections, IsBounded, IsBoundedDrill, IsBoundedInspect, IsBoundedJoin, IsBoundedReflect, IsBoundedTrace}
 use Rattle.command_outcome.specs.Outcome.{steps_of}
-use Rattle.commands.specs.Verdict.{Verdict, PlainReflection, PlainVisit, ByDrill, ByRefusal, ByReflecting, ByVisit, ByWant, Coming, Only, OfFile, OfFounded, OfInspect, OfJoin, OfJson, OfTimeLine, OfInspectedLog, OfProgram, OfQueries, OfRecorded, OfReflect, OfScript, OfServed, OfSnapshot, OfStored, OfTrace, OfTraced, OfTracedLog, OfTree, OfViewScript, ask_file, at_once, count_verdict, fine, founded, keeps_few, most_log, most_queries, most_script, reflection_of, session_id_of, stamp_verdict, visit_to}
+use Rattle.commands.specs.Keeping.{founded_with}
+use Rattle.commands.specs.Verdict.{Verdict, PlainKeeping, PlainReflection, PlainVisit, ByDrill, ByKeeping, ByRefusal, ByReflecting, ByVisit, ByWant, Coming, Only, OfFile, OfFounded, OfInspect, OfJoin, OfJson, OfTimeLine, OfInspectedLog, OfProgram, OfQueries, OfRecorded, OfReflect, OfScript, OfServed, OfSnapshot, OfStored, OfTree, OfViewScript, ask_file, at_once, count_verdict, fine, founded, keeps_few, most_log, most_queries, most_script, reflection_of, session_id_of, stamp_verdict, visit_to, OfTrace, OfTraced, OfTracedLog}
 
 -- ---- a command that waits for a file
 
@@ -60,6 +63,7 @@ input_of (waiting.Join (join_wait.Value wait)) = input.Persisted
 input_of (waiting.Reflect (reflect_wait.Program request)) = input.Program
 input_of (waiting.Reflect (reflect_wait.Value wait)) = input.Persisted
 input_of (waiting.Reflect (reflect_wait.Log wait)) = input.Log
+input_of (waiting.Reflect (reflect_wait.Founding wait)) = input.Log
 
 -- the name of its file
 abbrev pub file_of : Waiting → List ℕ
@@ -83,6 +87,7 @@ file_of (waiting.Join (join_wait.Value wait)) = wait.persisted
 file_of (waiting.Reflect (reflect_wait.Program request)) = request.program
 file_of (waiting.Reflect (reflect_wait.Value wait)) = wait.persisted
 file_of (waiting.Reflect (reflect_wait.Log wait)) = wait.from
+file_of (waiting.Reflect (reflect_wait.Founding wait)) = wait.from
 
 -- the most bytes of an input
 abbrev pub most_bytes : Input → ℕ
@@ -92,6 +97,8 @@ most_bytes input.Log = most_log
 most_bytes input.Snapshot = most_snapshot
 most_bytes input.Persisted = most_json
 most_bytes input.Queries = most_queries
+-- a journal is opened by its store
+most_bytes input.Journal = 0
 -- these are no files
 most_bytes input.Time = 0
 most_bytes input.Address = 0
@@ -100,6 +107,31 @@ most_bytes input.Every = 0
 -- the file that is waited for
 abbrev pub ask_of : Waiting → Ask
 ask_of wait = ask_file (file_of wait) (most_bytes (input_of wait))
+
+-- what is known of an opening
+abbrev pub plain_opening : Option Stored → Option PlainStored
+plain_opening opening = option_map plain_stored opening
+
+-- the keeping that is asked for
+abbrev pub plain_keeping : Keeping → PlainKeeping
+plain_keeping keeping = record {
+  id = keeping.id.0;
+  address = keeping.address;
+  connections = keeping.connections;
+  journal = keeping.journal;
+  from = keeping.from;
+  opening = plain_opening keeping.opening;
+  log = keeping.log;
+}
+
+-- what a journal is founded with is a stored session, if it is known
+abbrev pub IsOpening : Option Stored → Type 0
+IsOpening None = ⊤
+IsOpening (Some stored) = IsStored (plain_stored stored)
+
+-- it accepts from 1 to the most links
+abbrev pub IsBoundedKeeping : Keeping → Type 0
+IsBoundedKeeping keeping = AreConnections keeping.connections × IsOpening keeping.opening
 
 -- what comes of its bytes
 abbrev pub next_of : Waiting → List ℕ → Coming
@@ -133,6 +165,8 @@ next_of (waiting.Reflect (reflect_wait.Program request)) bytes = OfProgram (λ t
 next_of (waiting.Reflect (reflect_wait.Value wait)) bytes = OfJson (λ v. OfServed wait.request (session_id_of wait.request.name wait.text v)) bytes
 next_of (waiting.Reflect (reflect_wait.Log wait)) bytes =
     OfStored (λ stored. Only (at_once (ByReflecting (reflection_of wait.request wait.id.0 (session_of stored))))) bytes
+next_of (waiting.Reflect (reflect_wait.Founding wait)) bytes =
+    OfStored (λ stored. Only (at_once (ByKeeping (founded_with (plain_keeping wait.keeping) stored)))) bytes
 
 -- what comes of the files that are read from here on
 abbrev pub Remains : Waiting → Coming
@@ -160,6 +194,7 @@ files_left (waiting.Join (join_wait.Value wait)) = 1
 files_left (waiting.Reflect (reflect_wait.Program request)) = 3
 files_left (waiting.Reflect (reflect_wait.Value wait)) = 2
 files_left (waiting.Reflect (reflect_wait.Log wait)) = 1
+files_left (waiting.Reflect (reflect_wait.Founding wait)) = 1
 
 -- its words are within their bounds
 abbrev pub IsBoundedWait : Waiting → Type 0
@@ -182,6 +217,7 @@ IsBoundedWait (waiting.Join (join_wait.Value wait)) = IsBoundedJoin wait.read.re
 IsBoundedWait (waiting.Reflect (reflect_wait.Program request)) = IsBoundedReflect request
 IsBoundedWait (waiting.Reflect (reflect_wait.Value wait)) = IsBoundedReflect wait.request
 IsBoundedWait (waiting.Reflect (reflect_wait.Log wait)) = IsBoundedReflect wait.request
+IsBoundedWait (waiting.Reflect (reflect_wait.Founding wait)) = AreConnections wait.keeping.connections
 
 -- the visit that is asked for
 abbrev pub visit_of : VisitRequest → PlainVisit
@@ -225,6 +261,7 @@ ComesNext (next.Refuses refusal) = Only (at_once (ByRefusal refusal))
 ComesNext (next.Gives outcome) = Only (fine (steps_of outcome.files outcome.text))
 ComesNext (next.Visits request) = Only (at_once (ByVisit (visit_of request)))
 ComesNext (next.Reflects reflection) = Only (at_once (ByReflecting (plain_reflection reflection)))
+ComesNext (next.Keeps keeping) = Only (at_once (ByKeeping (plain_keeping keeping)))
 ComesNext (next.Drills request) = Only (at_once (ByDrill request))
 ComesNext next.WantOfMemory = Only (at_once ByWant)
 
@@ -232,6 +269,7 @@ abbrev pub IsBoundedNext : Next → Type 0
 IsBoundedNext (next.Reads wait) = IsBoundedWait wait
 IsBoundedNext (next.Visits request) = 1 ≤ request.view
 IsBoundedNext (next.Reflects reflection) = AreConnections reflection.connections
+IsBoundedNext (next.Keeps keeping) = IsBoundedKeeping keeping
 IsBoundedNext (next.Drills request) = IsBoundedDrill request
 IsBoundedNext other = ⊤
 
@@ -242,6 +280,11 @@ reads_left other = 0
 -- what is done next leads to what comes here
 abbrev pub Leads : Next → Coming → Type 0
 Leads step coming = (verdict : Verdict) → ComesNext step verdict → coming verdict
+
+-- the words name no journal
+abbrev pub NamesNoJournal : Option Command → Type 0
+NamesNoJournal (Some (Reflect request)) = request.journal ≡ None
+NamesNoJournal command = ⊤
 
 -- the words ask for a command that goes on as the run of a view or of a reflector, or as a drill, and may wait then
 abbrev pub RunsOn : Option Command → Type 0

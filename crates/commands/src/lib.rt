@@ -22,7 +22,7 @@ mod work;
 pub use inspection::{InspectLogWait, InspectValueWait, InspectWait, QueriesWait, ReadInspection};
 pub use laws::{logs_tell_their_events, one_verdict, snapshots_agree, some_verdict};
 pub use recording::{LogWait, ReadReplay, ReplayValueWait, ReplayWait, SnapshotWait};
-pub use reflection::{ReflectLogWait, ReflectValueWait, ReflectWait};
+pub use reflection::{FoundingWait, ReflectLogWait, ReflectValueWait, ReflectWait, found_journal};
 pub use stamp::{StampLogWait, StampWait};
 pub use tracing::{ReadTrace, TraceLogWait, TraceValueWait, TraceWait};
 pub use visit::{JoinValueWait, JoinWait, ScriptWait, VisitRequest};

@@ -1,22 +1,25 @@
-//! What comes of the files that the command `reflect` reads.
+//! What comes of the files that the command `reflect` reads, but for its journal.
 ghost use Rattle.std.specs.Prelude.{◌≡◌, ◌<◌, IfOk};
-ghost use Rattle.command_words.specs.Bounds.{IsBoundedReflect};
+ghost use Rattle.command_words.specs.Bounds.{AreConnections, IsBoundedReflect};
 ghost use Rattle.reflector_core.specs.Stored.{session_of};
 ghost use Rattle.model_value.specs.Plain.{InBounds};
 ghost use Rattle.model_value.specs.View.{plain};
-ghost use Rattle.commands.specs.Verdict.{ByReflecting, Free, OfJson, OfPersisted, OfProgram, OfReflect, OfServed, OfStored, Only, at_once, reflection_of, session_id_of};
-ghost use Rattle.commands.specs.Work.{IsBoundedNext, IsBoundedWait, Leads, file_of, files_left, input_of, next_of, reads_left};
+ghost use Rattle.session_log.specs.Stored.{IsStored, plain_stored};
+ghost use Rattle.session_journal.specs.State.{founded as founded_session};
+ghost use Rattle.commands.specs.Keeping.{OfFounding, founded_with};
+ghost use Rattle.commands.specs.Verdict.{ByKeeping, ByReflecting, Free, OfJson, OfPersisted, OfProgram, OfReflect, OfServed, OfStored, OfUnkept, Only, at_once, keeping_of, reflection_of, session_id_of};
+ghost use Rattle.commands.specs.Work.{IsBoundedNext, IsBoundedWait, Leads, file_of, files_left, input_of, next_of, plain_keeping, reads_left};
 ghost use Rattle.commands.specs.declared.work.Waiting.TheVariants as waiting;
 
 use crate::opening::read_opening;
 use crate::work::{Next, Waiting};
 use command_outcome::{CommandRefusal, Input, ProgramFault, read_program};
-use command_reflect::Reflection;
+use command_reflect::{Keeping, Reflection};
 use command_words::{ReflectRequest, is_address};
 use model_value::Value;
 use persist_json::{JsonFault, from_json};
 use reflector_core::Session;
-use session_log::LogFault;
+use session_log::{Log, LogFault, Stored, decode_stored};
 use snapshot_codec::session_id;
 use std::alloc::Global;
 use tea_base::{Blob, SessionId, Text, WantOfMemory};
@@ -39,6 +42,13 @@ pub struct ReflectLogWait {
     pub id: SessionId,
 }
 
+/// A reflector whose journal is not there, and that waits for the log of the session that goes on.
+#[derive(Drop)]
+pub struct FoundingWait {
+    pub from: Text,
+    pub keeping: Keeping,
+}
+
 /// A reflector that waits for a file.
 #[derive(Drop)]
 pub enum ReflectWait {
@@ -48,6 +58,8 @@ pub enum ReflectWait {
     Value(ReflectValueWait),
     /// It knows its session's id, and goes on from a log.
     Log(ReflectLogWait),
+    /// Its journal is to be founded with a log.
+    Founding(FoundingWait),
 }
 
 /// The session that is to be reflected.
@@ -66,10 +78,28 @@ fn reflect(request: ReflectRequest, id: SessionId, opening: Session) -> Next
     })
 }
 
-/// What comes of a reflector that knows its session's id: a first session begins, or the log of the one that goes on is read.
-fn open(alloc: Global, mut request: ReflectRequest, id: SessionId) -> Next
+/// The session whose journal is to be opened.
+fn keep(request: ReflectRequest, id: SessionId, journal: Text) -> Next
+    requires words { IsBoundedReflect request }
+    ensures leads { Leads result (Only (at_once (ByKeeping (keeping_of request id.0 journal)))) }
+    ensures bounded { IsBoundedNext result }
+    ensures fewer { reads_left result < 1 }
+{
+    Next::Keeps(Keeping {
+        id,
+        address: request.address,
+        connections: request.connections,
+        journal,
+        from: request.from,
+        opening: None,
+        log: request.log,
+    })
+}
+
+/// What comes of a reflector without a journal: a first session begins, or the log of the one that goes on is read.
+fn begin_session(alloc: Global, mut request: ReflectRequest, id: SessionId) -> Next
     requires { IsBoundedReflect request }
-    ensures leads { Leads result (OfServed request id.0) }
+    ensures leads { Leads result (OfUnkept request id.0) }
     ensures bounded { IsBoundedNext result }
     ensures fewer { reads_left result < 2 }
 {
@@ -78,6 +108,58 @@ fn open(alloc: Global, mut request: ReflectRequest, id: SessionId) -> Next
             Next::Reads(Waiting::Reflect(ReflectWait::Log(ReflectLogWait { from, request, id })))
         }
         None => reflect(request, id, Session::new(alloc)),
+    }
+}
+
+/// What comes of a reflector that knows its session's id: its journal is opened, or the session begins.
+fn open(alloc: Global, mut request: ReflectRequest, id: SessionId) -> Next
+    requires { IsBoundedReflect request }
+    ensures leads { Leads result (OfServed request id.0) }
+    ensures bounded { IsBoundedNext result }
+    ensures fewer { reads_left result < 2 }
+{
+    match request.journal.take() {
+        Some(journal) => keep(request, id, journal),
+        None => begin_session(alloc, request, id),
+    }
+}
+
+/// The journal is to be founded with this.
+fn found_with(mut keeping: Keeping, stored: Stored) -> Next
+    requires links { AreConnections keeping.connections }
+    requires stored { IsStored (plain_stored stored) }
+    ensures leads { Leads result (Only (at_once (ByKeeping (founded_with (plain_keeping keeping) (plain_stored stored))))) }
+    ensures bounded { IsBoundedNext result }
+    ensures fewer { reads_left result < 1 }
+{
+    keeping.from = None;
+    keeping.opening = Some(stored);
+    Next::Keeps(keeping)
+}
+
+/// What comes of a journal that is not there and was not founded: it is founded with a first session, or with the one of a log.
+pub fn found_journal(alloc: Global, mut keeping: Keeping) -> Next
+    requires { AreConnections keeping.connections }
+    ensures leads { Leads result (OfFounding keeping.from (plain_keeping keeping)) }
+    ensures bounded { IsBoundedNext result }
+    ensures fewer { reads_left result < 2 }
+{
+    match keeping.from.take() {
+        Some(from) => {
+            Next::Reads(Waiting::Reflect(ReflectWait::Founding(FoundingWait { from, keeping })))
+        }
+        None => found_with(keeping, first_stored(alloc)),
+    }
+}
+
+/// What is stored of a first session. Takes no memory.
+fn first_stored(alloc: Global) -> Stored
+    ensures { plain_stored result ≡ founded_session }
+{
+    Stored {
+        log: Log::new(alloc),
+        horizon: 0,
+        kept: None,
     }
 }
 
@@ -183,6 +265,20 @@ fn take_log(alloc: Global, wait: ReflectLogWait, bytes: &[u8]) -> Next
     }
 }
 
+/// What comes of the bytes of the log with which a journal is founded.
+fn take_founding(alloc: Global, wait: FoundingWait, bytes: &[u8]) -> Next
+    requires { AreConnections wait.keeping.connections }
+    ensures leads { Leads result (Free (OfStored (λ stored. Only (at_once (ByKeeping (founded_with (plain_keeping wait.keeping) stored)))) bytes.now)) }
+    ensures bounded { IsBoundedNext result }
+    ensures fewer { reads_left result < 1 }
+{
+    match decode_stored(alloc, bytes) {
+        Ok(stored) => found_with(wait.keeping, stored),
+        Err(LogFault::BadLog) => Next::Refuses(CommandRefusal::Input(Input::Log)),
+        Err(LogFault::WantOfMemory) => Next::WantOfMemory,
+    }
+}
+
 impl ReflectWait {
     /// The name of the file that it waits for.
     pub(crate) fn name(&self) -> &Text
@@ -192,6 +288,7 @@ impl ReflectWait {
             ReflectWait::Program(request) => &request.program,
             ReflectWait::Value(wait) => &wait.persisted,
             ReflectWait::Log(wait) => &wait.from,
+            ReflectWait::Founding(wait) => &wait.from,
         }
     }
 
@@ -203,6 +300,7 @@ impl ReflectWait {
             ReflectWait::Program(_) => Input::Program,
             ReflectWait::Value(_) => Input::Persisted,
             ReflectWait::Log(_) => Input::Log,
+            ReflectWait::Founding(_) => Input::Log,
         }
     }
 
@@ -217,6 +315,7 @@ impl ReflectWait {
             ReflectWait::Program(request) => take_program(alloc, request, bytes),
             ReflectWait::Value(wait) => take_value(alloc, wait, bytes.bytes()),
             ReflectWait::Log(wait) => take_log(alloc, wait, bytes.bytes()),
+            ReflectWait::Founding(wait) => take_founding(alloc, wait, bytes.bytes()),
         }
     }
 }

@@ -16,7 +16,7 @@ use crate::stamp::StampWait;
 use crate::tracing::TraceWait;
 use crate::visit::{JoinWait, VisitRequest};
 use command_outcome::{CommandRefusal, Input, Outcome};
-use command_reflect::Reflection;
+use command_reflect::{Keeping, Reflection};
 use command_words::{Command, DrillRequest};
 use model_lang::MOST_PROGRAM_BYTES;
 use persist_json::MOST_JSON;
@@ -49,6 +49,8 @@ pub enum Next {
     Visits(VisitRequest),
     /// It goes on as a reflector's run.
     Reflects(Reflection),
+    /// Its journal is to be opened.
+    Keeps(Keeping),
     /// It goes on as a drill.
     Drills(DrillRequest),
     WantOfMemory,
@@ -139,6 +141,7 @@ impl Waiting {
             Input::Time => 0,
             Input::Address => 0,
             Input::Every => 0,
+            Input::Journal => 0,
         }
     }
 

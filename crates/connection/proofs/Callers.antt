@@ -1,16 +1,17 @@
 -- What a call adds to the exchanges of its caller.
 use Rattle.std.proofs.Common.{Result, Ok, Err, MatchResult, IfOk, ◌≡◌, ◌⊎◌, inl, inr, ℕ, Bool, true, false, eqb, ◌||◌, List, [], ◌∷◌, ◌++◌, if◌then◌else◌, Option, Some, refl, sym, ap, ◌∙◌, subst, append_assoc, eq-eqb}
 use Rattle.std.proofs.lemmas.List.{append-nil}
-use Rattle.tea_base.specs.declared.want.WantOfMemory.{WantOfMemory}
 use Rattle.reflector_core.specs.PlainSession.{PlainSession, IsSoundSession}
 use Rattle.reflector_core.specs.Answer.{answer}
 use Rattle.reflector_core.specs.Growth.{GrowsTo}
+use Rattle.reflector_core.specs.declared.keeper.CallFault.{CallFault}
+use Rattle.reflector_core.specs.declared.keeper.CallFault.TheVariants as fault
 use Rattle.reflector_core.specs.declared.request.Reply.{Reply}
 use Rattle.reflector_core.specs.declared.request.Request.{Request}
 use Rattle.session_lock.specs.declared.knowledge.Item.{Item}
 use Rattle.session_lock.specs.declared.knowledge.Item.TheVariants.{Did, Void, Unkept}
 use Rattle.session_lock.specs.History.{after_item, calls_of, play_from, IsSoundThrough}
-use Rattle.session_lock.specs.Passes.{PassState, caller, Grew, Replied, Voided}
+use Rattle.session_lock.specs.Passes.{PassState, caller, Grew, Missed, Replied}
 use Rattle.session_lock.proofs.Histories.{history_grows, play_snoc, saw_each, sound_end, sound_first}
 use Rattle.session_lock.specs.Trusts.{Allowing, MayBeAsked, TrustAllows}
 use Rattle.tea_base.specs.declared.entry.SessionId.{SessionId}
@@ -32,7 +33,7 @@ use Rattle.system_plain.specs.Steps.{joined_view}
 use Rattle.std.specs.Str.{bytes_eq}
 use Rattle.connection.proofs.Lines.{pull_nothing}
 use Rattle.connection.specs.declared.ending.Halt.{Halt}
-use Rattle.connection.specs.Exchanges.{Exchange, Answered, Unanswered, exchange_in, exchanges_from, exchanges_in}
+use Rattle.connection.specs.Exchanges.{Exchange, Answered, Unanswered, IsUnkeptBy, exchange_in, exchanges_from, exchanges_in}
 use Rattle.connection.specs.Standing.{IsAnsweredAt, IsStanding, SeesOn, exchange_of}
 
 -- ---- exchanges along a history
@@ -54,10 +55,10 @@ exchanges_none s c (Did who request ∷ xs) none =
     let both = other_item (eqb who c) (Did who request) (calls_of (c ∷ []) xs) (Answered request (answer s request).reply) none in
     ap (λ (l : List Exchange). l ++ exchanges_from (after_item s (Did who request)) c xs) both.0 ∙ exchanges_none (after_item s (Did who request)) c xs both.1
 exchanges_none s c (Void who ∷ xs) none =
-    let both = other_item (eqb who c) (Void who) (calls_of (c ∷ []) xs) Unanswered none in
+    let both = other_item (eqb who c) (Void who) (calls_of (c ∷ []) xs) (Unanswered fault.WantOfMemory) none in
     ap (λ (l : List Exchange). l ++ exchanges_from s c xs) both.0 ∙ exchanges_none s c xs both.1
 exchanges_none s c (Unkept who ∷ xs) none =
-    let both = other_item (eqb who c) (Unkept who) (calls_of (c ∷ []) xs) Unanswered none in
+    let both = other_item (eqb who c) (Unkept who) (calls_of (c ∷ []) xs) (Unanswered fault.Unkept) none in
     ap (λ (l : List Exchange). l ++ exchanges_from s c xs) both.0 ∙ exchanges_none s c xs both.1
 
 -- what others do behind it changes none
@@ -115,27 +116,53 @@ adds before after history item g =
 own_did : (s : PlainSession) (c : ℕ) (request : Request) → exchanges_from s c (Did c request ∷ []) ≡ Answered request (answer s request).reply ∷ []
 own_did s c request = ap (λ (b : Bool). (if b then Answered request (answer s request).reply ∷ [] else []) ++ []) (eq-eqb c c refl)
 
-own_void : (s : PlainSession) (c : ℕ) → exchanges_from s c (Void c ∷ []) ≡ Unanswered ∷ []
-own_void s c = ap (λ (b : Bool). (if b then Unanswered ∷ [] else []) ++ []) (eq-eqb c c refl)
+own_void : (s : PlainSession) (c : ℕ) → exchanges_from s c (Void c ∷ []) ≡ Unanswered fault.WantOfMemory ∷ []
+own_void s c = ap (λ (b : Bool). (if b then Unanswered fault.WantOfMemory ∷ [] else []) ++ []) (eq-eqb c c refl)
+
+own_unkept : (s : PlainSession) (c : ℕ) → exchanges_from s c (Unkept c ∷ []) ≡ Unanswered fault.Unkept ∷ []
+own_unkept s c = ap (λ (b : Bool). (if b then Unanswered fault.Unkept ∷ [] else []) ++ []) (eq-eqb c c refl)
 
 -- what a call tells
-abbrev pub Called : (PlainSession → Type 0) → PassState → PassState → Request → Result Reply WantOfMemory → Type 0
-Called IsTrusted before after request r = MatchResult r (λ given. Replied IsTrusted before after request given) (λ _. Voided IsTrusted before after request)
+abbrev pub Called : (PlainSession → Type 0) → Type 0 → PassState → PassState → Request → Result Reply CallFault → Type 0
+Called IsTrusted shut before after request r = MatchResult r (λ given. Replied IsTrusted before after request given) (λ why. Missed IsTrusted shut before after request why)
 
-pub asked_so : (IsTrusted : PlainSession → Type 0) (before after : PassState) (request : Request) (r : Result Reply WantOfMemory) → Called IsTrusted before after request r
+-- the item that a call adds, and its place
+abbrev item_of : ℕ → Request → Result Reply CallFault → Item
+item_of c request (Ok given) = Did c request
+item_of c request (Err fault.WantOfMemory) = Void c
+item_of c request (Err fault.Unkept) = Unkept c
+
+record Placed (before after : PassState) (request : Request) (r : Result Reply CallFault) : Type 0 where
+  history : List Item
+  grew : Grew before after history (item_of (caller before) request r)
+
+placed : (IsTrusted : PlainSession → Type 0) (shut : Type 0) (before after : PassState) (request : Request) (r : Result Reply CallFault) → Called IsTrusted shut before after request r → Placed before after request r
+placed IsTrusted shut before after request (Ok given) told = record { history = told.history; grew = told.grew }
+placed IsTrusted shut before after request (Err fault.WantOfMemory) told = record { history = told.history; grew = told.grew }
+placed IsTrusted shut before after request (Err fault.Unkept) told = record { history = told.history; grew = told.grew }
+
+pub asked_so : (IsTrusted : PlainSession → Type 0) (shut : Type 0) (before after : PassState) (request : Request) (r : Result Reply CallFault) → Called IsTrusted shut before after request r
     → exchanges_in after.opening after.seen (caller after) ≡ exchanges_in before.opening before.seen (caller before) ++ exchange_of request r ∷ []
-asked_so IsTrusted before after request (Ok given) told =
+asked_so IsTrusted shut before after request (Ok given) told =
     (adds before after told.history (Did (caller before) request) told.grew).asked
     ∙ ap (λ (l : List Exchange). exchanges_in before.opening before.seen (caller before) ++ l)
     (own_did (play_from before.opening told.history) (caller before) request ∙ ap (λ (r : Reply). Answered request r ∷ []) (sym told.replies))
-asked_so IsTrusted before after request (Err want) told =
+asked_so IsTrusted shut before after request (Err fault.WantOfMemory) told =
     (adds before after told.history (Void (caller before)) told.grew).asked
     ∙ ap (λ (l : List Exchange). exchanges_in before.opening before.seen (caller before) ++ l) (own_void (play_from before.opening told.history) (caller before))
+asked_so IsTrusted shut before after request (Err fault.Unkept) told =
+    (adds before after told.history (Unkept (caller before)) told.grew).asked
+    ∙ ap (λ (l : List Exchange). exchanges_in before.opening before.seen (caller before) ++ l) (own_unkept (play_from before.opening told.history) (caller before))
 
-pub grows_so : (IsTrusted : PlainSession → Type 0) (before after : PassState) (request : Request) (r : Result Reply WantOfMemory) → Called IsTrusted before after request r
+pub grows_so : (IsTrusted : PlainSession → Type 0) (shut : Type 0) (before after : PassState) (request : Request) (r : Result Reply CallFault) → Called IsTrusted shut before after request r
     → GrowsTo (play_from before.opening before.seen) (play_from after.opening after.seen)
-grows_so IsTrusted before after request (Ok given) told = (adds before after told.history (Did (caller before) request) told.grew).grows
-grows_so IsTrusted before after request (Err want) told = (adds before after told.history (Void (caller before)) told.grew).grows
+grows_so IsTrusted shut before after request r told =
+    let at = placed IsTrusted shut before after request r told in (adds before after at.history (item_of (caller before) request r) at.grew).grows
+
+pub unkept_so : (IsTrusted : PlainSession → Type 0) (shut : Type 0) (before after : PassState) (request : Request) (r : Result Reply CallFault) → Called IsTrusted shut before after request r → IsUnkeptBy shut (exchange_of request r)
+unkept_so IsTrusted shut before after request (Ok given) told = tt
+unkept_so IsTrusted shut before after request (Err fault.WantOfMemory) told = tt
+unkept_so IsTrusted shut before after request (Err fault.Unkept) told = told.shut
 
 sees_by : (before after : PassState) (history : List Item) (item : Item) → Grew before after history item → IsSoundThrough before.opening after.seen → SeesOn before after
 sees_by before after history item g sound = record {
@@ -145,19 +172,19 @@ sees_by before after history item g sound = record {
   sound = inr (subst (λ (o : PlainSession). IsSoundThrough o after.seen) (sym (ap (λ (p : PassState). p.opening) g.same)) sound);
 }
 
-pub sees_so : (IsTrusted : PlainSession → Type 0) (before after : PassState) (request : Request) (r : Result Reply WantOfMemory) → Called IsTrusted before after request r → IsSoundThrough before.opening after.seen
+pub sees_so : (IsTrusted : PlainSession → Type 0) (shut : Type 0) (before after : PassState) (request : Request) (r : Result Reply CallFault) → Called IsTrusted shut before after request r → IsSoundThrough before.opening after.seen
     → SeesOn before after
-sees_so IsTrusted before after request (Ok given) told sound = sees_by before after told.history (Did (caller before) request) told.grew sound
-sees_so IsTrusted before after request (Err want) told sound = sees_by before after told.history (Void (caller before)) told.grew sound
+sees_so IsTrusted shut before after request r told sound =
+    let at = placed IsTrusted shut before after request r told in sees_by before after at.history (item_of (caller before) request r) at.grew sound
 
 -- the session at the place of the call is sound, as all of what was seen tells
 sound_before : (before after : PassState) (history : List Item) (item : Item) → Grew before after history item → IsSoundThrough before.opening after.seen → IsSoundSession (play_from before.opening history)
 sound_before before after history item g sound =
     sound_end before.opening history (sound_first before.opening history (item ∷ []) (subst (IsSoundThrough before.opening) (ap (λ (p : PassState). p.seen) g.same) sound))
 
-pub answered_so : (IsTrusted : PlainSession → Type 0) (before after : PassState) (request : Request) (r : Result Reply WantOfMemory) → Called IsTrusted before after request r → IsSoundThrough before.opening after.seen
+pub answered_so : (IsTrusted : PlainSession → Type 0) (shut : Type 0) (before after : PassState) (request : Request) (r : Result Reply CallFault) → Called IsTrusted shut before after request r → IsSoundThrough before.opening after.seen
     → IfOk r (λ given. (at : PlainSession) × IsAnsweredAt (play_from before.opening before.seen) at (play_from after.opening after.seen) request given)
-answered_so IsTrusted before after request (Ok given) told sound =
+answered_so IsTrusted shut before after request (Ok given) told sound =
     let added = adds before after told.history (Did (caller before) request) told.grew in (
       play_from before.opening told.history,
       record {
@@ -167,7 +194,7 @@ answered_so IsTrusted before after request (Ok given) told sound =
         same = added.same;
       },
     )
-answered_so IsTrusted before after request (Err want) told sound = tt
+answered_so IsTrusted shut before after request (Err why) told sound = tt
 
 -- what a trust allows may be offered
 pub may_ask : {T : Type 0} (allows : Allowing T) (trust : T) (id : SessionId) (s : PlainSession) (request : Request) → ((time : ℕ) (bytes : List ℕ) → TrustAllows allows trust id s time bytes)

@@ -9,6 +9,8 @@ use Rattle.tea_io.specs.declared.link.Heard.TheVariants as heard
 use Rattle.wire_frames.specs.Reading.{client_at}
 use Rattle.wire_frames.specs.declared.frame.ClientFrame.{ClientFrame}
 use Rattle.wire_frames.specs.declared.frame.ServerFrame.{ServerFrame}
+use Rattle.reflector_core.specs.declared.keeper.CallFault.{CallFault}
+use Rattle.reflector_core.specs.declared.keeper.CallFault.TheVariants as fault
 use Rattle.reflector_core.specs.declared.request.Reply.{Reply}
 use Rattle.reflector_core.specs.declared.request.Reply.TheVariants as reply
 use Rattle.reflector_core.specs.declared.request.Refusal.TheVariants as refusal
@@ -26,7 +28,8 @@ use Rattle.system_plain.specs.Steps.{answer_frames, joined_view}
 use Rattle.connection.specs.declared.ending.Ended.{Ended}
 use Rattle.connection.specs.declared.ending.Ended.TheVariants as ended
 use Rattle.connection.specs.Causes.{IsCauseCounted, RoseBy}
-use Rattle.connection.specs.Phases.{TalkPhase, Opening, Beginning, Joining, Ticking, Pulling, Hearing, Taking, Asking, Sending, Leaving, Over, Wrong, TalkEvent, Hears, Reads, MakesRequest, MakesAt, Misses, Sends, Loses, FailsToSend, Wants, acted_phase, ending_phase, entered_phase, greeted_phase, opened_phase, read_phase, refused_phase, reply_phase, sending_phase, talk_step, talk_walk, telling_phase}
+use Rattle.connection.specs.Exchanges.{Exchange}
+use Rattle.connection.specs.Phases.{TalkPhase, Opening, Beginning, Joining, Ticking, Pulling, Hearing, Taking, Asking, Sending, Leaving, Over, Wrong, TalkEvent, Hears, Reads, MakesRequest, MakesAt, Misses, Sends, Loses, FailsToSend, Wants, acted_phase, ended_by, ending_phase, entered_phase, greeted_phase, opened_phase, read_phase, refused_phase, reply_phase, sending_phase, talk_step, talk_walk, telling_phase}
 use Rattle.connection.specs.Talk.{Account, EventCounts, EventsCount, TalksOn}
 
 pub none_falls : (a : Counts) → NoneFalls a a
@@ -56,6 +59,12 @@ because_on start a b ended.Left f h = tt
 because_on start a b (ended.Stale current) f h = tt
 because_on start a b (ended.Refused code) f h = tt
 because_on start a b ended.WantOfMemory f h = tt
+because_on start a b ended.Unkept f h = tt
+
+-- no count tells of a call without an answer
+uncounted : (start now : Counts) (why : CallFault) → IsCauseCounted start now (ended_by why)
+uncounted start now fault.WantOfMemory = tt
+uncounted start now fault.Unkept = tt
 
 -- what the counts tell where a connection stands in a phase
 abbrev CountsTo : Counts → Counts → TalkPhase → Type 0
@@ -159,12 +168,12 @@ step_counts id (Opening quiets) (Hears heard.WantOfMemory) start a b f h e = tt
 step_counts id (Beginning bytes) (Reads now) start a b f h e = opened_counts start b id (whole client_at bytes) now
 step_counts id (Beginning bytes) Wants start a b f h e = tt
 step_counts id (Joining asked) (MakesRequest given) start a b f h e = greeted_counts start b (first_cursor (joined_view asked) given) (join_answer given) (falls_on start a b f e)
-step_counts id (Joining asked) Misses start a b f h e = tt
+step_counts id (Joining asked) (Misses why) start a b f h e = uncounted start b why
 step_counts id (Ticking cursor quiets) (MakesAt now given) start a b f h e = counts_on start a b (Pulling cursor quiets) e h
-step_counts id (Ticking cursor quiets) Misses start a b f h e = tt
+step_counts id (Ticking cursor quiets) (Misses why) start a b f h e = uncounted start b why
 step_counts id (Pulling cursor quiets) (MakesRequest given) start a b f h e =
     telling_counts start b cursor (next_frames cursor given) (Hearing (next_cursor cursor given) quiets) (counts_on start a b (Hearing (next_cursor cursor given) quiets) e h)
-step_counts id (Pulling cursor quiets) Misses start a b f h e = tt
+step_counts id (Pulling cursor quiets) (Misses why) start a b f h e = uncounted start b why
 step_counts id (Hearing cursor quiets) (Hears (heard.Frame bytes)) start a b f h e = tt
 step_counts id (Hearing cursor quiets) (Hears heard.Quiet) start a b f h e = hearing_quiet start b cursor (quiets + 1 == most_quiets) (quiets + 1) (row_at (quiets + 1)) (rose_once start a b quiets h e.0 e.1)
 step_counts id (Hearing cursor quiets) (Hears heard.End) start a b f h e = ends_from start a b f e.1
@@ -173,14 +182,14 @@ step_counts id (Hearing cursor quiets) (Hears heard.WantOfMemory) start a b f h 
 step_counts id (Taking cursor bytes) (Reads now) start a b f h e = read_counts start b cursor (whole client_at bytes) now (falls_on start a b f e)
 step_counts id (Taking cursor bytes) Wants start a b f h e = tt
 step_counts id (Asking cursor asked) (MakesRequest given) start a b f h e = answered_counts start b cursor asked given (falls_on start a b f e)
-step_counts id (Asking cursor asked) Misses start a b f h e = tt
+step_counts id (Asking cursor asked) (Misses why) start a b f h e = uncounted start b why
 step_counts id (Sending frame frames next fails wants) Sends start a b f h e =
     counts_on start a b (sending_phase frames next fails wants) e (sending_counts start a frames next fails wants h.0 h.1 h.2)
 step_counts id (Sending frame frames next fails wants) Loses start a b f h e = h.1 b (rose_from start a b f e.1)
 step_counts id (Sending frame frames next fails wants) FailsToSend start a b f h e = h.1 b (rose_from start a b f e.1)
 step_counts id (Sending frame frames next fails wants) Wants start a b f h e = counts_on start a b wants e h.2
 step_counts id (Leaving cursor how) (MakesAt now given) start a b f h e = because_on start a b how e h
-step_counts id (Leaving cursor how) Misses start a b f h e = because_on start a b how e h
+step_counts id (Leaving cursor how) (Misses why) start a b f h e = because_on start a b how e h
 step_counts id p event start a b f h e = tt
 
 event_falls : (event : TalkEvent) (a b : Counts) → EventCounts event a b → NoneFalls a b
@@ -188,7 +197,7 @@ event_falls (Hears what) a b e = e.0
 event_falls (Reads now) a b e = e
 event_falls (MakesRequest given) a b e = e
 event_falls (MakesAt now given) a b e = e
-event_falls Misses a b e = e
+event_falls (Misses why) a b e = e
 event_falls Sends a b e = e
 event_falls Loses a b e = e.0
 event_falls FailsToSend a b e = e.0
@@ -200,7 +209,7 @@ walk_counts id (event ∷ events) p start a b f h e =
     walk_counts id events (talk_step id p event).phase start e.0 b (falls_on start a e.0 f (event_falls event a e.0 e.1)) (step_counts id p event start a e.0 f h e.1) e.2
 
 -- the counts of a whole talk tell why it ended
-pub talk_counted : (gives : ℕ → Type 0) (id : SessionId) (how : Ended) (before now : Account) → TalksOn gives id (Opening 0) (Over how) before now → IsCauseCounted before.link.counts now.link.counts how
-talk_counted gives id how before now talk =
+pub talk_counted : (made : Exchange → Type 0) (id : SessionId) (how : Ended) (before now : Account) → TalksOn made id (Opening 0) (Over how) before now → IsCauseCounted before.link.counts now.link.counts how
+talk_counted made id how before now talk =
     let start = before.link.counts in
     subst (CountsTo start now.link.counts) talk.ends (walk_counts id talk.events (Opening 0) start start now.link.counts (none_falls start) (none_yet start start (none_falls start)) talk.counts)

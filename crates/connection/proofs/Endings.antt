@@ -1,5 +1,6 @@
 -- What was asked tells how a connection ends.
 use Rattle.std.proofs.Common.{◌≡◌, inl, inr, ℕ, ◌+◌, ◌≤◌, ◌==◌, Bool, true, false, if◌then◌else◌, List, [], ◌∷◌, ◌++◌, Option, Some, None, Result, Ok, Err, refl, sym, ◌∙◌, subst, append_assoc, arith}
+use Rattle.std.specs.List.{AllByRecursion}
 use Rattle.std.proofs.lemmas.List.{append-nil}
 use Rattle.byte_fields.specs.Fields.{whole}
 use Rattle.tea_base.specs.declared.entry.SessionId.{SessionId}
@@ -8,6 +9,8 @@ use Rattle.wire_frames.specs.Reading.{client_at}
 use Rattle.wire_frames.specs.declared.frame.ClientFrame.{ClientFrame}
 use Rattle.wire_frames.specs.declared.frame.ServerFrame.{ServerFrame}
 use Rattle.wire_frames.specs.declared.frame.ServerFrame.TheVariants.{Sync}
+use Rattle.reflector_core.specs.declared.keeper.CallFault.{CallFault}
+use Rattle.reflector_core.specs.declared.keeper.CallFault.TheVariants as fault
 use Rattle.reflector_core.specs.declared.request.Reply.{Reply}
 use Rattle.reflector_core.specs.declared.request.Reply.TheVariants as reply
 use Rattle.reflector_core.specs.declared.request.Refusal.{Refusal}
@@ -32,9 +35,9 @@ use Rattle.tea_io.specs.declared.link.Heard.{Heard}
 use Rattle.tea_io.specs.Links.{most_quiets}
 use Rattle.connection.specs.declared.ending.Ended.{Ended}
 use Rattle.connection.specs.declared.ending.Ended.TheVariants as ended
-use Rattle.connection.specs.Causes.{EndNothing, EndsElse, EndsExactly, EndsByReply, IsLastLeave, IsTurnedDown, LeavesStale, end_of}
-use Rattle.connection.specs.Exchanges.{Exchange, Answered, Unanswered, exchanges_in}
-use Rattle.connection.specs.Phases.{TalkPhase, Opening, Beginning, Joining, Ticking, Pulling, Hearing, Taking, Asking, Sending, Leaving, Over, Wrong, TalkEvent, Hears, Reads, MakesRequest, MakesAt, Misses, Sends, Loses, FailsToSend, Wants, acted_phase, code_in, end_in, ending_phase, entered_phase, join_phase, opened_phase, read_phase, refused_phase, reply_phase, sending_phase, talk_step, talk_walk, telling_phase}
+use Rattle.connection.specs.Causes.{EndNothing, EndsElse, EndsExactly, EndsByReply, EndsUnkept, IsLastLeave, IsTurnedDown, LeavesStale, end_of}
+use Rattle.connection.specs.Exchanges.{Exchange, Answered, Unanswered, IsUnkeptBy, exchanges_in}
+use Rattle.connection.specs.Phases.{TalkPhase, Opening, Beginning, Joining, Ticking, Pulling, Hearing, Taking, Asking, Sending, Leaving, Over, Wrong, TalkEvent, Hears, Reads, MakesRequest, MakesAt, Misses, Sends, Loses, FailsToSend, Wants, acted_phase, code_in, end_in, ended_by, ending_phase, entered_phase, join_phase, opened_phase, read_phase, refused_phase, reply_phase, sending_phase, talk_step, talk_walk, telling_phase}
 use Rattle.connection.specs.Talk.{Talk}
 use Rattle.connection.proofs.Callers.{first_is_join}
 
@@ -47,6 +50,7 @@ abbrev ComesElse : Ended → Type 0
 ComesElse ended.Left = ⊥
 ComesElse (ended.Stale current) = ⊥
 ComesElse (ended.Refused code) = ⊥
+ComesElse ended.Unkept = ⊥
 ComesElse other = Unit {0}
 
 -- what was asked where a connection stands in a phase
@@ -69,6 +73,7 @@ else_ends : (asked : List Exchange) (how : Ended) → ComesElse how → EndsElse
 else_ends asked ended.Left comes h = absurd comes
 else_ends asked (ended.Stale current) comes h = absurd comes
 else_ends asked (ended.Refused code) comes h = absurd comes
+else_ends asked ended.Unkept comes h = absurd comes
 else_ends asked ended.LinkEnd comes h = h
 else_ends asked ended.LinkFault comes h = h
 else_ends asked (ended.Idle quiets) comes h = h
@@ -192,8 +197,18 @@ answered_asked asked cursor request given none of_frame = by_reply given (frame_
     by_reply reply.Kept is = tells reply.Kept is
     by_reply (reply.Batch entries tick) is = tells (reply.Batch entries tick) is
 
-missed : (asked : List Exchange) → EndNothing asked → EndNothing (asked ++ Unanswered ∷ [])
-missed asked none = all_both asked (Unanswered ∷ []) none (refl, tt)
+missed : (asked : List Exchange) (why : CallFault) → EndNothing asked → EndNothing (asked ++ Unanswered why ∷ [])
+missed asked why none = all_both asked (Unanswered why ∷ []) none (refl, tt)
+
+-- a call has no answer, and it leaves
+missed_leaves : (asked : List Exchange) (why : CallFault) → EndNothing asked → (last : Exchange) → IsLastLeave (last ∷ []) → EndsExactly (ended_by why) ((asked ++ Unanswered why ∷ []) ++ last ∷ [])
+missed_leaves asked fault.WantOfMemory none last leaves = left_ends (asked ++ Unanswered fault.WantOfMemory ∷ []) ended.WantOfMemory (missed asked fault.WantOfMemory none) tt last leaves
+missed_leaves asked fault.Unkept none last leaves = record { front = asked; rest = last ∷ []; asked_is = refl; before = none; leaves = leaves }
+
+-- the Join has none
+missed_first : (why : CallFault) → EndsExactly (ended_by why) (Unanswered why ∷ [])
+missed_first fault.WantOfMemory = inl (none_ends (Unanswered fault.WantOfMemory ∷ []) (refl, tt))
+missed_first fault.Unkept = record { front = []; rest = []; asked_is = refl; before = tt; leaves = tt }
 
 opening_row_asked : (asked : List Exchange) (last : Bool) (quiets : ℕ) → asked ≡ [] → AskedTo asked (if last then Over (ended.Idle most_quiets) else Opening quiets)
 opening_row_asked asked true quiets is = subst (λ (l : List Exchange). EndsElse l) (sym is) (none_ends [] tt)
@@ -217,13 +232,13 @@ step_asked id (Opening quiets) (Hears heard.WantOfMemory) asked h = at_first ask
 step_asked id (Beginning bytes) (Reads now) asked h = at_first asked [] (opened_phase id (whole client_at bytes) now) h (read_first id (whole client_at bytes) now)
 step_asked id (Beginning bytes) Wants asked h = at_first asked [] (Over ended.WantOfMemory) h (inl (none_ends [] tt))
 step_asked id (Joining request) (MakesRequest given) asked h = at_first asked (Answered request given ∷ []) (join_phase request given) h.0 (joined_asked request given h.1)
-step_asked id (Joining request) Misses asked h = at_first asked (Unanswered ∷ []) (Over ended.WantOfMemory) h.0 (inl (none_ends (Unanswered ∷ []) (refl, tt)))
+step_asked id (Joining request) (Misses why) asked h = at_first asked (Unanswered why ∷ []) (Over (ended_by why)) h.0 (missed_first why)
 step_asked id (Ticking cursor quiets) (MakesAt now given) asked h = all_both asked (Answered (Tick now) given ∷ []) h (refl, tt)
-step_asked id (Ticking cursor quiets) Misses asked h = left_ends (asked ++ Unanswered ∷ []) ended.WantOfMemory (missed asked h) tt
+step_asked id (Ticking cursor quiets) (Misses why) asked h = missed_leaves asked why h
 step_asked id (Pulling cursor quiets) (MakesRequest given) asked h =
     let more : EndNothing (asked ++ Answered (Pull cursor.after most_pulled) given ∷ []) = all_both asked (Answered (Pull cursor.after most_pulled) given ∷ []) h (refl, tt) in
     telling_asked (asked ++ Answered (Pull cursor.after most_pulled) given ∷ []) cursor (next_frames cursor given) (Hearing (next_cursor cursor given) quiets) more more
-step_asked id (Pulling cursor quiets) Misses asked h = left_ends (asked ++ Unanswered ∷ []) ended.WantOfMemory (missed asked h) tt
+step_asked id (Pulling cursor quiets) (Misses why) asked h = missed_leaves asked why h
 step_asked id (Hearing cursor quiets) (Hears (heard.Frame bytes)) asked h = all_both asked [] h tt
 step_asked id (Hearing cursor quiets) (Hears heard.Quiet) asked h = hearing_row_asked (asked ++ []) cursor (quiets + 1 == most_quiets) (quiets + 1) (all_both asked [] h tt)
 step_asked id (Hearing cursor quiets) (Hears heard.End) asked h = left_ends (asked ++ []) ended.LinkEnd (all_both asked [] h tt) tt
@@ -232,13 +247,13 @@ step_asked id (Hearing cursor quiets) (Hears heard.WantOfMemory) asked h = left_
 step_asked id (Taking cursor bytes) (Reads now) asked h = read_asked (asked ++ []) cursor (whole client_at bytes) now (all_both asked [] h tt)
 step_asked id (Taking cursor bytes) Wants asked h = left_ends (asked ++ []) ended.WantOfMemory (all_both asked [] h tt) tt
 step_asked id (Asking cursor request) (MakesRequest given) asked h = answered_asked asked cursor request given h.0 h.1
-step_asked id (Asking cursor request) Misses asked h = left_ends (asked ++ Unanswered ∷ []) ended.WantOfMemory (missed asked h.0) tt
+step_asked id (Asking cursor request) (Misses why) asked h = missed_leaves asked why h.0
 step_asked id (Sending frame frames next fails wants) Sends asked h = subst (λ (l : List Exchange). AskedTo l (sending_phase frames next fails wants)) (sym (append-nil asked)) (sending_asked asked frames next fails wants h.0 h.1 h.2)
 step_asked id (Sending frame frames next fails wants) Loses asked h = subst (λ (l : List Exchange). AskedTo l fails) (sym (append-nil asked)) h.1
 step_asked id (Sending frame frames next fails wants) FailsToSend asked h = subst (λ (l : List Exchange). AskedTo l fails) (sym (append-nil asked)) h.1
 step_asked id (Sending frame frames next fails wants) Wants asked h = subst (λ (l : List Exchange). AskedTo l wants) (sym (append-nil asked)) h.2
 step_asked id (Leaving cursor how) (MakesAt now given) asked h = h (Answered (Leave cursor.view cursor.joined now) given) tt
-step_asked id (Leaving cursor how) Misses asked h = h Unanswered tt
+step_asked id (Leaving cursor how) (Misses why) asked h = h (Unanswered why) tt
 step_asked id p event asked h = tt
 
 walk_asked : (id : SessionId) (events : List TalkEvent) (p : TalkPhase) (asked : List Exchange) → AskedTo asked p → AskedTo (asked ++ (talk_walk id p events).asked) (talk_walk id p events).phase
@@ -252,3 +267,15 @@ walk_asked id (event ∷ events) p asked h =
 pub talk_ends : (gives : ℕ → Type 0) (id : SessionId) (opening : PlainSession) (history : List Item) (c : ℕ) (said : List Heard) (sent : List (List ℕ)) (how : Ended) → Talk gives id opening history c said sent how → EndsExactly how (exchanges_in opening history c)
 talk_ends gives id opening history c said sent how talk =
     subst (EndsExactly how) (sym talk.asked) (subst (AskedTo (talk_walk id (Opening 0) talk.events).asked) talk.ends (walk_asked id talk.events (Opening 0) [] refl))
+
+-- ---- an end as Unkept
+
+unkept_behind : (shut : Type 0) (front rest : List Exchange) → AllByRecursion (IsUnkeptBy shut) ((front ++ Unanswered fault.Unkept ∷ []) ++ rest) → shut
+unkept_behind shut [] rest all = all.0
+unkept_behind shut (x ∷ front) rest all = unkept_behind shut front rest all.1
+
+-- it comes only where a call was not kept
+pub unkept_shut : (shut : Type 0) (how : Ended) (asked : List Exchange) → EndsExactly how asked → AllByRecursion (IsUnkeptBy shut) asked → how ≡ ended.Unkept → shut
+unkept_shut shut how asked ends all is =
+    let unkept : EndsUnkept asked = subst (λ (h : Ended). EndsExactly h asked) is ends in
+    unkept_behind shut unkept.front unkept.rest (subst (AllByRecursion (IsUnkeptBy shut)) unkept.asked_is all)

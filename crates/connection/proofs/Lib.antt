@@ -6,3 +6,4 @@ pub mod Lines
 pub mod ServedFronts
 pub mod TalkLines
 pub mod WholeTalks
+pub mod Ticks

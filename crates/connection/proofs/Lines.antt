@@ -6,6 +6,8 @@ use Rattle.wire_frames.specs.declared.frame.ClientFrame.{ClientFrame}
 use Rattle.wire_frames.specs.declared.frame.ServerFrame.{ServerFrame}
 use Rattle.reflector_core.specs.PlainSession.{PlainSession, IsSoundSession}
 use Rattle.reflector_core.specs.Answer.{SessionOutcome, answer}
+use Rattle.reflector_core.specs.declared.keeper.CallFault.{CallFault}
+use Rattle.reflector_core.specs.declared.keeper.CallFault.TheVariants as fault
 use Rattle.reflector_core.specs.declared.request.Reply.{Reply}
 use Rattle.reflector_core.specs.declared.request.Reply.TheVariants as reply
 use Rattle.reflector_core.specs.declared.request.Request.{Request}
@@ -69,17 +71,17 @@ Replies id line caller final request replied rest given sent =
 same_request : (a b : Request) (r s : Reply) (xs ys : List Exchange) → Answered a r ∷ xs ≡ Answered b s ∷ ys → (a ≡ b) × (r ≡ s) × (xs ≡ ys)
 same_request a b r s xs ys is = (cc (is), cc (is), cc (is))
 
-void_no : (own : Bool) (xs ys : List Exchange) (a : Request) (r : Reply) (T : Type 0) → (if own then Unanswered ∷ [] else []) ++ xs ≡ Answered a r ∷ ys → (xs ≡ Answered a r ∷ ys → T) → T
-void_no true xs ys a r T is go = absurd (cc (is))
-void_no false xs ys a r T is go = go is
+void_no : (own : Bool) (found : CallFault) (xs ys : List Exchange) (a : Request) (r : Reply) (T : Type 0) → (if own then Unanswered found ∷ [] else []) ++ xs ≡ Answered a r ∷ ys → (xs ≡ Answered a r ∷ ys → T) → T
+void_no true found xs ys a r T is go = absurd (cc (is))
+void_no false found xs ys a r T is go = go is
 
-did_no : (own : Bool) (xs ys : List Exchange) (a : Request) (r : Reply) (T : Type 0) → (if own then Answered a r ∷ [] else []) ++ xs ≡ Unanswered ∷ ys → (xs ≡ Unanswered ∷ ys → T) → T
-did_no true xs ys a r T is go = absurd (cc (is))
-did_no false xs ys a r T is go = go is
+did_no : (own : Bool) (why : CallFault) (xs ys : List Exchange) (a : Request) (r : Reply) (T : Type 0) → (if own then Answered a r ∷ [] else []) ++ xs ≡ Unanswered why ∷ ys → (xs ≡ Unanswered why ∷ ys → T) → T
+did_no true why xs ys a r T is go = absurd (cc (is))
+did_no false why xs ys a r T is go = go is
 
-void_either : (own : Bool) (xs ys : List Exchange) (T : Type 0) → (if own then Unanswered ∷ [] else []) ++ xs ≡ Unanswered ∷ ys → (xs ≡ ys → T) → (xs ≡ Unanswered ∷ ys → T) → T
-void_either true xs ys T is own go = own (cc (is))
-void_either false xs ys T is own go = go is
+void_either : (own : Bool) (found why : CallFault) (xs ys : List Exchange) (T : Type 0) → (if own then Unanswered found ∷ [] else []) ++ xs ≡ Unanswered why ∷ ys → (xs ≡ ys → T) → (xs ≡ Unanswered why ∷ ys → T) → T
+void_either true found why xs ys T is own go = own (cc (is))
+void_either false found why xs ys T is own go = go is
 
 reaches_did : (id : SessionId) (own : Bool) (asked : Request) (items : List Item) (line : ConnectionLine) (caller : ℕ) (final : PlainSession) (request : Request) (replied : Reply) (rest : List Exchange) (given : List (Option ClientFrame)) (sent : List ServerFrame)
     → IsSoundSession line.session → IsSoundThrough (answer line.session asked).session items → play_from (answer line.session asked).session items ≡ final
@@ -101,32 +103,32 @@ reaches id (Did who asked ∷ items) line caller final request replied rest give
     reaches_did id (eqb who caller) asked items line caller final request replied rest given sent sound.0 sound.1 ends is
     (λ more. reaches id items (at_session line (answer line.session asked).session) caller final request replied rest given sent sound.1 ends more then_so) then_so
 reaches id (Void who ∷ items) line caller final request replied rest given sent sound ends is then_so =
-    void_no (eqb who caller) (exchanges_from line.session caller items) rest request replied (IsLine id line final given sent) is
+    void_no (eqb who caller) fault.WantOfMemory (exchanges_from line.session caller items) rest request replied (IsLine id line final given sent) is
     (λ more. reaches id items line caller final request replied rest given sent sound.1 ends more then_so)
 reaches id (Unkept who ∷ items) line caller final request replied rest given sent sound ends is then_so =
-    void_no (eqb who caller) (exchanges_from line.session caller items) rest request replied (IsLine id line final given sent) is
+    void_no (eqb who caller) fault.Unkept (exchanges_from line.session caller items) rest request replied (IsLine id line final given sent) is
     (λ more. reaches id items line caller final request replied rest given sent sound.1 ends more then_so)
 
--- the same where the call found no memory
+-- the same where the call has no answer
 abbrev pub GoesOn : SessionId → ConnectionLine → ℕ → PlainSession → List Exchange → List (Option ClientFrame) → List ServerFrame → Type 0
 GoesOn id line caller final rest given sent =
     (at : PlainSession) (items : List Item) → IsSoundThrough at items → play_from at items ≡ final → exchanges_from at caller items ≡ rest → IsLine id (at_session line at) final given sent
 
-pub misses : (id : SessionId) (history : List Item) (line : ConnectionLine) (caller : ℕ) (final : PlainSession) (rest : List Exchange) (given : List (Option ClientFrame)) (sent : List ServerFrame)
-    → IsSoundThrough line.session history → play_from line.session history ≡ final → exchanges_from line.session caller history ≡ Unanswered ∷ rest
+pub misses : (id : SessionId) (why : CallFault) (history : List Item) (line : ConnectionLine) (caller : ℕ) (final : PlainSession) (rest : List Exchange) (given : List (Option ClientFrame)) (sent : List ServerFrame)
+    → IsSoundThrough line.session history → play_from line.session history ≡ final → exchanges_from line.session caller history ≡ Unanswered why ∷ rest
     → GoesOn id line caller final rest given sent → IsLine id line final given sent
-misses id [] line caller final rest given sent sound ends is then_so = absurd (cc (is))
-misses id (Did who asked ∷ items) line caller final rest given sent sound ends is then_so =
-    did_no (eqb who caller) (exchanges_from (answer line.session asked).session caller items) rest asked (answer line.session asked).reply (IsLine id line final given sent) is
-    (λ more. turn_first id line (Others asked) final given sent sound.0 (misses id items (at_session line (answer line.session asked).session) caller final rest given sent sound.1 ends more then_so))
-misses id (Void who ∷ items) line caller final rest given sent sound ends is then_so =
-    void_either (eqb who caller) (exchanges_from line.session caller items) rest (IsLine id line final given sent) is
+misses id why [] line caller final rest given sent sound ends is then_so = absurd (cc (is))
+misses id why (Did who asked ∷ items) line caller final rest given sent sound ends is then_so =
+    did_no (eqb who caller) why (exchanges_from (answer line.session asked).session caller items) rest asked (answer line.session asked).reply (IsLine id line final given sent) is
+    (λ more. turn_first id line (Others asked) final given sent sound.0 (misses id why items (at_session line (answer line.session asked).session) caller final rest given sent sound.1 ends more then_so))
+misses id why (Void who ∷ items) line caller final rest given sent sound ends is then_so =
+    void_either (eqb who caller) fault.WantOfMemory why (exchanges_from line.session caller items) rest (IsLine id line final given sent) is
     (λ behind. then_so line.session items sound.1 ends behind)
-    (λ more. misses id items line caller final rest given sent sound.1 ends more then_so)
-misses id (Unkept who ∷ items) line caller final rest given sent sound ends is then_so =
-    void_either (eqb who caller) (exchanges_from line.session caller items) rest (IsLine id line final given sent) is
+    (λ more. misses id why items line caller final rest given sent sound.1 ends more then_so)
+misses id why (Unkept who ∷ items) line caller final rest given sent sound ends is then_so =
+    void_either (eqb who caller) fault.Unkept why (exchanges_from line.session caller items) rest (IsLine id line final given sent) is
     (λ behind. then_so line.session items sound.1 ends behind)
-    (λ more. misses id items line caller final rest given sent sound.1 ends more then_so)
+    (λ more. misses id why items line caller final rest given sent sound.1 ends more then_so)
 
 -- ---- turns of the line itself
 

@@ -13,6 +13,7 @@ use Rattle.wire_frames.specs.declared.frame.ClientFrame.{ClientFrame}
 use Rattle.wire_frames.specs.declared.frame.ServerFrame.{ServerFrame}
 use Rattle.reflector_core.specs.PlainSession.{PlainSession}
 use Rattle.reflector_core.specs.Answer.{answer}
+use Rattle.reflector_core.specs.declared.keeper.CallFault.{CallFault}
 use Rattle.reflector_core.specs.declared.request.Reply.{Reply}
 use Rattle.reflector_core.specs.declared.request.Reply.TheVariants as reply
 use Rattle.reflector_core.specs.declared.request.Refusal.{Refusal}
@@ -37,11 +38,12 @@ use Rattle.system_plain.proofs.Lines.{served_by}
 use Rattle.connection.specs.declared.ending.Ended.{Ended}
 use Rattle.connection.specs.declared.ending.Ended.TheVariants as ended
 use Rattle.connection.specs.Exchanges.{Answered, Unanswered, exchanges_from}
-use Rattle.connection.specs.Phases.{TalkPhase, Opening, Beginning, Joining, Ticking, Pulling, Hearing, Taking, Asking, Sending, Leaving, Over, Wrong, TalkEvent, Hears, Reads, MakesRequest, MakesAt, Misses, Sends, Loses, FailsToSend, Wants, answered_by, acted_phase, code_in, end_in, ending_phase, entered_phase, greeted_phase, heard_in, hearing_row, join_phase, opened_phase, opening_row, pulled_phase, read_phase, reply_phase, sending_phase, talk_walk}
+use Rattle.connection.specs.Phases.{TalkPhase, Opening, Beginning, Joining, Ticking, Pulling, Hearing, Taking, Asking, Sending, Leaving, Over, Wrong, TalkEvent, Hears, Reads, MakesRequest, MakesAt, Misses, Sends, Loses, FailsToSend, Wants, answered_by, acted_phase, code_in, end_in, ended_by, ending_phase, entered_phase, greeted_phase, heard_in, hearing_row, join_phase, opened_phase, opening_row, pulled_phase, read_phase, reply_phase, sending_phase, talk_walk}
 use Rattle.connection.specs.Talk.{Talk}
-use Rattle.connection.specs.TalkServed.{IsTalkServed, frames_of}
+use Rattle.connection.specs.TalkServed.{IsTalkServed, IsToldWithin, frames_of}
 use Rattle.connection.proofs.Lines.{IsLine, at_session, hears_is, misses, others_end, pull_nothing, pumps_is, reaches, turn_to}
 use Rattle.connection.proofs.ServedFronts.{served_front}
+use Rattle.connection.proofs.Ticks.{line_ticks}
 
 -- ---- where a line stands beside a phase
 
@@ -265,13 +267,13 @@ answers_on id events caller final how p l history asked replied turn given sent 
     (subst (λ (s : PlainSession). Remains id p events s items caller final how) (sym (same at replied_so)) (record { sound = behind_sound; ends = behind_ends; asked = behind_asked; over = over }))
     (beside at replied_so)))
 
--- a call found no memory
-misses_on : (id : SessionId) (events : List TalkEvent) (caller : ℕ) (final : PlainSession) (how : Ended) (p : TalkPhase) (l : ConnectionLine) (history : List Item)
+-- a call has no answer
+misses_on : (id : SessionId) (why : CallFault) (events : List TalkEvent) (caller : ℕ) (final : PlainSession) (how : Ended) (p : TalkPhase) (l : ConnectionLine) (history : List Item)
     (given : List (Option ClientFrame)) (sent : List ServerFrame) → Onwards id events caller final how
-    → IsSoundThrough l.session history → play_from l.session history ≡ final → exchanges_from l.session caller history ≡ Unanswered ∷ (talk_walk id p events).asked → (talk_walk id p events).phase ≡ Over how
+    → IsSoundThrough l.session history → play_from l.session history ≡ final → exchanges_from l.session caller history ≡ Unanswered why ∷ (talk_walk id p events).asked → (talk_walk id p events).phase ≡ Over how
     → SaysNothing p → IsPart l given sent → IsLine id l final (given ++ frames_of (heard_in events)) (sent ++ (talk_walk id p events).sent)
-misses_on id events caller final how p l history given sent next sound ends is over says part =
-    misses id history l caller final (talk_walk id p events).asked (given ++ frames_of (heard_in events)) (sent ++ (talk_walk id p events).sent) sound ends is
+misses_on id why events caller final how p l history given sent next sound ends is over says part =
+    misses id why history l caller final (talk_walk id p events).asked (given ++ frames_of (heard_in events)) (sent ++ (talk_walk id p events).sent) sound ends is
     (λ at items behind_sound behind_ends behind_asked.
     next p (at_session l at) items given sent (record { sound = behind_sound; ends = behind_ends; asked = behind_asked; over = over })
     (part_beside id (at_session l at) given sent p says (record { unheard = part.unheard; given_is = part.given_is; unsent = part.unsent; sent_is = part.sent_is })))
@@ -332,13 +334,13 @@ on id (Joining asked) (MakesRequest replied) events caller final how l history g
         subst (λ (g : List (Option ClientFrame)). Beside id (joined_line at) g sent (join_phase asked (answer at asked).reply)) (sym hear.given_is)
         (subst (λ (s : List ServerFrame). Beside id (joined_line at) (l.given ++ Some frame ∷ []) s (join_phase asked (answer at asked).reply)) (sym hear.sent_is)
         (greeted_beside id (answer at asked).session (first_cursor (joined_view asked) (answer at asked).reply) (join_answer (answer at asked).reply) (l.given ++ Some frame ∷ []) l.sent))
-on id (Joining asked) Misses events caller final how l history given sent next r (frame, now, is, hear) =
-    misses_on id events caller final how (Over ended.WantOfMemory) l history given sent next r.sound r.ends r.asked r.over tt (hear_part l None (Some frame) given sent hear)
+on id (Joining asked) (Misses why) events caller final how l history given sent next r (frame, now, is, hear) =
+    misses_on id why events caller final how (Over (ended_by why)) l history given sent next r.sound r.ends r.asked r.over tt (hear_part l None (Some frame) given sent hear)
 on id (Ticking cursor quiets) (MakesAt now replied) events caller final how l history given sent next r even =
     answers_on id events caller final how (Pulling cursor quiets) l history (request.Tick now) replied (line.Others (request.Tick now)) given sent next r.sound r.ends r.asked r.over
     (λ at replied_so. refl) (λ at replied_so. record { at = even.at; clear = even.clear; given_is = even.given_is; sent_is = even.sent_is })
-on id (Ticking cursor quiets) Misses events caller final how l history given sent next r even =
-    misses_on id events caller final how (Leaving cursor ended.WantOfMemory) l history given sent next r.sound r.ends r.asked r.over tt (even_part l (Some cursor) given sent even)
+on id (Ticking cursor quiets) (Misses why) events caller final how l history given sent next r even =
+    misses_on id why events caller final how (Leaving cursor (ended_by why)) l history given sent next r.sound r.ends r.asked r.over tt (even_part l (Some cursor) given sent even)
 on id (Pulling cursor quiets) (MakesRequest replied) events caller final how l history given sent next r even =
     answers_on id events caller final how (pulled_phase cursor quiets replied) l history (request.Pull cursor.after most_pulled) replied (line.Pumps 0) given sent next r.sound r.ends r.asked r.over
     (λ at replied_so. ap (λ (x : ConnectionLine). x.session) (pumps_is id (at_session l at) cursor even.clear even.at) ∙ sym (pull_nothing at cursor.after most_pulled))
@@ -356,8 +358,8 @@ on id (Pulling cursor quiets) (MakesRequest replied) events caller final how l h
         let batch = (answer at (request.Pull cursor.after most_pulled)).reply in
         sending_beside id (pulled_line at) given sent (next_frames cursor batch) (Hearing (next_cursor cursor batch) quiets) (Leaving cursor ended.LinkFault) (Leaving cursor ended.WantOfMemory)
         (ap (λ (s : List ServerFrame). s ++ next_frames cursor batch) (sym even.sent_is)) even.given_is (record { at = refl; clear = refl; given_is = even.given_is; sent_is = refl }) tt tt
-on id (Pulling cursor quiets) Misses events caller final how l history given sent next r even =
-    misses_on id events caller final how (Leaving cursor ended.WantOfMemory) l history given sent next r.sound r.ends r.asked r.over tt (even_part l (Some cursor) given sent even)
+on id (Pulling cursor quiets) (Misses why) events caller final how l history given sent next r even =
+    misses_on id why events caller final how (Leaving cursor (ended_by why)) l history given sent next r.sound r.ends r.asked r.over tt (even_part l (Some cursor) given sent even)
 on id (Hearing cursor quiets) (Hears (heard.Frame bytes)) events caller final how l history given sent next r even =
     heard_more id l final given (whole client_at bytes) (frames_of (heard_in events)) (sent ++ (talk_walk id (Taking cursor bytes) events).sent)
     (next (Taking cursor bytes) l history (given ++ whole client_at bytes ∷ []) sent (record { sound = r.sound; ends = r.ends; asked = r.asked; over = r.over }) (to_hear l (Some cursor) (whole client_at bytes) given sent even))
@@ -395,8 +397,8 @@ on id (Asking cursor asked) (MakesRequest replied) events caller final how l his
         subst (λ (g : List (Option ClientFrame)). Beside id (asked_line at) g sent (reply_phase cursor asked outcome.reply)) (sym hear.given_is)
         (subst (λ (s : List ServerFrame). Beside id (asked_line at) (l.given ++ Some frame ∷ []) s (reply_phase cursor asked outcome.reply)) (sym hear.sent_is)
         (answered_beside id outcome.session cursor (ends_connection outcome.reply) (end_in outcome.reply) (answer_frames (answer_frame asked outcome.reply)) (l.given ++ Some frame ∷ []) l.sent (stays_open outcome.reply)))
-on id (Asking cursor asked) Misses events caller final how l history given sent next r (frame, now, is, hear) =
-    misses_on id events caller final how (Leaving cursor ended.WantOfMemory) l history given sent next r.sound r.ends r.asked r.over tt (hear_part l (Some cursor) (Some frame) given sent hear)
+on id (Asking cursor asked) (Misses why) events caller final how l history given sent next r (frame, now, is, hear) =
+    misses_on id why events caller final how (Leaving cursor (ended_by why)) l history given sent next r.sound r.ends r.asked r.over tt (hear_part l (Some cursor) (Some frame) given sent hear)
 on id (Sending frame frames behind fails wants) Sends events caller final how l history given sent next r (is, same, beside, failing, wanting) =
     sent_more id l final (given ++ frames_of (heard_in events)) sent frame (talk_walk id (sending_phase frames behind fails wants) events).sent
     (next (sending_phase frames behind fails wants) l history given (sent ++ frame ∷ []) (record { sound = r.sound; ends = r.ends; asked = r.asked; over = r.over })
@@ -415,8 +417,8 @@ on id (Sending frame frames behind fails wants) Wants events caller final how l 
 on id (Leaving cursor ending) (MakesAt now replied) events caller final how l history given sent next r part =
     answers_on id events caller final how (Over ending) l history (request.Leave cursor.view cursor.joined now) replied (line.Others (request.Leave cursor.view cursor.joined now)) given sent next r.sound r.ends r.asked r.over
     (λ at replied_so. refl) (λ at replied_so. record { unheard = part.unheard; given_is = part.given_is; unsent = part.unsent; sent_is = part.sent_is })
-on id (Leaving cursor ending) Misses events caller final how l history given sent next r part =
-    misses_on id events caller final how (Over ending) l history given sent next r.sound r.ends r.asked r.over tt part
+on id (Leaving cursor ending) (Misses why) events caller final how l history given sent next r part =
+    misses_on id why events caller final how (Over ending) l history given sent next r.sound r.ends r.asked r.over tt part
 on id p event events caller final how l history given sent next r beside = absurd (never_over id events how r.over)
 
 -- ---- all events
@@ -454,3 +456,15 @@ talk_served gives id opening history caller heard sent how sound talk =
           subst (λ (x : List Heard). Served (play_from opening history).log (frames_of x) frames) (sym talk.said)
           (subst (λ (g : List (Option ClientFrame)). Served (play_from opening history).log g frames) (sym h.given_is) front);
     }
+
+-- and what it tells of time is within its session's horizon
+pub talk_told : (gives : ℕ → Type 0) (id : SessionId) (opening : PlainSession) (history : List Item) (caller : ℕ) (heard : List Heard) (sent : List (List ℕ)) (how : Ended) → IsSoundThrough opening history
+    → Talk gives id opening history caller heard sent how → IsToldWithin (play_from opening history).horizon sent
+talk_told gives id opening history caller heard sent how sound talk = record {
+  frames = (talk_walk id (Opening 0) talk.events).sent;
+  spelling = talk.told;
+  spelled = talk.spelled;
+  ticks =
+      line_ticks id opening (play_from opening history) (frames_of (heard_in talk.events)) (talk_walk id (Opening 0) talk.events).sent (sound_start opening history sound)
+      (talk_line gives id opening history caller heard sent how sound talk);
+}

@@ -3,7 +3,6 @@ use Rattle.std.proofs.Common.{◌≡◌, ◌≢◌, ◌⊎◌, inl, inr, ℕ, �
 use Rattle.std.specs.List.{AllByRecursion}
 use Rattle.std.proofs.lemmas.List.{append-nil, drop_more}
 use Rattle.tea_base.specs.declared.entry.SessionId.{SessionId}
-use Rattle.tea_base.specs.declared.want.WantOfMemory.{WantOfMemory}
 use Rattle.tea_io.specs.Told.{with_more, Rose}
 use Rattle.tea_io.specs.Links.{CountRises, NoneFalls, SendCause, Sends as LinkSends, most_quiets, note_of}
 use Rattle.tea_io.specs.declared.link.Heard.{Heard}
@@ -19,6 +18,7 @@ use Rattle.wire_frames.specs.declared.fault.FrameFault.{FrameFault}
 use Rattle.wire_frames.specs.declared.fault.FrameFault.TheVariants as unread
 use Rattle.wire_frames.specs.declared.frame.ServerFrame.{ServerFrame}
 use Rattle.tea_base.specs.declared.entry.Entry.{Entry}
+use Rattle.reflector_core.specs.declared.keeper.CallFault.{CallFault}
 use Rattle.reflector_core.specs.declared.request.Reply.{Reply}
 use Rattle.reflector_core.specs.declared.request.Reply.TheVariants as reply
 use Rattle.reflector_core.specs.declared.request.Request.TheVariants.{Join, Send, Tick, Leave, Offer, Pull}
@@ -40,7 +40,7 @@ use Rattle.join_sync.specs.Batches.{entry_frames, most_pulled, newer_tick, next_
 use Rattle.connection.specs.declared.ending.Ended.{Ended}
 use Rattle.connection.specs.declared.ending.Ended.TheVariants as ended
 use Rattle.connection.specs.declared.ending.Halt.{Halt}
-use Rattle.connection.specs.Exchanges.{Exchange, Answered, Unanswered, exchanges_in, IsAskedInTime}
+use Rattle.connection.specs.Exchanges.{Exchange, Answered, Unanswered, exchanges_in, IsAskedInTime, IsMadeSo, IsUnkeptBy}
 use Rattle.connection.specs.Standing.{SeesOn, exchange_of}
 use Rattle.connection.specs.Phases.{TalkPhase, Opening, Joining, Ticking, Pulling, Hearing, Asking, Sending, Leaving, Over, TalkEvent, Hears, Reads, MakesRequest, MakesAt, Misses, Sends, Loses, FailsToSend, Wants, answered_by, end_in, ending_phase, greeted_phase, halt_phase, heard_by, heard_in, hearing, hearing_row, join_phase, opening, opening_row, pulled_phase, reply_phase, sending_phase, talk_step, talk_walk, telling_phase}
 use Rattle.connection.specs.Talk.{Account, EventCounts, LinkAccount, SendsSpelled, Talk, TalksOn, TalksOrHalts, account, asked_by}
@@ -92,8 +92,8 @@ heard_both (x ∷ xs) ys = ap (λ (l : List Heard). heard_by x ++ l) (heard_both
 -- ---- talks one after the other
 
 -- nothing has come
-pub talks_still : (gives : ℕ → Type 0) (id : SessionId) (p : TalkPhase) (a : Account) → TalksOn gives id p p a a
-talks_still gives id p a = record {
+pub talks_still : (made : Exchange → Type 0) (id : SessionId) (p : TalkPhase) (a : Account) → TalksOn made id p p a a
+talks_still made id p a = record {
   events = [];
   ends = refl;
   asked = sym (append-nil (asked_by a.pass));
@@ -102,11 +102,11 @@ talks_still gives id p a = record {
   sent = sym (with_more_none a.link.sent);
   counts = refl;
   spelled = tt;
-  timely = tt;
+  calls = tt;
 }
 
-pub talks_then : (gives : ℕ → Type 0) (id : SessionId) (p q r : TalkPhase) (a b c : Account) → TalksOn gives id p q a b → TalksOn gives id q r b c → TalksOn gives id p r a c
-talks_then gives id p q r a b c f g =
+pub talks_then : (made : Exchange → Type 0) (id : SessionId) (p q r : TalkPhase) (a b c : Account) → TalksOn made id p q a b → TalksOn made id q r b c → TalksOn made id p r a c
+talks_then made id p q r a b c f g =
     let there : (talk_walk id p f.events).phase ≡ q = f.ends in
     let asked : (talk_walk id p (f.events ++ g.events)).asked ≡ (talk_walk id p f.events).asked ++ (talk_walk id q g.events).asked =
     walk_asked id p f.events g.events ∙ ap (λ (x : TalkPhase). (talk_walk id p f.events).asked ++ (talk_walk id x g.events).asked) there in
@@ -131,29 +131,29 @@ talks_then gives id p q r a b c f g =
           ∙ ap (λ (l : List (List ℕ)). with_more a.link.sent l) (sym (ap (map server_spelling) sent ∙ map_both (talk_walk id p f.events).sent (talk_walk id q g.events).sent))));
       counts = count_on f.events g.events a.link.counts b.link.counts c.link.counts f.counts g.counts;
       spelled = subst (AllByRecursion IsServerFrame) (sym sent) (all_both IsServerFrame (talk_walk id p f.events).sent (talk_walk id q g.events).sent f.spelled g.spelled);
-      timely = subst (AllByRecursion (IsAskedInTime gives)) (sym asked) (all_both (IsAskedInTime gives) (talk_walk id p f.events).asked (talk_walk id q g.events).asked f.timely g.timely);
+      calls = subst (AllByRecursion made) (sym asked) (all_both made (talk_walk id p f.events).asked (talk_walk id q g.events).asked f.calls g.calls);
     }
 
-pub talks_to : (gives : ℕ → Type 0) (id : SessionId) (p q r : TalkPhase) (a b : Account) → r ≡ q → TalksOn gives id p q a b → TalksOn gives id p r a b
-talks_to gives id p q r a b is f = subst (λ (x : TalkPhase). TalksOn gives id p x a b) (sym is) f
+pub talks_to : (made : Exchange → Type 0) (id : SessionId) (p q r : TalkPhase) (a b : Account) → r ≡ q → TalksOn made id p q a b → TalksOn made id p r a b
+talks_to made id p q r a b is f = subst (λ (x : TalkPhase). TalksOn made id p x a b) (sym is) f
 
-pub talks_from : (gives : ℕ → Type 0) (id : SessionId) (p q r : TalkPhase) (a b : Account) → p ≡ q → TalksOn gives id q r a b → TalksOn gives id p r a b
-talks_from gives id p q r a b is f = subst (λ (x : TalkPhase). TalksOn gives id x r a b) (sym is) f
+pub talks_from : (made : Exchange → Type 0) (id : SessionId) (p q r : TalkPhase) (a b : Account) → p ≡ q → TalksOn made id q r a b → TalksOn made id p r a b
+talks_from made id p q r a b is f = subst (λ (x : TalkPhase). TalksOn made id x r a b) (sym is) f
 
 -- it goes on, whether it then halts or not
-pub then_either : {T : Type 0} (gives : ℕ → Type 0) (id : SessionId) (r : Result T Halt) (to : T → TalkPhase) (p q : TalkPhase) (a b c : Account) → TalksOn gives id p q a b
-    → TalksOrHalts gives id q to r b c → TalksOrHalts gives id p to r a c
-then_either gives id (Ok x) to p q a b c f g = talks_then gives id p q (to x) a b c f g
-then_either gives id (Err halt) to p q a b c f g = talks_then gives id p q (halt_phase halt) a b c f g
+pub then_either : {T : Type 0} (made : Exchange → Type 0) (id : SessionId) (r : Result T Halt) (to : T → TalkPhase) (p q : TalkPhase) (a b c : Account) → TalksOn made id p q a b
+    → TalksOrHalts made id q to r b c → TalksOrHalts made id p to r a c
+then_either made id (Ok x) to p q a b c f g = talks_then made id p q (to x) a b c f g
+then_either made id (Err halt) to p q a b c f g = talks_then made id p q (halt_phase halt) a b c f g
 
 -- ---- one event
 
-pub talks_by : (gives : ℕ → Type 0) (id : SessionId) (e : TalkEvent) (p : TalkPhase) (a b : Account)
+pub talks_by : (made : Exchange → Type 0) (id : SessionId) (e : TalkEvent) (p : TalkPhase) (a b : Account)
     → asked_by b.pass ≡ asked_by a.pass ++ (talk_step id p e).asked → SeesOn a.pass b.pass → b.link.heard ≡ with_more a.link.heard (heard_by e)
     → b.link.sent ≡ with_more a.link.sent (map server_spelling (talk_step id p e).sent) → EventCounts e a.link.counts b.link.counts
-    → AllByRecursion IsServerFrame (talk_step id p e).sent → AllByRecursion (IsAskedInTime gives) (talk_step id p e).asked
-    → TalksOn gives id p (talk_step id p e).phase a b
-talks_by gives id e p a b asked sees heard sent counts spelled timely = record {
+    → AllByRecursion IsServerFrame (talk_step id p e).sent → AllByRecursion made (talk_step id p e).asked
+    → TalksOn made id p (talk_step id p e).phase a b
+talks_by made id e p a b asked sees heard sent counts spelled calls = record {
   events = e ∷ [];
   ends = refl;
   asked = asked ∙ ap (λ (l : List Exchange). asked_by a.pass ++ l) (sym (append-nil (talk_step id p e).asked));
@@ -162,30 +162,30 @@ talks_by gives id e p a b asked sees heard sent counts spelled timely = record {
   sent = sent ∙ ap (λ (l : List ServerFrame). with_more a.link.sent (map server_spelling l)) (sym (append-nil (talk_step id p e).sent));
   counts = count_one e a.link.counts b.link.counts counts;
   spelled = all_both IsServerFrame (talk_step id p e).sent [] spelled tt;
-  timely = all_both (IsAskedInTime gives) (talk_step id p e).asked [] timely tt;
+  calls = all_both made (talk_step id p e).asked [] calls tt;
 }
 
 -- an event that neither the link nor the session sees
-pub talks_inwardly : (gives : ℕ → Type 0) (id : SessionId) (e : TalkEvent) (p : TalkPhase) (a : Account) → (talk_step id p e).asked ≡ [] → (talk_step id p e).sent ≡ [] → heard_by e ≡ []
-    → EventCounts e a.link.counts a.link.counts → TalksOn gives id p (talk_step id p e).phase a a
-talks_inwardly gives id e p a none nothing quiet counts =
-    talks_by gives id e p a a
+pub talks_inwardly : (made : Exchange → Type 0) (id : SessionId) (e : TalkEvent) (p : TalkPhase) (a : Account) → (talk_step id p e).asked ≡ [] → (talk_step id p e).sent ≡ [] → heard_by e ≡ []
+    → EventCounts e a.link.counts a.link.counts → TalksOn made id p (talk_step id p e).phase a a
+talks_inwardly made id e p a none nothing quiet counts =
+    talks_by made id e p a a
     (sym (append-nil (asked_by a.pass)) ∙ ap (λ (l : List Exchange). asked_by a.pass ++ l) (sym none)) (sees_still a.pass)
     (sym (with_more_none a.link.heard) ∙ ap (λ (l : List Heard). with_more a.link.heard l) (sym quiet))
     (sym (with_more_none a.link.sent) ∙ ap (λ (l : List ServerFrame). with_more a.link.sent (map server_spelling l)) (sym nothing))
-    counts (subst (AllByRecursion IsServerFrame) (sym nothing) tt) (subst (AllByRecursion (IsAskedInTime gives)) (sym none) tt)
+    counts (subst (AllByRecursion IsServerFrame) (sym nothing) tt) (subst (AllByRecursion made) (sym none) tt)
 
 -- a call was made
-pub talks_asking : (gives : ℕ → Type 0) (id : SessionId) (e : TalkEvent) (p : TalkPhase) (exchange : Exchange) (a b : PassState) (link : LinkAccount)
+pub talks_asking : (made : Exchange → Type 0) (id : SessionId) (e : TalkEvent) (p : TalkPhase) (exchange : Exchange) (a b : PassState) (link : LinkAccount)
     → exchanges_in b.opening b.seen (caller b) ≡ exchanges_in a.opening a.seen (caller a) ++ exchange ∷ [] → SeesOn a b → (talk_step id p e).asked ≡ exchange ∷ [] → (talk_step id p e).sent ≡ [] → heard_by e ≡ []
-    → EventCounts e link.counts link.counts → IsAskedInTime gives exchange
-    → TalksOn gives id p (talk_step id p e).phase (account a link) (account b link)
-talks_asking gives id e p exchange a b link grew sees one nothing quiet counts timely =
-    talks_by gives id e p (account a link) (account b link)
+    → EventCounts e link.counts link.counts → made exchange
+    → TalksOn made id p (talk_step id p e).phase (account a link) (account b link)
+talks_asking made id e p exchange a b link grew sees one nothing quiet counts call =
+    talks_by made id e p (account a link) (account b link)
     (grew ∙ ap (λ (l : List Exchange). exchanges_in a.opening a.seen (caller a) ++ l) (sym one)) sees
     (sym (with_more_none link.heard) ∙ ap (λ (l : List Heard). with_more link.heard l) (sym quiet))
     (sym (with_more_none link.sent) ∙ ap (λ (l : List ServerFrame). with_more link.sent (map server_spelling l)) (sym nothing))
-    counts (subst (AllByRecursion IsServerFrame) (sym nothing) tt) (subst (AllByRecursion (IsAskedInTime gives)) (sym one) (timely, tt))
+    counts (subst (AllByRecursion IsServerFrame) (sym nothing) tt) (subst (AllByRecursion made) (sym one) (call, tt))
 
 -- ---- sends
 
@@ -202,32 +202,32 @@ phase_behind (Ok done) next fails wants = next
 phase_behind (Err fault.Failed) next fails wants = fails
 phase_behind (Err fault.WantOfMemory) next fails wants = wants
 
-pub sends_on : (gives : ℕ → Type 0) (id : SessionId) (r : Result (Unit {0}) LinkFault) (frame : ServerFrame) (rest : List ServerFrame) (next fails wants : TalkPhase) (pass : PassState) (a b : LinkAccount) → Sent a b frame r
-    → TalksOn gives id (Sending frame rest next fails wants) (phase_behind r (sending_phase rest next fails wants) fails wants) (account pass a) (account pass b)
-sends_on gives id (Ok done) frame rest next fails wants pass a b s =
-    talks_by gives id Sends (Sending frame rest next fails wants) (account pass a) (account pass b)
+pub sends_on : (made : Exchange → Type 0) (id : SessionId) (r : Result (Unit {0}) LinkFault) (frame : ServerFrame) (rest : List ServerFrame) (next fails wants : TalkPhase) (pass : PassState) (a b : LinkAccount) → Sent a b frame r
+    → TalksOn made id (Sending frame rest next fails wants) (phase_behind r (sending_phase rest next fails wants) fails wants) (account pass a) (account pass b)
+sends_on made id (Ok done) frame rest next fails wants pass a b s =
+    talks_by made id Sends (Sending frame rest next fails wants) (account pass a) (account pass b)
     (sym (append-nil (asked_by pass))) (sees_still pass) (s.heard ∙ sym (with_more_none a.heard)) s.sent.1 s.later (s.sent.0, tt) tt
-sends_on gives id (Err fault.Failed) frame rest next fails wants pass a b s = fails_on s.sent
+sends_on made id (Err fault.Failed) frame rest next fails wants pass a b s = fails_on s.sent
   where
     counts : NoneFalls a.counts b.counts × Rose a.counts.faults b.counts.faults
     counts = (s.later, s.cause refl)
 
     fails_on : ((b.sent ≡ a.sent) ⊎ (IsServerFrame frame × (b.sent ≡ with_more a.sent (server_spelling frame ∷ []))))
-        → TalksOn gives id (Sending frame rest next fails wants) fails (account pass a) (account pass b)
+        → TalksOn made id (Sending frame rest next fails wants) fails (account pass a) (account pass b)
     fails_on (inl same) =
-        talks_by gives id FailsToSend (Sending frame rest next fails wants) (account pass a) (account pass b)
+        talks_by made id FailsToSend (Sending frame rest next fails wants) (account pass a) (account pass b)
         (sym (append-nil (asked_by pass))) (sees_still pass) (s.heard ∙ sym (with_more_none a.heard)) (same ∙ sym (with_more_none a.sent)) counts tt tt
     fails_on (inr went) =
-        talks_by gives id Loses (Sending frame rest next fails wants) (account pass a) (account pass b)
+        talks_by made id Loses (Sending frame rest next fails wants) (account pass a) (account pass b)
         (sym (append-nil (asked_by pass))) (sees_still pass) (s.heard ∙ sym (with_more_none a.heard)) went.1 counts (went.0, tt) tt
-sends_on gives id (Err fault.WantOfMemory) frame rest next fails wants pass a b s =
-    talks_by gives id Wants (Sending frame rest next fails wants) (account pass a) (account pass b)
+sends_on made id (Err fault.WantOfMemory) frame rest next fails wants pass a b s =
+    talks_by made id Wants (Sending frame rest next fails wants) (account pass a) (account pass b)
     (sym (append-nil (asked_by pass))) (sees_still pass) (s.heard ∙ sym (with_more_none a.heard)) (s.sent ∙ sym (with_more_none a.sent)) s.later tt tt
 
 -- the last frame
-pub sends_last : (gives : ℕ → Type 0) (id : SessionId) (r : Result (Unit {0}) LinkFault) (frame : ServerFrame) (how : Ended) (wants : TalkPhase) (pass : PassState) (a b : LinkAccount) → Sent a b frame r
-    → TalksOn gives id (ending_phase (frame ∷ []) how wants) (phase_behind r (Over how) (Over how) wants) (account pass a) (account pass b)
-sends_last gives id r frame how wants pass a b s = sends_on gives id r frame [] (Over how) (Over how) wants pass a b s
+pub sends_last : (made : Exchange → Type 0) (id : SessionId) (r : Result (Unit {0}) LinkFault) (frame : ServerFrame) (how : Ended) (wants : TalkPhase) (pass : PassState) (a b : LinkAccount) → Sent a b frame r
+    → TalksOn made id (ending_phase (frame ∷ []) how wants) (phase_behind r (Over how) (Over how) wants) (account pass a) (account pass b)
+sends_last made id r frame how wants pass a b s = sends_on made id r frame [] (Over how) (Over how) wants pass a b s
 
 -- ---- receives
 
@@ -237,32 +237,32 @@ pub record HeardOnce (a b : LinkAccount) (what : Heard) : Type 0 where
   pub later : NoneFalls a.counts b.counts
   pub cause : CountRises a.counts b.counts what
 
-pub hears_in : (gives : ℕ → Type 0) (id : SessionId) (cursor : Cursor) (quiets : ℕ) (what : Heard) (pass : PassState) (a b : LinkAccount) → HeardOnce a b what
-    → TalksOn gives id (Hearing cursor quiets) (hearing cursor quiets what) (account pass a) (account pass b)
-hears_in gives id cursor quiets what pass a b h =
-    talks_by gives id (Hears what) (Hearing cursor quiets) (account pass a) (account pass b)
+pub hears_in : (made : Exchange → Type 0) (id : SessionId) (cursor : Cursor) (quiets : ℕ) (what : Heard) (pass : PassState) (a b : LinkAccount) → HeardOnce a b what
+    → TalksOn made id (Hearing cursor quiets) (hearing cursor quiets what) (account pass a) (account pass b)
+hears_in made id cursor quiets what pass a b h =
+    talks_by made id (Hears what) (Hearing cursor quiets) (account pass a) (account pass b)
     (sym (append-nil (asked_by pass))) (sees_still pass) h.heard (h.sent ∙ sym (with_more_none a.sent)) (h.later, h.cause) tt tt
 
-pub hears_first : (gives : ℕ → Type 0) (id : SessionId) (quiets : ℕ) (what : Heard) (pass : PassState) (a b : LinkAccount) → HeardOnce a b what
-    → TalksOn gives id (Opening quiets) (opening quiets what) (account pass a) (account pass b)
-hears_first gives id quiets what pass a b h =
-    talks_by gives id (Hears what) (Opening quiets) (account pass a) (account pass b)
+pub hears_first : (made : Exchange → Type 0) (id : SessionId) (quiets : ℕ) (what : Heard) (pass : PassState) (a b : LinkAccount) → HeardOnce a b what
+    → TalksOn made id (Opening quiets) (opening quiets what) (account pass a) (account pass b)
+hears_first made id quiets what pass a b h =
+    talks_by made id (Hears what) (Opening quiets) (account pass a) (account pass b)
     (sym (append-nil (asked_by pass))) (sees_still pass) h.heard (h.sent ∙ sym (with_more_none a.sent)) (h.later, h.cause) tt tt
 
 -- a row of Quiets that is not at its end
 pub opening_row_is : (quiets : ℕ) → quiets < most_quiets → opening_row quiets ≡ Opening quiets
 opening_row_is quiets below = let other : (quiets == most_quiets) ≡ false = ne_eqb quiets most_quiets (λ e. omega (arith, e, below)) in rw other refl
 
-pub opens : (gives : ℕ → Type 0) (id : SessionId) (quiets : ℕ) (what : Heard) (pass : PassState) (first : Account) (a b : LinkAccount) → quiets < most_quiets
-    → TalksOn gives id (Opening 0) (opening_row quiets) first (account pass a) → HeardOnce a b what
-    → TalksOn gives id (Opening 0) (opening quiets what) first (account pass b)
-opens gives id quiets what pass first a b below so_far h =
-    talks_then gives id (Opening 0) (Opening quiets) (opening quiets what) first (account pass a) (account pass b)
-    (talks_to gives id (Opening 0) (opening_row quiets) (Opening quiets) first (account pass a) (sym (opening_row_is quiets below)) so_far)
-    (hears_first gives id quiets what pass a b h)
+pub opens : (made : Exchange → Type 0) (id : SessionId) (quiets : ℕ) (what : Heard) (pass : PassState) (first : Account) (a b : LinkAccount) → quiets < most_quiets
+    → TalksOn made id (Opening 0) (opening_row quiets) first (account pass a) → HeardOnce a b what
+    → TalksOn made id (Opening 0) (opening quiets what) first (account pass b)
+opens made id quiets what pass first a b below so_far h =
+    talks_then made id (Opening 0) (Opening quiets) (opening quiets what) first (account pass a) (account pass b)
+    (talks_to made id (Opening 0) (opening_row quiets) (Opening quiets) first (account pass a) (sym (opening_row_is quiets below)) so_far)
+    (hears_first made id quiets what pass a b h)
 
-pub opening_over : (gives : ℕ → Type 0) (id : SessionId) (quiets : ℕ) (first b : Account) → quiets ≡ most_quiets → TalksOn gives id (Opening 0) (opening_row quiets) first b → TalksOn gives id (Opening 0) (opening_row most_quiets) first b
-opening_over gives id quiets first b is f = subst (λ (n : ℕ). TalksOn gives id (Opening 0) (opening_row n) first b) is f
+pub opening_over : (made : Exchange → Type 0) (id : SessionId) (quiets : ℕ) (first b : Account) → quiets ≡ most_quiets → TalksOn made id (Opening 0) (opening_row quiets) first b → TalksOn made id (Opening 0) (opening_row most_quiets) first b
+opening_over made id quiets first b is f = subst (λ (n : ℕ). TalksOn made id (Opening 0) (opening_row n) first b) is f
 
 pub hearing_row_on : (cursor : Cursor) (quiets : ℕ) → quiets ≢ most_quiets → hearing_row cursor quiets ≡ Ticking cursor quiets
 hearing_row_on cursor quiets ne = rw (ne_eqb quiets most_quiets ne) refl
@@ -328,85 +328,90 @@ none_next cursor (reply.Left seq time) is = refl
 none_next cursor reply.Kept is = refl
 none_next cursor (reply.Refused refusal) is = refl
 
-frames_want : (gives : ℕ → Type 0) (id : SessionId) (cursor behind : Cursor) (frames : List ServerFrame) (quiets : ℕ) (a : Account) → (frames ≡ [] → behind ≡ cursor)
-    → TalksOn gives id (telling_phase cursor frames (Hearing behind quiets)) (Leaving cursor ended.WantOfMemory) a a
-frames_want gives id cursor behind [] quiets a same =
-    talks_to gives id (Hearing behind quiets) (Leaving behind ended.WantOfMemory) (Leaving cursor ended.WantOfMemory) a a
+frames_want : (made : Exchange → Type 0) (id : SessionId) (cursor behind : Cursor) (frames : List ServerFrame) (quiets : ℕ) (a : Account) → (frames ≡ [] → behind ≡ cursor)
+    → TalksOn made id (telling_phase cursor frames (Hearing behind quiets)) (Leaving cursor ended.WantOfMemory) a a
+frames_want made id cursor behind [] quiets a same =
+    talks_to made id (Hearing behind quiets) (Leaving behind ended.WantOfMemory) (Leaving cursor ended.WantOfMemory) a a
     (ap (λ (c : Cursor). Leaving c ended.WantOfMemory) (sym (same refl)))
-    (talks_inwardly gives id (Hears heard.WantOfMemory) (Hearing behind quiets) a refl refl refl (none_falls a.link.counts, tt))
-frames_want gives id cursor behind (frame ∷ frames) quiets a same =
-    talks_inwardly gives id Wants (Sending frame frames (Hearing behind quiets) (Leaving cursor ended.LinkFault) (Leaving cursor ended.WantOfMemory)) a refl refl refl (none_falls a.link.counts)
+    (talks_inwardly made id (Hears heard.WantOfMemory) (Hearing behind quiets) a refl refl refl (none_falls a.link.counts, tt))
+frames_want made id cursor behind (frame ∷ frames) quiets a same =
+    talks_inwardly made id Wants (Sending frame frames (Hearing behind quiets) (Leaving cursor ended.LinkFault) (Leaving cursor ended.WantOfMemory)) a refl refl refl (none_falls a.link.counts)
 
 -- no memory was found for the frames of a batch
-pub batch_wants : (gives : ℕ → Type 0) (id : SessionId) (cursor : Cursor) (r : Reply) (quiets : ℕ) (a : Account) → TalksOn gives id (pulled_phase cursor quiets r) (Leaving cursor ended.WantOfMemory) a a
-batch_wants gives id cursor r quiets a = frames_want gives id cursor (next_cursor cursor r) (next_frames cursor r) quiets a (none_next cursor r)
+pub batch_wants : (made : Exchange → Type 0) (id : SessionId) (cursor : Cursor) (r : Reply) (quiets : ℕ) (a : Account) → TalksOn made id (pulled_phase cursor quiets r) (Leaving cursor ended.WantOfMemory) a a
+batch_wants made id cursor r quiets a = frames_want made id cursor (next_cursor cursor r) (next_frames cursor r) quiets a (none_next cursor r)
 
 -- the frames of a batch were sent
-pub hands_out : (gives : ℕ → Type 0) (id : SessionId) (cursor new : Cursor) (given : Reply) (quiets : ℕ) (frames : List ServerFrame) (r : Result (Unit {0}) Halt) (a b : Account)
-    → frames ≡ next_frames cursor given → new ≡ next_cursor cursor given → ((next : TalkPhase) → TalksOrHalts gives id (telling_phase cursor frames next) (λ _. next) r a b)
-    → TalksOrHalts gives id (pulled_phase cursor quiets given) (λ _. Hearing new quiets) r a b
-hands_out gives id cursor new given quiets frames r a b frames_is new_is told =
+pub hands_out : (made : Exchange → Type 0) (id : SessionId) (cursor new : Cursor) (given : Reply) (quiets : ℕ) (frames : List ServerFrame) (r : Result (Unit {0}) Halt) (a b : Account)
+    → frames ≡ next_frames cursor given → new ≡ next_cursor cursor given → ((next : TalkPhase) → TalksOrHalts made id (telling_phase cursor frames next) (λ _. next) r a b)
+    → TalksOrHalts made id (pulled_phase cursor quiets given) (λ _. Hearing new quiets) r a b
+hands_out made id cursor new given quiets frames r a b frames_is new_is told =
     let behind = Hearing (next_cursor cursor given) quiets in
-    subst (λ (c : Cursor). TalksOrHalts gives id (pulled_phase cursor quiets given) (λ _. Hearing c quiets) r a b) (sym new_is)
-    (subst (λ (fs : List ServerFrame). TalksOrHalts gives id (telling_phase cursor fs behind) (λ _. behind) r a b) frames_is (told behind))
+    subst (λ (c : Cursor). TalksOrHalts made id (pulled_phase cursor quiets given) (λ _. Hearing c quiets) r a b) (sym new_is)
+    (subst (λ (fs : List ServerFrame). TalksOrHalts made id (telling_phase cursor fs behind) (λ _. behind) r a b) frames_is (told behind))
 
-pub asks_leave : (gives : ℕ → Type 0) (id : SessionId) (r : Result Reply WantOfMemory) (cursor : Cursor) (now : ℕ) (how : Ended) (a b : PassState) (link : LinkAccount) → gives now
-    → exchanges_in b.opening b.seen (caller b) ≡ exchanges_in a.opening a.seen (caller a) ++ exchange_of (Leave cursor.view cursor.joined now) r ∷ [] → SeesOn a b → TalksOn gives id (Leaving cursor how) (Over how) (account a link) (account b link)
-asks_leave gives id (Ok given) cursor now how a b link timely grew sees =
-    talks_asking gives id (MakesAt now given) (Leaving cursor how) (Answered (Leave cursor.view cursor.joined now) given) a b link grew sees refl refl refl (none_falls link.counts) timely
-asks_leave gives id (Err want) cursor now how a b link timely grew sees = talks_asking gives id Misses (Leaving cursor how) Unanswered a b link grew sees refl refl refl (none_falls link.counts) tt
+pub asks_leave : (made : Exchange → Type 0) (id : SessionId) (r : Result Reply CallFault) (cursor : Cursor) (now : ℕ) (how : Ended) (a b : PassState) (link : LinkAccount) → made (exchange_of (Leave cursor.view cursor.joined now) r)
+    → exchanges_in b.opening b.seen (caller b) ≡ exchanges_in a.opening a.seen (caller a) ++ exchange_of (Leave cursor.view cursor.joined now) r ∷ [] → SeesOn a b → TalksOn made id (Leaving cursor how) (Over how) (account a link) (account b link)
+asks_leave made id (Ok given) cursor now how a b link call grew sees =
+    talks_asking made id (MakesAt now given) (Leaving cursor how) (Answered (Leave cursor.view cursor.joined now) given) a b link grew sees refl refl refl (none_falls link.counts) call
+asks_leave made id (Err why) cursor now how a b link call grew sees = talks_asking made id (Misses why) (Leaving cursor how) (Unanswered why) a b link grew sees refl refl refl (none_falls link.counts) call
 
--- a call that is due is made; whether its time is one that the clock may give, only a request of its own time asks
-pub asks_join : {T : Type 0} (gives : ℕ → Type 0) (id : SessionId) (request : Request) (given : Reply) (made : Option Cursor) (frame : ServerFrame) (r : Result T Halt) (to : T → TalkPhase) (a b : PassState) (link new : LinkAccount)
-    → exchanges_in b.opening b.seen (caller b) ≡ exchanges_in a.opening a.seen (caller a) ++ Answered request given ∷ [] → SeesOn a b → IsAskedInTime gives (Answered request given) → made ≡ first_cursor (joined_view request) given → Some frame ≡ join_answer given
-    → TalksOrHalts gives id (greeted_phase made (Some frame)) to r (account b link) (account b new) → TalksOrHalts gives id (Joining request) to r (account a link) (account b new)
-asks_join gives id request given made frame r to a b link new grew sees timely cursor_is frame_is rest =
-    then_either gives id r to (Joining request) (join_phase request given) (account a link) (account b link) (account b new)
-    (talks_asking gives id (MakesRequest given) (Joining request) (Answered request given) a b link grew sees refl refl refl (none_falls link.counts) timely)
-    (subst (λ (o : Option ServerFrame). TalksOrHalts gives id (greeted_phase (first_cursor (joined_view request) given) o) to r (account b link) (account b new)) frame_is
-    (subst (λ (o : Option Cursor). TalksOrHalts gives id (greeted_phase o (Some frame)) to r (account b link) (account b new)) cursor_is rest))
+-- a call that is due is made
+pub asks_join : {T : Type 0} (made : Exchange → Type 0) (id : SessionId) (request : Request) (given : Reply) (opened : Option Cursor) (frame : ServerFrame) (r : Result T Halt) (to : T → TalkPhase) (a b : PassState) (link new : LinkAccount)
+    → exchanges_in b.opening b.seen (caller b) ≡ exchanges_in a.opening a.seen (caller a) ++ Answered request given ∷ [] → SeesOn a b → made (Answered request given) → opened ≡ first_cursor (joined_view request) given → Some frame ≡ join_answer given
+    → TalksOrHalts made id (greeted_phase opened (Some frame)) to r (account b link) (account b new) → TalksOrHalts made id (Joining request) to r (account a link) (account b new)
+asks_join made id request given opened frame r to a b link new grew sees call cursor_is frame_is rest =
+    then_either made id r to (Joining request) (join_phase request given) (account a link) (account b link) (account b new)
+    (talks_asking made id (MakesRequest given) (Joining request) (Answered request given) a b link grew sees refl refl refl (none_falls link.counts) call)
+    (subst (λ (o : Option ServerFrame). TalksOrHalts made id (greeted_phase (first_cursor (joined_view request) given) o) to r (account b link) (account b new)) frame_is
+    (subst (λ (o : Option Cursor). TalksOrHalts made id (greeted_phase o (Some frame)) to r (account b link) (account b new)) cursor_is rest))
 
-pub asks_frame : {T : Type 0} (gives : ℕ → Type 0) (id : SessionId) (cursor : Cursor) (request : Request) (given : Reply) (end : Option Ended) (frame : Option ServerFrame) (r : Result T Halt) (to : T → TalkPhase) (a b : PassState) (link new : LinkAccount)
-    → exchanges_in b.opening b.seen (caller b) ≡ exchanges_in a.opening a.seen (caller a) ++ Answered request given ∷ [] → SeesOn a b → IsAskedInTime gives (Answered request given) → end ≡ end_in given → frame ≡ answer_frame request given
-    → TalksOrHalts gives id (answered_by cursor end (answer_frames frame)) to r (account b link) (account b new) → TalksOrHalts gives id (Asking cursor request) to r (account a link) (account b new)
-asks_frame gives id cursor request given end frame r to a b link new grew sees timely end_is frame_is rest =
-    then_either gives id r to (Asking cursor request) (reply_phase cursor request given) (account a link) (account b link) (account b new)
-    (talks_asking gives id (MakesRequest given) (Asking cursor request) (Answered request given) a b link grew sees refl refl refl (none_falls link.counts) timely)
-    (subst (λ (o : Option ServerFrame). TalksOrHalts gives id (answered_by cursor (end_in given) (answer_frames o)) to r (account b link) (account b new)) frame_is
-    (subst (λ (o : Option Ended). TalksOrHalts gives id (answered_by cursor o (answer_frames frame)) to r (account b link) (account b new)) end_is rest))
+pub asks_frame : {T : Type 0} (made : Exchange → Type 0) (id : SessionId) (cursor : Cursor) (request : Request) (given : Reply) (end : Option Ended) (frame : Option ServerFrame) (r : Result T Halt) (to : T → TalkPhase) (a b : PassState) (link new : LinkAccount)
+    → exchanges_in b.opening b.seen (caller b) ≡ exchanges_in a.opening a.seen (caller a) ++ Answered request given ∷ [] → SeesOn a b → made (Answered request given) → end ≡ end_in given → frame ≡ answer_frame request given
+    → TalksOrHalts made id (answered_by cursor end (answer_frames frame)) to r (account b link) (account b new) → TalksOrHalts made id (Asking cursor request) to r (account a link) (account b new)
+asks_frame made id cursor request given end frame r to a b link new grew sees call end_is frame_is rest =
+    then_either made id r to (Asking cursor request) (reply_phase cursor request given) (account a link) (account b link) (account b new)
+    (talks_asking made id (MakesRequest given) (Asking cursor request) (Answered request given) a b link grew sees refl refl refl (none_falls link.counts) call)
+    (subst (λ (o : Option ServerFrame). TalksOrHalts made id (answered_by cursor (end_in given) (answer_frames o)) to r (account b link) (account b new)) frame_is
+    (subst (λ (o : Option Ended). TalksOrHalts made id (answered_by cursor o (answer_frames frame)) to r (account b link) (account b new)) end_is rest))
 
-pub asks_pull : {T : Type 0} (gives : ℕ → Type 0) (id : SessionId) (cursor : Cursor) (quiets : ℕ) (given : Reply) (r : Result T Halt) (to : T → TalkPhase) (a b : PassState) (link new : LinkAccount)
-    → exchanges_in b.opening b.seen (caller b) ≡ exchanges_in a.opening a.seen (caller a) ++ Answered (Pull cursor.after most_pulled) given ∷ [] → SeesOn a b
-    → TalksOrHalts gives id (pulled_phase cursor quiets given) to r (account b link) (account b new) → TalksOrHalts gives id (Pulling cursor quiets) to r (account a link) (account b new)
-asks_pull gives id cursor quiets given r to a b link new grew sees rest =
-    then_either gives id r to (Pulling cursor quiets) (pulled_phase cursor quiets given) (account a link) (account b link) (account b new)
-    (talks_asking gives id (MakesRequest given) (Pulling cursor quiets) (Answered (Pull cursor.after most_pulled) given) a b link grew sees refl refl refl (none_falls link.counts) tt) rest
+pub asks_pull : {T : Type 0} (made : Exchange → Type 0) (id : SessionId) (cursor : Cursor) (quiets : ℕ) (given : Reply) (r : Result T Halt) (to : T → TalkPhase) (a b : PassState) (link new : LinkAccount)
+    → exchanges_in b.opening b.seen (caller b) ≡ exchanges_in a.opening a.seen (caller a) ++ Answered (Pull cursor.after most_pulled) given ∷ [] → SeesOn a b → made (Answered (Pull cursor.after most_pulled) given)
+    → TalksOrHalts made id (pulled_phase cursor quiets given) to r (account b link) (account b new) → TalksOrHalts made id (Pulling cursor quiets) to r (account a link) (account b new)
+asks_pull made id cursor quiets given r to a b link new grew sees call rest =
+    then_either made id r to (Pulling cursor quiets) (pulled_phase cursor quiets given) (account a link) (account b link) (account b new)
+    (talks_asking made id (MakesRequest given) (Pulling cursor quiets) (Answered (Pull cursor.after most_pulled) given) a b link grew sees refl refl refl (none_falls link.counts) call) rest
 
-pub asks_tick : (gives : ℕ → Type 0) (id : SessionId) (cursor : Cursor) (quiets now : ℕ) (given : Reply) (a b : PassState) (link : LinkAccount) → gives now
-    → exchanges_in b.opening b.seen (caller b) ≡ exchanges_in a.opening a.seen (caller a) ++ Answered (Tick now) given ∷ [] → SeesOn a b → TalksOn gives id (Ticking cursor quiets) (Pulling cursor quiets) (account a link) (account b link)
-asks_tick gives id cursor quiets now given a b link timely grew sees =
-    talks_asking gives id (MakesAt now given) (Ticking cursor quiets) (Answered (Tick now) given) a b link grew sees refl refl refl (none_falls link.counts) timely
+pub asks_tick : (made : Exchange → Type 0) (id : SessionId) (cursor : Cursor) (quiets now : ℕ) (given : Reply) (a b : PassState) (link : LinkAccount) → made (Answered (Tick now) given)
+    → exchanges_in b.opening b.seen (caller b) ≡ exchanges_in a.opening a.seen (caller a) ++ Answered (Tick now) given ∷ [] → SeesOn a b → TalksOn made id (Ticking cursor quiets) (Pulling cursor quiets) (account a link) (account b link)
+asks_tick made id cursor quiets now given a b link call grew sees =
+    talks_asking made id (MakesAt now given) (Ticking cursor quiets) (Answered (Tick now) given) a b link grew sees refl refl refl (none_falls link.counts) call
 
--- a call that is due finds no memory
-pub asks_nothing : (gives : ℕ → Type 0) (id : SessionId) (p q : TalkPhase) (a b : PassState) (link : LinkAccount) → exchanges_in b.opening b.seen (caller b) ≡ exchanges_in a.opening a.seen (caller a) ++ Unanswered ∷ [] → SeesOn a b
-    → (talk_step id p Misses).asked ≡ Unanswered ∷ [] → (talk_step id p Misses).sent ≡ [] → (talk_step id p Misses).phase ≡ q → TalksOn gives id p q (account a link) (account b link)
-asks_nothing gives id p q a b link grew sees one nothing is =
-    talks_to gives id p (talk_step id p Misses).phase q (account a link) (account b link) (sym is) (talks_asking gives id Misses p Unanswered a b link grew sees one nothing refl (none_falls link.counts) tt)
+-- a call that is due has no answer
+pub asks_nothing : (made : Exchange → Type 0) (id : SessionId) (why : CallFault) (p q : TalkPhase) (a b : PassState) (link : LinkAccount) → exchanges_in b.opening b.seen (caller b) ≡ exchanges_in a.opening a.seen (caller a) ++ Unanswered why ∷ [] → SeesOn a b
+    → made (Unanswered why) → (talk_step id p (Misses why)).asked ≡ Unanswered why ∷ [] → (talk_step id p (Misses why)).sent ≡ [] → (talk_step id p (Misses why)).phase ≡ q → TalksOn made id p q (account a link) (account b link)
+asks_nothing made id why p q a b link grew sees call one nothing is =
+    talks_to made id p (talk_step id p (Misses why)).phase q (account a link) (account b link) (sym is) (talks_asking made id (Misses why) p (Unanswered why) a b link grew sees one nothing refl (none_falls link.counts) call)
+
+-- a call at a time that the clock may give
+pub made_so : (gives : ℕ → Type 0) (shut : Type 0) (cursor : Cursor) (now : ℕ) (r : Result Reply CallFault) → gives now → IsUnkeptBy shut (exchange_of (Leave cursor.view cursor.joined now) r) → IsMadeSo gives shut (exchange_of (Leave cursor.view cursor.joined now) r)
+made_so gives shut cursor now (Ok given) timely unkept = (timely, tt)
+made_so gives shut cursor now (Err why) timely unkept = (tt, unkept)
 
 -- bytes that were found to be no frame have no reading
 pub has_no_reading : (found : FrameFault) (bytes given : List ℕ) → found ≡ unread.BadFrame → given ≡ bytes → ReadsFrame (Err found) (whole client_at given) → whole client_at bytes ≡ None
 has_no_reading found bytes given is same reads = ap (λ (b : List ℕ). whole client_at b) (sym same) ∙ subst (λ (f : FrameFault). ReadsFrame (Err f) (whole client_at given)) is reads
 
 -- bytes that were heard were read
-pub reads_on : (gives : ℕ → Type 0) (id : SessionId) (now : ℕ) (p q r : TalkPhase) (a b : Account) → (talk_step id p (Reads now)).asked ≡ [] → (talk_step id p (Reads now)).sent ≡ []
-    → (talk_step id p (Reads now)).phase ≡ q → TalksOn gives id q r a b → TalksOn gives id p r a b
-reads_on gives id now p q r a b none nothing is rest =
-    talks_then gives id p q r a a b (talks_to gives id p (talk_step id p (Reads now)).phase q a a (sym is) (talks_inwardly gives id (Reads now) p a none nothing refl (none_falls a.link.counts))) rest
+pub reads_on : (made : Exchange → Type 0) (id : SessionId) (now : ℕ) (p q r : TalkPhase) (a b : Account) → (talk_step id p (Reads now)).asked ≡ [] → (talk_step id p (Reads now)).sent ≡ []
+    → (talk_step id p (Reads now)).phase ≡ q → TalksOn made id q r a b → TalksOn made id p r a b
+reads_on made id now p q r a b none nothing is rest =
+    talks_then made id p q r a a b (talks_to made id p (talk_step id p (Reads now)).phase q a a (sym is) (talks_inwardly made id (Reads now) p a none nothing refl (none_falls a.link.counts))) rest
 
-pub reads_either : {T : Type 0} (gives : ℕ → Type 0) (id : SessionId) (now : ℕ) (p q : TalkPhase) (r : Result T Halt) (to : T → TalkPhase) (a b : Account) → (talk_step id p (Reads now)).asked ≡ [] → (talk_step id p (Reads now)).sent ≡ []
-    → (talk_step id p (Reads now)).phase ≡ q → TalksOrHalts gives id q to r a b → TalksOrHalts gives id p to r a b
-reads_either gives id now p q r to a b none nothing is rest =
-    then_either gives id r to p q a a b (talks_to gives id p (talk_step id p (Reads now)).phase q a a (sym is) (talks_inwardly gives id (Reads now) p a none nothing refl (none_falls a.link.counts))) rest
+pub reads_either : {T : Type 0} (made : Exchange → Type 0) (id : SessionId) (now : ℕ) (p q : TalkPhase) (r : Result T Halt) (to : T → TalkPhase) (a b : Account) → (talk_step id p (Reads now)).asked ≡ [] → (talk_step id p (Reads now)).sent ≡ []
+    → (talk_step id p (Reads now)).phase ≡ q → TalksOrHalts made id q to r a b → TalksOrHalts made id p to r a b
+reads_either made id now p q r to a b none nothing is rest =
+    then_either made id r to p q a a b (talks_to made id p (talk_step id p (Reads now)).phase q a a (sym is) (talks_inwardly made id (Reads now) p a none nothing refl (none_falls a.link.counts))) rest
 
 -- the time of a request is that of the frame
 pub first_timely : (gives : ℕ → Type 0) (frame : ClientFrame) (id : SessionId) (now : ℕ) (request : Request) (given : Reply) → gives now → first_request frame id now ≡ Ok request → IsAskedInTime gives (Answered request given)

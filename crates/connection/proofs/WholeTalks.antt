@@ -1,5 +1,5 @@
 -- Talks from the first frame to the end.
-use Rattle.std.proofs.Common.{◌≡◌, inl, inr, ℕ, ◌-◌, List, [], ◌∷◌, ◌++◌, map, slice_get, Option, Some, None, refl, sym, ap, ◌∙◌, subst}
+use Rattle.std.proofs.Common.{◌≡◌, inl, inr, arith, ℕ, ◌-◌, List, [], ◌∷◌, ◌++◌, map, slice_get, Option, Some, None, refl, sym, ap, ◌∙◌, subst}
 use Rattle.std.specs.List.{AllByRecursion}
 use Rattle.std.proofs.lemmas.List.{append-nil}
 use Rattle.tea_base.specs.declared.entry.Entry.{Entry}
@@ -18,13 +18,14 @@ use Rattle.session_lock.specs.declared.knowledge.Item.{Item}
 use Rattle.session_lock.specs.History.{calls_of, play_from}
 use Rattle.session_lock.specs.Passes.{PassState, caller}
 use Rattle.connection.specs.declared.ending.Ended.{Ended}
-use Rattle.connection.specs.Exchanges.{Exchange, exchanges_in, IsAskedInTime}
+use Rattle.connection.specs.Exchanges.{Exchange, exchanges_in, IsAskedInTime, IsMadeSo, IsUnkeptBy}
 use Rattle.connection.specs.Phases.{Opening, Over, heard_in, talk_walk}
 use Rattle.connection.specs.Standing.{SeesOn}
 use Rattle.connection.specs.Talk.{HasTalked, LinkAccount, Talk, TalksOn, account}
-use Rattle.connection.specs.TalkServed.{IsTalkServed, frames_of}
+use Rattle.connection.specs.TalkServed.{IsTalkServed, IsToldWithin, frames_of}
 use Rattle.connection.proofs.Callers.{exchanges_none}
-use Rattle.connection.proofs.TalkLines.{talk_served}
+use Rattle.connection.proofs.TalkLines.{talk_served, talk_told}
+use Rattle.connection.proofs.Ticks.{ticks_later}
 
 -- ---- a talk in which nothing was asked
 
@@ -75,12 +76,46 @@ pass_served gives id before now heard sent how fresh kept sees talk = elim sees.
   | inr sound ↦ talk_served gives id now.opening now.seen (caller now) heard sent how sound talk
 ]
 
+silent_told : (gives : ℕ → Type 0) (id : SessionId) (opening : PlainSession) (history : List Item) (c : ℕ) (heard : List Heard) (sent : List (List ℕ)) (how : Ended) (horizon : ℕ) → exchanges_in opening history c ≡ []
+    → Talk gives id opening history c heard sent how → IsToldWithin horizon sent
+silent_told gives id opening history c heard sent how horizon none talk =
+    let first = talk_told gives id first_session [] c heard sent how IsSoundSession-first (asks_none gives id opening history c heard sent how none talk) in
+    record { frames = first.frames; spelling = first.spelling; spelled = first.spelled; ticks = ticks_later 0 horizon first.frames (omega arith) first.ticks }
+
+pass_told : (gives : ℕ → Type 0) (id : SessionId) (before now : PassState) (heard : List Heard) (sent : List (List ℕ)) (how : Ended) → calls_of (caller before ∷ []) before.seen ≡ [] → now ≡ record before { seen = now.seen }
+    → SeesOn before now → Talk gives id now.opening now.seen (caller now) heard sent how → IsToldWithin (play_from now.opening now.seen).horizon sent
+pass_told gives id before now heard sent how fresh kept sees talk = elim sees.sound [
+  | inl none ↦ silent_told gives id now.opening now.seen (caller now) heard sent how (play_from now.opening now.seen).horizon (still_none before now sees fresh kept none) talk
+  | inr sound ↦ talk_told gives id now.opening now.seen (caller now) heard sent how sound talk
+]
+
+-- what is so of each call in each of two ways is so in one of them
+first_of : {A : Type 0} (P Q : A → Type 0) (xs : List A) → AllByRecursion (λ (x : A). P x × Q x) xs → AllByRecursion P xs
+first_of P Q [] all = tt
+first_of P Q (x ∷ xs) all = (all.0.0, first_of P Q xs all.1)
+
+second_of : {A : Type 0} (P Q : A → Type 0) (xs : List A) → AllByRecursion (λ (x : A). P x × Q x) xs → AllByRecursion Q xs
+second_of P Q [] all = tt
+second_of P Q (x ∷ xs) all = (all.0.1, second_of P Q xs all.1)
+
+-- a caller that had asked nothing has asked what its talk asks
+asked_whole : (made : Exchange → Type 0) (id : SessionId) (before now : PassState) (old new : LinkAccount) (how : Ended) → calls_of (caller before ∷ []) before.seen ≡ []
+    → (talk : TalksOn made id (Opening 0) (Over how) (account before old) (account now new)) → exchanges_in now.opening now.seen (caller now) ≡ (talk_walk id (Opening 0) talk.events).asked
+asked_whole made id before now old new how fresh talk =
+    talk.asked ∙ ap (λ (l : List Exchange). l ++ (talk_walk id (Opening 0) talk.events).asked) (exchanges_none before.opening (caller before) before.seen fresh)
+
+-- and each of its calls that is Unkept is so since this holds
+pub unkept_whole : (gives : ℕ → Type 0) (shut : Type 0) (id : SessionId) (before now : PassState) (old new : LinkAccount) (how : Ended) → calls_of (caller before ∷ []) before.seen ≡ []
+    → TalksOn (IsMadeSo gives shut) id (Opening 0) (Over how) (account before old) (account now new) → AllByRecursion (IsUnkeptBy shut) (exchanges_in now.opening now.seen (caller now))
+unkept_whole gives shut id before now old new how fresh talk =
+    subst (AllByRecursion (IsUnkeptBy shut)) (sym (asked_whole (IsMadeSo gives shut) id before now old new how fresh talk))
+    (second_of (IsAskedInTime gives) (IsUnkeptBy shut) (talk_walk id (Opening 0) talk.events).asked talk.calls)
+
 -- a caller that had asked nothing talks from the first frame to its end
-pub talks_whole : (gives : ℕ → Type 0) (id : SessionId) (before now : PassState) (old new : LinkAccount) (how : Ended) → calls_of (caller before ∷ []) before.seen ≡ [] → now ≡ record before { seen = now.seen }
-    → TalksOn gives id (Opening 0) (Over how) (account before old) (account now new) → HasTalked gives id now old new how
-talks_whole gives id before now old new how fresh kept talk =
-    let asked : exchanges_in now.opening now.seen (caller now) ≡ (talk_walk id (Opening 0) talk.events).asked =
-    talk.asked ∙ ap (λ (l : List Exchange). l ++ (talk_walk id (Opening 0) talk.events).asked) (exchanges_none before.opening (caller before) before.seen fresh) in
+pub talks_whole : (gives : ℕ → Type 0) (shut : Type 0) (id : SessionId) (before now : PassState) (old new : LinkAccount) (how : Ended) → calls_of (caller before ∷ []) before.seen ≡ [] → now ≡ record before { seen = now.seen }
+    → TalksOn (IsMadeSo gives shut) id (Opening 0) (Over how) (account before old) (account now new) → HasTalked gives id now old new how
+talks_whole gives shut id before now old new how fresh kept talk =
+    let asked = asked_whole (IsMadeSo gives shut) id before now old new how fresh talk in
     let heard : List Heard = heard_in talk.events in
     let sent : List (List ℕ) = map server_spelling (talk_walk id (Opening 0) talk.events).sent in
     let whole : Talk gives id now.opening now.seen (caller now) heard sent how = record {
@@ -90,7 +125,7 @@ talks_whole gives id before now old new how fresh kept talk =
       said = refl;
       told = refl;
       spelled = talk.spelled;
-      timely = subst (AllByRecursion (IsAskedInTime gives)) (sym asked) talk.timely;
+      timely = subst (AllByRecursion (IsAskedInTime gives)) (sym asked) (first_of (IsAskedInTime gives) (IsUnkeptBy shut) (talk_walk id (Opening 0) talk.events).asked talk.calls);
     } in
     record {
       heard = heard;
@@ -100,4 +135,5 @@ talks_whole gives id before now old new how fresh kept talk =
       tells_sent = talk.sent;
       counts = talk.counts;
       served = pass_served gives id before now heard sent how fresh kept talk.sees whole;
+      ticks = pass_told gives id before now heard sent how fresh kept talk.sees whole;
     }

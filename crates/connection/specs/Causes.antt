@@ -3,6 +3,7 @@ use Rattle.std.specs.Prelude.{◌≡◌, ◌⊎◌, ℕ, ◌+◌, ◌-◌, ◌^�
 use Rattle.std.specs.List.{AllByRecursion}
 use Rattle.tea_io.specs.Told.{Rose}
 use Rattle.tea_io.specs.Links.{Counts, most_quiets}
+use Rattle.reflector_core.specs.declared.keeper.CallFault.TheVariants as fault
 use Rattle.reflector_core.specs.declared.request.Request.TheVariants.{Join, Send, Leave, Offer}
 use Rattle.reflector_core.specs.declared.request.Reply.TheVariants.{Refused}
 use Rattle.join_sync.specs.Refusals.{refused_frame}
@@ -48,7 +49,7 @@ pub record EndsByReply (how : Ended) (asked : List Exchange) : Type 0 where
 abbrev pub IsLastLeave : List Exchange → Type 0
 IsLastLeave [] = Unit {0}
 IsLastLeave (Answered (Leave view joined now) given ∷ []) = Unit {0}
-IsLastLeave (Unanswered ∷ []) = Unit {0}
+IsLastLeave (Unanswered why ∷ []) = Unit {0}
 IsLastLeave other = ⊥
 
 -- no reply ends it, but for that to its last Leave
@@ -56,6 +57,14 @@ pub record EndsElse (asked : List Exchange) : Type 0 where
   pub front : List Exchange
   pub rest : List Exchange
   pub asked_is : asked ≡ front ++ rest
+  pub before : EndNothing front
+  pub leaves : IsLastLeave rest
+
+-- no reply had ended it when a call was not kept, and then it makes its last Leave at most
+pub record EndsUnkept (asked : List Exchange) : Type 0 where
+  pub front : List Exchange
+  pub rest : List Exchange
+  pub asked_is : asked ≡ (front ++ Unanswered fault.Unkept ∷ []) ++ rest
   pub before : EndNothing front
   pub leaves : IsLastLeave rest
 
@@ -74,11 +83,12 @@ IsTurnedDown code [] = 12 ≤ code
 IsTurnedDown code (Answered (Join view now want) (Refused refusal) ∷ []) = code ≡ code_in (refused_frame 1 refusal)
 IsTurnedDown code other = ⊥
 
--- It ends as Left or Stale where a frame's request was answered so, as Refused where its first frame was, and else by no reply. Where memory
--- was wanted for the frame that tells of Stale, it leaves.
+-- It ends as Left or Stale where a frame's request was answered so, as Refused where its first frame was, as Unkept where a call was not kept,
+-- and else by no reply. Where memory was wanted for the frame that tells of Stale, it leaves.
 abbrev pub EndsExactly : Ended → List Exchange → Type 0
 EndsExactly ended.Left asked = EndsByReply ended.Left asked
 EndsExactly (ended.Stale current) asked = EndsByReply (ended.Stale current) asked
 EndsExactly (ended.Refused code) asked = IsTurnedDown code asked
 EndsExactly ended.WantOfMemory asked = EndsElse asked ⊎ LeavesStale asked
+EndsExactly ended.Unkept asked = EndsUnkept asked
 EndsExactly other asked = EndsElse asked

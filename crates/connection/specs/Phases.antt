@@ -9,6 +9,8 @@ use Rattle.wire_frames.specs.Reading.{client_at}
 use Rattle.wire_frames.specs.declared.frame.ClientFrame.{ClientFrame}
 use Rattle.wire_frames.specs.declared.frame.ServerFrame.{ServerFrame}
 use Rattle.wire_frames.specs.declared.frame.ServerFrame.TheVariants as server
+use Rattle.reflector_core.specs.declared.keeper.CallFault.{CallFault}
+use Rattle.reflector_core.specs.declared.keeper.CallFault.TheVariants as fault
 use Rattle.reflector_core.specs.declared.request.Request.{Request}
 use Rattle.reflector_core.specs.declared.request.Request.TheVariants.{Tick, Leave, Pull}
 use Rattle.reflector_core.specs.declared.request.Reply.{Reply}
@@ -66,8 +68,8 @@ pub data TalkEvent : Type 0 where
   MakesRequest : Reply → TalkEvent
   -- the same of a request that carries the time at which it is made
   MakesAt : ℕ → Reply → TalkEvent
-  -- the request that is due is made, and finds no memory
-  Misses : TalkEvent
+  -- the request that is due is made, and has no answer
+  Misses : CallFault → TalkEvent
   -- the frame that is due is sent
   Sends : TalkEvent
   -- its send fails, and the frame goes all the same
@@ -93,6 +95,11 @@ abbrev pub sends : TalkPhase → ServerFrame → Move
 sends phase frame = record { phase = phase; asked = []; sent = frame ∷ [] }
 
 -- ---- what comes next
+
+-- how a call without an answer ends a connection
+abbrev pub ended_by : CallFault → Ended
+ended_by fault.WantOfMemory = ended.WantOfMemory
+ended_by fault.Unkept = ended.Unkept
 
 abbrev pub sending_phase : List ServerFrame → TalkPhase → TalkPhase → TalkPhase → TalkPhase
 sending_phase [] next fails wants = next
@@ -190,22 +197,22 @@ talk_step id (Opening quiets) (Hears what) = goes (opening quiets what)
 talk_step id (Beginning bytes) (Reads now) = goes (opened_phase id (whole client_at bytes) now)
 talk_step id (Beginning bytes) Wants = goes (Over ended.WantOfMemory)
 talk_step id (Joining request) (MakesRequest given) = asks (join_phase request given) (Answered request given)
-talk_step id (Joining request) Misses = asks (Over ended.WantOfMemory) Unanswered
+talk_step id (Joining request) (Misses why) = asks (Over (ended_by why)) (Unanswered why)
 talk_step id (Ticking cursor quiets) (MakesAt now given) = asks (Pulling cursor quiets) (Answered (Tick now) given)
-talk_step id (Ticking cursor quiets) Misses = asks (Leaving cursor ended.WantOfMemory) Unanswered
+talk_step id (Ticking cursor quiets) (Misses why) = asks (Leaving cursor (ended_by why)) (Unanswered why)
 talk_step id (Pulling cursor quiets) (MakesRequest given) = asks (pulled_phase cursor quiets given) (Answered (Pull cursor.after most_pulled) given)
-talk_step id (Pulling cursor quiets) Misses = asks (Leaving cursor ended.WantOfMemory) Unanswered
+talk_step id (Pulling cursor quiets) (Misses why) = asks (Leaving cursor (ended_by why)) (Unanswered why)
 talk_step id (Hearing cursor quiets) (Hears what) = goes (hearing cursor quiets what)
 talk_step id (Taking cursor bytes) (Reads now) = goes (read_phase cursor (whole client_at bytes) now)
 talk_step id (Taking cursor bytes) Wants = goes (Leaving cursor ended.WantOfMemory)
 talk_step id (Asking cursor request) (MakesRequest given) = asks (reply_phase cursor request given) (Answered request given)
-talk_step id (Asking cursor request) Misses = asks (Leaving cursor ended.WantOfMemory) Unanswered
+talk_step id (Asking cursor request) (Misses why) = asks (Leaving cursor (ended_by why)) (Unanswered why)
 talk_step id (Sending frame frames next fails wants) Sends = sends (sending_phase frames next fails wants) frame
 talk_step id (Sending frame frames next fails wants) Loses = sends fails frame
 talk_step id (Sending frame frames next fails wants) FailsToSend = goes fails
 talk_step id (Sending frame frames next fails wants) Wants = goes wants
 talk_step id (Leaving cursor how) (MakesAt now given) = asks (Over how) (Answered (Leave cursor.view cursor.joined now) given)
-talk_step id (Leaving cursor how) Misses = asks (Over how) Unanswered
+talk_step id (Leaving cursor how) (Misses why) = asks (Over how) (Unanswered why)
 talk_step id phase event = goes Wrong
 
 -- one event after the other

@@ -1,10 +1,10 @@
 -- What a call tells of its place in the history, and where a cursor stands there.
 use Rattle.std.specs.Prelude.{◌≡◌, ◌⊎◌, List, [], ◌++◌, Result, Ok, Err}
-use Rattle.tea_base.specs.declared.want.WantOfMemory.{WantOfMemory}
 use Rattle.wire_frames.specs.Served.{Place}
 use Rattle.reflector_core.specs.PlainSession.{PlainSession, IsSoundSession}
 use Rattle.reflector_core.specs.Answer.{answer}
 use Rattle.reflector_core.specs.Growth.{GrowsTo}
+use Rattle.reflector_core.specs.declared.keeper.CallFault.{CallFault}
 use Rattle.reflector_core.specs.declared.request.Request.{Request}
 use Rattle.reflector_core.specs.declared.request.Reply.{Reply}
 use Rattle.session_lock.specs.declared.knowledge.Item.{Item}
@@ -15,9 +15,9 @@ use Rattle.join_sync.specs.Standing.{StandsAt}
 use Rattle.connection.specs.Exchanges.{Exchange, Answered, Unanswered}
 
 -- what a call adds to what its caller asked
-abbrev pub exchange_of : Request → Result Reply WantOfMemory → Exchange
+abbrev pub exchange_of : Request → Result Reply CallFault → Exchange
 exchange_of request (Ok given) = Answered request given
-exchange_of request (Err want) = Unanswered
+exchange_of request (Err why) = Unanswered why
 
 -- What a pass has seen only grew, behind the same opening. Where it did, the session was sound at each place of it.
 pub record SeesOn (before after : PassState) : Type 0 where

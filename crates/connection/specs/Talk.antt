@@ -18,7 +18,7 @@ use Rattle.connection.specs.declared.ending.Ended.{Ended}
 use Rattle.connection.specs.declared.ending.Halt.{Halt}
 use Rattle.connection.specs.Exchanges.{Exchange, exchanges_in, IsAskedInTime}
 use Rattle.connection.specs.Standing.{SeesOn}
-use Rattle.connection.specs.TalkServed.{IsTalkServed}
+use Rattle.connection.specs.TalkServed.{IsTalkServed, IsToldWithin}
 use Rattle.connection.specs.Phases.{TalkPhase, Opening, Over, TalkEvent, Hears, Loses, FailsToSend, talk_walk, heard_in, halt_phase}
 
 -- A talk from its first frame to its end: what the caller asked in the history, what the link was heard to say and was sent. Some events
@@ -55,7 +55,7 @@ EventsCount [] before now = now ≡ before
 EventsCount (event ∷ events) before now = (mid : Counts) × EventCounts event before mid × EventsCount events mid now
 
 -- The talk of a call that has ended: of what was heard and sent in it, which the link tells where it tells anything. The counts of the link go
--- with its events. What was sent is served by the log of what the pass has seen.
+-- with its events. What was sent is served by the log of what the pass has seen, and each TICK in it is at most the horizon there.
 pub record HasTalked (gives : ℕ → Type 0) (id : SessionId) (pass : PassState) (old new : LinkAccount) (how : Ended) : Type 0 where
   pub heard : List Heard
   pub sent : List (List ℕ)
@@ -64,6 +64,7 @@ pub record HasTalked (gives : ℕ → Type 0) (id : SessionId) (pass : PassState
   pub tells_sent : new.sent ≡ with_more old.sent sent
   pub counts : EventsCount talk.events old.counts new.counts
   pub served : IsTalkServed (play_from pass.opening pass.seen).log heard sent
+  pub ticks : IsToldWithin (play_from pass.opening pass.seen).horizon sent
 
 -- ---- a part of a talk
 
@@ -79,8 +80,8 @@ account pass link = record { pass = pass; link = link }
 abbrev pub asked_by : PassState → List Exchange
 asked_by pass = exchanges_in pass.opening pass.seen (caller pass)
 
--- from one phase to another by events that add just this; what the link does not tell is left open
-pub record TalksOn (gives : ℕ → Type 0) (id : SessionId) (from to : TalkPhase) (before now : Account) : Type 0 where
+-- From one phase to another by events that add just this; what the link does not tell is left open. The calls were made so.
+pub record TalksOn (made : Exchange → Type 0) (id : SessionId) (from to : TalkPhase) (before now : Account) : Type 0 where
   pub events : List TalkEvent
   pub ends : (talk_walk id from events).phase ≡ to
   pub asked : asked_by now.pass ≡ asked_by before.pass ++ (talk_walk id from events).asked
@@ -89,12 +90,12 @@ pub record TalksOn (gives : ℕ → Type 0) (id : SessionId) (from to : TalkPhas
   pub sent : now.link.sent ≡ with_more before.link.sent (map server_spelling (talk_walk id from events).sent)
   pub counts : EventsCount events before.link.counts now.link.counts
   pub spelled : AllByRecursion IsServerFrame (talk_walk id from events).sent
-  pub timely : AllByRecursion (IsAskedInTime gives) (talk_walk id from events).asked
+  pub calls : AllByRecursion made (talk_walk id from events).asked
 
 -- to the phase that the result has, or to where the talk stops
-abbrev pub TalksOrHalts : {T : Type 0} → (ℕ → Type 0) → SessionId → TalkPhase → (T → TalkPhase) → Result T Halt → Account → Account → Type 0
-TalksOrHalts gives id from to (Ok value) before now = TalksOn gives id from (to value) before now
-TalksOrHalts gives id from to (Err halt) before now = TalksOn gives id from (halt_phase halt) before now
+abbrev pub TalksOrHalts : {T : Type 0} → (Exchange → Type 0) → SessionId → TalkPhase → (T → TalkPhase) → Result T Halt → Account → Account → Type 0
+TalksOrHalts made id from to (Ok value) before now = TalksOn made id from (to value) before now
+TalksOrHalts made id from to (Err halt) before now = TalksOn made id from (halt_phase halt) before now
 
 -- a frame that has a spelling was sent; where the send failed, whole or not at all; for want of memory it was not
 abbrev pub SendsSpelled : Option (List (List ℕ)) → Option (List (List ℕ)) → ServerFrame → Result (Unit {0}) LinkFault → Type 0

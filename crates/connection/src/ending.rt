@@ -17,6 +17,8 @@ pub enum Ended {
     /// Its first frame was refused, with this code.
     Refused { code: u8 },
     WantOfMemory,
+    /// What a call would have changed was not kept by the session's keeper.
+    Unkept,
 }
 
 /// Where a talk stops, and what is left to do.

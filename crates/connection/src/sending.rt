@@ -5,7 +5,9 @@ ghost use Rattle.entry_fields.specs.Spelling.{FitsWhat};
 ghost use Rattle.wire_frames.specs.Frames.{FitsServer, IsServerFrame};
 ghost use Rattle.wire_frames.specs.Spelling.{server_spelling};
 ghost use Rattle.wire_frames.specs.declared.frame.ServerFrame.{ServerFrame};
+ghost use Rattle.session_lock.specs.Keeping.{SomeShut};
 ghost use Rattle.session_lock.specs.Passes.{PassState};
+ghost use Rattle.connection.specs.Exchanges.{IsMadeSo};
 ghost use Rattle.system_plain.specs.ConnectionLine.{unread_frame};
 ghost use Rattle.connection.specs.Phases.{TalkPhase, Leaving, answered_by, code_in, ending_phase, halt_phase, refused_phase, telling_phase};
 ghost use Rattle.connection.specs.Talk.{SendsSpelled, TalksOn, TalksOrHalts, account, link_account};
@@ -13,6 +15,7 @@ ghost use Rattle.connection.specs.Talk.{SendsSpelled, TalksOn, TalksOrHalts, acc
 use crate::asking::Service;
 use crate::ending::{Ended, Halt};
 use join_sync::Cursor;
+use reflector_core::Keeper;
 use std::alloc::Global;
 use std::sync::Wait;
 use tea_base::{Blob, TIME_LIMIT, WantOfMemory, What};
@@ -88,13 +91,13 @@ pub fn leave_at(cursor: &Cursor, ended: Ended) -> Halt
 }
 
 /// Sends a frame to a view that has joined.
-pub fn tell<C: Clock, R: Wait, L: Link>(
-    service: &Service<'_, C, R>,
+pub fn tell<C: Clock, R: Wait, K: Keeper, L: Link>(
+    service: &Service<'_, C, R, K>,
     link: &mut L,
     cursor: &Cursor,
     frame: &ServerFrame,
 ) -> Result<(), Halt>
-    ensures { (pass : PassState) (rest : List ServerFrame) (next : TalkPhase) → TalksOrHalts (C.gives service.now.clock.now) service.now.id
+    ensures { (pass : PassState) (rest : List ServerFrame) (next : TalkPhase) → TalksOrHalts (IsMadeSo (C.gives service.now.clock.now) (SomeShut K.shut)) service.now.id
         (telling_phase cursor.now (frame.now ∷ rest) next) (λ _. telling_phase cursor.now rest next) result
         (account pass (link_account L.heard L.sent L.counts link.old)) (account pass (link_account L.heard L.sent L.counts link.new)) }
 {
@@ -106,13 +109,13 @@ pub fn tell<C: Clock, R: Wait, L: Link>(
 }
 
 /// Sends frames in order.
-pub fn tell_all<C: Clock, R: Wait, L: Link>(
-    service: &Service<'_, C, R>,
+pub fn tell_all<C: Clock, R: Wait, K: Keeper, L: Link>(
+    service: &Service<'_, C, R, K>,
     link: &mut L,
     cursor: &Cursor,
     frames: &[ServerFrame],
 ) -> Result<(), Halt>
-    ensures { (pass : PassState) (next : TalkPhase) → TalksOrHalts (C.gives service.now.clock.now) service.now.id
+    ensures { (pass : PassState) (next : TalkPhase) → TalksOrHalts (IsMadeSo (C.gives service.now.clock.now) (SomeShut K.shut)) service.now.id
         (telling_phase cursor.now frames.now next) (λ _. next) result
         (account pass (link_account L.heard L.sent L.counts link.old)) (account pass (link_account L.heard L.sent L.counts link.new)) }
 {
@@ -126,14 +129,14 @@ pub fn tell_all<C: Clock, R: Wait, L: Link>(
 }
 
 /// Sends the last frame of a connection, which ends so also where the send fails. Where memory is wanted, it stops as `wants` says.
-pub fn tell_last<C: Clock, R: Wait, L: Link>(
-    service: &Service<'_, C, R>,
+pub fn tell_last<C: Clock, R: Wait, K: Keeper, L: Link>(
+    service: &Service<'_, C, R, K>,
     link: &mut L,
     frame: &ServerFrame,
     ended: Ended,
     wants: Halt,
 ) -> Halt
-    ensures { (pass : PassState) → TalksOn (C.gives service.now.clock.now) service.now.id
+    ensures { (pass : PassState) → TalksOn (IsMadeSo (C.gives service.now.clock.now) (SomeShut K.shut)) service.now.id
         (ending_phase (frame.now ∷ []) ended (halt_phase wants)) (halt_phase result)
         (account pass (link_account L.heard L.sent L.counts link.old)) (account pass (link_account L.heard L.sent L.counts link.new)) }
 {
@@ -145,14 +148,14 @@ pub fn tell_last<C: Clock, R: Wait, L: Link>(
 }
 
 /// Sends the last frame to a view that has joined. Where memory is wanted, the view leaves.
-pub fn tell_end<C: Clock, R: Wait, L: Link>(
-    service: &Service<'_, C, R>,
+pub fn tell_end<C: Clock, R: Wait, K: Keeper, L: Link>(
+    service: &Service<'_, C, R, K>,
     link: &mut L,
     cursor: &Cursor,
     frame: &ServerFrame,
     ended: Ended,
 ) -> Halt
-    ensures { (pass : PassState) → TalksOn (C.gives service.now.clock.now) service.now.id
+    ensures { (pass : PassState) → TalksOn (IsMadeSo (C.gives service.now.clock.now) (SomeShut K.shut)) service.now.id
         (answered_by cursor.now (Some ended) (frame.now ∷ [])) (halt_phase result)
         (account pass (link_account L.heard L.sent L.counts link.old)) (account pass (link_account L.heard L.sent L.counts link.new)) }
 {
@@ -176,12 +179,12 @@ fn code_in(frame: &ServerFrame) -> u8
 }
 
 /// Refuses the first frame of a connection, which ends by it.
-pub fn refuse<C: Clock, R: Wait, L: Link>(
-    service: &Service<'_, C, R>,
+pub fn refuse<C: Clock, R: Wait, K: Keeper, L: Link>(
+    service: &Service<'_, C, R, K>,
     link: &mut L,
     frame: &ServerFrame,
 ) -> Halt
-    ensures { (pass : PassState) → TalksOn (C.gives service.now.clock.now) service.now.id
+    ensures { (pass : PassState) → TalksOn (IsMadeSo (C.gives service.now.clock.now) (SomeShut K.shut)) service.now.id
         (refused_phase frame.now) (halt_phase result)
         (account pass (link_account L.heard L.sent L.counts link.old)) (account pass (link_account L.heard L.sent L.counts link.new)) }
 {

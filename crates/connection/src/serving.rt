@@ -4,7 +4,9 @@ ghost use Rattle.session_lock.specs.declared.knowledge.Item.{Item};
 ghost use Rattle.session_lock.specs.History.{calls_of};
 ghost use Rattle.session_lock.specs.Passes.{caller};
 ghost use Rattle.connection.specs.Causes.{EndsExactly, IsCauseCounted};
-ghost use Rattle.connection.specs.Exchanges.{exchanges_in};
+ghost use Rattle.session_lock.specs.Keeping.{SomeShut};
+ghost use Rattle.connection.specs.declared.ending.Ended.TheVariants as ended;
+ghost use Rattle.connection.specs.Exchanges.{IsMadeSo, exchanges_in};
 ghost use Rattle.connection.specs.Phases.{Opening, Over, halt_phase};
 ghost use Rattle.connection.specs.Talk.{HasTalked, TalksOn, account, link_account};
 
@@ -12,6 +14,7 @@ use crate::asking::Service;
 use crate::ending::{Ended, Halt};
 use crate::opening::{begin, first_frame};
 use crate::turns::{converse, leave};
+use reflector_core::Keeper;
 use session_lock::{Pass, SharedSession, TrustAll};
 use std::alloc::Global;
 use std::sync::Wait;
@@ -19,14 +22,14 @@ use tea_base::SessionId;
 use tea_io::{Clock, Link};
 
 /// Talks until nothing is left but to leave.
-fn talk<C: Clock, R: Wait, L: Link>(
-    service: &Service<'_, C, R>,
-    pass: &mut Pass,
+fn talk<C: Clock, R: Wait, K: Keeper, L: Link>(
+    service: &Service<'_, C, R, K>,
+    pass: &mut Pass<K>,
     link: &mut L,
 ) -> Halt
     requires session { pass.old.session ≡ service.now.shared.now.session }
     ensures kept { pass.new ≡ record pass.old { seen = pass.new.seen } }
-    ensures talk { TalksOn (C.gives service.now.clock.now) service.now.id (Opening 0) (halt_phase result)
+    ensures talk { TalksOn (IsMadeSo (C.gives service.now.clock.now) (SomeShut K.shut)) service.now.id (Opening 0) (halt_phase result)
         (account pass.old (link_account L.heard L.sent L.counts link.old)) (account pass.new (link_account L.heard L.sent L.counts link.new)) }
 {
     let bytes = match first_frame(service, link) {
@@ -40,14 +43,14 @@ fn talk<C: Clock, R: Wait, L: Link>(
 }
 
 /// Talks, and leaves where that is left to do.
-fn serve<C: Clock, R: Wait, L: Link>(
-    service: &Service<'_, C, R>,
-    pass: &mut Pass,
+fn serve<C: Clock, R: Wait, K: Keeper, L: Link>(
+    service: &Service<'_, C, R, K>,
+    pass: &mut Pass<K>,
     link: &mut L,
 ) -> Ended
     requires session { pass.old.session ≡ service.now.shared.now.session }
     ensures kept { pass.new ≡ record pass.old { seen = pass.new.seen } }
-    ensures talk { TalksOn (C.gives service.now.clock.now) service.now.id (Opening 0) (Over result)
+    ensures talk { TalksOn (IsMadeSo (C.gives service.now.clock.now) (SomeShut K.shut)) service.now.id (Opening 0) (Over result)
         (account pass.old (link_account L.heard L.sent L.counts link.old)) (account pass.new (link_account L.heard L.sent L.counts link.new)) }
 {
     match talk(service, pass, link) {
@@ -59,12 +62,13 @@ fn serve<C: Clock, R: Wait, L: Link>(
     }
 }
 
-/// Serves a connection from its first frame to its end. The pass's own caller has made no call yet.
-pub fn serve_connection<L: Link, C: Clock, R: Wait>(
+/// Serves a connection from its first frame to its end. The pass's own caller has made no call yet. A call that is not kept has no answer,
+/// and ends the connection as Unkept.
+pub fn serve_connection<L: Link, C: Clock, R: Wait, K: Keeper>(
     rt: &R,
     alloc: Global,
-    shared: &SharedSession<TrustAll>,
-    pass: &mut Pass,
+    shared: &SharedSession<TrustAll, K>,
+    pass: &mut Pass<K>,
     id: SessionId,
     link: &mut L,
     clock: &C,
@@ -75,6 +79,7 @@ pub fn serve_connection<L: Link, C: Clock, R: Wait>(
     ensures later { (rest : List Item) × (pass.old.seen ++ rest ≡ pass.new.seen) }
     ensures talk { HasTalked (C.gives clock.now) id pass.new (link_account L.heard L.sent L.counts link.old) (link_account L.heard L.sent L.counts link.new) result }
     ensures exactly { EndsExactly result (exchanges_in pass.new.opening pass.new.seen (caller pass.new)) }
+    ensures unkept { result ≡ ended.Unkept → SomeShut K.shut }
     ensures cause { IsCauseCounted (L.counts link.old) (L.counts link.new) result }
 {
     let service = Service {

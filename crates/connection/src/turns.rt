@@ -12,16 +12,17 @@ ghost use Rattle.connection.specs.declared.ending.Ended.{Ended};
 ghost use Rattle.join_sync.specs.Batches.{IsBatchAfter, next_cursor};
 ghost use Rattle.system_plain.specs.Steps.{answer_frames};
 ghost use Rattle.reflector_core.specs.declared.request.Reply.{Reply};
-ghost use Rattle.connection.specs.Exchanges.{Answered, IsAskedInTime};
+ghost use Rattle.session_lock.specs.Keeping.{SomeShut};
+ghost use Rattle.connection.specs.Exchanges.{Answered, IsAskedInTime, IsMadeSo};
 ghost use Rattle.connection.specs.Phases.{Asking, Hearing, Leaving, Over, Pulling, Taking, Ticking, answered_by, end_in, halt_phase, pulled_phase};
 ghost use Rattle.connection.specs.Standing.{IsStanding};
 ghost use Rattle.connection.specs.Talk.{LinkAccount, TalksOn, TalksOrHalts, account, link_account};
 
-use crate::asking::{Service, ask};
+use crate::asking::{Service, ask, ended_by};
 use crate::ending::{Ended, Halt};
 use crate::sending::{leave_at, tell, tell_all, tell_end, unread_frame};
 use join_sync::{Act, Cursor, MOST_PULLED};
-use reflector_core::{Refusal, Reply, Request};
+use reflector_core::{Keeper, Refusal, Reply, Request};
 use session_lock::Pass;
 use std::sync::Wait;
 use tea_base::{Blob, WantOfMemory};
@@ -42,14 +43,14 @@ fn end_in(reply: &Reply) -> Option<Ended>
 }
 
 /// Sends the answer to a frame's request, if there is one; the connection may end by it.
-fn answer<C: Clock, R: Wait, L: Link>(
-    service: &Service<'_, C, R>,
+fn answer<C: Clock, R: Wait, K: Keeper, L: Link>(
+    service: &Service<'_, C, R, K>,
     link: &mut L,
     cursor: &Cursor,
     ended: Option<Ended>,
     answer: Option<ServerFrame>,
 ) -> Result<(), Halt>
-    ensures { (pass : PassState) → TalksOrHalts (C.gives service.now.clock.now) service.now.id
+    ensures { (pass : PassState) → TalksOrHalts (IsMadeSo (C.gives service.now.clock.now) (SomeShut K.shut)) service.now.id
         (answered_by cursor.now ended (answer_frames answer)) (λ _. Ticking cursor.now 0) result
         (account pass (link_account L.heard L.sent L.counts link.old)) (account pass (link_account L.heard L.sent L.counts link.new)) }
 {
@@ -62,9 +63,9 @@ fn answer<C: Clock, R: Wait, L: Link>(
 }
 
 /// Makes the request of a frame.
-fn make<C: Clock, R: Wait, L: Link>(
-    service: &Service<'_, C, R>,
-    pass: &mut Pass,
+fn make<C: Clock, R: Wait, K: Keeper, L: Link>(
+    service: &Service<'_, C, R, K>,
+    pass: &mut Pass<K>,
     link: &mut L,
     cursor: &Cursor,
     request: &Request,
@@ -74,22 +75,22 @@ fn make<C: Clock, R: Wait, L: Link>(
     requires timely { (given : Reply) → IsAskedInTime (C.gives service.now.clock.now) (Answered request.now given) }
     ensures kept { pass.new ≡ record pass.old { seen = pass.new.seen } }
     ensures grows { GrowsTo (play_from pass.old.opening pass.old.seen) (play_from pass.new.opening pass.new.seen) }
-    ensures talk { TalksOrHalts (C.gives service.now.clock.now) service.now.id
+    ensures talk { TalksOrHalts (IsMadeSo (C.gives service.now.clock.now) (SomeShut K.shut)) service.now.id
         (Asking cursor.now request.now) (λ _. Ticking cursor.now 0) result
         (account pass.old (link_account L.heard L.sent L.counts link.old)) (account pass.new (link_account L.heard L.sent L.counts link.new)) }
 {
     let reply = match ask(service, pass, request) {
         Ok(reply) => reply,
-        Err(WantOfMemory) => return Err(leave_at(cursor, Ended::WantOfMemory)),
+        Err(fault) => return Err(leave_at(cursor, ended_by(fault))),
     };
     let frame = cursor.answer(request, &reply);
     answer(service, link, cursor, end_in(&reply), frame)
 }
 
 /// Acts on a frame.
-fn act<C: Clock, R: Wait, L: Link>(
-    service: &Service<'_, C, R>,
-    pass: &mut Pass,
+fn act<C: Clock, R: Wait, K: Keeper, L: Link>(
+    service: &Service<'_, C, R, K>,
+    pass: &mut Pass<K>,
     link: &mut L,
     cursor: &Cursor,
     frame: ClientFrame,
@@ -97,7 +98,7 @@ fn act<C: Clock, R: Wait, L: Link>(
     requires session { pass.old.session ≡ service.now.shared.now.session }
     ensures kept { pass.new ≡ record pass.old { seen = pass.new.seen } }
     ensures grows { GrowsTo (play_from pass.old.opening pass.old.seen) (play_from pass.new.opening pass.new.seen) }
-    ensures talk { (bytes : List ℕ) → whole client_at bytes ≡ Some frame → TalksOrHalts (C.gives service.now.clock.now) service.now.id
+    ensures talk { (bytes : List ℕ) → whole client_at bytes ≡ Some frame → TalksOrHalts (IsMadeSo (C.gives service.now.clock.now) (SomeShut K.shut)) service.now.id
         (Taking cursor.now bytes) (λ _. Ticking cursor.now 0) result
         (account pass.old (link_account L.heard L.sent L.counts link.old)) (account pass.new (link_account L.heard L.sent L.counts link.new)) }
 {
@@ -109,9 +110,9 @@ fn act<C: Clock, R: Wait, L: Link>(
 }
 
 /// Takes a frame.
-fn take<C: Clock, R: Wait, L: Link>(
-    service: &Service<'_, C, R>,
-    pass: &mut Pass,
+fn take<C: Clock, R: Wait, K: Keeper, L: Link>(
+    service: &Service<'_, C, R, K>,
+    pass: &mut Pass<K>,
     link: &mut L,
     cursor: &Cursor,
     bytes: &Blob,
@@ -119,7 +120,7 @@ fn take<C: Clock, R: Wait, L: Link>(
     requires session { pass.old.session ≡ service.now.shared.now.session }
     ensures kept { pass.new ≡ record pass.old { seen = pass.new.seen } }
     ensures grows { GrowsTo (play_from pass.old.opening pass.old.seen) (play_from pass.new.opening pass.new.seen) }
-    ensures talk { TalksOrHalts (C.gives service.now.clock.now) service.now.id
+    ensures talk { TalksOrHalts (IsMadeSo (C.gives service.now.clock.now) (SomeShut K.shut)) service.now.id
         (Taking cursor.now bytes.now) (λ _. Ticking cursor.now 0) result
         (account pass.old (link_account L.heard L.sent L.counts link.old)) (account pass.new (link_account L.heard L.sent L.counts link.new)) }
 {
@@ -131,9 +132,9 @@ fn take<C: Clock, R: Wait, L: Link>(
 }
 
 /// Hears the link once, and acts on what it says. The answer is how many Quiets came in a row.
-fn receive<C: Clock, R: Wait, L: Link>(
-    service: &Service<'_, C, R>,
-    pass: &mut Pass,
+fn receive<C: Clock, R: Wait, K: Keeper, L: Link>(
+    service: &Service<'_, C, R, K>,
+    pass: &mut Pass<K>,
     link: &mut L,
     cursor: &Cursor,
     quiets: u32,
@@ -143,7 +144,7 @@ fn receive<C: Clock, R: Wait, L: Link>(
     ensures kept { pass.new ≡ record pass.old { seen = pass.new.seen } }
     ensures grows { GrowsTo (play_from pass.old.opening pass.old.seen) (play_from pass.new.opening pass.new.seen) }
     ensures row { IfOk result (λ row. row < most_quiets) }
-    ensures talk { TalksOrHalts (C.gives service.now.clock.now) service.now.id
+    ensures talk { TalksOrHalts (IsMadeSo (C.gives service.now.clock.now) (SomeShut K.shut)) service.now.id
         (Hearing cursor.now quiets) (λ row. Ticking cursor.now row) result
         (account pass.old (link_account L.heard L.sent L.counts link.old)) (account pass.new (link_account L.heard L.sent L.counts link.new)) }
 {
@@ -172,34 +173,34 @@ fn receive<C: Clock, R: Wait, L: Link>(
 // ---- what is new
 
 /// Makes the Tick of a turn.
-fn tick<C: Clock, R: Wait>(
-    service: &Service<'_, C, R>,
-    pass: &mut Pass,
+fn tick<C: Clock, R: Wait, K: Keeper>(
+    service: &Service<'_, C, R, K>,
+    pass: &mut Pass<K>,
     cursor: &Cursor,
 ) -> Result<(), Halt>
     requires session { pass.old.session ≡ service.now.shared.now.session }
     ensures kept { pass.new ≡ record pass.old { seen = pass.new.seen } }
     ensures grows { GrowsTo (play_from pass.old.opening pass.old.seen) (play_from pass.new.opening pass.new.seen) }
-    ensures talk { (quiets : ℕ) (link : LinkAccount) → TalksOrHalts (C.gives service.now.clock.now) service.now.id
+    ensures talk { (quiets : ℕ) (link : LinkAccount) → TalksOrHalts (IsMadeSo (C.gives service.now.clock.now) (SomeShut K.shut)) service.now.id
         (Ticking cursor.now quiets) (λ _. Pulling cursor.now quiets) result (account pass.old link) (account pass.new link) }
 {
     let now = service.clock.now();
     match ask(service, pass, &Request::Tick { now }) {
         Ok(_) => Ok(()),
-        Err(WantOfMemory) => Err(leave_at(cursor, Ended::WantOfMemory)),
+        Err(fault) => Err(leave_at(cursor, ended_by(fault))),
     }
 }
 
 /// Sends the frames of a batch.
-fn hand_out<C: Clock, R: Wait, L: Link>(
-    service: &Service<'_, C, R>,
+fn hand_out<C: Clock, R: Wait, K: Keeper, L: Link>(
+    service: &Service<'_, C, R, K>,
     link: &mut L,
     cursor: &mut Cursor,
     batch: Reply,
 ) -> Result<(), Halt>
     requires { IsBatchAfter cursor.old.after batch }
     ensures cursor { IfOk result (λ _. cursor.new ≡ next_cursor cursor.old batch) }
-    ensures talk { (pass : PassState) (quiets : ℕ) → TalksOrHalts (C.gives service.now.clock.now) service.now.id
+    ensures talk { (pass : PassState) (quiets : ℕ) → TalksOrHalts (IsMadeSo (C.gives service.now.clock.now) (SomeShut K.shut)) service.now.id
         (pulled_phase cursor.old quiets batch) (λ _. Hearing cursor.new quiets) result
         (account pass (link_account L.heard L.sent L.counts link.old)) (account pass (link_account L.heard L.sent L.counts link.new)) }
 {
@@ -212,9 +213,9 @@ fn hand_out<C: Clock, R: Wait, L: Link>(
 }
 
 /// Makes the Pull of a turn, and sends what it gives.
-fn pull<C: Clock, R: Wait, L: Link>(
-    service: &Service<'_, C, R>,
-    pass: &mut Pass,
+fn pull<C: Clock, R: Wait, K: Keeper, L: Link>(
+    service: &Service<'_, C, R, K>,
+    pass: &mut Pass<K>,
     link: &mut L,
     cursor: &mut Cursor,
 ) -> Result<(), Halt>
@@ -222,7 +223,7 @@ fn pull<C: Clock, R: Wait, L: Link>(
     requires standing { IsStanding (play_from pass.old.opening pass.old.seen) cursor.old }
     ensures kept { pass.new ≡ record pass.old { seen = pass.new.seen } }
     ensures standing { IfOk result (λ _. IsStanding (play_from pass.new.opening pass.new.seen) cursor.new) }
-    ensures talk { (quiets : ℕ) → TalksOrHalts (C.gives service.now.clock.now) service.now.id
+    ensures talk { (quiets : ℕ) → TalksOrHalts (IsMadeSo (C.gives service.now.clock.now) (SomeShut K.shut)) service.now.id
         (Pulling cursor.old quiets) (λ _. Hearing cursor.new quiets) result
         (account pass.old (link_account L.heard L.sent L.counts link.old)) (account pass.new (link_account L.heard L.sent L.counts link.new)) }
 {
@@ -232,7 +233,7 @@ fn pull<C: Clock, R: Wait, L: Link>(
     };
     let batch = match ask(service, pass, &request) {
         Ok(batch) => batch,
-        Err(WantOfMemory) => return Err(leave_at(cursor, Ended::WantOfMemory)),
+        Err(fault) => return Err(leave_at(cursor, ended_by(fault))),
     };
     hand_out(service, link, cursor, batch)
 }
@@ -241,9 +242,9 @@ fn pull<C: Clock, R: Wait, L: Link>(
 
 /// What is new is sent, and then the link is heard: the end of a turn, and the begin of the next one. The answer is how many Quiets came
 /// in a row.
-fn turn<C: Clock, R: Wait, L: Link>(
-    service: &Service<'_, C, R>,
-    pass: &mut Pass,
+fn turn<C: Clock, R: Wait, K: Keeper, L: Link>(
+    service: &Service<'_, C, R, K>,
+    pass: &mut Pass<K>,
     link: &mut L,
     cursor: &mut Cursor,
     quiets: u32,
@@ -254,7 +255,7 @@ fn turn<C: Clock, R: Wait, L: Link>(
     ensures kept { pass.new ≡ record pass.old { seen = pass.new.seen } }
     ensures standing { IfOk result (λ _. IsStanding (play_from pass.new.opening pass.new.seen) cursor.new) }
     ensures row { IfOk result (λ row. row < most_quiets) }
-    ensures talk { TalksOrHalts (C.gives service.now.clock.now) service.now.id
+    ensures talk { TalksOrHalts (IsMadeSo (C.gives service.now.clock.now) (SomeShut K.shut)) service.now.id
         (Ticking cursor.old quiets) (λ row. Ticking cursor.new row) result
         (account pass.old (link_account L.heard L.sent L.counts link.old)) (account pass.new (link_account L.heard L.sent L.counts link.new)) }
 {
@@ -273,16 +274,16 @@ fn turn<C: Clock, R: Wait, L: Link>(
 }
 
 /// Takes turns until the talk stops.
-pub fn converse<C: Clock, R: Wait, L: Link>(
-    service: &Service<'_, C, R>,
-    pass: &mut Pass,
+pub fn converse<C: Clock, R: Wait, K: Keeper, L: Link>(
+    service: &Service<'_, C, R, K>,
+    pass: &mut Pass<K>,
     link: &mut L,
     first: Cursor,
 ) -> Halt
     requires session { pass.old.session ≡ service.now.shared.now.session }
     requires standing { IsStanding (play_from pass.old.opening pass.old.seen) first }
     ensures kept { pass.new ≡ record pass.old { seen = pass.new.seen } }
-    ensures talk { TalksOn (C.gives service.now.clock.now) service.now.id (Ticking first 0) (halt_phase result)
+    ensures talk { TalksOn (IsMadeSo (C.gives service.now.clock.now) (SomeShut K.shut)) service.now.id (Ticking first 0) (halt_phase result)
         (account pass.old (link_account L.heard L.sent L.counts link.old)) (account pass.new (link_account L.heard L.sent L.counts link.new)) }
 {
     let mut cursor = first;
@@ -297,10 +298,14 @@ pub fn converse<C: Clock, R: Wait, L: Link>(
 }
 
 /// The view leaves, whatever comes of it.
-pub fn leave<C: Clock, R: Wait>(service: &Service<'_, C, R>, pass: &mut Pass, cursor: &Cursor)
+pub fn leave<C: Clock, R: Wait, K: Keeper>(
+    service: &Service<'_, C, R, K>,
+    pass: &mut Pass<K>,
+    cursor: &Cursor,
+)
     requires session { pass.old.session ≡ service.now.shared.now.session }
     ensures kept { pass.new ≡ record pass.old { seen = pass.new.seen } }
-    ensures talk { (ended : Ended) (link : LinkAccount) → TalksOn (C.gives service.now.clock.now) service.now.id
+    ensures talk { (ended : Ended) (link : LinkAccount) → TalksOn (IsMadeSo (C.gives service.now.clock.now) (SomeShut K.shut)) service.now.id
         (Leaving cursor.now ended) (Over ended) (account pass.old link) (account pass.new link) }
 {
     let now = service.clock.now();

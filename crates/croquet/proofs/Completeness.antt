@@ -5,7 +5,7 @@ use Rattle.tea_io.specs.Told.{Rose}
 use Rattle.run_steps.specs.Steps.{Step, Puts, Prints}
 use Rattle.run_steps.specs.Outside.{Acts, Cut, FilesTell, LinksTell, NetTells, Outside, OutputTells, WantedMemory, outside_tells}
 use Rattle.command_words.specs.declared.words.Command.{Command}
-use Rattle.command_words.specs.declared.words.Command.TheVariants.{Join}
+use Rattle.command_words.specs.declared.words.Command.TheVariants.{Stamp, Check, Replay, Inspect, Trace, Join, Reflect, Drill}
 use Rattle.command_words.specs.declared.words.DrillRequest.{DrillRequest}
 use Rattle.connection.specs.declared.ending.Ended.{Ended}
 use Rattle.session_log.specs.Stored.{stored_spelling}
@@ -17,6 +17,7 @@ use Rattle.reflect_server.specs.Reflects.{CountsFailure}
 use Rattle.reflect_server.specs.declared.reflection.Reflected.{Reflected}
 use Rattle.reflect_server.specs.declared.reflection.ServeFault.{ServeFault}
 use Rattle.reflect_server.specs.declared.reflection.ServeFault.TheVariants as serve_fault
+use Rattle.command_outcome.specs.Outcome.{optional_put}
 use Rattle.command_reflect.specs.ReflectedSteps.{reflected_steps, reflected_text}
 use Rattle.command_drill.specs.DrilledSteps.{drilled_line, drilled_steps, snapshot_puts}
 use Rattle.drill.specs.Drill.{drill_id}
@@ -24,10 +25,13 @@ use Rattle.drill.specs.Ending.{root_total}
 use Rattle.drill.specs.declared.report.DrillReport.{DrillReport}
 use Rattle.commands.specs.Laws.{AreAlike, IsFunction, TellsPlace}
 use Rattle.commands.specs.Verdict.{ByDrill, ByReflecting, ByVisit, ByWant, Closing, Coming, Comes, Fine, Free, OfWords, Only, PlainReflection, PlainVisit, Verdict, fine, reflected_verdict}
+use Rattle.commands.specs.Work.{NamesNoJournal}
+use Rattle.commands.proofs.NetLaws.{never_keeps}
+use Rattle.journal_store.specs.Stores.{StoresTell}
 use Rattle.croquet.specs.declared.status.Status.{Status}
 use Rattle.croquet.specs.Complete.{HasRightInput, IsByPeer, IsComplete, IsDone, IsDueOf, NoLinkFailed, NoneFailed}
 use Rattle.croquet.specs.Drills.{OfDrilled}
-use Rattle.croquet.specs.Run.{Concludes, Ending, OutOfMemory, OfReflected, Ran, RanAsDrill, RanAsReflector, RanBySteps, ServesNet, Visits}
+use Rattle.croquet.specs.Run.{Concludes, Ending, OutOfMemory, OfReflected, Ran, RanAlone, RanAsDrill, RanAsReflector, RanBySteps, ServesNet, Visits}
 use Rattle.view_follows.specs.Answered.{AnsweredVisitsHaveNoFault, VisitsEndByRefusals, VisitsEndWithLinks}
 use Rattle.croquet.proofs.Causes.{is_caused}
 use Rattle.croquet.proofs.Counts.{CountsStay, EndsDone, EndsSaid, counts_on, counts_stay, done_by, net_moves, none_in_steps, none_within, rose_within, run_keeps, said_by, steps_keep}
@@ -53,8 +57,8 @@ free_alike steps verdict gives (inl want) = subst (λ (v : Verdict). AreAlike st
 free_alike steps verdict gives (inr is) = subst (λ (v : Verdict). AreAlike steps Fine v.steps v.closing) (sym is) (same_alike steps gives)
 
 -- what is put and printed of a session that was reflected, and of a drill
-reflected_gives : (log : List ℕ) (ends : List Ended) (session : PlainSession) → IsGiving (reflected_steps log ends session)
-reflected_gives log ends session = giving (record { name = log; bytes = stored_spelling (stored_of session) } ∷ []) (reflected_text ends session)
+reflected_gives : (log : Option (List ℕ)) (ends : List Ended) (session : PlainSession) → IsGiving (reflected_steps log ends session)
+reflected_gives log ends session = giving (optional_put log (stored_spelling (stored_of session))) (reflected_text ends session)
 
 drilled_gives : (request : DrillRequest) (session : PlainSession) (snapshots : List (List ℕ)) (total : ℤ) (agree : ℕ) → IsGiving (drilled_steps request session snapshots total agree)
 drilled_gives request session snapshots total agree =
@@ -166,7 +170,7 @@ module _ {F W N L : Type 0} (files : FilesTell F) (out : OutputTells W) (net : N
         (counts_on files out net links old ready served first (net_moves files out net links ready served served.net ready.link later is)) (counts_stay files out net links new new refl) none
 
     told
-        : (log : List ℕ) (ends : List Ended) (session : PlainSession) (failed : Bool) (coming : Coming) → ((v : Verdict) → coming v → Free (Only (reflected_verdict log ends session failed)) v)
+        : (log : Option (List ℕ)) (ends : List Ended) (session : PlainSession) (failed : Bool) (coming : Coming) → ((v : Verdict) → coming v → Free (Only (reflected_verdict log ends session false failed)) v)
         → CountsFailure (net.faults ready.net) (net.faults served.net) failed → served ≡ record ready { net = served.net }
         → (ran : RanBySteps (outside_tells files out net links) coming served new result) → CountsStay files out net served new → IsDone result
     told log ends session true coming leads rose is ran last = absurd (net_is_fine last rose)
@@ -216,14 +220,34 @@ module _ {F W N L : Type 0} (files : FilesTell F) (out : OutputTells W) (net : N
   due_by command result done = done
 
   comes_due
-      : IsFunction → (gives : ℕ → Type 0) (command : Option Command) (old new : Outside F W N L) (result : Status) → Ran gives (outside_tells files out net links) (Comes command) old new result
+      : IsFunction → (gives : ℕ → Type 0) (command : Option Command) (old new : Outside F W N L) (result : Status) → RanAlone gives (outside_tells files out net links) (Comes command) old new result
       → HasRightInput files old.files command → NoneFailed files out net old new → NoLinkFailed net command old.net new.net → IsDueOf command result
   comes_due function gives command old new result (inl ran) right none fine = by_steps function command old new result ran right none fine
   comes_due function gives command old new result (inr (inl ran)) right none fine = due_by command result (as_reflector gives (Comes command) old new result ran none)
   comes_due function gives command old new result (inr (inr ran)) right none fine = due_by command result (as_drill gives (Comes command) old new result ran none)
 
+  -- where its inputs are right, the command names no journal
+  names_none : (command : Option Command) (old : F) → HasRightInput files old command → NamesNoJournal command
+  names_none None old right = absurd right
+  names_none (Some (Stamp script from log)) old right = tt
+  names_none (Some (Check program)) old right = tt
+  names_none (Some (Replay request)) old right = tt
+  names_none (Some (Inspect request)) old right = tt
+  names_none (Some (Trace request)) old right = tt
+  names_none (Some (Join request)) old right = tt
+  names_none (Some (Reflect request)) old right = right.0
+  names_none (Some (Drill request)) old right = tt
+
+  due_of_all
+      : {T S : Type 0} (stores : StoresTell T S) → IsFunction → (gives : ℕ → Type 0) (command : Option Command) (old new : Outside F W N L) (s t : T) (result : Status)
+      → Ran gives (outside_tells files out net links) stores (Comes command) old new s t result
+      → HasRightInput files old.files command → NoneFailed files out net old new → NoLinkFailed net command old.net new.net → IsDueOf command result
+  due_of_all stores function gives command old new s t result (inl ran) right none fine = comes_due function gives command old new result ran.0 right none fine
+  due_of_all stores function gives command old new s t result (inr ran) right none fine =
+      absurd (never_keeps command (names_none command old.files right) _ ran.reaches.comes tt)
+
   pub is_complete
-      : IsFunction → AnsweredVisitsHaveNoFault → VisitsEndWithLinks → VisitsEndByRefusals → (gives : ℕ → Type 0) (command : Option Command) (old new : Outside F W N L) (result : Status)
-      → Ran gives (outside_tells files out net links) (Comes command) old new result → IsComplete files out net links command old new result
-  is_complete function peer ended refused gives command old new result ran =
-      record { due = comes_due function gives command old new result ran; caused = is_caused peer ended refused files out net links (Comes command) old new result }
+      : {T S : Type 0} (stores : StoresTell T S) → IsFunction → AnsweredVisitsHaveNoFault → VisitsEndWithLinks → VisitsEndByRefusals → (gives : ℕ → Type 0) (command : Option Command) (old new : Outside F W N L) (s t : T) (result : Status)
+      → Ran gives (outside_tells files out net links) stores (Comes command) old new s t result → IsComplete files out net links command old new result
+  is_complete stores function peer ended refused gives command old new s t result ran =
+      record { due = due_of_all stores function gives command old new s t result ran; caused = is_caused peer ended refused files out net links (Comes command) old new result }

@@ -11,3 +11,4 @@ pub mod RightVerdicts
 pub mod VisitEnds
 pub mod Causes
 pub mod Completeness
+mod KeptRuns

@@ -40,7 +40,7 @@ use Rattle.command_words.specs.declared.words.Command.{Command}
 use Rattle.command_words.specs.declared.words.Command.TheVariants.{Stamp, Check, Replay, Inspect, Trace, Join, Reflect, Drill}
 use Rattle.model_tree.specs.Bounds.{most_program_bytes}
 use Rattle.tea_base.specs.Limits.{most_snapshot}
-use Rattle.commands.specs.Verdict.{ByDrill, ByReflecting, ByVisit, Closing, Coming, Fine, OfFile, OfInspectedLog, OfInspect, OfJoin, OfKeyframes, OfOpening, OfProgram, OfQueries, OfReflect, OfRight, OfScript, OfServed, OfSnapshot, OfStored, OfTimeLine, OfTrace, OfTraced, OfTracedLog, OfTree, OfView, OfViewScript, OfWords, Only, Starts, Verdict, OfFounded, OfJson, OfPersisted, OfRecorded, ask_file, at_once, before, count_verdict, fine, founded, inspect_verdict, keeps_few, most_queries, most_script, reflection_of, session_id_of, stamp_verdict, visit_to, world_puts, most_log}
+use Rattle.commands.specs.Verdict.{ByDrill, ByKeeping, ByReflecting, ByVisit, Closing, Coming, Fine, OfFile, OfInspectedLog, OfInspect, OfJoin, OfJournal, OfKeyframes, OfOpening, OfProgram, OfQueries, OfReflect, OfRight, OfScript, OfServed, OfSnapshot, OfStored, OfTimeLine, OfTrace, OfTraced, OfTracedLog, OfTree, OfUnkept, OfView, OfViewScript, OfWords, Only, Starts, Verdict, OfFounded, OfJson, OfPersisted, OfRecorded, ask_file, at_once, before, count_verdict, fine, founded, inspect_verdict, keeping_of, keeps_few, most_queries, most_script, reflection_of, session_id_of, stamp_verdict, visit_to, world_puts, most_log}
 use Rattle.commands.proofs.Agreement.{late_verdict}
 use Rattle.croquet.specs.Complete.{HasRightInput, HoldsFile, HoldsInspection, HoldsOpening, HoldsPersisted, HoldsProgram, HoldsRecording, HoldsStart, HoldsTrace, IsJsonText, IsQueriesText, IsScriptText, IsSnapshotUntil, IsStoredText, IsProgramText, IsViewScriptText, NamesAddress, persisted_in}
 use Rattle.croquet.proofs.RightSteps.{AreRight, GivesHeld, IsGiving, giving_are_right}
@@ -208,16 +208,21 @@ module _ {F : Type 0} (files : FilesTell F) (old : F) where
       (persisted_right ClosesWell request.persisted trace.persisted traced
       (fine_right (files.held old) [] (trace_text (founded tree v) (session_id_of request.name program.bytes v) stored.log request.from request.to) (traced v) refl))))
 
-  reflect_right : (request : ReflectRequest) → HoldsProgram files old request.program → NamesAddress request.address → HoldsPersisted files old request.persisted → HoldsOpening files old request.from
+  unkept_right : (request : ReflectRequest) (id : List ℕ) → request.journal ≡ None → ComesRight (files.held old) ClosesWell (OfUnkept request id) → ComesRight (files.held old) ClosesWell (OfServed request id)
+  unkept_right request id none right =
+      subst (λ (journal : Option (List ℕ)). ComesRight (files.held old) ClosesWell (OfJournal journal (OfUnkept request id) (λ name. Only (at_once (ByKeeping (keeping_of request id name)))))) (sym none) right
+
+  reflect_right : (request : ReflectRequest) → request.journal ≡ None → HoldsProgram files old request.program → NamesAddress request.address → HoldsPersisted files old request.persisted → HoldsOpening files old request.from
       → ComesRight (files.held old) ClosesWell (OfWords (Some (Reflect request)))
-  reflect_right request program address persisted opening =
+  reflect_right request none program address persisted opening =
       let id = session_id_of request.name program.bytes (persisted_in files old request.persisted persisted) in
       let next : PlainValue → Coming = λ v. OfServed request (session_id_of request.name program.bytes v) in
       read_program ClosesWell request.program program (λ bytes tree. OfReflect request bytes)
       (right_right (files.held old) ClosesWell input.Address (is_address (encode_utf8_all request.address)) (OfPersisted request.persisted next) address
       (persisted_right ClosesWell request.persisted persisted next
+      (unkept_right request id none
       (opening_right ClosesWell request.from (λ opening. Only (at_once (ByReflecting (reflection_of request id opening)))) opening
-      (λ opening. closed_right (files.held old) ClosesWell (ByReflecting (reflection_of request id opening)) (Only (at_once (ByReflecting (reflection_of request id opening)))) tt refl))))
+      (λ opening. closed_right (files.held old) ClosesWell (ByReflecting (reflection_of request id opening)) (Only (at_once (ByReflecting (reflection_of request id opening)))) tt refl)))))
 
   view_script_right : (request : JoinRequest) (text : List ℕ) (tree : ProgramTree) (script : Option (List PlainLine)) (lines : List PlainLine) → script ≡ Some lines → HoldsPersisted files old request.persisted
       → ComesRight (files.held old) ClosesByVisit (OfViewScript request text tree script)
@@ -249,6 +254,6 @@ module _ {F : Type 0} (files : FilesTell F) (old : F) where
   words_right (Some (Replay request)) right = recording_right request right
   words_right (Some (Inspect request)) right = inspection_right request right
   words_right (Some (Trace request)) right = trace_right request right
-  words_right (Some (Reflect request)) right = reflect_right request right.0 right.1 right.2 right.3
+  words_right (Some (Reflect request)) right = reflect_right request right.0 right.1 right.2 right.3 right.4
   words_right (Some (Drill request)) right = closed_right (files.held old) ClosesWell (ByDrill request) (OfWords (Some (Drill request))) tt refl
   words_right (Some (Join request)) right = join_right request right.0 right.1 right.2 right.3

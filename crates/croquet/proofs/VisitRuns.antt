@@ -1,5 +1,5 @@
 -- The run of a view, and a command that goes on as one.
-use Rattle.std.proofs.Common.{◌≡◌, ◌⊎◌, inl, inr, ◌++◌, [], Option, Some, None, refl, ap}
+use Rattle.std.proofs.Common.{◌≡◌, ◌⊎◌, inl, inr, ◌++◌, List, [], Option, Some, None, refl, ap}
 use Rattle.std.specs.Prelude.{⊤}
 use Rattle.run_steps.specs.Steps.{Step, Loads, Puts, Prints, Connects, Returns, Hears, Sends}
 use Rattle.run_steps.specs.Outside.{Came, Well, Failed, WantedMemory, Cut, FilesTell, OutputTells, NetTells, LinksTell, Outside, GoesBackFrom, booth, booth_tells, desk, desk_tells, outside, outside_tells}
@@ -10,10 +10,10 @@ use Rattle.view_shell.specs.declared.ending.ViewEnd.TheVariants as view_end
 use Rattle.view_shell.specs.Phases.{Phase}
 use Rattle.view_shell.specs.Viewers.{first_phase}
 use Rattle.view_shell.specs.ViewRun.{EndsBy, IsCutEnd, ViewRan}
-use Rattle.commands.specs.Verdict.{ByVisit, Coming, PlainVisit}
+use Rattle.commands.specs.Verdict.{ByVisit, Closing, Coming, PlainVisit}
 use Rattle.croquet.specs.declared.status.Status.{Status}
 use Rattle.croquet.specs.Calls.{TellsViewEnd, VisitRan}
-use Rattle.croquet.specs.Run.{view_ending, RanBySteps, Reaches, TellsCut, TellsEnd, TellsEnding, TellsMemory}
+use Rattle.croquet.specs.Run.{Does, Ending, view_ending, RanBySteps, Reaches, TellsCut, TellsEnd, TellsEnding, TellsMemory}
 
 -- ---- the end of a view's run
 
@@ -95,26 +95,37 @@ none_went_back : {F W : Type 0} (files : FilesTell F) (out : OutputTells W) (lin
 none_went_back files out None old new kept = kept
 none_went_back files out (Some there) old new (well, never, kept) = absurd never
 
--- a run over files and an output alone is one with any net
-pub ran_beside
-    : {F W N L : Type 0} (files : FilesTell F) (out : OutputTells W) (net : NetTells N L) (links : LinksTell L) (held : N) (coming : Coming) (f f' : F) (w w' : W) (result : Status)
-    → RanBySteps (desk_tells files out) coming (desk f w) (desk f' w') result → RanBySteps (outside_tells files out net links) coming (outside f w held None) (outside f' w' held None) result
-ran_beside {F = F} {W = W} {N = N} {L = L} files out net links held coming f f' w w' result ran =
-    let beside = λ (o : Outside F W ⊤ ⊤). outside {F = F} {W = W} {N = N} {L = L} o.files o.out held None in
-    let does = ran.does in
-    record {
-      steps = ran.steps;
-      ending = ran.ending;
-      course = ran.course;
-      does = record {
-        cut = does.cut;
-        done = beside does.done;
-        acts = all_beside_net net links (desk_tells files out) held refl refl ran.steps does.cut (desk f w) does.done does.acts;
-        left = beside does.left;
-        goes_back = ap beside (none_went_back files out does.done.link does.done does.left does.goes_back);
-        told = (does.told.0, ap beside does.told.1);
-      };
-    }
+-- files and an output with a net that stays as it is
+abbrev pub beside : {F W N L : Type 0} → N → Outside F W ⊤ ⊤ → Outside F W N L
+beside held o = outside o.files o.out held None
+
+-- what is done over files and an output alone is done with any net
+module _ {F W N L : Type 0} (files : FilesTell F) (out : OutputTells W) (net : NetTells N L) (links : LinksTell L) (held : N) where
+  pub does_beside : (steps : List Step) (ending : Ending) (old new : Outside F W ⊤ ⊤) (result : Status) → Does (desk_tells files out) steps ending old new result
+      → Does (outside_tells files out net links) steps ending (beside held old) (beside held new) result
+  does_beside steps ending old new result does = record {
+    cut = does.cut;
+    done = beside held does.done;
+    acts = all_beside_net net links (desk_tells files out) held refl refl steps does.cut old does.done does.acts;
+    left = beside held does.left;
+    goes_back = ap (λ (o : Outside F W ⊤ ⊤). beside {F = F} {W = W} {N = N} {L = L} held o) (none_went_back files out does.done.link does.done does.left does.goes_back);
+    told = (does.told.0, ap (λ (o : Outside F W ⊤ ⊤). beside {F = F} {W = W} {N = N} {L = L} held o) does.told.1);
+  }
+
+  pub steps_beside : (coming : Coming) (old new : Outside F W ⊤ ⊤) (result : Status) → RanBySteps (desk_tells files out) coming old new result
+      → RanBySteps (outside_tells files out net links) coming (beside held old) (beside held new) result
+  steps_beside coming old new result ran =
+      record { steps = ran.steps; ending = ran.ending; course = ran.course; does = does_beside ran.steps ran.ending old new result ran.does }
+
+  pub reaches_beside : (coming : Coming) (closing : Closing) (old new : Outside F W ⊤ ⊤) → Reaches (desk_tells files out) coming closing old new
+      → Reaches (outside_tells files out net links) coming closing (beside held old) (beside held new)
+  reaches_beside coming closing old new reached =
+      record { steps = reached.steps; comes = reached.comes; acts = all_beside_net net links (desk_tells files out) held refl refl reached.steps None old new reached.acts }
+
+  -- a run over files and an output alone is one with any net
+  pub ran_beside : (coming : Coming) (f f' : F) (w w' : W) (result : Status)
+      → RanBySteps (desk_tells files out) coming (desk f w) (desk f' w') result → RanBySteps (outside_tells files out net links) coming (outside f w held None) (outside f' w' held None) result
+  ran_beside coming f f' w w' result ran = steps_beside coming (desk f w) (desk f' w') result ran
 
 -- a link that went back did so beside files that stay
 goes_back_beside

@@ -8,18 +8,28 @@ use Rattle.replica.specs.View.{ReplicaView}
 use Rattle.drill.specs.declared.report.DrillReport.{DrillReport}
 use Rattle.reflect_server.specs.declared.reflection.ServeFault.{ServeFault}
 use Rattle.reflect_server.specs.declared.reflection.ServeFault.TheVariants as serve_fault
+use Rattle.reflect_server.specs.declared.reflection.KeptFault.{KeptFault}
+use Rattle.reflect_server.specs.declared.reflection.KeptFault.TheVariants as kept_fault
 use Rattle.view_shell.specs.declared.ending.ViewEnd.{ViewEnd}
 use Rattle.view_shell.specs.declared.ending.ViewEnd.TheVariants as view_end
+use Rattle.store_io.specs.declared.store.StoreFault.{StoreFault}
+use Rattle.store_io.specs.declared.store.StoreFault.TheVariants as store_fault
+use Rattle.session_journal.specs.declared.reading.JournalFault.{JournalFault}
+use Rattle.session_journal.specs.declared.reading.JournalFault.TheVariants as journal_fault
+use Rattle.journal_store.specs.declared.opening.OpeningFault.{OpeningFault}
+use Rattle.journal_store.specs.declared.opening.OpeningFault.TheVariants as opening_fault
 use Rattle.command_outcome.specs.declared.outcome.Put.{Put}
+use Rattle.command_outcome.specs.declared.outcome.Input.TheVariants as input
+use Rattle.command_outcome.specs.declared.outcome.CommandRefusal.TheVariants as refusal
 use Rattle.command_words.specs.declared.words.DrillRequest.{DrillRequest}
 use Rattle.command_words.specs.Bounds.{AreConnections, IsBoundedDrill}
-use Rattle.commands.specs.Verdict.{ByDrill, ByReflecting, ByVisit, ByWant, Coming, Free, Only, PlainVisit, at_once, drilled_verdict}
-use Rattle.commands.specs.Work.{plain_reflection, visit_of}
+use Rattle.commands.specs.Verdict.{ByDrill, ByKeeping, ByReflecting, ByVisit, ByWant, Coming, Free, Only, PlainVisit, at_once, drilled_verdict}
+use Rattle.commands.specs.Work.{IsBoundedKeeping, plain_keeping, plain_reflection, visit_of}
 use Rattle.croquet.specs.declared.status.Status.{Status}
 use Rattle.croquet.specs.declared.status.Status.TheVariants as status
 use Rattle.croquet.specs.declared.top.Turn.{Turn}
 use Rattle.croquet.specs.declared.top.Turn.TheVariants as turn
-use Rattle.croquet.specs.Run.{Does, Ending, on_net_fault, view_ending, OutOfMemory, Silent, RanBySteps, Reaches, Tells, TellsEnding, TellsMemory, Visits}
+use Rattle.croquet.specs.Run.{Does, Ending, on_net_fault, on_read_fault, on_write_fault, refusal_ending, view_ending, OutOfMemory, Silent, RanBySteps, Reaches, Tells, TellsEnding, TellsMemory, Visits}
 
 -- a file was not put, and this was told
 abbrev pub TellsUnput : {F W : Type 0} → FilesTell F → OutputTells W → Put → F → W → F → W → Status → Type 0
@@ -43,14 +53,38 @@ abbrev pub all_well : Ending
 all_well = Silent status.Ok
 
 -- how the run of a reflector ends behind all its steps
-abbrev pub reflected_ending : Bool → Ending
-reflected_ending true = on_net_fault
-reflected_ending false = all_well
+abbrev pub reflected_ending : Bool → Bool → Ending
+reflected_ending true net_failed = on_write_fault
+reflected_ending false true = on_net_fault
+reflected_ending false false = all_well
 
 -- and the run of one that has no session to tell of
 abbrev pub fault_ending : ServeFault → Ending
 fault_ending serve_fault.ListenFault = on_net_fault
 fault_ending serve_fault.WantOfMemory = OutOfMemory
+
+-- the same of one whose session has a keeper
+abbrev pub kept_fault_ending : KeptFault → Ending
+kept_fault_ending kept_fault.ListenFault = on_net_fault
+kept_fault_ending kept_fault.WantOfMemory = OutOfMemory
+kept_fault_ending kept_fault.Unkept = on_write_fault
+
+-- how the run ends of one whose journal was not opened
+abbrev pub opening_ending : OpeningFault → Ending
+opening_ending opening_fault.Unfounded = on_write_fault
+opening_ending opening_fault.Unopened = on_read_fault
+opening_ending opening_fault.WantOfMemory = OutOfMemory
+
+-- of one the bytes of whose journal were not read
+abbrev pub unread_ending : JournalFault → Ending
+unread_ending journal_fault.NoJournal = refusal_ending (refusal.Input input.Journal)
+unread_ending journal_fault.OtherSession = refusal_ending (refusal.Input input.Journal)
+unread_ending journal_fault.WantOfMemory = OutOfMemory
+
+-- and of one whose session does not go on from its journal
+abbrev pub ungone_ending : StoreFault → Ending
+ungone_ending store_fault.Failed = on_write_fault
+ungone_ending store_fault.WantOfMemory = OutOfMemory
 
 -- the snapshot of a replica's world
 abbrev pub snapshot_of : ReplicaView → List ℕ
@@ -62,11 +96,12 @@ OfReport request (Ok report) =
     Free (Only (drilled_verdict request report.session.plain (map snapshot_of report.replicas) report.total report.agree))
 OfReport request (Err wanting) = Only (at_once ByWant)
 
--- a command is over, or its run goes on as a view's, a reflector's, or a drill
+-- a command is over, or its run goes on as a view's, a reflector's, that of one whose journal is to be opened, or a drill
 abbrev pub Turns : {F W N L : Type 0} → OutsideTells F W N L → Turn → Coming → Outside F W N L → Outside F W N L → Type 0
 Turns tells (turn.Over result) coming old new = RanBySteps tells coming old new result
 Turns tells (turn.Visits request) coming old new = Reaches tells coming (ByVisit (visit_of request)) old new
 Turns tells (turn.Reflects reflection) coming old new = Reaches tells coming (ByReflecting (plain_reflection reflection)) old new
+Turns tells (turn.Keeps keeping) coming old new = Reaches tells coming (ByKeeping (plain_keeping keeping)) old new
 Turns tells (turn.Drills request) coming old new = Reaches tells coming (ByDrill request) old new
 
 -- a command is over
@@ -74,9 +109,10 @@ abbrev pub IsOver : Turn → Type 0
 IsOver (turn.Over status) = ⊤
 IsOver other = ⊥
 
--- a reflector accepts from 1 to 64 links, and a drill is of the size that its words may ask for
+-- a reflector accepts from 1 to 64 links, and what its journal is founded with is a stored session, and a drill is of the size that its words may ask for
 abbrev pub IsBoundedTurn : Turn → Type 0
 IsBoundedTurn (turn.Reflects reflection) = AreConnections reflection.connections
+IsBoundedTurn (turn.Keeps keeping) = IsBoundedKeeping keeping
 IsBoundedTurn (turn.Drills request) = IsBoundedDrill request
 IsBoundedTurn other = ⊤
 

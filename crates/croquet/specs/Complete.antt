@@ -126,8 +126,9 @@ HasRightInput files old (Some (Inspect request)) = HoldsInspection files old req
 HasRightInput files old (Some (Trace request)) = HoldsTrace files old request
 HasRightInput files old (Some (Join request)) =
     HoldsProgram files old request.program × NamesAddress request.address × HoldsFile files old request.script most_script IsViewScriptText × HoldsPersisted files old request.persisted
+-- of one that names a journal nothing is said
 HasRightInput files old (Some (Reflect request)) =
-    HoldsProgram files old request.program × NamesAddress request.address × HoldsPersisted files old request.persisted × HoldsOpening files old request.from
+    (request.journal ≡ None) × HoldsProgram files old request.program × NamesAddress request.address × HoldsPersisted files old request.persisted × HoldsOpening files old request.from
 -- a drill reads no file
 HasRightInput files old (Some (Drill request)) = ⊤
 

@@ -1,12 +1,34 @@
 -- What a run does to the outside: all that comes of its command, or this up to one place, and then the line of its fault.
-use Rattle.std.specs.Prelude.{◌≡◌, ℕ, List, [], ◌∷◌, ◌++◌, ◌⊎◌, Option, Some, None, Result, Ok, Err, IfOk, codes}
+use Rattle.std.specs.Prelude.{◌≡◌, ℕ, Bool, false, ◌||◌, List, [], ◌∷◌, ◌++◌, ◌⊎◌, Option, Some, None, Result, Ok, Err, IfOk, codes}
 use Rattle.text_lines.specs.Lines.{spell_numbers}
 use Rattle.run_steps.specs.Steps.{Step, Loads, Puts, Prints}
 use Rattle.run_steps.specs.Outside.{Outside, OutsideTells, OutputTells, Came, Well, Failed, WantedMemory, PrintsText, Cut, Acts, LinkGoesBack, OnPart}
 use Rattle.tea_io.specs.declared.net.NetCall.TheVariants.{Listen}
 use Rattle.drill.specs.declared.report.DrillReport.{DrillReport}
 use Rattle.drill.specs.Drill.{HasDrilled}
-use Rattle.reflect_server.specs.Reflects.{Reflects}
+use Rattle.reflect_server.specs.Keeping.{KeeperTells, keeper_tells}
+use Rattle.reflect_server.specs.Reflects.{Reflects, ReflectsKept}
+use Rattle.reflect_server.specs.declared.reflection.KeptFault.{KeptFault}
+use Rattle.reflect_server.specs.declared.reflection.KeptFault.TheVariants as kept_fault
+use Rattle.tea_io.specs.Told.{Rose}
+use Rattle.store_io.specs.declared.store.StoreFault.{StoreFault}
+use Rattle.store_io.specs.declared.store.StoreFault.TheVariants as store_fault
+use Rattle.store_io.specs.declared.stores.Opened.{Opened}
+use Rattle.store_io.specs.declared.stores.Opened.TheVariants as opened
+use Rattle.reflector_core.specs.PlainSession.{PlainSession}
+use Rattle.reflector_core.specs.Stored.{session_of}
+use Rattle.reflector_core.specs.Keeping.{IsCovered}
+use Rattle.session_log.specs.Stored.{PlainStored}
+use Rattle.session_journal.specs.Frames.{Place}
+use Rattle.session_keeper.specs.Keeping.{IsJournalOf, IsShut, fault_count}
+use Rattle.session_keeper.specs.declared.keeper.JournalKeeper.{JournalKeeper}
+use Rattle.journal_store.specs.declared.opening.OpeningFault.{OpeningFault}
+use Rattle.journal_store.specs.declared.opening.OpeningFault.TheVariants as opening_fault
+use Rattle.journal_store.specs.Opening.{OpensJournal}
+use Rattle.journal_store.specs.Safe.{IsSafelyKept}
+use Rattle.journal_store.specs.Stores.{StoresTell, TakesStore}
+use Rattle.session_lock.specs.declared.knowledge.Item.{Item}
+use Rattle.session_lock.specs.History.{play_from}
 use Rattle.reflect_server.specs.Opening.{gives_later}
 use Rattle.reflect_server.specs.declared.reflection.Reflected.{Reflected}
 use Rattle.reflect_server.specs.declared.reflection.ServeFault.{ServeFault}
@@ -22,7 +44,8 @@ use Rattle.command_outcome.specs.declared.outcome.Input.TheVariants as input
 use Rattle.command_outcome.specs.declared.outcome.CommandRefusal.{CommandRefusal}
 use Rattle.command_outcome.specs.declared.outcome.CommandRefusal.TheVariants as refusal
 use Rattle.command_words.specs.declared.words.DrillRequest.{DrillRequest}
-use Rattle.commands.specs.Verdict.{Closing, Fine, ByRefusal, ByWant, ByNetFault, ByVisit, ByReflecting, ByDrill, Verdict, PlainReflection, PlainVisit, Coming, Free, Only, at_once, reflected_verdict}
+use Rattle.commands.specs.Keeping.{OfAbsent, OfBytes, no_journal}
+use Rattle.commands.specs.Verdict.{Closing, Fine, ByRefusal, ByWant, ByReadFault, ByWriteFault, ByNetFault, ByVisit, ByReflecting, ByKeeping, ByGoingOn, ByDrill, Verdict, PlainKeeping, PlainReflection, PlainVisit, Coming, Free, Only, at_once, reflected_verdict}
 use Rattle.croquet.specs.Drills.{OfDrilled, drill_size}
 use Rattle.croquet.specs.declared.status.Status.{Status}
 use Rattle.croquet.specs.declared.status.Status.TheVariants as status
@@ -38,6 +61,14 @@ pub data Ending : Type 0 where
   -- that memory ran out
   OutOfMemory : Ending
 
+-- a file or a store was not read
+abbrev pub on_read_fault : Ending
+on_read_fault = Says (codes "read-fault\n") status.ReadFault
+
+-- a file or a store was not written
+abbrev pub on_write_fault : Ending
+on_write_fault = Says (codes "write-fault\n") status.WriteFault
+
 -- the net or its link has failed
 abbrev pub on_net_fault : Ending
 on_net_fault = Says (codes "net-fault\n") status.NetFault
@@ -46,6 +77,7 @@ abbrev pub name_of : Input → List ℕ
 name_of input.Script = codes "script"
 name_of input.Program = codes "program"
 name_of input.Log = codes "log"
+name_of input.Journal = codes "journal"
 name_of input.Snapshot = codes "snapshot"
 name_of input.Persisted = codes "persisted"
 name_of input.Time = codes "time"
@@ -75,8 +107,8 @@ view_ending view_end.WantOfMemory = OutOfMemory
 
 -- a step has failed; an output that failed takes no line
 abbrev pub failed_ending : Step → Ending
-failed_ending (Loads ask given) = Says (codes "read-fault\n") status.ReadFault
-failed_ending (Puts name bytes) = Says (codes "write-fault\n") status.WriteFault
+failed_ending (Loads ask given) = on_read_fault
+failed_ending (Puts name bytes) = on_write_fault
 failed_ending (Prints text) = Silent status.WriteFault
 -- all others are of the net and its link
 failed_ending other = on_net_fault
@@ -96,10 +128,15 @@ abbrev pub Concludes : Closing → List Step → Ending → Type 0
 Concludes Fine steps ending = (steps ≡ []) × (ending ≡ Silent status.Ok)
 Concludes (ByRefusal refusal) steps ending = (steps ≡ []) × (ending ≡ refusal_ending refusal)
 Concludes ByWant steps ending = (steps ≡ []) × (ending ≡ OutOfMemory)
+Concludes ByReadFault steps ending = (steps ≡ []) × (ending ≡ on_read_fault)
+Concludes ByWriteFault steps ending = (steps ≡ []) × (ending ≡ on_write_fault)
 Concludes ByNetFault steps ending = (steps ≡ []) × (ending ≡ on_net_fault)
 Concludes (ByVisit visit) steps ending = Visits visit steps ending
 -- No run by steps alone ends so: a reflector serves many links at once. `RanAsReflector` says how it does.
 Concludes (ByReflecting reflection) steps ending = ⊥
+-- Nor so: what comes next depends on what the stores tell. `RanAsKeeper` says how.
+Concludes (ByKeeping keeping) steps ending = ⊥
+Concludes (ByGoingOn keeping place) steps ending = ⊥
 -- Nor so: the views of a drill run in threads. `RanAsDrill` says what comes of them.
 Concludes (ByDrill request) steps ending = ⊥
 
@@ -184,9 +221,9 @@ ServesNet gives tells reflection answer old new =
     OnPart tells.net (λ net. OnPart tells.links (λ links. Reflects (gives_later gives reflection.opening.horizon) (record { 0 = reflection.id }) reflection.opening net links (Listen reflection.address ∷ []) reflection.connections old.net new.net answer))
     × (new ≡ record old { net = new.net })
 
--- what comes of a reflector's answer: its session is put under this name as it is stored, and its text is printed, also where the net failed
-abbrev pub OfReflected : List ℕ → Result Reflected ServeFault → Coming
-OfReflected log (Ok reflected) = Free (Only (reflected_verdict log reflected.ends reflected.session.plain reflected.net_failed))
+-- what comes of a reflector's answer: its session is put as it is stored, if there is a name for it, and its text is printed, also where the net failed
+abbrev pub OfReflected : Option (List ℕ) → Result Reflected ServeFault → Coming
+OfReflected log (Ok reflected) = Free (Only (reflected_verdict log reflected.ends reflected.session.plain false reflected.net_failed))
 OfReflected log (Err serve_fault.ListenFault) = Only (at_once ByNetFault)
 OfReflected log (Err serve_fault.WantOfMemory) = Only (at_once ByWant)
 
@@ -199,6 +236,130 @@ pub record RanAsReflector (gives : ℕ → Type 0) {F W N L : Type 0} (tells : O
   pub served : Outside F W N L
   pub serves : ServesNet gives tells reflection answer ready served
   pub behind : RanBySteps tells (OfReflected reflection.log answer) served new result
+
+-- ---- a reflector that keeps a journal
+
+-- what comes of the opening of a journal
+abbrev pub OfOpened : {S : Type 0} → PlainKeeping → Result (Opened S) OpeningFault → Coming
+OfOpened keeping (Ok opened.Absent) = OfAbsent keeping.opening keeping
+OfOpened keeping (Ok (opened.There store bytes)) = OfBytes keeping bytes
+OfOpened keeping (Ok (opened.TooLarge len)) = Only (at_once no_journal)
+OfOpened keeping (Err opening_fault.Unfounded) = Only (at_once ByWriteFault)
+OfOpened keeping (Err opening_fault.Unopened) = Only (at_once ByReadFault)
+OfOpened keeping (Err opening_fault.WantOfMemory) = Only (at_once ByWant)
+
+-- what comes of a journal that does not go on: it was not cut, or memory ran out
+abbrev pub OfUngone : StoreFault → Coming
+OfUngone store_fault.Failed = Only (at_once ByWriteFault)
+OfUngone store_fault.WantOfMemory = Only (at_once ByWant)
+
+-- what comes of the answer of a reflector whose session was kept, or was not kept to its end
+abbrev pub OfKept : Option (List ℕ) → Bool → Result Reflected KeptFault → Coming
+OfKept log unkept (Ok reflected) = Free (Only (reflected_verdict log reflected.ends reflected.session.plain unkept reflected.net_failed))
+OfKept log unkept (Err kept_fault.ListenFault) = Only (at_once ByNetFault)
+OfKept log unkept (Err kept_fault.WantOfMemory) = Only (at_once ByWant)
+OfKept log unkept (Err kept_fault.Unkept) = Only (at_once ByWriteFault)
+
+-- a journal is opened and, where it was not there, founded and opened again; all steps that come of that are done
+abbrev pub OpensAs : {F W N L T S : Type 0} → OutsideTells F W N L → StoresTell T S → PlainKeeping → PlainKeeping → Result (Opened S) OpeningFault → Outside F W N L → Outside F W N L → T → T → Type 0
+OpensAs {T = T} tells stores first keeping answer old new s t =
+    ((keeping ≡ first) × (new ≡ old) × OpensJournal stores first.id first.journal first.opening answer s t)
+    ⊎ ((mid : T) × OpensJournal stores first.id first.journal first.opening (Ok opened.Absent) s mid
+    × Reaches tells (OfAbsent first.opening first) (ByKeeping keeping) old new × OpensJournal stores keeping.id keeping.journal keeping.opening answer mid t)
+
+-- the steps of a verdict that comes, which is closed so, are cut: whatever was to come behind them
+pub record EndsBefore {F W N L : Type 0} (tells : OutsideTells F W N L) (coming : Coming) (closing : Closing) (old new : Outside F W N L) (result : Status) : Type 0 where
+  pub steps : List Step
+  pub comes : coming (record { steps = steps; closing = closing })
+  pub does : (ending : Ending) → Does tells steps ending old new result
+
+-- a journal was read, and does not go on
+pub record EndsUncut {F W N L S : Type 0} (tells : OutsideTells F W N L) (faults : S → ℕ) (keeping : PlainKeeping) (store : S) (bytes : List ℕ) (left : S) (old new : Outside F W N L) (result : Status) : Type 0 where
+  pub place : Place PlainStored
+  pub ready : Outside F W N L
+  pub reaches : Reaches tells (OfBytes keeping bytes) (ByGoingOn keeping place) old ready
+  pub fault : StoreFault
+  pub rose : fault ≡ store_fault.Failed → Rose (faults store) (faults left)
+  pub steps : RanBySteps tells (OfUngone fault) ready new result
+
+-- The bytes of a store were read, and no session goes on from it: they are no journal of the session; or what is put and printed of them is cut; or
+-- the store was not cut to what was read, or memory ran out. This store is left.
+abbrev pub StopsAtBytes : {F W N L S : Type 0} → OutsideTells F W N L → (S → ℕ) → PlainKeeping → S → List ℕ → S → Outside F W N L → Outside F W N L → Status → Type 0
+StopsAtBytes tells faults keeping store bytes left old new result =
+    (RanBySteps tells (OfBytes keeping bytes) old new result × (left ≡ store))
+    ⊎ (((place : Place PlainStored) × EndsBefore tells (OfBytes keeping bytes) (ByGoingOn keeping place) old new result × (left ≡ store))
+    ⊎ EndsUncut tells faults keeping store bytes left old new result)
+
+-- no session goes on, and the store is given back
+pub record EndsRead {F W N L T S : Type 0} (tells : OutsideTells F W N L) (stores : StoresTell T S) (keeping : PlainKeeping) (store : S) (bytes : List ℕ) (old new : Outside F W N L) (s t : T) (result : Status) : Type 0 where
+  pub left : S
+  pub stops : StopsAtBytes tells stores.store_faults keeping store bytes left old new result
+  pub back : TakesStore stores keeping.journal left s t
+
+-- what a keeper holds covers this session, and it may keep more
+pub record GoesOnWith {S : Type 0} (told : S → Option (List ℕ)) (safe : S → ℕ) (session : PlainSession) (keeper : JournalKeeper S) : Type 0 where
+  pub covered : IsCovered (IsJournalOf told safe keeper) session.kept session
+  pub unshut : ¬ IsShut keeper
+
+-- what the journal of a session tells of its history, from this keeper on
+abbrev pub journal_tells : {T S : Type 0} → StoresTell T S → PlainSession → JournalKeeper S → JournalKeeper S → KeeperTells
+journal_tells stores session first keeper =
+    keeper_tells (IsJournalOf stores.told stores.safe) IsShut (fault_count stores.store_faults) (fault_count stores.store_faults first) session keeper
+
+-- A reflector of this session has done this to the net, and its keeper has kept what it came to.
+abbrev pub ServesKept
+    : (ℕ → Type 0) → {F W N L T S : Type 0} → OutsideTells F W N L → StoresTell T S → PlainKeeping → PlainSession → JournalKeeper S → JournalKeeper S → Result Reflected KeptFault → Outside F W N L → Outside F W N L
+    → Type 0
+ServesKept gives tells stores keeping session first keeper answer old new =
+    OnPart tells.net (λ net. OnPart tells.links (λ links. ReflectsKept (gives_later gives session.horizon) (record { 0 = keeping.id }) session (journal_tells stores session first keeper) net links (Listen keeping.address ∷ []) keeping.connections old.net new.net answer))
+    × (new ≡ record old { net = new.net })
+
+-- Whatever call of its store has failed: where the store tells its bytes, the safe ones are read as a session that has the log of the play of the
+-- history that was kept, and at least its horizon. An end at any moment is a run whose store fails from that moment on.
+abbrev pub StoresKeepPlays : {T S : Type 0} → StoresTell T S → Type 0
+StoresKeepPlays {S = S} stores =
+    (session : PlainSession) (first keeper : JournalKeeper S) (history : List Item) → (journal_tells stores session first keeper).keeps history
+    → IsSafelyKept stores.told stores.safe keeper (play_from session history)
+
+-- a call was not kept
+abbrev pub is_shut : {S : Type 0} → JournalKeeper S → Bool
+is_shut keeper = keeper.journal.shut || keeper.full
+
+-- A journal was read, and its session goes on: a reflector has served the net, the store is given back, and what comes of the answer is done.
+pub record KeepsOn (gives : ℕ → Type 0) {F W N L T S : Type 0} (tells : OutsideTells F W N L) (stores : StoresTell T S) (keeping : PlainKeeping) (bytes : List ℕ) (old new : Outside F W N L) (s t : T) (result : Status) : Type 0 where
+  pub place : Place PlainStored
+  pub ready : Outside F W N L
+  pub reaches : Reaches tells (OfBytes keeping bytes) (ByGoingOn keeping place) old ready
+  pub first : JournalKeeper S
+  pub goes_on : GoesOnWith stores.told stores.safe (session_of place.state) first
+  pub keeper : JournalKeeper S
+  pub answer : Result Reflected KeptFault
+  pub served : Outside F W N L
+  pub serves : ServesKept gives tells stores keeping (session_of place.state) first keeper answer ready served
+  pub back : TakesStore stores keeping.journal keeper.journal.store s t
+  pub behind : RanBySteps tells (OfKept keeping.log (is_shut keeper) answer) served new result
+
+-- what comes of a journal that is there
+abbrev pub OfThere : (ℕ → Type 0) → {F W N L T S : Type 0} → OutsideTells F W N L → StoresTell T S → PlainKeeping → S → List ℕ → Outside F W N L → Outside F W N L → T → T → Status → Type 0
+OfThere gives tells stores keeping store bytes old new s t result =
+    EndsRead tells stores keeping store bytes old new s t result ⊎ KeepsOn gives tells stores keeping bytes old new s t result
+
+-- what comes of a journal that was opened, or was not: where it is there, this; else the run ends, and the stores are as they were
+abbrev pub OfAnswer : {F W N L T S : Type 0} → OutsideTells F W N L → PlainKeeping → Result (Opened S) OpeningFault → (S → List ℕ → Type 0) → Outside F W N L → Outside F W N L → T → T → Status → Type 0
+OfAnswer tells keeping (Ok (opened.There store bytes)) there old new s t result = there store bytes
+OfAnswer tells keeping answer there old new s t result = RanBySteps tells (OfOpened keeping answer) old new result × (t ≡ s)
+
+-- A command has done its steps, its journal was opened, and what comes of that is done; the stores come to this.
+pub record RanAsKeeper (gives : ℕ → Type 0) {F W N L T S : Type 0} (tells : OutsideTells F W N L) (stores : StoresTell T S) (coming : Coming) (old new : Outside F W N L) (s t : T) (result : Status) : Type 0 where
+  pub first : PlainKeeping
+  pub asked : Outside F W N L
+  pub reaches : Reaches tells coming (ByKeeping first) old asked
+  pub keeping : PlainKeeping
+  pub answer : Result (Opened S) OpeningFault
+  pub told : Outside F W N L
+  pub held : T
+  pub opens : OpensAs tells stores first keeping answer asked told s held
+  pub behind : OfAnswer tells keeping answer (λ store bytes. OfThere gives tells stores keeping store bytes told new held t result) told new held t result
 
 -- ---- a drill
 
@@ -213,7 +374,12 @@ pub record RanAsDrill (gives : ℕ → Type 0) {F W N L : Type 0} (tells : Outsi
 
 -- ---- every run
 
--- a command has run: by steps, as a reflector, or as a drill
-abbrev pub Ran : (ℕ → Type 0) → {F W N L : Type 0} → OutsideTells F W N L → Coming → Outside F W N L → Outside F W N L → Status → Type 0
-Ran gives tells coming old new result =
+-- a command has run without stores: by steps, as a reflector, or as a drill
+abbrev pub RanAlone : (ℕ → Type 0) → {F W N L : Type 0} → OutsideTells F W N L → Coming → Outside F W N L → Outside F W N L → Status → Type 0
+RanAlone gives tells coming old new result =
     RanBySteps tells coming old new result ⊎ (RanAsReflector gives tells coming old new result ⊎ RanAsDrill gives tells coming old new result)
+
+-- a command has run: so, and the stores are as they were; or as a reflector that keeps a journal
+abbrev pub Ran : (ℕ → Type 0) → {F W N L T S : Type 0} → OutsideTells F W N L → StoresTell T S → Coming → Outside F W N L → Outside F W N L → T → T → Status → Type 0
+Ran gives tells stores coming old new s t result =
+    (RanAlone gives tells coming old new result × (t ≡ s)) ⊎ RanAsKeeper gives tells stores coming old new s t result

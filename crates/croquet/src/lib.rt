@@ -7,6 +7,8 @@
 
 mod drilling;
 mod giving;
+mod keeping;
+mod kept;
 mod reflecting;
 mod status;
 mod telling;

@@ -51,6 +51,7 @@ fn input_line(input: Input) -> &'static str
         Input::Script => "input script\n",
         Input::Program => "input program\n",
         Input::Log => "input log\n",
+        Input::Journal => "input journal\n",
         Input::Snapshot => "input snapshot\n",
         Input::Persisted => "input persisted\n",
         Input::Time => "input time\n",

@@ -12,15 +12,18 @@ ghost use Rattle.view_follows.specs.ViewsReplay.{VisitsEndInReplay};
 ghost use Rattle.view_shell.specs.OneRun.{IsOneRun};
 ghost use Rattle.croquet.specs.Calls.{IsBoundedTurn, IsOver, Turns};
 ghost use Rattle.croquet.specs.Complete.{IsComplete};
-ghost use Rattle.croquet.specs.Run.{Ran};
+ghost use Rattle.croquet.specs.Run.{Ran, StoresKeepPlays};
+ghost use Rattle.journal_store.specs.Stores.{stores_tell};
 
 use crate::drilling::tell_drilled;
 use crate::giving::finish;
+use crate::keeping::prepare;
+use crate::kept::{serve_kept, stores_keep_plays};
 use crate::reflecting::tell_reflected;
 use crate::status::Status;
 use crate::telling::{tell, tell_refusal, tell_want_of_memory};
 use crate::visiting::run_visit;
-use command_reflect::Reflection;
+use command_reflect::{Keeping, Reflection};
 use command_words::{DrillRequest, read_command};
 use commands::{
     Next, VisitRequest, Waiting, logs_tell_their_events, one_verdict, snapshots_agree, some_verdict,
@@ -31,6 +34,7 @@ use run_steps::{CallFault, read_file};
 use std::alloc::Global;
 use std::sync::Wait;
 use std::thread::Threads;
+use store_io::{Store, Stores};
 use tea_base::{Blob, WantOfMemory, Words};
 use tea_io::{Clock, Files, Gate, Net, Sink};
 use view_follows::{ends_are_caused, views_of_many_runs, views_replay};
@@ -45,6 +49,8 @@ pub enum Turn {
     Visits(VisitRequest),
     /// The run goes on as a reflector's.
     Reflects(Reflection),
+    /// The run goes on as that of a reflector whose journal is to be opened.
+    Keeps(Keeping),
     /// The run goes on as a drill.
     Drills(DrillRequest),
 }
@@ -57,7 +63,12 @@ fn read_asked<F: Files>(files: &mut F, waiting: &Waiting) -> Result<Option<Blob>
 }
 
 /// Runs a command from here on.
-fn go_on<F: Files, W: Sink>(alloc: Global, next: Next, files: &mut F, out: &mut W) -> Turn
+pub(crate) fn go_on<F: Files, W: Sink>(
+    alloc: Global,
+    next: Next,
+    files: &mut F,
+    out: &mut W,
+) -> Turn
     requires { IsBoundedNext next }
     ensures turns { Turns (desk_tells (files_tell F.held F.asked F.faults F.wants) (output_tells W.written W.faults W.wants))
         result (ComesNext next) (desk files.old out.old) (desk files.new out.new) }
@@ -79,6 +90,7 @@ fn go_on<F: Files, W: Sink>(alloc: Global, next: Next, files: &mut F, out: &mut 
         Next::Gives(outcome) => Turn::Over(finish(&outcome, files, out)),
         Next::Visits(request) => Turn::Visits(request),
         Next::Reflects(reflection) => Turn::Reflects(reflection),
+        Next::Keeps(keeping) => Turn::Keeps(keeping),
         Next::Drills(request) => Turn::Drills(request),
         Next::WantOfMemory => Turn::Over(tell_want_of_memory(out)),
     }
@@ -98,7 +110,7 @@ pub fn begin<F: Files, W: Sink>(alloc: Global, words: &Words, files: &mut F, out
     }
 }
 
-/// Runs what the words ask for over these files and this net, and writes its text, or the line of its one fault, to `out`. It gives
+/// Runs what the words ask for over these files, these stores and this net, and writes its text, or the line of its one fault, to `out`. It gives
 /// the net back. This is all that the program does once it has its words.
 ///
 /// All commands but `join`, `reflect` and `drill` wait for nobody, so they return. The run of `join` ends when its script does, or its
@@ -110,11 +122,14 @@ pub fn croquet<
     N: Net + Send + Drop,
     W: Sink,
     G: Gate + Sync,
+    S: Stores<Store = J>,
+    J: Store + Send + Drop,
 >(
     rt: &R,
     alloc: Global,
     words: &Words,
     files: &mut F,
+    stores: &mut S,
     clock: &C,
     mut net: N,
     gate: &G,
@@ -122,11 +137,13 @@ pub fn croquet<
 ) -> (N, Status)
     // There are steps and an end that come of the words, and what was read, put, printed, heard and sent is what they give, up to
     // the place where the run was cut, and then the last line. Behind the steps of `reflect` its reflector serves the net, and more
-    // steps and an end come of what it answers. Of `drill` the session is put, and of each view the snapshot of the log's replay.
+    // steps and an end come of what it answers. One that keeps a journal opens its store before that, and founds it where it is not there; what
+    // the store safely holds covers the session that was served, whatever call of it has failed. Of `drill` the session is put, and of each view the snapshot of the log's replay.
     ensures ran { Ran (C.gives clock.now) (outside_tells (files_tell F.held F.asked F.faults F.wants) (output_tells W.written W.faults W.wants)
         (net_tells N.coming N.over N.asked N.faults N.lent N.link_counts)
         (links_tell N.Conn.coming N.Conn.heard N.Conn.sent N.Conn.counts))
-        (Comes (command_of words.now)) (outside files.old out.old net None) (outside files.new out.new result.0 None) result.1 }
+        (stores_tell S.held S.faults J.bytes J.safe J.faults)
+        (Comes (command_of words.now)) (outside files.old out.old net None) (outside files.new out.new result.0 None) stores.old stores.new result.1 }
     // Where the files tell what they hold, the inputs of a command are right and no call has failed, it is done, unless memory runs out. Of
     // `join` its links have a say too: none, where they went on, refused nothing but a snapshot, and were answered by one legal log, with honest
     // bases and with counts of this view's events alone.
@@ -134,6 +151,9 @@ pub fn croquet<
         (net_tells N.coming N.over N.asked N.faults N.lent N.link_counts)
         (links_tell N.Conn.coming N.Conn.heard N.Conn.sent N.Conn.counts)
         (command_of words.now) (outside files.old out.old net None) (outside files.new out.new result.0 None) result.1 }
+    // Whatever call of a store has failed: where a store that was served tells its bytes, the safe ones are read as a session with the log that the
+    // reflector came to, and at least its horizon.
+    ensures kept { StoresKeepPlays (stores_tell S.held S.faults J.bytes J.safe J.faults) }
     // One verdict comes of a command and of the bytes that it reads, but for want of memory and for the place of a syntax fault.
     ensures function { IsFunction }
     // A view prints one text and sends the same frames, for what its links tell.
@@ -153,6 +173,7 @@ pub fn croquet<
     // Where the snapshot of a replay is of a world that follows the log, the same comes of it as without it.
     ensures agree { SnapshotsAgree }
 {
+    stores_keep_plays::<S, J>();
     one_verdict();
     one_run();
     ends_are_caused();
@@ -186,6 +207,14 @@ pub fn croquet<
             let status = tell_reflected(alloc, log, answer, files, out);
             (net, status)
         }
+        Turn::Keeps(keeping) => match prepare(alloc, keeping, files, out, stores) {
+            Ok((keeping, opening)) => {
+                serve_kept(
+                    rt, alloc, keeping, opening, files, stores, clock, net, gate, out,
+                )
+            }
+            Err(status) => (net, status),
+        },
         Turn::Drills(request) => {
             let size = Size {
                 seed: request.seed,

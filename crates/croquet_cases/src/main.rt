@@ -40,6 +40,7 @@ mod net_case;
 mod net_run;
 mod recorded;
 mod run;
+mod stores;
 mod stretch;
 mod telling;
 mod words;

@@ -1,5 +1,6 @@
 //! A run of the program over files and an output in memory.
 use crate::faults::Faults;
+use crate::stores::no_stores;
 use case_lines::{WantingFiles, WantingSink};
 use croquet::{Status, croquet};
 use std::alloc::Global;
@@ -82,6 +83,7 @@ impl Given {
             self.alloc,
             &self.words,
             &mut files,
+            &mut no_stores(self.alloc),
             &FixedClock { at: 0 },
             NoNet::new(),
             &OpenGate,

@@ -10,6 +10,7 @@ use crate::served::Served;
 use crate::system::{Output, SystemClock, SystemFiles, given_words};
 use crate::told_net::ToldNet;
 use croquet::{croquet, tell_want_of_memory};
+use file_store::FileStores;
 use std::process::ExitCode;
 use tea_base::WantOfMemory;
 use tea_io::OpenGate;
@@ -23,6 +24,7 @@ fn main(rt: HostRuntime) -> ExitCode {
     };
     let served = Served::of(rt.alloc(), &words);
     let mut files = SystemFiles::new(&rt, &served);
+    let mut stores = FileStores::new(&rt);
     let clock = SystemClock::new(&rt);
     let net = ToldNet::new(&rt, WsNet::new(rt.alloc(), rt), &served);
     let (_net, status) = croquet(
@@ -30,6 +32,7 @@ fn main(rt: HostRuntime) -> ExitCode {
         rt.alloc(),
         &words,
         &mut files,
+        &mut stores,
         &clock,
         net,
         &OpenGate,

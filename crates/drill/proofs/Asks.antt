@@ -64,7 +64,7 @@ module _ (gives : ℕ → Type 0) (size : Size) (shared : SharedState TrustRepla
         exchanged =
             ap (exchanges_in first_session after.seen) (sym (ap caller replied.grew.same ∙ called_by worker))
             ∙ ap (λ (o : PlainSession). exchanges_in o after.seen (caller after)) (sym opened)
-            ∙ asked_so (IsTrustedReplay shared) w.pass after request (Ok reply) replied
+            ∙ asked_so (IsTrustedReplay shared) ⊥ w.pass after request (Ok reply) replied
             ∙ ap (λ (o : PlainSession). exchanges_in o w.pass.seen (caller w.pass) ++ Answered request reply ∷ []) worker.opening
             ∙ ap (λ (n : ℕ). exchanges_in first_session w.pass.seen n ++ Answered request reply ∷ []) (called_by worker);
         first = λ whole. history_first gives size.views replied.history (Did w.view request ∷ []) (subst (IsDrillHistory gives size.views) seen whole);

@@ -1,4 +1,4 @@
--- A talk that ends holds its view no more, unless a call of it found no memory.
+-- A talk that ends holds its view no more, unless a call of it has no answer.
 use Rattle.std.proofs.Common.{◌≡◌, ℕ, ◌+◌, ◌==◌, eqb, Bool, true, false, not, ◌&&◌, ◌||◌, if◌then◌else◌, List, [], ◌∷◌, ◌++◌, Option, Some, None, Result, Ok, Err, refl, sym, ap, ◌∙◌, subst, append_assoc, append-nil}
 use Rattle.std.proofs.lemmas.Bool.{eqb-true, eq-eqb}
 use Rattle.std.specs.Cmp.Derive.{both_true}
@@ -12,6 +12,8 @@ use Rattle.wire_frames.specs.declared.frame.ClientFrame.{ClientFrame}
 use Rattle.wire_frames.specs.declared.frame.ClientFrame.TheVariants as client
 use Rattle.wire_frames.specs.declared.frame.ServerFrame.{ServerFrame}
 use Rattle.wire_frames.specs.declared.frame.ServerFrame.TheVariants.{Sync}
+use Rattle.reflector_core.specs.declared.keeper.CallFault.{CallFault}
+use Rattle.reflector_core.specs.declared.keeper.CallFault.TheVariants as fault
 use Rattle.reflector_core.specs.declared.request.Request.{Request}
 use Rattle.reflector_core.specs.declared.request.Request.TheVariants.{Join, Send, Tick, Leave, Offer, Pull}
 use Rattle.reflector_core.specs.declared.request.Reply.{Reply}
@@ -35,25 +37,25 @@ use Rattle.connection.specs.Exchanges.{Exchange, Answered, Unanswered, exchanges
 use Rattle.connection.specs.Phases.{TalkPhase, Opening, Beginning, Joining, Ticking, Pulling, Hearing, Taking, Asking, Sending, Leaving, Over, Wrong, TalkEvent, Hears, Reads, MakesRequest, MakesAt, Misses, Sends, Loses, FailsToSend, Wants, acted_phase, ending_phase, entered_phase, join_phase, opened_phase, read_phase, reply_phase, sending_phase, talk_step, talk_walk, telling_phase}
 use Rattle.connection.specs.Talk.{Talk}
 use Rattle.connection.proofs.Callers.{first_is_join}
-use Rattle.reflect_server.specs.Views.{opens_view, closes_view, ends_view, has_void, holds}
+use Rattle.reflect_server.specs.Views.{opens_view, closes_view, ends_view, has_miss, holds}
 use Rattle.reflect_server.proofs.HeldViews.{holds_behind}
 
--- some call found no memory
+-- some call has no answer
 abbrev missed_some : List Exchange → Bool
 missed_some [] = false
 missed_some (Answered request given ∷ rest) = missed_some rest
-missed_some (Unanswered ∷ rest) = true
+missed_some (Unanswered why ∷ rest) = true
 
-missed_last : (asked : List Exchange) → missed_some (asked ++ Unanswered ∷ []) ≡ true
-missed_last [] = refl
-missed_last (Answered request given ∷ rest) = missed_last rest
-missed_last (Unanswered ∷ rest) = refl
+missed_last : (asked : List Exchange) (why : CallFault) → missed_some (asked ++ Unanswered why ∷ []) ≡ true
+missed_last [] why = refl
+missed_last (Answered request given ∷ rest) why = missed_last rest why
+missed_last (Unanswered other ∷ rest) why = refl
 
 -- what is held is the cursor's view, by its Join
 abbrev HoldsOwn : Cursor → List Exchange → Type 0
 HoldsOwn cursor asked = (v j : ℕ) → holds v j asked ≡ true → (cursor.view ≡ v) × (cursor.joined ≡ j)
 
--- nothing is held, or some call found no memory
+-- nothing is held, or some call has no answer
 abbrev IsOut : List Exchange → Type 0
 IsOut asked = (v j : ℕ) → holds v j asked ≡ true → missed_some asked ≡ true
 
@@ -89,8 +91,8 @@ out_more cursor asked exchange other closing own v j is =
     let mine = own v j was.0 in
     absurd (cc (sym (ap (λ (n : ℕ). closes_view n cursor.joined exchange) mine.0 ∙ ap (λ (n : ℕ). closes_view v n exchange) mine.1) ∙ closing, was.1))
 
-out_missed : (asked : List Exchange) → IsOut (asked ++ Unanswered ∷ [])
-out_missed asked v j is = missed_last asked
+out_missed : (asked : List Exchange) (why : CallFault) → IsOut (asked ++ Unanswered why ∷ [])
+out_missed asked why v j is = missed_last asked why
 
 own_opens : (cursor : Cursor) (request : Request) (given : Reply) → IsOwn cursor request → (v j : ℕ) → opens_view v j (Answered request given) ≡ false
 own_opens cursor (Join view now want) given own v j = absurd own
@@ -252,8 +254,8 @@ first_held asked more p is h = subst (λ (l : List Exchange). HeldIn (l ++ more)
 same_held : (asked : List Exchange) (p : TalkPhase) → HeldIn asked p → HeldIn (asked ++ []) p
 same_held asked p h = subst (λ (l : List Exchange). HeldIn l p) (sym (append-nil asked)) h
 
-missed_own : (asked : List Exchange) (cursor : Cursor) → HoldsOwn cursor asked → HoldsOwn cursor (asked ++ Unanswered ∷ [])
-missed_own asked cursor own = own_more cursor asked Unanswered (λ v j. refl) own
+missed_own : (asked : List Exchange) (why : CallFault) (cursor : Cursor) → HoldsOwn cursor asked → HoldsOwn cursor (asked ++ Unanswered why ∷ [])
+missed_own asked why cursor own = own_more cursor asked (Unanswered why) (λ v j. refl) own
 
 -- one event
 step_held : (id : SessionId) (p : TalkPhase) (event : TalkEvent) (asked : List Exchange) → HeldIn asked p → HeldIn (asked ++ (talk_step id p event).asked) (talk_step id p event).phase
@@ -265,14 +267,14 @@ step_held id (Opening quiets) (Hears heard.WantOfMemory) asked h = first_held as
 step_held id (Beginning bytes) (Reads now) asked h = first_held asked [] (opened_phase id (whole client_at bytes) now) h (read_held_first id (whole client_at bytes) now)
 step_held id (Beginning bytes) Wants asked h = first_held asked [] (Over ended.WantOfMemory) h nothing_held
 step_held id (Joining request) (MakesRequest given) asked h = first_held asked (Answered request given ∷ []) (join_phase request given) h.0 (joined_held request given h.1)
-step_held id (Joining request) Misses asked h = out_missed asked
+step_held id (Joining request) (Misses why) asked h = out_missed asked why
 step_held id (Ticking cursor quiets) (MakesAt now given) asked h = own_more cursor asked (Answered (Tick now) given) (λ v j. refl) h
-step_held id (Ticking cursor quiets) Misses asked h = missed_own asked cursor h
+step_held id (Ticking cursor quiets) (Misses why) asked h = missed_own asked why cursor h
 step_held id (Pulling cursor quiets) (MakesRequest given) asked h =
     let more = own_more cursor asked (Answered (Pull cursor.after most_pulled) given) (λ v j. refl) h in
     telling_held (asked ++ Answered (Pull cursor.after most_pulled) given ∷ []) cursor (next_frames cursor given) (Hearing (next_cursor cursor given) quiets) more
     (next_own (asked ++ Answered (Pull cursor.after most_pulled) given ∷ []) cursor given more)
-step_held id (Pulling cursor quiets) Misses asked h = missed_own asked cursor h
+step_held id (Pulling cursor quiets) (Misses why) asked h = missed_own asked why cursor h
 step_held id (Hearing cursor quiets) (Hears (heard.Frame bytes)) asked h = same_held asked (Taking cursor bytes) h
 step_held id (Hearing cursor quiets) (Hears heard.Quiet) asked h = hearing_row_held (asked ++ []) cursor (quiets + 1 == most_quiets) (quiets + 1) (same_held asked (Ticking cursor 0) h)
 step_held id (Hearing cursor quiets) (Hears heard.End) asked h = same_held asked (Leaving cursor ended.LinkEnd) h
@@ -281,7 +283,7 @@ step_held id (Hearing cursor quiets) (Hears heard.WantOfMemory) asked h = same_h
 step_held id (Taking cursor bytes) (Reads now) asked h = read_held (asked ++ []) cursor (whole client_at bytes) now (same_held asked (Ticking cursor 0) h)
 step_held id (Taking cursor bytes) Wants asked h = same_held asked (Leaving cursor ended.WantOfMemory) h
 step_held id (Asking cursor request) (MakesRequest given) asked h = answered_held asked cursor request given h.0 h.1
-step_held id (Asking cursor request) Misses asked h = missed_own asked cursor h.0
+step_held id (Asking cursor request) (Misses why) asked h = missed_own asked why cursor h.0
 step_held id (Sending frame frames next fails wants) Sends asked h = same_held asked (sending_phase frames next fails wants) (sending_held asked frames next fails wants h.0 h.1 h.2)
 step_held id (Sending frame frames next fails wants) Loses asked h = same_held asked fails h.1
 step_held id (Sending frame frames next fails wants) FailsToSend asked h = same_held asked fails h.1
@@ -289,7 +291,7 @@ step_held id (Sending frame frames next fails wants) Wants asked h = same_held a
 step_held id (Leaving cursor how) (MakesAt now given) asked h =
     out_more cursor asked (Answered (Leave cursor.view cursor.joined now) given) (λ v j. refl)
     (both_true (eq-eqb cursor.view cursor.view refl) (eq-eqb cursor.joined cursor.joined refl)) h
-step_held id (Leaving cursor how) Misses asked h = out_missed asked
+step_held id (Leaving cursor how) (Misses why) asked h = out_missed asked why
 step_held id p event asked h = tt
 
 walk_held : (id : SessionId) (events : List TalkEvent) (p : TalkPhase) (asked : List Exchange) → HeldIn asked p → HeldIn (asked ++ (talk_walk id p events).asked) (talk_walk id p events).phase
@@ -301,25 +303,25 @@ walk_held id (event ∷ events) p asked h =
 
 -- ---- a caller in a history
 
-missed_both : (b : Bool) (rest : List Exchange) (h : Bool) → (missed_some rest ≡ true → h ≡ true) → missed_some ((if b then Unanswered ∷ [] else []) ++ rest) ≡ true → (b || h) ≡ true
-missed_both true rest h go is = refl
-missed_both false rest h go is = go is
+missed_both : (b : Bool) (why : CallFault) (rest : List Exchange) (h : Bool) → (missed_some rest ≡ true → h ≡ true) → missed_some ((if b then Unanswered why ∷ [] else []) ++ rest) ≡ true → (b || h) ≡ true
+missed_both true why rest h go is = refl
+missed_both false why rest h go is = go is
 
 missed_skip : (b : Bool) (request : Request) (given : Reply) (rest : List Exchange) → missed_some ((if b then Answered request given ∷ [] else []) ++ rest) ≡ true → missed_some rest ≡ true
 missed_skip true request given rest is = is
 missed_skip false request given rest is = is
 
-void_from : (s : PlainSession) (c : ℕ) (items : List Item) → missed_some (exchanges_from s c items) ≡ true → has_void c items ≡ true
-void_from s c [] is = is
-void_from s c (Did who request ∷ rest) is =
-    void_from (after_item s (Did who request)) c rest (missed_skip (eqb who c) request _ (exchanges_from (after_item s (Did who request)) c rest) is)
-void_from s c (Void who ∷ rest) is = missed_both (eqb who c) (exchanges_from s c rest) (has_void c rest) (void_from s c rest) is
-void_from s c (Unkept who ∷ rest) is = missed_both (eqb who c) (exchanges_from s c rest) (has_void c rest) (void_from s c rest) is
+miss_from : (s : PlainSession) (c : ℕ) (items : List Item) → missed_some (exchanges_from s c items) ≡ true → has_miss c items ≡ true
+miss_from s c [] is = is
+miss_from s c (Did who request ∷ rest) is =
+    miss_from (after_item s (Did who request)) c rest (missed_skip (eqb who c) request _ (exchanges_from (after_item s (Did who request)) c rest) is)
+miss_from s c (Void who ∷ rest) is = missed_both (eqb who c) fault.WantOfMemory (exchanges_from s c rest) (has_miss c rest) (miss_from s c rest) is
+miss_from s c (Unkept who ∷ rest) is = missed_both (eqb who c) fault.Unkept (exchanges_from s c rest) (has_miss c rest) (miss_from s c rest) is
 
--- who still holds a view behind its talk has found no memory
+-- who still holds a view behind its talk has made a call without an answer
 pub talk_holds : (gives : ℕ → Type 0) (id : SessionId) (opening : PlainSession) (history : List Item) (c : ℕ) (said : List Heard) (sent : List (List ℕ)) (how : Ended) (v j : ℕ) → Talk gives id opening history c said sent how
-    → holds v j (exchanges_in opening history c) ≡ true → has_void c history ≡ true
+    → holds v j (exchanges_in opening history c) ≡ true → has_miss c history ≡ true
 talk_holds gives id opening history c said sent how v j talk held =
     let out : IsOut (talk_walk id (Opening 0) talk.events).asked =
     subst (HeldIn (talk_walk id (Opening 0) talk.events).asked) talk.ends (walk_held id talk.events (Opening 0) [] refl) in
-    void_from opening c history (subst (λ (l : List Exchange). missed_some l ≡ true) (sym talk.asked) (out v j (subst (λ (l : List Exchange). holds v j l ≡ true) talk.asked held)))
+    miss_from opening c history (subst (λ (l : List Exchange). missed_some l ≡ true) (sym talk.asked) (out v j (subst (λ (l : List Exchange). holds v j l ≡ true) talk.asked held)))

@@ -19,6 +19,7 @@ use Rattle.reflector_core.specs.declared.request.Reply.{Reply}
 use Rattle.reflector_core.specs.declared.request.Reply.TheVariants.{Again, Batch, Kept, Left, Refused}
 use Rattle.reflector_core.specs.declared.request.Refusal.TheVariants.{Stale, TooLong, Differs, Gap, TimeEnd, ViewsFull, BadView, Ahead, Older, NoSuchSeq}
 use Rattle.wire_frames.specs.declared.start.Want.{Want}
+use Rattle.reflector_core.specs.declared.keeper.CallFault.TheVariants as fault
 use Rattle.session_lock.specs.declared.knowledge.Item.{Item}
 use Rattle.session_lock.specs.declared.knowledge.Item.TheVariants.{Did, Void, Unkept}
 use Rattle.session_lock.specs.History.{after_item, play_from}
@@ -220,9 +221,9 @@ AreHeld first s asked = (v : ℕ) → is_here s.log v ≡ true → (c : ℕ) × 
 
 item_held : (first : Holding) (s : PlainSession) (asked : ℕ → List Exchange) (x : Item) → AreHeld first s asked → AreHeld first (after_item s x) (λ c. asked c ++ exchange_in s c x)
 item_held first s asked (Void who) held v here =
-    let before = held v here in (before.0, holds_still v (current s.log v) (first before.0 v (current s.log v)) (asked before.0) (eqb who before.0) Unanswered before.1 refl)
+    let before = held v here in (before.0, holds_still v (current s.log v) (first before.0 v (current s.log v)) (asked before.0) (eqb who before.0) (Unanswered fault.WantOfMemory) before.1 refl)
 item_held first s asked (Unkept who) held v here =
-    let before = held v here in (before.0, holds_still v (current s.log v) (first before.0 v (current s.log v)) (asked before.0) (eqb who before.0) Unanswered before.1 refl)
+    let before = held v here in (before.0, holds_still v (current s.log v) (first before.0 v (current s.log v)) (asked before.0) (eqb who before.0) (Unanswered fault.Unkept) before.1 refl)
 item_held first s asked (Did who request) held v here = by (request_stands s v request here)
   where
     by : ((is_here s.log v ≡ true) × (current (answer s request).session.log v ≡ current s.log v) × (closes_view v (current s.log v) (Answered request (answer s request).reply) ≡ false))

@@ -7,3 +7,4 @@ pub mod HeldViews
 pub mod HeldTalks
 pub mod StayingViews
 pub mod OpeningLaws
+pub mod UnkeptEnds

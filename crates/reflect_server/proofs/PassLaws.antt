@@ -89,8 +89,8 @@ called_merged a b m cs ds es merged ca cb not_a not_b n own other =
 pub called_alone : (p : PassState) (c : ℕ) → p.callers ≡ c ∷ [] → HasCalledAs (c ∷ []) p
 called_alone p c one n own other = absurd (cc (sym (ap (has n) one) ∙ own, other))
 
-fresh_called : (keeper p : PassState) → IsFresh keeper p → HasCalledAs [] p
-fresh_called keeper p fresh n own other =
+fresh_called : (lead p : PassState) → IsFresh lead p → HasCalledAs [] p
+fresh_called lead p fresh n own other =
     subst (λ (m : ℕ). calls_of (m ∷ []) p.seen ≡ []) (sym (only_caller n (caller p) (sym (ap (has n) fresh.one) ∙ own))) fresh.calls
 
 -- what was seen, by one of the pass's callers
@@ -125,10 +125,10 @@ idle_merged before a b m keeps fresh merged = record {
 }
 
 -- a fresh pass had made no call in what the other had seen
-pub fresh_before : (keeper p : PassState) → IsFresh keeper p → calls_of (caller p ∷ []) keeper.seen ≡ []
-fresh_before keeper p fresh =
-    nothing_first (calls_of (caller p ∷ []) keeper.seen) (calls_of (caller p ∷ []) fresh.rest)
-    (sym (calls_append (caller p ∷ []) keeper.seen fresh.rest) ∙ (ap (calls_of (caller p ∷ [])) fresh.begins ∙ fresh.calls))
+pub fresh_before : (lead p : PassState) → IsFresh lead p → calls_of (caller p ∷ []) lead.seen ≡ []
+fresh_before lead p fresh =
+    nothing_first (calls_of (caller p ∷ []) lead.seen) (calls_of (caller p ∷ []) fresh.rest)
+    (sym (calls_append (caller p ∷ []) lead.seen fresh.rest) ∙ (ap (calls_of (caller p ∷ [])) fresh.begins ∙ fresh.calls))
 
 -- ---- splits
 
@@ -136,8 +136,8 @@ pub one_caller : (p : PassState) (c : ℕ) → p.callers ≡ c ∷ [] → p.call
 one_caller p c one = one ∙ ap (λ (m : ℕ). m ∷ []) (sym (ap (λ (l : List ℕ). slice_index l 0) one))
 
 -- a pass that was split off another one is fresh
-pub split_fresh : (keeper before p : PassState) (count : ℕ) → before ≡ record keeper { spare = before.spare } → Given before count p → numbers_held p ≡ 1 → IsFresh keeper p
-split_fresh keeper before p count kept given numbers =
+pub split_fresh : (lead before p : PassState) (count : ℕ) → before ≡ record lead { spare = before.spare } → Given before count p → numbers_held p ≡ 1 → IsFresh lead p
+split_fresh lead before p count kept given numbers =
     let callers : p.callers ≡ first_of_ranges (take_numbers count before.spare) ∷ [] = ap (λ (q : PassState). q.callers) given.same in
     record {
       session = ap (λ (q : PassState). q.session) given.same ∙ ap (λ (q : PassState). q.session) kept;
@@ -146,5 +146,5 @@ split_fresh keeper before p count kept given numbers =
       calls = subst (λ (l : List ℕ). calls_of l p.seen ≡ []) (one_caller p (first_of_ranges (take_numbers count before.spare)) callers) given.own;
       numbers = numbers;
       rest = [];
-      begins = append-nil keeper.seen ∙ sym (ap (λ (q : PassState). q.seen) given.same ∙ ap (λ (q : PassState). q.seen) kept);
+      begins = append-nil lead.seen ∙ sym (ap (λ (q : PassState). q.seen) given.same ∙ ap (λ (q : PassState). q.seen) kept);
     }

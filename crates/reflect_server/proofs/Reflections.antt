@@ -1,5 +1,5 @@
 -- What comes of a reflector, from what was accepted, given back and closed.
-use Rattle.std.proofs.Common.{◌≡◌, inl, inr, ℕ, ◌+◌, ◌≤◌, Bool, true, false, ◌&&◌, ◌||◌, eqb, leb, ltb, if◌then◌else◌, List, [], ◌∷◌, ◌++◌, length, vec_len, Option, Some, None, Result, Ok, Err, refl, sym, ap, ◌∙◌, subst, arith}
+use Rattle.std.proofs.Common.{◌≡◌, ◌≢◌, ◌⊎◌, inl, inr, ℕ, ◌+◌, ◌≤◌, Bool, true, false, ◌&&◌, ◌||◌, eqb, leb, ltb, if◌then◌else◌, List, [], ◌∷◌, ◌++◌, length, vec_len, Option, Some, None, Result, Ok, Err, refl, sym, ap, ◌∙◌, subst, arith}
 use Rattle.std.specs.List.{AllByRecursion}
 use Rattle.std.proofs.lemmas.Bool.{eqb-true}
 use Rattle.std.proofs.lemmas.List.{length-map}
@@ -13,30 +13,36 @@ use Rattle.tea_io.specs.declared.net.NetFault.{NetFault}
 use Rattle.tea_io.specs.declared.net.NetFault.TheVariants.{Failed, WantOfMemory}
 use Rattle.run_steps.specs.Outside.{LinksTell, NetTells}
 use Rattle.reflector_core.specs.PlainSession.{PlainSession}
+use Rattle.reflector_core.specs.declared.keeper.CallFault.{CallFault}
+use Rattle.reflector_core.specs.declared.keeper.CallFault.TheVariants as call_fault
 use Rattle.reflector_core.specs.SessionState.{SessionState}
 use Rattle.reflector_core.specs.Play.{first_session, replies_from, TellsItsEvents}
 use Rattle.session_lock.specs.declared.knowledge.Item.{Item}
-use Rattle.session_lock.specs.History.{play_from, caller_of, calls_of, has, history_requests, IsSoundThrough}
+use Rattle.session_lock.specs.History.{play_from, caller_of, calls_of, has, has_unkept, history_requests, IsSoundThrough}
+use Rattle.session_lock.specs.Keeping.{KeepsPlay}
 use Rattle.session_lock.specs.Passes.{PassState, caller, own_calls, HoldsEach}
 use Rattle.session_lock.specs.Rules.{all_numbers}
 use Rattle.session_lock.proofs.Histories.{calls_append, has_own, none_among, none_behind, nothing_first, sound_start}
 use Rattle.connection.specs.declared.ending.Ended.{Ended}
-use Rattle.connection.proofs.TalkLines.{talk_served}
+use Rattle.connection.proofs.TalkLines.{talk_served, talk_told}
 use Rattle.connection.proofs.Talking.{with_more_none, with_more_twice}
 use Rattle.reflect_server.specs.Opening.{AreHere, AreLeavesOf, BeginsWithLeaves, HasOpened, gives_later}
-use Rattle.reflect_server.specs.Connections.{ServedConnection, HasTalk, IsHistoryOf, AreServed, accepted_links, callers_of, returned_links}
+use Rattle.reflect_server.specs.Connections.{ServedConnection, HasTalk, IsHistoryOf, AreServed, AreToldWithin, accepted_links, callers_of, returned_links}
 use Rattle.reflect_server.specs.Passes.{Gathers}
 use Rattle.reflect_server.specs.Rounds.{Accepts, GoesRound, TakesAll, AsksAccepts, accepts, accepts_more, CountsStop, CountsLinks, links_of, ended_of, served_back, with_links}
-use Rattle.reflect_server.specs.Reflects.{ReturnsLinks, HasReflected, HasWanted, AsksUntilWant, Plays, Reflects, CountsConnections, CountsFailure, accepts_for, answer_for}
+use Rattle.reflect_server.specs.Keeping.{KeeperTells, HasNotOpened, HasOnlyOpened, HasOpenedAtMost, IsUnopened, keeper_tells, no_keeper}
+use Rattle.reflect_server.specs.Reflects.{ReturnsLinks, HasReflected, HasServed, HasWanted, AsksUntilWant, Plays, Reflects, ReflectsKept, CountsConnections, CountsFailure, EndUnkeptIf, accepts_for, answer_for, unheard, unopened_fault, with_kept_fault}
 use Rattle.reflect_server.specs.declared.reflection.Reflected.{Reflected}
 use Rattle.reflect_server.specs.declared.reflection.ServeFault.{ServeFault}
-use Rattle.reflect_server.specs.declared.reflection.ServeFault.TheVariants.{ListenFault}
+use Rattle.reflect_server.specs.declared.reflection.KeptFault.{KeptFault}
+use Rattle.reflect_server.specs.declared.reflection.KeptFault.TheVariants as kept_fault
 use Rattle.reflect_server.specs.declared.reflection.ServeFault.TheVariants as serve_fault
 use Rattle.reflect_server.specs.declared.accepting.Round.{Round}
 use Rattle.reflect_server.specs.declared.accepting.ServedLink.{ServedLink}
 use Rattle.reflect_server.proofs.GivingBack.{ends_of_round, links_of_round, round_length}
-use Rattle.reflect_server.specs.Views.{StaysByVoid}
-use Rattle.reflect_server.proofs.StayingViews.{stays_by_void}
+use Rattle.reflect_server.specs.Views.{StaysByMiss}
+use Rattle.reflect_server.proofs.StayingViews.{stays_by_miss}
+use Rattle.reflect_server.proofs.UnkeptEnds.{all_unkept}
 use Rattle.reflect_server.proofs.PassLaws.{or_first}
 use Rattle.reflect_server.proofs.RoundLaws.{takes_same}
 
@@ -71,32 +77,32 @@ one_at_most false = omega arith
 -- ---- the history
 
 -- what the last pass tells, with which the session is closed
-pub record IsClosedAt (keeper : PassState) (session : PlainSession) : Type 0 where
-  pub play : session ≡ play_from keeper.opening keeper.seen
-  pub calls : own_calls keeper ≡ keeper.seen
-  pub numbers : HoldsEach keeper
-  pub sound : IsSoundThrough keeper.opening keeper.seen
-  pub events : TellsItsEvents keeper.opening.log (history_requests keeper.seen) (replies_from keeper.opening (history_requests keeper.seen)) session.log
+pub record IsClosedAt (lead : PassState) (session : PlainSession) : Type 0 where
+  pub play : session ≡ play_from lead.opening lead.seen
+  pub calls : own_calls lead ≡ lead.seen
+  pub numbers : HoldsEach lead
+  pub sound : IsSoundThrough lead.opening lead.seen
+  pub events : TellsItsEvents lead.opening.log (history_requests lead.seen) (replies_from lead.opening (history_requests lead.seen)) session.log
 
 -- the same of a session that began so
-pub record IsClosedBy (opening : PlainSession) (keeper : PassState) (session : PlainSession) : Type 0 where
-  pub plays : Plays opening keeper.seen session
-  pub calls : own_calls keeper ≡ keeper.seen
-  pub numbers : HoldsEach keeper
+pub record IsClosedBy (opening : PlainSession) (lead : PassState) (session : PlainSession) : Type 0 where
+  pub plays : Plays opening lead.seen session
+  pub calls : own_calls lead ≡ lead.seen
+  pub numbers : HoldsEach lead
 
-closed_by : (opening : PlainSession) (keeper : PassState) (session : PlainSession) → keeper.opening ≡ opening → IsClosedAt keeper session → IsClosedBy opening keeper session
-closed_by opening keeper session is closed = record {
-  plays = subst (λ (o : PlainSession). Plays o keeper.seen session) is (record { play = closed.play; sound = closed.sound; events = closed.events });
+closed_by : (opening : PlainSession) (lead : PassState) (session : PlainSession) → lead.opening ≡ opening → IsClosedAt lead session → IsClosedBy opening lead session
+closed_by opening lead session is closed = record {
+  plays = subst (λ (o : PlainSession). Plays o lead.seen session) is (record { play = closed.play; sound = closed.sound; events = closed.events });
   calls = closed.calls;
   numbers = closed.numbers;
 }
 
-module _ (gives : ℕ → Type 0) (id : SessionId) {L : Type 0} (links : LinksTell L) (before keeper : PassState) (session : PlainSession) (count : ℕ) (connections : List (ServedConnection L))
-    (opened : HasOpened gives before.opening before) (gathers : Gathers gives id links before count connections keeper) (closed : IsClosedBy before.opening keeper session) where
+module _ (gives : ℕ → Type 0) (id : SessionId) {L : Type 0} (links : LinksTell L) (before lead : PassState) (session : PlainSession) (count : ℕ) (connections : List (ServedConnection L))
+    (opened : HasOpened gives before.opening before) (gathers : Gathers gives id links before count connections lead) (closed : IsClosedBy before.opening lead session) where
   -- whose calls are not these has none
-  others : (n : ℕ) → has n (caller before ∷ callers_of connections) ≡ false → (b : Bool) → has n keeper.callers ≡ b → calls_of (n ∷ []) keeper.seen ≡ []
+  others : (n : ℕ) → has n (caller before ∷ callers_of connections) ≡ false → (b : Bool) → has n lead.callers ≡ b → calls_of (n ∷ []) lead.seen ≡ []
   others n other true own = gathers.calls n own other
-  others n other false own = none_else keeper.callers keeper.seen n closed.calls own
+  others n other false own = none_else lead.callers lead.seen n closed.calls own
 
   -- what the opener had seen was its own calls
   only_own : (n : ℕ) → has n (caller before ∷ []) ≡ false → (b : Bool) → has n (callers_of connections) ≡ b → calls_of (n ∷ []) before.seen ≡ []
@@ -104,14 +110,14 @@ module _ (gives : ℕ → Type 0) (id : SessionId) {L : Type 0} (links : LinksTe
   only_own n other false own =
       let neither : has n (caller before ∷ callers_of connections) ≡ false = ap (λ (b : Bool). b || has n (callers_of connections)) (or_first (eqb n (caller before)) false other) ∙ own in
       nothing_first (calls_of (n ∷ []) before.seen) (calls_of (n ∷ []) gathers.saw.0)
-      (sym (calls_append (n ∷ []) before.seen gathers.saw.0) ∙ (ap (calls_of (n ∷ [])) gathers.saw.1 ∙ others n neither (has n keeper.callers) refl))
+      (sym (calls_append (n ∷ []) before.seen gathers.saw.0) ∙ (ap (calls_of (n ∷ [])) gathers.saw.1 ∙ others n neither (has n lead.callers) refl))
 
   begun : own_calls before ≡ before.seen
   begun =
       ap (λ (cs : List ℕ). calls_of cs before.seen) opened.one
       ∙ all_calls (caller before ∷ []) before.seen (λ n other. only_own n other (has n (callers_of connections)) refl)
 
-  pub leaves_of : BeginsWithLeaves gives before.opening (caller before) keeper.seen
+  pub leaves_of : BeginsWithLeaves gives before.opening (caller before) lead.seen
   leaves_of = record {
     views = opened.views;
     here = opened.here;
@@ -122,12 +128,12 @@ module _ (gives : ℕ → Type 0) (id : SessionId) {L : Type 0} (links : LinksTe
     others = gathers.saw.2;
   }
 
-  pub history_of : IsHistoryOf gives id before.opening links connections (caller before) keeper.seen
+  pub history_of : IsHistoryOf gives id before.opening links connections (caller before) lead.seen
   history_of = record {
     leaves = leaves_of;
     talks = gathers.talks;
     apart = λ n. omega (arith, gathers.callers n, closed.numbers n, one_at_most (leb 0 n && ltb n (0 + all_numbers)));
-    whole = all_calls (caller before ∷ callers_of connections) keeper.seen (λ n other. others n other (has n keeper.callers) refl);
+    whole = all_calls (caller before ∷ callers_of connections) lead.seen (λ n other. others n other (has n lead.callers) refl);
   }
 
 -- in a new session nobody was here, so only the connections have called
@@ -158,6 +164,15 @@ all_served gives id opening links history [] sound talks = tt
 all_served gives id opening links history (one ∷ rest) sound talks = (
   talk_served gives id opening history one.caller one.heard one.sent one.ended sound talks.0.talk,
   all_served gives id opening links history rest sound talks.1,
+)
+
+-- and each TICK among that is at most the horizon in the end
+all_told : (gives : ℕ → Type 0) (id : SessionId) (opening : PlainSession) {L : Type 0} (links : LinksTell L) (history : List Item) (connections : List (ServedConnection L)) → IsSoundThrough opening history
+    → AllByRecursion (HasTalk gives id opening links history) connections → AreToldWithin (play_from opening history).horizon connections
+all_told gives id opening links history [] sound talks = tt
+all_told gives id opening links history (one ∷ rest) sound talks = (
+  talk_told gives id opening history one.caller one.heard one.sent one.ended sound talks.0.talk,
+  all_told gives id opening links history rest sound talks.1,
 )
 
 -- ---- the net
@@ -201,23 +216,28 @@ stop_later before now None counts = counts
 stop_later before now (Some Failed) counts = counts.0
 stop_later before now (Some WantOfMemory) counts = counts
 
-module _ (gives : ℕ → Type 0) (id : SessionId) {N L : Type 0} (tells : NetTells N L) (links : LinksTell L) (count : ℕ) (before mid : Round N L) (now : N) where
+module _ (gives : ℕ → Type 0) (id : SessionId) (kept : KeeperTells) {N L K : Type 0} (tells : NetTells N L) (links : LinksTell L) (count : ℕ) (before mid : Round N L K) (now : N) where
   -- what is left when all links were served
   pub record Ends (session : PlainSession) : Type 0 where
-    pub opened : HasOpened gives before.keeper.opening before.keeper
+    pub opened : HasOpened gives before.lead.opening before.lead
     pub round : GoesRound gives id tells links count before mid
     pub returns : Returns tells links mid.net now mid.served.items (vec_len mid.served)
     pub length : vec_len mid.served ≡ length mid.served.items
-    pub closed : IsClosedBy before.keeper.opening mid.keeper session
+    pub closed : IsClosedBy before.lead.opening mid.lead session
+    pub keeps : kept.keeps mid.lead.seen
+    pub fails : has_unkept mid.lead.seen ≡ true → kept.failed
 
-  pub ends_when : (session : PlainSession) (made : ℕ) → made ≡ count → HasOpened gives before.keeper.opening before.keeper → GoesRound gives id tells links made before mid → vec_len mid.served ≡ length mid.served.items
-      → Returns tells links mid.net now mid.served.items (vec_len mid.served) → IsClosedAt mid.keeper session → Ends session
-  ends_when session made is opened round length returns closed = record {
+  pub ends_when : (session : PlainSession) (made : ℕ) → made ≡ count → HasOpened gives before.lead.opening before.lead → GoesRound gives id tells links made before mid → vec_len mid.served ≡ length mid.served.items
+      → Returns tells links mid.net now mid.served.items (vec_len mid.served) → IsClosedAt mid.lead session
+      → kept.keeps mid.lead.seen → (has_unkept mid.lead.seen ≡ true → kept.failed) → Ends session
+  ends_when session made is opened round length returns closed keeps fails = record {
     opened = opened;
     round = subst (λ (n : ℕ). GoesRound gives id tells links n before mid) is round;
     returns = returns;
     length = length;
-    closed = closed_by before.keeper.opening mid.keeper session round.passes.opening closed;
+    closed = closed_by before.lead.opening mid.lead session round.passes.opening closed;
+    keeps = keeps;
+    fails = fails;
   }
 
   net_of : (session : PlainSession) (ends : Ends session) → ReturnsLinks tells links before.net now ends.round.connections
@@ -225,36 +245,45 @@ module _ (gives : ℕ → Type 0) (id : SessionId) {N L : Type 0} (tells : NetTe
       gives_back tells links before.net mid.net now mid.served.items ends.round.connections mid.stopped ends.round.net ends.round.served
       (subst (Returns tells links mid.net now mid.served.items) ends.length ends.returns)
 
-  history_when : (session : PlainSession) (ends : Ends session) → IsHistoryOf gives id before.keeper.opening links ends.round.connections (caller before.keeper) mid.keeper.seen
-  history_when session ends = history_of gives id links before.keeper mid.keeper session count ends.round.connections ends.opened ends.round.passes ends.closed
+  history_when : (session : PlainSession) (ends : Ends session) → IsHistoryOf gives id before.lead.opening links ends.round.connections (caller before.lead) mid.lead.seen
+  history_when session ends = history_of gives id links before.lead mid.lead session count ends.round.connections ends.opened ends.round.passes ends.closed
 
-  served_when : (session : PlainSession) (ends : Ends session) → AreServed (play_from before.keeper.opening mid.keeper.seen).log ends.round.connections
-  served_when session ends = all_served gives id before.keeper.opening links mid.keeper.seen ends.round.connections ends.closed.plays.sound ends.round.passes.talks
+  served_when : (session : PlainSession) (ends : Ends session) → AreServed (play_from before.lead.opening mid.lead.seen).log ends.round.connections
+  served_when session ends = all_served gives id before.lead.opening links mid.lead.seen ends.round.connections ends.closed.plays.sound ends.round.passes.talks
 
-  stays_when : (session : PlainSession) (ends : Ends session) → StaysByVoid before.keeper.opening (caller before.keeper) (callers_of ends.round.connections) mid.keeper.seen (play_from before.keeper.opening mid.keeper.seen).log
+  told_when : (session : PlainSession) (ends : Ends session) → AreToldWithin (play_from before.lead.opening mid.lead.seen).horizon ends.round.connections
+  told_when session ends = all_told gives id before.lead.opening links mid.lead.seen ends.round.connections ends.closed.plays.sound ends.round.passes.talks
+
+  stays_when : (session : PlainSession) (ends : Ends session) → StaysByMiss before.lead.opening (caller before.lead) (callers_of ends.round.connections) mid.lead.seen (play_from before.lead.opening mid.lead.seen).log
   stays_when session ends =
       let history = history_when session ends in
-      stays_by_void gives id before.keeper.opening links mid.keeper.seen (caller before.keeper) ends.round.connections (sound_start before.keeper.opening mid.keeper.seen ends.closed.plays.sound).legal history.leaves
-      ends.round.passes.talks (λ n other. none_else (caller before.keeper ∷ callers_of ends.round.connections) mid.keeper.seen n history.whole other)
+      stays_by_miss gives id before.lead.opening links mid.lead.seen (caller before.lead) ends.round.connections (sound_start before.lead.opening mid.lead.seen ends.closed.plays.sound).legal history.leaves
+      ends.round.passes.talks (λ n other. none_else (caller before.lead ∷ callers_of ends.round.connections) mid.lead.seen n history.whole other)
+
+  unkept_when : (session : PlainSession) (ends : Ends session) → EndUnkeptIf kept.failed ends.round.connections
+  unkept_when session ends = all_unkept gives id before.lead.opening links mid.lead.seen kept.failed ends.round.connections ends.fails ends.round.passes.talks
 
   reflected_as : (reflected : Reflected) (ends : Ends reflected.session.plain) → tells.asked now ≡ with_more (tells.asked before.net) (accepts_for (accepted_links ends.round.connections) reflected.net_failed)
       → CountsFailure (tells.faults before.net) (tells.faults now) reflected.net_failed → CountsConnections (length ends.round.connections) count reflected.net_failed
-      → reflected.ends ≡ ended_of mid.served.items → HasReflected gives id before.keeper.opening tells links [] count before.net now reflected
+      → reflected.ends ≡ ended_of mid.served.items → HasReflected gives id before.lead.opening kept tells links [] count before.net now reflected
   reflected_as reflected ends asked faults number ended = record {
     connections = ends.round.connections;
-    history = mid.keeper.seen;
+    history = mid.lead.seen;
     net = net_of reflected.session.plain ends;
     asked = asked;
     faults = faults;
     number = number;
     ends = ended ∙ ends_of_round mid.served.items ends.round.connections ends.round.served;
-    opener = caller before.keeper;
+    opener = caller before.lead;
     talks = history_when reflected.session.plain ends;
     session = ends.closed.plays;
     served = subst (λ (s : PlainSession). AreServed s.log ends.round.connections) (sym ends.closed.plays.play) (served_when reflected.session.plain ends);
+    ticks = subst (λ (s : PlainSession). AreToldWithin s.horizon ends.round.connections) (sym ends.closed.plays.play) (told_when reflected.session.plain ends);
     stays =
-        subst (λ (s : PlainSession). StaysByVoid before.keeper.opening (caller before.keeper) (callers_of ends.round.connections) mid.keeper.seen s.log) (sym ends.closed.plays.play)
+        subst (λ (s : PlainSession). StaysByMiss before.lead.opening (caller before.lead) (callers_of ends.round.connections) mid.lead.seen s.log) (sym ends.closed.plays.play)
         (stays_when reflected.session.plain ends);
+    keeps = ends.keeps;
+    unkept = unkept_when reflected.session.plain ends;
   }
 
   asks_now : (stopped : Option NetFault) (links_now : List L) (back : tells.asked now ≡ tells.asked mid.net) → AsksAccepts (tells.asked before.net) (tells.asked mid.net) links_now stopped
@@ -267,7 +296,7 @@ module _ (gives : ℕ → Type 0) (id : SessionId) {N L : Type 0} (tells : NetTe
 
   -- all links were served
   reflected_all : (reflected : Reflected) → mid.stopped ≡ None → reflected.net_failed ≡ false → reflected.ends ≡ ended_of mid.served.items → Ends reflected.session.plain
-      → HasReflected gives id before.keeper.opening tells links [] count before.net now reflected
+      → HasReflected gives id before.lead.opening kept tells links [] count before.net now reflected
   reflected_all reflected going fine ended ends =
       let asks = subst (AsksAccepts _ _ (accepted_links ends.round.connections)) going (asks_now mid.stopped (accepted_links ends.round.connections) ends.returns.asked ends.round.net.asked) in
       let counts = subst (CountsStop _ _) going (faults_now mid.stopped ends.returns.faults ends.round.net.faults) in
@@ -279,7 +308,7 @@ module _ (gives : ℕ → Type 0) (id : SessionId) {N L : Type 0} (tells : NetTe
 
   -- the net failed
   reflected_some : (reflected : Reflected) → mid.stopped ≡ Some Failed → reflected.net_failed ≡ true → reflected.ends ≡ ended_of mid.served.items → Ends reflected.session.plain
-      → HasReflected gives id before.keeper.opening tells links [] count before.net now reflected
+      → HasReflected gives id before.lead.opening kept tells links [] count before.net now reflected
   reflected_some reflected stopped failed ended ends =
       let asks = subst (AsksAccepts _ _ (accepted_links ends.round.connections)) stopped (asks_now mid.stopped (accepted_links ends.round.connections) ends.returns.asked ends.round.net.asked) in
       let counts = subst (CountsStop _ _) stopped (faults_now mid.stopped ends.returns.faults ends.round.net.faults) in
@@ -294,7 +323,7 @@ module _ (gives : ℕ → Type 0) (id : SessionId) {N L : Type 0} (tells : NetTe
   wanted_asks before now links (inr more) = inr (inr more)
 
   -- memory was wanted
-  wanted : (session : PlainSession) → mid.stopped ≡ Some WantOfMemory → Ends session → HasWanted gives id before.keeper.opening tells links [] count before.net now
+  wanted : (session : PlainSession) → mid.stopped ≡ Some WantOfMemory → Ends session → HasWanted gives id before.lead.opening kept tells links [] count before.net now
   wanted session stopped ends = record {
     connections = ends.round.connections;
     net = net_of session ends;
@@ -303,26 +332,29 @@ module _ (gives : ℕ → Type 0) (id : SessionId) {N L : Type 0} (tells : NetTe
         (subst (AsksAccepts _ _ (accepted_links ends.round.connections)) stopped (asks_now mid.stopped (accepted_links ends.round.connections) ends.returns.asked ends.round.net.asked));
     number = subst (CountsLinks (length ends.round.connections) count) stopped ends.round.number;
     served = inr (record {
-      history = mid.keeper.seen;
-      opener = caller before.keeper;
+      history = mid.lead.seen;
+      opener = caller before.lead;
       talks = history_when session ends;
       sound = ends.closed.plays.sound;
       served = served_when session ends;
+      ticks = told_when session ends;
+      keeps = ends.keeps;
+      unkept = unkept_when session ends;
     });
     faults = stop_later (tells.faults before.net) (tells.faults now) mid.stopped (faults_now mid.stopped ends.returns.faults ends.round.net.faults);
   }
 
   -- by what stopped the net
   pub reflects_so : (session : SessionState) (ended : List Ended) (stopped : Option NetFault) → mid.stopped ≡ stopped → ended ≡ ended_of mid.served.items → Ends session.plain
-      → Reflects gives id before.keeper.opening tells links [] count before.net now (answer_for session ended stopped)
+      → ReflectsKept gives id before.lead.opening kept tells links [] count before.net now (answer_for session ended stopped)
   reflects_so session ended None is all ends = reflected_all (record { session = session; ends = ended; net_failed = false }) is refl all ends
   reflects_so session ended (Some Failed) is all ends = reflected_some (record { session = session; ends = ended; net_failed = true }) is refl all ends
   reflects_so session ended (Some WantOfMemory) is all ends = wanted session.plain is ends
 
-  pub reflects_when : (session : SessionState) (ended : List Ended) (result : Result Reflected ServeFault) → result ≡ answer_for session ended mid.stopped
-      → ended ≡ ended_of mid.served.items → Ends session.plain → Reflects gives id before.keeper.opening tells links [] count before.net now result
+  pub reflects_when : (session : SessionState) (ended : List Ended) (result : Result Reflected KeptFault) → result ≡ answer_for session ended mid.stopped
+      → ended ≡ ended_of mid.served.items → Ends session.plain → ReflectsKept gives id before.lead.opening kept tells links [] count before.net now result
   reflects_when session ended result is all ends =
-      subst (Reflects gives id before.keeper.opening tells links [] count before.net now) (sym is) (reflects_so session ended mid.stopped refl all ends)
+      subst (ReflectsKept gives id before.lead.opening kept tells links [] count before.net now) (sym is) (reflects_so session ended mid.stopped refl all ends)
 
 -- ---- before a link is accepted
 
@@ -334,7 +366,7 @@ listen_asks address before now (Err Failed) more = inr (inl more)
 listen_asks address before now (Err WantOfMemory) (inl same) = inl (refl, same)
 listen_asks address before now (Err WantOfMemory) (inr more) = inr (inl more)
 
-module _ (gives : ℕ → Type 0) (id : SessionId) (opening : PlainSession) {N L : Type 0} (tells : NetTells N L) (links : LinksTell L) where
+module _ (gives : ℕ → Type 0) (id : SessionId) (opening : PlainSession) (kept : KeeperTells) {N L : Type 0} (tells : NetTells N L) (links : LinksTell L) where
   -- the net listens, or fails to
   pub record Listens {T : Type 0} (address : List ℕ) (result : Result T NetFault) (before now : N) : Type 0 where
     pub coming : tells.coming now ≡ tells.coming before
@@ -345,14 +377,14 @@ module _ (gives : ℕ → Type 0) (id : SessionId) (opening : PlainSession) {N L
     pub cause : NetCause (tells.faults before) (tells.faults now) result
 
   -- memory was wanted before, or while the net was to listen
-  pub wanted_before : (calls : List NetCall) (count : ℕ) (before now : N) → 1 ≤ count → AsksUntilWant {L = L} (tells.asked before) (tells.asked now) calls [] → tells.coming now ≡ tells.coming before → tells.over now ≡ tells.over before → tells.lent now ≡ tells.lent before
-      → tells.link_counts now ≡ tells.link_counts before → tells.faults before ≤ tells.faults now → HasWanted gives id opening tells links calls count before now
-  wanted_before calls count before now some asked coming over lent counts faults = record {
+  pub wanted_before : (calls : List NetCall) (count : ℕ) (before now : N) → 1 ≤ count → HasOpenedAtMost gives opening kept → AsksUntilWant {L = L} (tells.asked before) (tells.asked now) calls [] → tells.coming now ≡ tells.coming before → tells.over now ≡ tells.over before → tells.lent now ≡ tells.lent before
+      → tells.link_counts now ≡ tells.link_counts before → tells.faults before ≤ tells.faults now → HasWanted gives id opening kept tells links calls count before now
+  wanted_before calls count before now some opened asked coming over lent counts faults = record {
     connections = [];
     net = nothing_back tells links before now coming over lent counts;
     asked = asked;
     number = some;
-    served = inl refl;
+    served = inl (refl, opened);
     faults = faults;
   }
 
@@ -383,9 +415,9 @@ module _ (gives : ℕ → Type 0) (id : SessionId) (opening : PlainSession) {N L
   failure_later before mid now false later counts = omega (arith, counts)
 
   -- what came of it once the net listened
-  pub reflects_behind : {T : Type 0} (address : List ℕ) (value : T) (count : ℕ) (before mid now : N) (result : Result Reflected ServeFault) → Listens address (Ok value) before mid
-      → Reflects gives id opening tells links [] count mid now result → Reflects gives id opening tells links (Listen address ∷ []) count before now result
-  reflects_behind address value count before mid now (Ok reflected) listens told = record {
+  pub reflects_behind : {T : Type 0} (address : List ℕ) (value : T) (count : ℕ) (before mid now : N) (result : Result Reflected KeptFault) → result ≢ Err kept_fault.Unkept → Listens address (Ok value) before mid
+      → ReflectsKept gives id opening kept tells links [] count mid now result → ReflectsKept gives id opening kept tells links (Listen address ∷ []) count before now result
+  reflects_behind address value count before mid now (Ok reflected) other listens told = record {
     connections = told.connections;
     history = told.history;
     net = listened_back address value before mid now told.connections listens told.net;
@@ -397,14 +429,18 @@ module _ (gives : ℕ → Type 0) (id : SessionId) (opening : PlainSession) {N L
     talks = told.talks;
     session = told.session;
     served = told.served;
+    ticks = told.ticks;
     stays = told.stays;
+    keeps = told.keeps;
+    unkept = told.unkept;
   }
-  reflects_behind address value count before mid now (Err ListenFault) listens told = record {
+  reflects_behind address value count before mid now (Err kept_fault.ListenFault) other listens told = record {
     net = listened_back address value before mid now [] listens told.net;
     asked = told.asked ∙ (with_more_none (tells.asked mid) ∙ listens.asked);
     faults = failure_later (tells.faults before) (tells.faults mid) (tells.faults now) true listens.cause.later told.faults;
+    opened = told.opened;
   }
-  reflects_behind address value count before mid now (Err serve_fault.WantOfMemory) listens told = record {
+  reflects_behind address value count before mid now (Err kept_fault.WantOfMemory) other listens told = record {
     connections = told.connections;
     net = listened_back address value before mid now told.connections listens told.net;
     asked = wanted_behind address (tells.asked before) (tells.asked mid) (tells.asked now) (accepted_links told.connections) listens.asked told.asked;
@@ -412,10 +448,121 @@ module _ (gives : ℕ → Type 0) (id : SessionId) (opening : PlainSession) {N L
     served = told.served;
     faults = omega (arith, told.faults, listens.cause.later);
   }
+  reflects_behind address value count before mid now (Err kept_fault.Unkept) other listens told = absurd (other refl)
 
--- the same, said of the session that began
-pub reflects_of : (gives : ℕ → Type 0) (id : SessionId) (since begun : ℕ) (opening first : PlainSession) {N L : Type 0} (tells : NetTells N L) (links : LinksTell L) (calls : List NetCall) (count : ℕ) (before now : N) (result : Result Reflected ServeFault)
-    → since ≡ begun → opening ≡ first → Reflects (gives_later gives since) id opening tells links calls count before now result → Reflects (gives_later gives begun) id first tells links calls count before now result
-reflects_of gives id since begun opening first tells links calls count before now result time is told =
-    subst (λ (o : PlainSession). Reflects (gives_later gives begun) id o tells links calls count before now result) is
-    (subst (λ (n : ℕ). Reflects (gives_later gives n) id opening tells links calls count before now result) time told)
+  -- the net did not listen
+  unheard_by : {T : Type 0} (address : List ℕ) (fault : NetFault) (count : ℕ) (before now : N) → 1 ≤ count → HasOnlyOpened gives opening kept → Listens {T = T} address (Err fault) before now
+      → ReflectsKept gives id opening kept tells links (Listen address ∷ []) count before now (Err (unheard fault))
+  unheard_by {T} address Failed count before now some opened listens = record {
+    net = nothing_back tells links before now listens.coming listens.over listens.lent listens.counts;
+    asked = listens.asked;
+    faults = listens.cause.failed refl;
+    opened = opened;
+  }
+  unheard_by {T} address WantOfMemory count before now some opened listens =
+      wanted_before (Listen address ∷ []) count before now some (inr opened) (listen_asks {L = L} {T = T} address (tells.asked before) (tells.asked now) (Err WantOfMemory) listens.asked)
+      listens.coming listens.over listens.lent listens.counts listens.cause.later
+
+  pub reflects_unheard : {T : Type 0} (address : List ℕ) (fault : NetFault) (answer : KeptFault) (count : ℕ) (before now : N) → 1 ≤ count → answer ≡ unheard fault → HasOnlyOpened gives opening kept → Listens {T = T} address (Err fault) before now
+      → ReflectsKept gives id opening kept tells links (Listen address ∷ []) count before now (Err answer)
+  reflects_unheard address fault answer count before now some is opened listens =
+      subst (λ (f : KeptFault). ReflectsKept gives id opening kept tells links (Listen address ∷ []) count before now (Err f)) (sym is) (unheard_by address fault count before now some opened listens)
+
+  -- the session was not opened
+  unopened_by : (calls : List NetCall) (why : CallFault) (count : ℕ) (net : N) → 1 ≤ count → IsUnopened gives opening kept why → ReflectsKept gives id opening kept tells links calls count net net (Err (unopened_fault why))
+  unopened_by calls call_fault.WantOfMemory count net some none =
+      wanted_before calls count net net some (inl none) (inl (refl, refl)) refl refl refl refl (omega arith)
+  unopened_by calls call_fault.Unkept count net some stopped = (refl, stopped)
+
+  pub reflects_unopened : (calls : List NetCall) (why : CallFault) (answer : KeptFault) (count : ℕ) (net : N) → 1 ≤ count → answer ≡ unopened_fault why → IsUnopened gives opening kept why
+      → ReflectsKept gives id opening kept tells links calls count net net (Err answer)
+  reflects_unopened calls why answer count net some is unopened =
+      subst (λ (f : KeptFault). ReflectsKept gives id opening kept tells links calls count net net (Err f)) (sym is) (unopened_by calls why count net some unopened)
+
+-- once the net listens, no opening Leave is left that may not be kept
+pub answer_kept : (session : SessionState) (ended : List Ended) (stopped : Option NetFault) (result : Result Reflected KeptFault) → result ≡ answer_for session ended stopped → result ≢ Err kept_fault.Unkept
+answer_kept session ended None result is other = absurd (cc (is, other))
+answer_kept session ended (Some Failed) result is other = absurd (cc (is, other))
+answer_kept session ended (Some WantOfMemory) result is other = absurd (cc (is, other))
+
+-- the same, said of the session that began, and of its keeper
+pub reflects_of : {K : Type 0} (holds : K → PlainSession → Type 0) (shut : K → Type 0) (faults : K → ℕ) (keeper : K) (gives : ℕ → Type 0) (id : SessionId) (since begun first failed : ℕ) (opening session : PlainSession) {N L : Type 0} (tells : NetTells N L)
+    (links : LinksTell L) (calls : List NetCall) (count : ℕ) (before now : N) (result : Result Reflected KeptFault)
+    → since ≡ begun → first ≡ failed → opening ≡ session → ReflectsKept (gives_later gives since) id opening (keeper_tells holds shut faults first opening keeper) tells links calls count before now result
+    → ReflectsKept (gives_later gives begun) id session (keeper_tells holds shut faults failed session keeper) tells links calls count before now result
+reflects_of holds shut faults keeper gives id since begun first failed opening session tells links calls count before now result time counted is told =
+    subst (λ (o : PlainSession). ReflectsKept (gives_later gives begun) id o (keeper_tells holds shut faults failed o keeper) tells links calls count before now result) is
+    (subst (λ (n : ℕ). ReflectsKept (gives_later gives begun) id opening (keeper_tells holds shut faults n opening keeper) tells links calls count before now result) counted
+    (subst (λ (n : ℕ). ReflectsKept (gives_later gives n) id opening (keeper_tells holds shut faults first opening keeper) tells links calls count before now result) time told))
+
+-- what fails where a call was Unkept
+pub fails_when : {K : Type 0} (holds : K → PlainSession → Type 0) (shut : K → Type 0) (faults : K → ℕ) (first : ℕ) (opening : PlainSession) (history : List Item) (keeper : K) → KeepsPlay holds shut faults first opening history keeper
+    → has_unkept history ≡ true → (keeper_tells holds shut faults first opening keeper).failed
+fails_when holds shut faults first opening history keeper keeps some = keeps.shuts (keeps.unkept some)
+
+-- ---- without a keeper
+
+module _ (gives : ℕ → Type 0) (id : SessionId) (opening : PlainSession) (kept : KeeperTells) (never : kept.failed → ⊥) {N L : Type 0} (tells : NetTells N L) (links : LinksTell L) where
+  never_unkept : (connections : List (ServedConnection L)) → EndUnkeptIf kept.failed connections → EndUnkeptIf ⊥ connections
+  never_unkept [] all = tt
+  never_unkept (one ∷ rest) all = ((λ is. never (all.0 is)), never_unkept rest all.1)
+
+  opened_only : HasOnlyOpened gives opening kept → HasOnlyOpened gives opening no_keeper
+  opened_only opened = record { opener = opened.opener; views = opened.views; here = opened.here; history = opened.history; made = opened.made; keeps = tt }
+
+  opened_most : HasOpenedAtMost gives opening kept → HasOpenedAtMost gives opening no_keeper
+  opened_most (inl none) = inl tt
+  opened_most (inr opened) = inr (opened_only opened)
+
+  served_only : (connections : List (ServedConnection L)) → ((connections ≡ []) × HasOpenedAtMost gives opening kept) ⊎ HasServed gives id opening kept links connections
+      → ((connections ≡ []) × HasOpenedAtMost gives opening no_keeper) ⊎ HasServed gives id opening no_keeper links connections
+  served_only connections (inl none) = inl (none.0, opened_most none.1)
+  served_only connections (inr served) = inr (record {
+    history = served.history;
+    opener = served.opener;
+    talks = served.talks;
+    sound = served.sound;
+    served = served.served;
+    ticks = served.ticks;
+    keeps = tt;
+    unkept = never_unkept connections served.unkept;
+  })
+
+  reflects_alone : (calls : List NetCall) (count : ℕ) (before now : N) (result : Result Reflected ServeFault) → ReflectsKept gives id opening kept tells links calls count before now (with_kept_fault result)
+      → Reflects gives id opening tells links calls count before now result
+  reflects_alone calls count before now (Ok reflected) told = record {
+    connections = told.connections;
+    history = told.history;
+    net = told.net;
+    asked = told.asked;
+    faults = told.faults;
+    number = told.number;
+    ends = told.ends;
+    opener = told.opener;
+    talks = told.talks;
+    session = told.session;
+    served = told.served;
+    ticks = told.ticks;
+    stays = told.stays;
+    keeps = tt;
+    unkept = never_unkept told.connections told.unkept;
+  }
+  reflects_alone calls count before now (Err serve_fault.ListenFault) told = record { net = told.net; asked = told.asked; faults = told.faults; opened = opened_only told.opened }
+  reflects_alone calls count before now (Err serve_fault.WantOfMemory) told = record {
+    connections = told.connections;
+    net = told.net;
+    asked = told.asked;
+    number = told.number;
+    served = served_only told.connections told.served;
+    faults = told.faults;
+  }
+
+  -- no call of it fails
+  pub is_kept : (calls : List NetCall) (count : ℕ) (before now : N) (result : Result Reflected KeptFault) → ReflectsKept gives id opening kept tells links calls count before now result → result ≢ Err kept_fault.Unkept
+  is_kept calls count before now result told is =
+      let unkept : (now ≡ before) × HasNotOpened gives opening kept = subst (λ (r : Result Reflected KeptFault). ReflectsKept gives id opening kept tells links calls count before now r) is told in never unkept.1.failed
+
+  pub reflects_without : (calls : List NetCall) (count : ℕ) (before now : N) (answer : Result Reflected KeptFault) (result : Result Reflected ServeFault) → with_kept_fault result ≡ answer
+      → ReflectsKept gives id opening kept tells links calls count before now answer → Reflects gives id opening tells links calls count before now result
+  reflects_without calls count before now answer result is told =
+      reflects_alone calls count before now result (subst (λ (r : Result Reflected KeptFault). ReflectsKept gives id opening kept tells links calls count before now r) (sym is) told)

@@ -1,5 +1,5 @@
 -- Rounds: none that is left, one that is stopped, and one link more.
-use Rattle.std.proofs.Common.{◌≡◌, ◌⊎◌, inl, inr, ℕ, ◌+◌, ◌≤◌, ◌<◌, true, eqb, List, [], ◌∷◌, ◌++◌, length, map, Option, Some, None, Ok, Err, refl, sym, ap, ◌∙◌, subst, arith}
+use Rattle.std.proofs.Common.{◌≡◌, inl, inr, ℕ, ◌+◌, ◌≤◌, ◌<◌, true, eqb, List, [], ◌∷◌, ◌++◌, length, map, Option, Some, None, Ok, Err, refl, sym, ap, ◌∙◌, subst, arith}
 use Rattle.std.proofs.lemmas.Bool.{eqb-true}
 use Rattle.std.proofs.lemmas.List.{reverse-append}
 use Rattle.tea_base.specs.declared.entry.SessionId.{SessionId}
@@ -101,12 +101,12 @@ module _ (gives : ℕ → Type 0) (id : SessionId) {N L : Type 0} (tells : NetTe
   }
 
   -- no pass is left
-  pub round_none : (round : Round N L) (count : ℕ) → Keeps round.keeper round.keeper → round.served.items ≡ [] → round.stopped ≡ None → count ≡ 0
+  pub round_none : {K : Type 0} (round : Round N L K) (count : ℕ) → Keeps round.lead round.lead → round.served.items ≡ [] → round.stopped ≡ None → count ≡ 0
       → GoesRound gives id tells links count round round
   round_none round count keeps empty going none = record {
     connections = [];
     net = subst (Accepts tells round.net round.net []) (sym going) (accepts_none round.net);
-    passes = gathers_none round.keeper round.keeper count keeps (omega arith);
+    passes = gathers_none round.lead round.lead count keeps (omega arith);
     served = empty;
     number = subst (CountsLinks 0 count) (sym going) (sym none);
   }
@@ -140,15 +140,15 @@ module _ (gives : ℕ → Type 0) (id : SessionId) {N L : Type 0} (tells : NetTe
   }
 
   -- no link more is accepted
-  pub round_stopped : (before now : Round N L) (net : N) (count : ℕ) (fault : NetFault) → before.served.items ≡ []
-      → 0 < count → Missed before.net net fault → Keeps before.keeper now.keeper → numbers_held now.keeper ≡ numbers_held before.keeper + count
+  pub round_stopped : {K : Type 0} (before now : Round N L K) (net : N) (count : ℕ) (fault : NetFault) → before.served.items ≡ []
+      → 0 < count → Missed before.net net fault → Keeps before.lead now.lead → numbers_held now.lead ≡ numbers_held before.lead + count
       → now.net ≡ net → now.served ≡ before.served → now.stopped ≡ Some fault → GoesRound gives id tells links count before now
   round_stopped before now net count fault empty some missed keeps numbers net_is served_is stopped_is = record {
     connections = [];
     net =
         subst (λ (n : N). Accepts tells before.net n [] now.stopped) (sym net_is)
         (subst (Accepts tells before.net net []) (sym stopped_is) (missed_accepts before.net net fault missed));
-    passes = gathers_none before.keeper now.keeper count keeps numbers;
+    passes = gathers_none before.lead now.lead count keeps numbers;
     served = ap (λ v. v.items) served_is ∙ empty;
     number = subst (CountsLinks 0 count) (sym stopped_is) some;
   }
@@ -213,21 +213,21 @@ module _ (gives : ℕ → Type 0) (id : SessionId) {N L : Type 0} (tells : NetTe
       }
 
   -- one link more was accepted, and served beside the rest
-  pub round_more : (before between rest now : Round N L) (fresh pass : PassState) (count more : ℕ) (link : L) (one : ServedLink L) → IsFresh between.keeper fresh
-      → between.keeper ≡ before.keeper → more ≡ count + 1 → Gave before.net between.net link → Serves gives id links fresh link pass one
-      → GoesRound gives id tells links count between rest → Merged rest.keeper pass now.keeper → numbers_held now.keeper ≡ numbers_held rest.keeper + numbers_held pass
+  pub round_more : {K : Type 0} (before between rest now : Round N L K) (fresh pass : PassState) (count more : ℕ) (link : L) (one : ServedLink L) → IsFresh between.lead fresh
+      → between.lead ≡ before.lead → more ≡ count + 1 → Gave before.net between.net link → Serves gives id links fresh link pass one
+      → GoesRound gives id tells links count between rest → Merged rest.lead pass now.lead → numbers_held now.lead ≡ numbers_held rest.lead + numbers_held pass
       → now.served.items ≡ rest.served.items ++ one ∷ [] → now.net ≡ rest.net → now.stopped ≡ rest.stopped → GoesRound gives id tells links more before now
   round_more before between rest now fresh pass count more link one is_fresh keeper_is more_is gave served round merged numbers served_is net_is stopped_is =
-      let first = connection_of gives id between.keeper.opening links link pass one served.talk.heard served.talk.sent in record {
+      let first = connection_of gives id between.lead.opening links link pass one served.talk.heard served.talk.sent in record {
         connections = first ∷ round.connections;
         net =
             subst (λ (n : N). Accepts tells before.net n (link ∷ accepted_links round.connections) now.stopped) (sym net_is)
             (subst (Accepts tells before.net rest.net (link ∷ accepted_links round.connections)) (sym stopped_is)
             (gave_accepts before.net between.net rest.net link (accepted_links round.connections) rest.stopped gave round.net));
         passes =
-            subst (λ (n : ℕ). Gathers gives id links before.keeper n (first ∷ round.connections) now.keeper) (sym more_is)
-            (subst (λ (p : PassState). Gathers gives id links p (count + 1) (first ∷ round.connections) now.keeper) keeper_is
-            (gathers_more between.keeper rest.keeper fresh pass now.keeper count link one round.connections is_fresh gave.new served round.passes merged numbers));
+            subst (λ (n : ℕ). Gathers gives id links before.lead n (first ∷ round.connections) now.lead) (sym more_is)
+            (subst (λ (p : PassState). Gathers gives id links p (count + 1) (first ∷ round.connections) now.lead) keeper_is
+            (gathers_more between.lead rest.lead fresh pass now.lead count link one round.connections is_fresh gave.new served round.passes merged numbers));
         served =
             served_is
             ∙ (ap (λ (l : List (ServedLink L)). l ++ one ∷ []) round.served

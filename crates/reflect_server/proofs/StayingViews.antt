@@ -1,5 +1,5 @@
--- A view that is here in the end is one of a caller that once found no memory.
-use Rattle.std.proofs.Common.{◌≡◌, ℕ, ◌+◌, ◌<◌, ◌≤◌, Bool, true, false, not, ◌&&◌, ◌||◌, eqb, if◌then◌else◌, List, [], ◌∷◌, ◌++◌, Some, refl, sym, ap, ◌∙◌, subst, inl, inr, arith}
+-- A view that is here in the end is one of a caller that made a call without an answer.
+use Rattle.std.proofs.Common.{◌≡◌, ℕ, ◌<◌, ◌≤◌, Bool, true, false, not, ◌&&◌, ◌||◌, eqb, if◌then◌else◌, List, [], ◌∷◌, ◌++◌, Some, refl, sym, ap, ◌∙◌, subst, inl, inr, arith}
 use Rattle.std.specs.List.{AllByRecursion}
 use Rattle.std.specs.Cmp.Derive.{both_true}
 use Rattle.std.proofs.lemmas.Bool.{cases_lt, eqb-true, eq-eqb}
@@ -14,6 +14,7 @@ use Rattle.reflector_core.specs.PlainSession.{PlainSession}
 use Rattle.reflector_core.specs.Answer.{answer}
 use Rattle.reflector_core.specs.Stored.{IsNextHere}
 use Rattle.reflector_core.specs.declared.request.Request.TheVariants.{Join, Send, Tick, Leave, Offer, Pull}
+use Rattle.reflector_core.specs.declared.keeper.CallFault.TheVariants as fault
 use Rattle.session_lock.specs.declared.knowledge.Item.{Item}
 use Rattle.session_lock.specs.declared.knowledge.Item.TheVariants.{Did, Void, Unkept}
 use Rattle.session_lock.specs.History.{calls_of, has, play_from}
@@ -21,7 +22,7 @@ use Rattle.connection.specs.Exchanges.{Exchange, Answered, Unanswered, exchanges
 use Rattle.connection.proofs.Callers.{exchanges_none, exchanges_same}
 use Rattle.reflect_server.specs.Opening.{AreHereAbove, AreLeavesOf, BeginsWithLeaves}
 use Rattle.reflect_server.specs.Connections.{ServedConnection, HasTalk, callers_of}
-use Rattle.reflect_server.specs.Views.{StaysByVoid, closes_view, has_void, holds, holds_in, holds_on, opens_view, opens_with}
+use Rattle.reflect_server.specs.Views.{StaysByMiss, closes_view, has_miss, holds, holds_in, holds_on, opens_view, opens_with}
 use Rattle.reflect_server.proofs.HeldTalks.{talk_holds}
 use Rattle.reflect_server.proofs.HeldViews.{held_by_someone}
 use Rattle.reflect_server.proofs.PassLaws.{or_first}
@@ -56,7 +57,7 @@ module _ (gives : ℕ → Type 0) (opener v j : ℕ) where
   stays_out s [] [] made = refl
   stays_out s [] (item ∷ items) made = absurd made
   stays_out s (one ∷ views) [] made = absurd made
-  stays_out s (one ∷ views) (Void who ∷ items) made = out_step (eqb who opener) Unanswered (exchanges_from s opener items) refl (stays_out s views items made.1)
+  stays_out s (one ∷ views) (Void who ∷ items) made = out_step (eqb who opener) (Unanswered fault.WantOfMemory) (exchanges_from s opener items) refl (stays_out s views items made.1)
   stays_out s (one ∷ views) (Unkept who ∷ items) made = absurd made.0
   stays_out s (one ∷ views) (Did who (Leave view joined now) ∷ items) made =
       out_step (eqb who opener) (Answered (Leave view joined now) (answer s (Leave view joined now)).reply)
@@ -69,12 +70,12 @@ module _ (gives : ℕ → Type 0) (opener v j : ℕ) where
 
   -- each view that was here is given up, unless a Leave found no memory
   given_up : (log : List Entry) (above : ℕ) (s : PlainSession) (views : List (ℕ × ℕ)) (items : List Item) → AreHereAbove log above views → AreLeavesOf gives opener views items
-      → has_void opener items ≡ false → above < v → is_here log v ≡ true → j ≡ current log v → holds_on v j true (exchanges_from s opener items) ≡ false
+      → has_miss opener items ≡ false → above < v → is_here log v ≡ true → j ≡ current log v → holds_on v j true (exchanges_from s opener items) ≡ false
   given_up log above s [] [] here made none lt was is = absurd (cc (here v lt, was))
   given_up log above s [] (item ∷ items) here made none lt was is = absurd made
   given_up log above s (one ∷ views) [] here made none lt was is = absurd made
   given_up log above s (one ∷ views) (Void who ∷ items) here made none lt was is =
-      absurd (cc (or_first (eqb who opener) (has_void opener items) none, eq-eqb who opener made.0))
+      absurd (cc (or_first (eqb who opener) (has_miss opener items) none, eq-eqb who opener made.0))
   given_up log above s (one ∷ views) (Unkept who ∷ items) here made none lt was is = absurd made.0
   given_up log above s (one ∷ views) (Did who (Leave view joined now) ∷ items) here made none lt was is =
       by (λ further. given_up log one.0 (answer s (Leave view joined now)).session views items here.1 made.1 none further was is) (eqb one.0 v) refl
@@ -101,15 +102,15 @@ module _ (gives : ℕ → Type 0) (opener v j : ℕ) where
 
 -- ---- the opener in a history
 
-one_first : (c : ℕ) (xs ys : List Item) → (has_void c xs ≡ true → has_void c (xs ++ ys) ≡ true) → (b : Bool) → (b || has_void c xs) ≡ true → (b || has_void c (xs ++ ys)) ≡ true
+one_first : (c : ℕ) (xs ys : List Item) → (has_miss c xs ≡ true → has_miss c (xs ++ ys) ≡ true) → (b : Bool) → (b || has_miss c xs) ≡ true → (b || has_miss c (xs ++ ys)) ≡ true
 one_first c xs ys later true some_of = refl
 one_first c xs ys later false some_of = later some_of
 
-void_first : (c : ℕ) (xs ys : List Item) → has_void c xs ≡ true → has_void c (xs ++ ys) ≡ true
-void_first c [] ys some = absurd (cc (some))
-void_first c (Did who request ∷ xs) ys some = void_first c xs ys some
-void_first c (Void who ∷ xs) ys some = one_first c xs ys (void_first c xs ys) (eqb who c) some
-void_first c (Unkept who ∷ xs) ys some = one_first c xs ys (void_first c xs ys) (eqb who c) some
+miss_first : (c : ℕ) (xs ys : List Item) → has_miss c xs ≡ true → has_miss c (xs ++ ys) ≡ true
+miss_first c [] ys some = absurd (cc (some))
+miss_first c (Did who request ∷ xs) ys some = miss_first c xs ys some
+miss_first c (Void who ∷ xs) ys some = one_first c xs ys (miss_first c xs ys) (eqb who c) some
+miss_first c (Unkept who ∷ xs) ys some = one_first c xs ys (miss_first c xs ys) (eqb who c) some
 
 and_both : (a b : Bool) → (a && b) ≡ true → (a ≡ true) × (b ≡ true)
 and_both true b is = (refl, is)
@@ -133,7 +134,7 @@ module _ (gives : ℕ → Type 0) (opening : PlainSession) (opener : ℕ) (histo
       ap (λ (h : List Item). exchanges_in opening h opener) (sym leaves.first) ∙ exchanges_same opening leaves.leaves leaves.rest opener leaves.others
 
   -- who held a view at first, or did not, holds it no more after its Leaves
-  left_by : (v j : ℕ) (first : Bool) → opens_with opening opener opener v j ≡ first → has_void opener leaves.leaves ≡ false
+  left_by : (v j : ℕ) (first : Bool) → opens_with opening opener opener v j ≡ first → has_miss opener leaves.leaves ≡ false
       → holds_on v j first (exchanges_from opening opener leaves.leaves) ≡ false
   left_by v j false is none = stays_out gives opener v j opening leaves.views leaves.leaves leaves.made
   left_by v j true is none =
@@ -142,11 +143,11 @@ module _ (gives : ℕ → Type 0) (opening : PlainSession) (opener : ℕ) (histo
       given_up gives opener v j opening.log 0 opening leaves.views leaves.leaves leaves.here leaves.made none (not_zero opening.log v legal its.0) its.0 (eqb-true j (current opening.log v) its.1)
 
   -- where the opener still holds a view, one of its Leaves found no memory
-  opener_void : (v j : ℕ) → holds_in opening opener history opener v j ≡ true → has_void opener history ≡ true
-  opener_void v j held = by (has_void opener leaves.leaves) refl
+  opener_miss : (v j : ℕ) → holds_in opening opener history opener v j ≡ true → has_miss opener history ≡ true
+  opener_miss v j held = by (has_miss opener leaves.leaves) refl
     where
-      by : (b : Bool) → has_void opener leaves.leaves ≡ b → has_void opener history ≡ true
-      by true some = subst (λ (h : List Item). has_void opener h ≡ true) leaves.first (void_first opener leaves.leaves leaves.rest some)
+      by : (b : Bool) → has_miss opener leaves.leaves ≡ b → has_miss opener history ≡ true
+      by true some = subst (λ (h : List Item). has_miss opener h ≡ true) leaves.first (miss_first opener leaves.leaves leaves.rest some)
       by false none =
           let gone : holds_on v j (opens_with opening opener opener v j) (exchanges_from opening opener leaves.leaves) ≡ false = left_by v j (opens_with opening opener opener v j) refl none in
           let still : holds_on v j (opens_with opening opener opener v j) (exchanges_from opening opener leaves.leaves) ≡ true =
@@ -156,17 +157,17 @@ module _ (gives : ℕ → Type 0) (opening : PlainSession) (opener : ℕ) (histo
 -- ---- all callers
 
 module _ (gives : ℕ → Type 0) (id : SessionId) (opening : PlainSession) {L : Type 0} (links : LinksTell L) (history : List Item) where
-  -- one of these callers that still holds a view has found no memory
-  void_of : (v j : ℕ) (connections : List (ServedConnection L)) (c : ℕ) → AllByRecursion (HasTalk gives id opening links history) connections → has c (callers_of connections) ≡ true
-      → holds v j (exchanges_in opening history c) ≡ true → has_void c history ≡ true
-  void_of v j [] c talks own held = absurd (cc (own))
-  void_of v j (one ∷ rest) c talks own held = by (void_of v j rest c talks.1) (eqb c one.caller) refl own
+  -- one of these callers that still holds a view has made a call without an answer
+  miss_of : (v j : ℕ) (connections : List (ServedConnection L)) (c : ℕ) → AllByRecursion (HasTalk gives id opening links history) connections → has c (callers_of connections) ≡ true
+      → holds v j (exchanges_in opening history c) ≡ true → has_miss c history ≡ true
+  miss_of v j [] c talks own held = absurd (cc (own))
+  miss_of v j (one ∷ rest) c talks own held = by (miss_of v j rest c talks.1) (eqb c one.caller) refl own
     where
-      by : (has c (callers_of rest) ≡ true → holds v j (exchanges_in opening history c) ≡ true → has_void c history ≡ true) → (b : Bool) → eqb c one.caller ≡ b
-          → (b || has c (callers_of rest)) ≡ true → has_void c history ≡ true
+      by : (has c (callers_of rest) ≡ true → holds v j (exchanges_in opening history c) ≡ true → has_miss c history ≡ true) → (b : Bool) → eqb c one.caller ≡ b
+          → (b || has c (callers_of rest)) ≡ true → has_miss c history ≡ true
       by further true is mine =
           let same : c ≡ one.caller = eqb-true c one.caller is in
-          subst (λ (n : ℕ). has_void n history ≡ true) (sym same)
+          subst (λ (n : ℕ). has_miss n history ≡ true) (sym same)
           (talk_holds gives id opening history one.caller one.heard one.sent one.ended v j talks.0.talk (subst (λ (n : ℕ). holds v j (exchanges_in opening history n) ≡ true) same held))
       by further false is mine = further mine held
 
@@ -180,24 +181,24 @@ module _ (gives : ℕ → Type 0) (id : SessionId) (opening : PlainSession) {L :
       ap (λ (b : Bool). holds_on v j b (exchanges_in opening history c)) other ∙ ap (holds_on v j false) (exchanges_none opening c history (others c is)) in
       absurd (cc (nothing, held))
 
-  pub stays_by_void : (opener : ℕ) (connections : List (ServedConnection L)) → IsLegal opening.log → BeginsWithLeaves gives opening opener history
+  pub stays_by_miss : (opener : ℕ) (connections : List (ServedConnection L)) → IsLegal opening.log → BeginsWithLeaves gives opening opener history
       → AllByRecursion (HasTalk gives id opening links history) connections
-      → ((n : ℕ) → has n (opener ∷ callers_of connections) ≡ false → calls_of (n ∷ []) history ≡ []) → StaysByVoid opening opener (callers_of connections) history (play_from opening history).log
-  stays_by_void opener connections legal leaves talks others view here =
+      → ((n : ℕ) → has n (opener ∷ callers_of connections) ≡ false → calls_of (n ∷ []) history ≡ []) → StaysByMiss opening opener (callers_of connections) history (play_from opening history).log
+  stays_by_miss opener connections legal leaves talks others view here =
       let someone = held_by_someone opening opener history view here in
       let own = among opener (callers_of connections) view (current (play_from opening history).log view) someone.0 others someone.1 (has someone.0 (opener ∷ callers_of connections)) refl in
       (someone.0, own, someone.1, by someone.0 own someone.1 (eqb someone.0 opener) refl)
     where
       by : (c : ℕ) → has c (opener ∷ callers_of connections) ≡ true → holds_in opening opener history c view (current (play_from opening history).log view) ≡ true
-          → (b : Bool) → eqb c opener ≡ b → has_void c history ≡ true
+          → (b : Bool) → eqb c opener ≡ b → has_miss c history ≡ true
       by c own held true is =
           let same : c ≡ opener = eqb-true c opener is in
-          subst (λ (n : ℕ). has_void n history ≡ true) (sym same)
-          (opener_void gives opening opener history leaves legal view (current (play_from opening history).log view)
+          subst (λ (n : ℕ). has_miss n history ≡ true) (sym same)
+          (opener_miss gives opening opener history leaves legal view (current (play_from opening history).log view)
           (subst (λ (n : ℕ). holds_in opening opener history n view (current (play_from opening history).log view) ≡ true) same held))
       by c own held false is =
           let mine : has c (callers_of connections) ≡ true = sym (ap (λ (b : Bool). b || has c (callers_of connections)) is) ∙ own in
           let from_none : opens_with opening opener c view (current (play_from opening history).log view) ≡ false =
           ap (λ (b : Bool). b && (is_here opening.log view && eqb (current (play_from opening history).log view) (current opening.log view))) is in
-          void_of view (current (play_from opening history).log view) connections c talks mine
+          miss_of view (current (play_from opening history).log view) connections c talks mine
           (sym (ap (λ (b : Bool). holds_on view (current (play_from opening history).log view) b (exchanges_in opening history c)) from_none) ∙ held)

@@ -15,7 +15,7 @@ use Rattle.connection.specs.declared.ending.Ended.{Ended}
 use Rattle.connection.specs.Causes.{EndsExactly, IsCauseCounted}
 use Rattle.connection.specs.Exchanges.{exchanges_in}
 use Rattle.connection.specs.Talk.{Talk, LinkAccount, link_account}
-use Rattle.connection.specs.TalkServed.{IsTalkServed}
+use Rattle.connection.specs.TalkServed.{IsTalkServed, IsToldWithin}
 use Rattle.reflect_server.specs.Opening.{BeginsWithLeaves}
 
 -- a connection: its link as it was accepted and as it was given back, its caller, what it was heard to say and was sent, and how it ended
@@ -67,3 +67,7 @@ pub record IsHistoryOf (gives : ℕ → Type 0) (id : SessionId) (opening : Plai
 -- what each was sent is what the log serves it
 abbrev pub AreServed : {L : Type 0} → List Entry → List (ServedConnection L) → Type 0
 AreServed log connections = AllByRecursion (λ one. IsTalkServed log one.heard one.sent) connections
+
+-- each TICK that one was sent is at most this time
+abbrev pub AreToldWithin : {L : Type 0} → ℕ → List (ServedConnection L) → Type 0
+AreToldWithin horizon connections = AllByRecursion (λ one. IsToldWithin horizon one.sent) connections

@@ -1,4 +1,5 @@
 pub mod Opening
+pub mod Keeping
 pub mod Connections
 pub mod Passes
 pub mod Rounds

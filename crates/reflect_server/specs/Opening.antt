@@ -7,7 +7,7 @@ use Rattle.reflector_core.specs.PlainSession.{PlainSession}
 use Rattle.reflector_core.specs.Stored.{IsNextHere}
 use Rattle.reflector_core.specs.declared.request.Request.TheVariants.{Leave}
 use Rattle.session_lock.specs.declared.knowledge.Item.{Item}
-use Rattle.session_lock.specs.declared.knowledge.Item.TheVariants.{Did, Void}
+use Rattle.session_lock.specs.declared.knowledge.Item.TheVariants.{Did, Void, Unkept}
 use Rattle.session_lock.specs.History.{calls_of, has}
 use Rattle.session_lock.specs.Passes.{PassState, caller, own_calls}
 
@@ -74,3 +74,22 @@ pub record HasOpened (gives : ℕ → Type 0) (opening : PlainSession) (pass : P
   pub views : List (ℕ × ℕ)
   pub here : AreHere opening.log views
   pub made : AreLeavesOf gives (caller pass) views (own_calls pass)
+
+-- the pass's own caller has made a Leave that was not kept
+abbrev pub HasMadeUnkept : PassState → PassState → Type 0
+HasMadeUnkept before after = own_calls after ≡ own_calls before ++ Unkept (caller before) ∷ []
+
+-- The items are the Leaves of some of the views, in order, and that of the next one, which was not kept.
+pub record StopsAtLeave (gives : ℕ → Type 0) (opener : ℕ) (views : List (ℕ × ℕ)) (items : List Item) : Type 0 where
+  pub made : List (ℕ × ℕ)
+  pub next : ℕ × ℕ
+  pub left : List (ℕ × ℕ)
+  pub views_are : views ≡ made ++ next ∷ left
+  pub leaves : List Item
+  pub each : AreLeavesOf gives opener made leaves
+  pub items_are : items ≡ leaves ++ Unkept opener ∷ []
+
+-- a pass has made these
+abbrev pub HasStopped : (ℕ → Type 0) → List (ℕ × ℕ) → PassState → PassState → Type 0
+HasStopped gives views before after =
+    (items : List Item) × StopsAtLeave gives (caller before) views items × (own_calls after ≡ own_calls before ++ items)

@@ -27,7 +27,7 @@ pub record HasNotCalled (table : TableId) (began : PlainSession) (seen : List It
 
 -- the same of a pass that was split off this one
 abbrev pub IsFresh : PassState → PassState → Type 0
-IsFresh keeper pass = HasNotCalled keeper.session keeper.opening keeper.seen pass
+IsFresh lead pass = HasNotCalled lead.session lead.opening lead.seen pass
 
 -- A pass that was only added to since: its own caller has made no more calls, and none of its other callers has made one.
 pub record Keeps (before pass : PassState) : Type 0 where

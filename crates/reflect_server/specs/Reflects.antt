@@ -1,5 +1,6 @@
 -- What a reflector answers, and what it has done to its net by then.
-use Rattle.std.specs.Prelude.{◌≡◌, ◌⊎◌, ℕ, ◌≤◌, ◌<◌, Bool, true, false, List, [], ◌++◌, ◌+◌, length, All, vec_len, vec_capacity, Option, Some, None, Result, Ok, Err}
+use Rattle.std.specs.Prelude.{◌≡◌, ◌⊎◌, ℕ, ◌≤◌, ◌<◌, Bool, true, false, List, [], ◌++◌, length, vec_capacity, Option, Some, None, Result, Ok, Err}
+use Rattle.std.specs.List.{AllByRecursion}
 use Rattle.tea_base.specs.declared.entry.SessionId.{SessionId}
 use Rattle.tea_io.specs.Told.{with_more, Rose}
 use Rattle.tea_io.specs.declared.net.NetCall.{NetCall}
@@ -8,22 +9,29 @@ use Rattle.tea_io.specs.declared.net.NetFault.{NetFault}
 use Rattle.tea_io.specs.declared.net.NetFault.TheVariants.{Failed}
 use Rattle.tea_io.specs.declared.net.NetFault.TheVariants as fault
 use Rattle.connection.specs.declared.ending.Ended.{Ended}
+use Rattle.connection.specs.declared.ending.Ended.TheVariants as ended
 use Rattle.reflector_core.specs.SessionState.{SessionState}
 use Rattle.reflector_core.specs.PlainSession.{PlainSession}
 use Rattle.reflector_core.specs.Play.{replies_from, TellsItsEvents}
 use Rattle.session_lock.specs.declared.knowledge.Item.{Item}
+use Rattle.session_lock.specs.Numbers.{count_of}
 use Rattle.session_lock.specs.Passes.{numbers_held}
 use Rattle.session_lock.specs.Rules.{all_numbers}
 use Rattle.session_lock.specs.History.{play_from, history_requests, IsSoundThrough}
 use Rattle.reflect_server.specs.declared.reflection.Reflected.{Reflected}
 use Rattle.reflect_server.specs.declared.reflection.ServeFault.{ServeFault}
 use Rattle.reflect_server.specs.declared.reflection.ServeFault.TheVariants.{ListenFault, WantOfMemory}
+use Rattle.reflect_server.specs.declared.reflection.KeptFault.{KeptFault}
+use Rattle.reflect_server.specs.declared.reflection.KeptFault.TheVariants as kept_fault
+use Rattle.reflector_core.specs.declared.keeper.CallFault.{CallFault}
+use Rattle.reflector_core.specs.declared.keeper.CallFault.TheVariants as call_fault
 use Rattle.reflect_server.specs.Opening.{HasOpened}
-use Rattle.reflect_server.specs.Connections.{ServedConnection, IsHistoryOf, AreServed, accepted_links, returned_links, ends_of, callers_of}
-use Rattle.reflect_server.specs.Views.{StaysByVoid}
+use Rattle.reflect_server.specs.Keeping.{KeeperTells, HasOnlyOpened, HasNotOpened, HasOpenedAtMost, no_keeper}
+use Rattle.reflect_server.specs.Connections.{ServedConnection, IsHistoryOf, AreServed, AreToldWithin, accepted_links, returned_links, ends_of, callers_of}
+use Rattle.reflect_server.specs.Views.{StaysByMiss}
 use Rattle.reflect_server.specs.Rounds.{TakesAll, accepts, accepts_more, with_links}
-use Rattle.reflect_server.specs.Passes.{IsFresh, Keeps}
 use Rattle.reflect_server.specs.declared.reflecting.Prepared.{Prepared}
+use Rattle.reflect_server.specs.declared.reflecting.Rooms.{Rooms}
 
 -- the links that the net gave were all given back, in the order in which they were accepted
 pub record ReturnsLinks {N L : Type 0} (tells : NetTells N L) (links : LinksTell L) (before now : N) (connections : List (ServedConnection L)) : Type 0 where
@@ -54,8 +62,12 @@ pub record Plays (opening : PlainSession) (history : List Item) (session : Plain
   pub sound : IsSoundThrough opening history
   pub events : TellsItsEvents opening.log (history_requests history) (replies_from opening (history_requests history)) session.log
 
+-- a connection ended as Unkept only where a call of the keeper has failed
+abbrev pub EndUnkeptIf : {L : Type 0} → Type 0 → List (ServedConnection L) → Type 0
+EndUnkeptIf failed connections = AllByRecursion (λ one. one.ended ≡ ended.Unkept → failed) connections
+
 -- what was reflected, behind these first calls of the net
-pub record HasReflected (gives : ℕ → Type 0) (id : SessionId) (opening : PlainSession) {N L : Type 0} (tells : NetTells N L) (links : LinksTell L) (calls : List NetCall) (count : ℕ) (before now : N) (reflected : Reflected) : Type 0 where
+pub record HasReflected (gives : ℕ → Type 0) (id : SessionId) (opening : PlainSession) (kept : KeeperTells) {N L : Type 0} (tells : NetTells N L) (links : LinksTell L) (calls : List NetCall) (count : ℕ) (before now : N) (reflected : Reflected) : Type 0 where
   pub connections : List (ServedConnection L)
   pub history : List Item
   pub net : ReturnsLinks tells links before now connections
@@ -67,13 +79,17 @@ pub record HasReflected (gives : ℕ → Type 0) (id : SessionId) (opening : Pla
   pub talks : IsHistoryOf gives id opening links connections opener history
   pub session : Plays opening history reflected.session.plain
   pub served : AreServed reflected.session.plain.log connections
-  pub stays : StaysByVoid opening opener (callers_of connections) history reflected.session.plain.log
+  pub ticks : AreToldWithin reflected.session.plain.horizon connections
+  pub stays : StaysByMiss opening opener (callers_of connections) history reflected.session.plain.log
+  pub keeps : kept.keeps history
+  pub unkept : EndUnkeptIf kept.failed connections
 
--- the net did not listen
-pub record HasNotListened {N L : Type 0} (tells : NetTells N L) (links : LinksTell L) (calls : List NetCall) (before now : N) : Type 0 where
+-- the net did not listen, and the session was opened and no more
+pub record HasNotListened (gives : ℕ → Type 0) (opening : PlainSession) (kept : KeeperTells) {N L : Type 0} (tells : NetTells N L) (links : LinksTell L) (calls : List NetCall) (before now : N) : Type 0 where
   pub net : ReturnsLinks tells links before now []
   pub asked : tells.asked now ≡ with_more (tells.asked before) calls
   pub faults : Rose (tells.faults before) (tells.faults now)
+  pub opened : HasOnlyOpened gives opening kept
 
 -- What the net was asked before memory ran out. Either nothing, and no link was accepted; or these calls, an accept for each link, and perhaps
 -- one more.
@@ -82,46 +98,77 @@ AsksUntilWant before now calls links =
     ((links ≡ []) × (now ≡ before)) ⊎ ((now ≡ with_more before (calls ++ accepts links)) ⊎ (now ≡ with_more before (calls ++ accepts_more links)))
 
 -- links were served to their ends, with their talks in one history
-pub record HasServed (gives : ℕ → Type 0) (id : SessionId) (opening : PlainSession) {L : Type 0} (links : LinksTell L) (connections : List (ServedConnection L)) : Type 0 where
+pub record HasServed (gives : ℕ → Type 0) (id : SessionId) (opening : PlainSession) (kept : KeeperTells) {L : Type 0} (links : LinksTell L) (connections : List (ServedConnection L)) : Type 0 where
   pub history : List Item
   pub opener : ℕ
   pub talks : IsHistoryOf gives id opening links connections opener history
   pub sound : IsSoundThrough opening history
   pub served : AreServed (play_from opening history).log connections
+  pub ticks : AreToldWithin (play_from opening history).horizon connections
+  pub keeps : kept.keeps history
+  pub unkept : EndUnkeptIf kept.failed connections
 
 -- No memory was found. Those links that were accepted, fewer than there were to be, were served to their ends, and given back.
-pub record HasWanted (gives : ℕ → Type 0) (id : SessionId) (opening : PlainSession) {N L : Type 0} (tells : NetTells N L) (links : LinksTell L) (calls : List NetCall) (count : ℕ) (before now : N) : Type 0 where
+pub record HasWanted (gives : ℕ → Type 0) (id : SessionId) (opening : PlainSession) (kept : KeeperTells) {N L : Type 0} (tells : NetTells N L) (links : LinksTell L) (calls : List NetCall) (count : ℕ) (before now : N) : Type 0 where
   pub connections : List (ServedConnection L)
   pub net : ReturnsLinks tells links before now connections
   pub asked : AsksUntilWant (tells.asked before) (tells.asked now) calls (accepted_links connections)
   pub number : length connections < count
-  pub served : (connections ≡ []) ⊎ HasServed gives id opening links connections
+  pub served : ((connections ≡ []) × HasOpenedAtMost gives opening kept) ⊎ HasServed gives id opening kept links connections
   pub faults : tells.faults before ≤ tells.faults now
 
+-- what comes of a session that has a keeper
+abbrev pub ReflectsKept
+    : (ℕ → Type 0) → SessionId → PlainSession → KeeperTells → {N L : Type 0} → NetTells N L → LinksTell L → List NetCall → ℕ → N → N → Result Reflected KeptFault → Type 0
+ReflectsKept gives id opening kept tells links calls count before now (Ok reflected) = HasReflected gives id opening kept tells links calls count before now reflected
+ReflectsKept gives id opening kept tells links calls count before now (Err kept_fault.ListenFault) = HasNotListened gives opening kept tells links calls before now
+ReflectsKept gives id opening kept tells links calls count before now (Err kept_fault.WantOfMemory) = HasWanted gives id opening kept tells links calls count before now
+ReflectsKept gives id opening kept tells links calls count before now (Err kept_fault.Unkept) = (now ≡ before) × HasNotOpened gives opening kept
+
+-- what comes of one that has none
 abbrev pub Reflects
     : (ℕ → Type 0) → SessionId → PlainSession → {N L : Type 0} → NetTells N L → LinksTell L → List NetCall → ℕ → N → N → Result Reflected ServeFault → Type 0
-Reflects gives id opening tells links calls count before now (Ok reflected) = HasReflected gives id opening tells links calls count before now reflected
-Reflects gives id opening tells links calls count before now (Err ListenFault) = HasNotListened tells links calls before now
-Reflects gives id opening tells links calls count before now (Err WantOfMemory) = HasWanted gives id opening tells links calls count before now
+Reflects gives id opening tells links calls count before now (Ok reflected) = HasReflected gives id opening no_keeper tells links calls count before now reflected
+Reflects gives id opening tells links calls count before now (Err ListenFault) = HasNotListened gives opening no_keeper tells links calls before now
+Reflects gives id opening tells links calls count before now (Err WantOfMemory) = HasWanted gives id opening no_keeper tells links calls count before now
 
 -- what is answered, by what stopped the net
-abbrev pub answer_for : SessionState → List Ended → Option NetFault → Result Reflected ServeFault
+abbrev pub answer_for : SessionState → List Ended → Option NetFault → Result Reflected KeptFault
 answer_for session ends None = Ok (record { session = session; ends = ends; net_failed = false })
 answer_for session ends (Some Failed) = Ok (record { session = session; ends = ends; net_failed = true })
-answer_for session ends (Some fault.WantOfMemory) = Err WantOfMemory
+answer_for session ends (Some fault.WantOfMemory) = Err kept_fault.WantOfMemory
+
+-- by why the net did not listen
+abbrev pub unheard : NetFault → KeptFault
+unheard Failed = kept_fault.ListenFault
+unheard fault.WantOfMemory = kept_fault.WantOfMemory
+
+-- by why the session was not opened
+abbrev pub unopened_fault : CallFault → KeptFault
+unopened_fault call_fault.WantOfMemory = kept_fault.WantOfMemory
+unopened_fault call_fault.Unkept = kept_fault.Unkept
+
+-- the answer of one without a keeper as that of one with a keeper
+abbrev pub with_kept_fault : Result Reflected ServeFault → Result Reflected KeptFault
+with_kept_fault (Ok reflected) = Ok reflected
+with_kept_fault (Err ListenFault) = Err kept_fault.ListenFault
+with_kept_fault (Err WantOfMemory) = Err kept_fault.WantOfMemory
 
 -- ---- what is made before
 
--- The first pass and one for each connection, which hold all numbers, and room for what comes back. The first pass has opened the session, and
--- the others were split off it then.
-pub record IsPrepared (gives : ℕ → Type 0) {L : Type 0} (count : ℕ) (prepared : Prepared L) : Type 0 where
-  pub session : prepared.keeper.session ≡ prepared.shared.session
-  pub opened : HasOpened gives prepared.keeper.opening prepared.keeper
-  pub keeper : Keeps prepared.keeper prepared.keeper
-  pub passes : All (IsFresh prepared.keeper) prepared.passes.items
-  pub number : vec_len prepared.passes ≡ count
-  pub numbers : numbers_held prepared.keeper + count ≡ all_numbers
-  pub none_served : prepared.served.items ≡ []
-  pub room_for_links : count ≤ vec_capacity prepared.served
-  pub none_ended : prepared.ends.items ≡ []
-  pub room_for_ends : count ≤ vec_capacity prepared.ends
+-- nothing is in them, and there is room for so many passes, links and ends
+pub record HasRooms {L K : Type 0} (count : ℕ) (rooms : Rooms L K) : Type 0 where
+  pub none_split : rooms.passes.items ≡ []
+  pub room_for_passes : count ≤ vec_capacity rooms.passes
+  pub none_served : rooms.served.items ≡ []
+  pub room_for_links : count ≤ vec_capacity rooms.served
+  pub none_ended : rooms.ends.items ≡ []
+  pub room_for_ends : count ≤ vec_capacity rooms.ends
+
+-- The lead pass, which holds all numbers and has opened the session, and room for what comes.
+pub record IsPrepared (gives : ℕ → Type 0) {L K : Type 0} (count : ℕ) (prepared : Prepared L K) : Type 0 where
+  pub session : prepared.lead.session ≡ prepared.shared.session
+  pub opened : HasOpened gives prepared.lead.opening prepared.lead
+  pub numbers : numbers_held prepared.lead ≡ all_numbers
+  pub spare : count ≤ count_of prepared.lead.spare
+  pub rooms : HasRooms count prepared.rooms

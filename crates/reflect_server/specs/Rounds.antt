@@ -88,10 +88,10 @@ links_of served = map (λ one. one.link) (reverse served)
 abbrev pub ended_of : {L : Type 0} → List (ServedLink L) → List Ended
 ended_of served = map (λ one. one.ended) (reverse served)
 
--- What comes of accepting so many links: those that were accepted, in order, each served to its end. Their passes are in the one that is kept.
-pub record GoesRound (gives : ℕ → Type 0) (id : SessionId) {N L : Type 0} (tells : NetTells N L) (links : LinksTell L) (count : ℕ) (before now : Round N L) : Type 0 where
+-- What comes of accepting so many links: those that were accepted, in order, each served to its end. Their passes are in the lead pass.
+pub record GoesRound (gives : ℕ → Type 0) (id : SessionId) {N L K : Type 0} (tells : NetTells N L) (links : LinksTell L) (count : ℕ) (before now : Round N L K) : Type 0 where
   pub connections : List (ServedConnection L)
   pub net : Accepts tells before.net now.net (accepted_links connections) now.stopped
-  pub passes : Gathers gives id links before.keeper count connections now.keeper
+  pub passes : Gathers gives id links before.lead count connections now.lead
   pub served : now.served.items ≡ served_back connections
   pub number : CountsLinks (length connections) count now.stopped

@@ -38,12 +38,12 @@ holds_on view joined held (exchange ∷ rest) = holds_on view joined (opens_view
 abbrev pub holds : ℕ → ℕ → List Exchange → Bool
 holds view joined asked = holds_on view joined false asked
 
--- the caller made a call that found no memory or was not kept
-abbrev pub has_void : ℕ → List Item → Bool
-has_void caller [] = false
-has_void caller (Did who request ∷ rest) = has_void caller rest
-has_void caller (Void who ∷ rest) = eqb who caller || has_void caller rest
-has_void caller (Unkept who ∷ rest) = eqb who caller || has_void caller rest
+-- the caller made a call that has no answer: it found no memory, or was not kept
+abbrev pub has_miss : ℕ → List Item → Bool
+has_miss caller [] = false
+has_miss caller (Did who request ∷ rest) = has_miss caller rest
+has_miss caller (Void who ∷ rest) = eqb who caller || has_miss caller rest
+has_miss caller (Unkept who ∷ rest) = eqb who caller || has_miss caller rest
 
 -- the caller holds the view by this Join after its exchanges; the views of the opening session are the opener's at first
 abbrev pub opens_with : PlainSession → ℕ → ℕ → ℕ → ℕ → Bool
@@ -54,8 +54,8 @@ abbrev pub holds_in : PlainSession → ℕ → List Item → ℕ → ℕ → ℕ
 holds_in opening opener history caller view joined =
     holds_on view joined (opens_with opening opener caller view joined) (exchanges_in opening history caller)
 
--- a view that is here is held by one of the callers, by its last Join, and this caller once found no memory
-abbrev pub StaysByVoid : PlainSession → ℕ → List ℕ → List Item → List Entry → Type 0
-StaysByVoid opening opener callers history log =
+-- a view that is here is held by one of the callers, by its last Join, and a call of this caller has no answer
+abbrev pub StaysByMiss : PlainSession → ℕ → List ℕ → List Item → List Entry → Type 0
+StaysByMiss opening opener callers history log =
     (view : ℕ) → is_here log view ≡ true
-    → (caller : ℕ) × (has caller (opener ∷ callers) ≡ true) × (holds_in opening opener history caller view (current log view) ≡ true) × (has_void caller history ≡ true)
+    → (caller : ℕ) × (has caller (opener ∷ callers) ≡ true) × (holds_in opening opener history caller view (current log view) ≡ true) × (has_miss caller history ≡ true)

@@ -12,6 +12,7 @@ use crate::opening::LaterClock;
 use crate::passes::merge_all;
 use crate::reflection::Server;
 use connection::{Ended, serve_connection};
+use reflector_core::Keeper;
 use session_lock::{Pass, SharedSession, TrustAll};
 use std::alloc::Global;
 use std::sync::Wait;
@@ -25,32 +26,32 @@ pub struct ServedLink<L: Link + Drop> {
     pub ended: Ended,
 }
 
-/// A net with what was done by it so far: the pass that is kept, the links that were served, the last one first, and what stopped it.
+/// A net with what was done by it so far: the lead pass, the links that were served, the last one first, and what stopped it.
 #[derive(Drop)]
-pub struct Round<N: Drop, L: Link + Drop> {
+pub struct Round<N: Drop, L: Link + Drop, K: Keeper> {
     pub net: N,
-    pub keeper: Pass,
+    pub lead: Pass<K>,
     pub served: Vec<ServedLink<L>>,
     pub stopped: Option<NetFault>,
 }
 
 /// What each thread is given. It asks at the times of the server's clock plus `since`.
 #[derive(Drop)]
-pub struct Post<'a, C: Clock, G: Gate, R: Wait> {
+pub struct Post<'a, C: Clock, G: Gate, R: Wait, K: Keeper> {
     pub rt: &'a R,
     pub alloc: Global,
-    pub shared: &'a SharedSession<TrustAll>,
+    pub shared: &'a SharedSession<TrustAll, K>,
     pub server: &'a Server<'a, C, G>,
     pub since: u64,
 }
 
 /// Serves one link, once the gate is passed.
-fn serve_one<L: Link + Drop, C: Clock, G: Gate, R: Wait>(
-    post: &Post<'_, C, G, R>,
-    mut pass: Pass,
+fn serve_one<L: Link + Drop, C: Clock, G: Gate, R: Wait, K: Keeper>(
+    post: &Post<'_, C, G, R, K>,
+    mut pass: Pass<K>,
     mut link: L,
     worker: u32,
-) -> (Pass, ServedLink<L>)
+) -> (Pass<K>, ServedLink<L>)
     requires session { pass.session ≡ post.now.shared.now.session }
     requires fresh { calls_of (caller pass ∷ []) pass.seen ≡ [] }
     ensures { Serves (gives_later (C.gives post.now.server.now.clock.now) post.now.since) post.now.server.now.id (links_tell L.coming L.heard L.sent L.counts) pass link result.0 result.1 }
@@ -74,55 +75,61 @@ fn serve_one<L: Link + Drop, C: Clock, G: Gate, R: Wait>(
 }
 
 /// One more link was served, before those that the round has.
-fn with_one<N: Drop, L: Link + Drop>(
-    shared: &SharedSession<TrustAll>,
-    mut round: Round<N, L>,
-    pass: Pass,
+fn with_one<N: Drop, L: Link + Drop, K: Keeper>(
+    shared: &SharedSession<TrustAll, K>,
+    mut round: Round<N, L, K>,
+    pass: Pass<K>,
     one: ServedLink<L>,
-) -> Round<N, L>
-    requires keeper { round.keeper.session ≡ shared.now.session }
+) -> Round<N, L, K>
+    requires lead { round.lead.session ≡ shared.now.session }
     requires pass { pass.session ≡ shared.now.session }
     requires room { vec_len round.served < vec_capacity round.served }
-    ensures merged { Merged round.keeper pass result.keeper }
-    ensures numbers { numbers_held result.keeper ≡ numbers_held round.keeper + numbers_held pass }
+    ensures merged { Merged round.lead pass result.lead }
+    ensures numbers { numbers_held result.lead ≡ numbers_held round.lead + numbers_held pass }
     ensures served { result.served.items ≡ round.served.items ++ one ∷ [] }
     ensures room { vec_capacity result.served ≡ vec_capacity round.served }
     ensures rest { (result.net ≡ round.net) × (result.stopped ≡ round.stopped) }
 {
-    shared.merge(&mut round.keeper, pass);
+    shared.merge(&mut round.lead, pass);
     round.served.push_reserved(one);
     round
 }
 
 /// Nothing more is accepted.
-fn stop<N: Drop, L: Link + Drop>(
-    shared: &SharedSession<TrustAll>,
-    mut round: Round<N, L>,
-    passes: Vec<Pass>,
+fn stop<N: Drop, L: Link + Drop, K: Keeper>(
+    shared: &SharedSession<TrustAll, K>,
+    mut round: Round<N, L, K>,
+    passes: Vec<Pass<K>>,
     fault: NetFault,
-) -> Round<N, L>
-    requires session { round.keeper.session ≡ shared.now.session }
-    requires keeper { Keeps round.keeper round.keeper }
-    requires passes { All (IsFresh round.keeper) passes.items }
-    ensures keeper { Keeps round.keeper result.keeper }
-    ensures numbers { numbers_held result.keeper ≡ numbers_held round.keeper + vec_len passes }
+) -> Round<N, L, K>
+    requires session { round.lead.session ≡ shared.now.session }
+    requires lead { Keeps round.lead round.lead }
+    requires passes { All (IsFresh round.lead) passes.items }
+    ensures lead { Keeps round.lead result.lead }
+    ensures numbers { numbers_held result.lead ≡ numbers_held round.lead + vec_len passes }
     ensures rest { (result.net ≡ round.net) × (result.served ≡ round.served) × (result.stopped ≡ Some fault) }
 {
-    round.keeper = merge_all(shared, round.keeper, passes);
+    round.lead = merge_all(shared, round.lead, passes);
     round.stopped = Some(fault);
     round
 }
 
 /// Accepts one link after the other, one for each pass, and serves each beside the rest.
-pub fn accept_all<N: Net + Drop, C: Clock + Sync, G: Gate + Sync, R: Threads + Wait + Sync>(
-    post: &Post<'_, C, G, R>,
-    mut round: Round<N, N::Conn>,
-    mut passes: Vec<Pass>,
+pub fn accept_all<
+    N: Net + Drop,
+    C: Clock + Sync,
+    G: Gate + Sync,
+    R: Threads + Wait + Sync,
+    K: Keeper + Send,
+>(
+    post: &Post<'_, C, G, R, K>,
+    mut round: Round<N, N::Conn, K>,
+    mut passes: Vec<Pass<K>>,
     worker: u32,
-) -> Round<N, N::Conn>
-    requires session { round.keeper.session ≡ post.now.shared.now.session }
-    requires keeper { Keeps round.keeper round.keeper }
-    requires passes { All (IsFresh round.keeper) passes.items }
+) -> Round<N, N::Conn, K>
+    requires session { round.lead.session ≡ post.now.shared.now.session }
+    requires lead { Keeps round.lead round.lead }
+    requires passes { All (IsFresh round.lead) passes.items }
     requires few { vec_len passes + worker < 2 ^ 32 }
     requires room { vec_len passes ≤ vec_capacity round.served }
     requires begins { (round.served.items ≡ []) × (round.stopped ≡ None) }
@@ -143,12 +150,12 @@ pub fn accept_all<N: Net + Drop, C: Clock + Sync, G: Gate + Sync, R: Threads + W
     };
     let ((pass, one), round) = join(
         post.rt,
-        || -> (Pass, ServedLink<N::Conn>)
+        || -> (Pass<K>, ServedLink<N::Conn>)
             requires { IsSync R.row × (pass.session ≡ post.now.shared.now.session) × (calls_of (caller pass ∷ []) pass.seen ≡ []) }
             ensures { Serves (gives_later (C.gives post.entry.now.server.now.clock.now) post.entry.now.since) post.entry.now.server.now.id (links_tell N.Conn.coming N.Conn.heard N.Conn.sent N.Conn.counts) pass link result.0 result.1 }
         { serve_one(post, pass, link, worker) },
-        || -> Round<N, N::Conn>
-            requires { IsSync R.row × (round.keeper.session ≡ post.now.shared.now.session) × Keeps round.keeper round.keeper × All (IsFresh round.keeper) passes.items
+        || -> Round<N, N::Conn, K>
+            requires { IsSync R.row × (round.lead.session ≡ post.now.shared.now.session) × Keeps round.lead round.lead × All (IsFresh round.lead) passes.items
                 × (vec_len passes + worker + 1 < 2 ^ 32) × (vec_len passes ≤ vec_capacity round.served) × (round.served.items ≡ []) × (round.stopped ≡ None) }
             ensures room { vec_capacity result.served ≡ vec_capacity round.served }
             ensures round { GoesRound (gives_later (C.gives post.entry.now.server.now.clock.now) post.entry.now.since) post.entry.now.server.now.id

@@ -1,6 +1,7 @@
 //! A reflector: it accepts links from a net, serves each in a thread beside the rest, and gives back the session.
 //!
-//! [`reflect`] says what comes of it: one history, in which each link that was accepted has its talk.
+//! [`reflect_kept`] says what comes of it: one history, in which each link that was accepted has its talk, and whose play the session's keeper
+//! holds. [`reflect`] is for a session without a keeper.
 #![tactic(auto)]
 
 mod accepting;
@@ -11,5 +12,5 @@ mod reflecting;
 mod reflection;
 
 pub use laws::those_here;
-pub use reflecting::reflect;
-pub use reflection::{Ends, Reflected, ServeFault, Server};
+pub use reflecting::{reflect, reflect_kept};
+pub use reflection::{Ends, KeptFault, Opening, Reflected, ServeFault, Server};

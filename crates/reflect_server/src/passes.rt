@@ -1,45 +1,50 @@
 //! The passes of a session that connections are served by.
-ghost use Rattle.std.specs.Prelude.{◌≡◌, ◌+◌, ◌≤◌, All, IfOk, vec_len};
+ghost use Rattle.std.specs.Prelude.{◌≡◌, ◌+◌, ◌≤◌, [], All, vec_len, vec_capacity};
 ghost use Rattle.session_lock.specs.Numbers.{count_of};
 ghost use Rattle.session_lock.specs.Passes.{numbers_held};
 ghost use Rattle.reflect_server.specs.Passes.{IsFresh, Keeps};
 
+use reflector_core::Keeper;
 use session_lock::{Pass, SharedSession, TrustAll};
-use std::alloc::Global;
-use tea_base::{WantOfMemory, push};
 
-/// So many passes, split off the one that is kept.
-pub fn split_all(
-    alloc: Global,
-    shared: &SharedSession<TrustAll>,
-    keeper: &mut Pass,
+/// So many passes, split off the lead pass. There is room for them.
+pub fn split_all<K: Keeper>(
+    shared: &SharedSession<TrustAll, K>,
+    lead: &mut Pass<K>,
+    mut passes: Vec<Pass<K>>,
     count: u32,
-) -> Result<Vec<Pass>, WantOfMemory>
-    requires session { keeper.old.session ≡ shared.now.session }
-    requires enough { count ≤ count_of keeper.old.spare }
-    ensures keeper { keeper.new ≡ record keeper.old { spare = keeper.new.spare } }
-    ensures passes { IfOk result (λ passes. All (IsFresh keeper.old) passes.items) }
-    ensures count { IfOk result (λ passes. vec_len passes ≡ count) }
-    ensures numbers { IfOk result (λ passes. numbers_held keeper.new + count ≡ numbers_held keeper.old) }
+) -> Vec<Pass<K>>
+    requires session { lead.old.session ≡ shared.now.session }
+    requires enough { count ≤ count_of lead.old.spare }
+    requires room { (passes.items ≡ []) × (count ≤ vec_capacity passes) }
+    ensures lead { lead.new ≡ record lead.old { spare = lead.new.spare } }
+    ensures passes { All (IsFresh lead.old) result.items }
+    ensures count { vec_len result ≡ count }
+    ensures numbers { numbers_held lead.new + count ≡ numbers_held lead.old }
 {
-    let mut passes = Vec::new(alloc);
     for _made in 0..count {
-        let pass = shared.split(keeper, 0)?;
-        push(&mut passes, pass)?;
+        let Ok(pass) = shared.split(lead, 0) else {
+            unreachable!()
+        };
+        passes.push_reserved(pass);
     }
-    Ok(passes)
+    passes
 }
 
-/// Merges passes that have served no link into the one that is kept.
-pub fn merge_all(shared: &SharedSession<TrustAll>, mut keeper: Pass, mut passes: Vec<Pass>) -> Pass
-    requires session { keeper.session ≡ shared.now.session }
-    requires keeper { Keeps keeper keeper }
-    requires passes { All (IsFresh keeper) passes.items }
-    ensures keeper { Keeps keeper result }
-    ensures numbers { numbers_held result ≡ numbers_held keeper + vec_len passes }
+/// Merges passes that have served no link into the lead pass.
+pub fn merge_all<K: Keeper>(
+    shared: &SharedSession<TrustAll, K>,
+    mut lead: Pass<K>,
+    mut passes: Vec<Pass<K>>,
+) -> Pass<K>
+    requires session { lead.session ≡ shared.now.session }
+    requires lead { Keeps lead lead }
+    requires passes { All (IsFresh lead) passes.items }
+    ensures lead { Keeps lead result }
+    ensures numbers { numbers_held result ≡ numbers_held lead + vec_len passes }
 {
     while let Some(pass) = passes.pop() {
-        shared.merge(&mut keeper, pass);
+        shared.merge(&mut lead, pass);
     }
-    keeper
+    lead
 }

@@ -1,6 +1,6 @@
 //! What a reflector is to serve, and what comes of it.
 use connection::Ended;
-use reflector_core::Session;
+use reflector_core::{Keeper, Session};
 use tea_base::{List, SessionId, Text};
 use tea_io::{Clock, Gate};
 
@@ -26,10 +26,27 @@ pub struct Reflected {
     pub net_failed: bool,
 }
 
+/// A session that is to be reflected, and its keeper.
+#[derive(Drop)]
+pub struct Opening<K: Keeper> {
+    pub session: Session,
+    pub keeper: K,
+}
+
 /// Why nothing was reflected.
 #[derive(Clone, Copy, Debug, PartialEq, Eq)]
 pub enum ServeFault {
     /// The net failed to listen. No link was accepted.
     ListenFault,
     WantOfMemory,
+}
+
+/// Why nothing was reflected of a session that has a keeper.
+#[derive(Clone, Copy, Debug, PartialEq, Eq)]
+pub enum KeptFault {
+    /// The net failed to listen. No link was accepted.
+    ListenFault,
+    WantOfMemory,
+    /// An opening Leave was not kept. The net was asked nothing.
+    Unkept,
 }

@@ -176,7 +176,7 @@ header_again id rest =
     rw marked (bytes_again id rest)
 
 -- what comes after the header is read so
-after_header : (id rest : List ℕ) (to : Place PlainStored) → read_records (first_check id) rest ≡ to → read_journal id (header id ++ rest) ≡ Goes to
+pub after_header : (id rest : List ℕ) (to : Place PlainStored) → read_records (first_check id) rest ≡ to → read_journal id (header id ++ rest) ≡ Goes to
 unfolding read_journal
 after_header id rest to e =
     let same : bytes_eq id id ≡ true = (bytes_eq-Decides id id).1 refl in

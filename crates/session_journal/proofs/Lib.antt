@@ -6,3 +6,4 @@ pub mod StoredLaws
 pub mod ReadingLaws
 pub mod HeadLaws
 pub mod KeeperLaws
+mod FoundingLaws

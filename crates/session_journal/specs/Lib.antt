@@ -6,3 +6,4 @@ pub mod Lent
 pub mod Reading
 pub mod Heads
 pub mod Keeper
+pub mod Founding

@@ -7,6 +7,7 @@ ghost use Rattle.session_journal.specs.Frames.{Place};
 ghost use Rattle.session_journal.specs.State.{GoesOn, founded};
 ghost use Rattle.session_journal.specs.Journal.{header, read_journal, Goes, AreBytes, ReadsWhole, ReadsFirst, IsSpelled};
 ghost use Rattle.session_journal.specs.Keeper.{KeeperState, Keeps, GoesOnFrom, first_keeper};
+ghost use Rattle.session_journal.specs.Founding.{FoundsSession};
 
 /// A front of a journal reads as just the records that are whole in it.
 pub fn front_reads_whole_records()
@@ -38,4 +39,9 @@ pub fn an_end_loses_nothing()
 /// A store whose safe bytes are the header alone keeps the session that has just been founded.
 pub fn a_header_keeps_the_first_session()
     ensures { (id : List ℕ) → Keeps id (Some (header id)) (length (header id)) (first_keeper id) founded }
+{}
+
+/// What a journal is founded with is read as the session that it was made from.
+pub fn a_founding_is_read()
+    ensures { (id : List ℕ) (s : PlainStored) → IsStored s → FoundsSession id s }
 {}

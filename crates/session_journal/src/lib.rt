@@ -11,10 +11,11 @@ mod reading;
 mod records;
 
 pub use change::{Change, LentChange};
-pub use founding::header_of;
+pub use founding::{Draft, founding_of, header_of};
 pub use keeper::{Journal, KeepFault, MOST_JOURNAL, Unopened};
 pub use laws::{
-    a_header_keeps_the_first_session, an_end_loses_nothing, front_reads_whole_records,
-    own_records_are_read_first, what_is_read_is_spelled, what_is_read_may_be_opened,
+    a_founding_is_read, a_header_keeps_the_first_session, an_end_loses_nothing,
+    front_reads_whole_records, own_records_are_read_first, what_is_read_is_spelled,
+    what_is_read_may_be_opened,
 };
 pub use reading::{JournalFault, Read, read_journal, session_of};

@@ -57,7 +57,7 @@ module _ (Good : ℕ → List ℕ → Type 0) where
 
   abbrev pub IsGoodExchange : Exchange → Type 0
   IsGoodExchange (Answered asked given) = IsGoodRequest asked
-  IsGoodExchange Unanswered = Unit {0}
+  IsGoodExchange (Unanswered why) = Unit {0}
 
   -- the frame that is to be read, or the request that is to be made, is good
   abbrev IsGoodPhase : TalkPhase → Type 0
@@ -126,12 +126,12 @@ module _ (Good : ℕ → List ℕ → Type 0) where
   step_good id (Beginning bytes) (Reads now) good heard = (opened_good id (whole client_at bytes) now, tt)
   step_good id (Beginning bytes) Wants good heard = (tt, tt)
   step_good id (Joining asked) (MakesRequest given) good heard = (greeted_good (first_cursor (joined_view asked) given) (join_answer given), (good, tt))
-  step_good id (Joining asked) Misses good heard = (tt, (tt, tt))
+  step_good id (Joining asked) (Misses why) good heard = (tt, (tt, tt))
   step_good id (Ticking cursor quiets) (MakesAt now given) good heard = (tt, (tt, tt))
-  step_good id (Ticking cursor quiets) Misses good heard = (tt, (tt, tt))
+  step_good id (Ticking cursor quiets) (Misses why) good heard = (tt, (tt, tt))
   step_good id (Pulling cursor quiets) (MakesRequest given) good heard =
       (sending_good (next_frames cursor given) (Hearing (next_cursor cursor given) quiets) (Leaving cursor ended.LinkFault) (Leaving cursor ended.WantOfMemory) tt tt tt, (tt, tt))
-  step_good id (Pulling cursor quiets) Misses good heard = (tt, (tt, tt))
+  step_good id (Pulling cursor quiets) (Misses why) good heard = (tt, (tt, tt))
   step_good id (Hearing cursor quiets) (Hears (said.Frame bytes)) good heard = (heard, tt)
   step_good id (Hearing cursor quiets) (Hears said.Quiet) good heard = (if_good (quiets + 1 == most_quiets) (Leaving cursor (ended.Idle most_quiets)) (Ticking cursor (quiets + 1)) tt tt, tt)
   step_good id (Hearing cursor quiets) (Hears said.End) good heard = (tt, tt)
@@ -140,13 +140,13 @@ module _ (Good : ℕ → List ℕ → Type 0) where
   step_good id (Taking cursor bytes) (Reads now) good heard = (read_good cursor bytes (whole client_at bytes) now good refl, tt)
   step_good id (Taking cursor bytes) Wants good heard = (tt, tt)
   step_good id (Asking cursor asked) (MakesRequest given) good heard = (answered_good cursor (end_in given) (answer_frames (answer_frame asked given)), (good, tt))
-  step_good id (Asking cursor asked) Misses good heard = (tt, (tt, tt))
+  step_good id (Asking cursor asked) (Misses why) good heard = (tt, (tt, tt))
   step_good id (Sending frame frames next fails wants) Sends good heard = (sending_good frames next fails wants good.0 good.1 good.2, tt)
   step_good id (Sending frame frames next fails wants) Loses good heard = (good.1, tt)
   step_good id (Sending frame frames next fails wants) FailsToSend good heard = (good.1, tt)
   step_good id (Sending frame frames next fails wants) Wants good heard = (good.2, tt)
   step_good id (Leaving cursor how) (MakesAt now given) good heard = (tt, (tt, tt))
-  step_good id (Leaving cursor how) Misses good heard = (tt, (tt, tt))
+  step_good id (Leaving cursor how) (Misses why) good heard = (tt, (tt, tt))
   step_good id p event good heard = (tt, tt)
 
   -- the first event of those that were heard

@@ -27,6 +27,7 @@ use Rattle.join_sync.specs.Answers.{first_cursor, join_answer}
 use Rattle.join_sync.specs.Refusals.{early_code, refused_frame}
 use Rattle.join_sync.specs.Requests.{IsJoin, first_request}
 use Rattle.session_lock.specs.declared.knowledge.Item.{Item}
+use Rattle.reflector_core.specs.declared.keeper.CallFault.TheVariants as fault
 use Rattle.session_lock.specs.declared.knowledge.Item.TheVariants.{Did, Void, Unkept}
 use Rattle.session_lock.specs.History.{after_item, calls_of, play_from}
 use Rattle.system_plain.specs.Steps.{joined_view}
@@ -34,7 +35,7 @@ use Rattle.system_plain.proofs.AnswerFrames.{refused_form}
 use Rattle.replica_plain.specs.Following.{IsHonestBase}
 use Rattle.connection.specs.declared.ending.Ended.TheVariants as ended
 use Rattle.connection.specs.Exchanges.{Exchange, Answered, Unanswered, exchanges_from}
-use Rattle.connection.specs.Phases.{TalkPhase, Opening, Beginning, Joining, Ticking, Sending, Leaving, Over, Wrong, TalkEvent, Hears, Reads, MakesRequest, MakesAt, Misses, Sends, Loses, FailsToSend, Wants, code_in, entered_phase, greeted_phase, join_phase, opened_phase, refused_phase, talk_walk}
+use Rattle.connection.specs.Phases.{TalkPhase, Opening, Beginning, Joining, Ticking, Sending, Leaving, Over, Wrong, TalkEvent, Hears, Reads, MakesRequest, MakesAt, Misses, Sends, Loses, FailsToSend, Wants, code_in, ended_by, entered_phase, greeted_phase, join_phase, opened_phase, refused_phase, talk_walk}
 use Rattle.connection.proofs.Callers.{first_is_join}
 use Rattle.view_follows.specs.Links.{BeginsHonestly}
 use Rattle.view_follows.proofs.Stands.{RealWorlds}
@@ -74,7 +75,7 @@ SaysNothing other = ⊥
 silent : (id : SessionId) (p : TalkPhase) (events : List TalkEvent) → SaysNothing p → (talk_walk id p events).sent ≡ []
 silent id p [] says = refl
 silent id (Leaving cursor how) (MakesAt now given ∷ events) says = silent id (Over how) events tt
-silent id (Leaving cursor how) (Misses ∷ events) says = silent id (Over how) events tt
+silent id (Leaving cursor how) (Misses why ∷ events) says = silent id (Over how) events tt
 silent id (Leaving cursor how) (event ∷ events) says = silent id Wrong events tt
 silent id (Over how) (event ∷ events) says = silent id Wrong events tt
 silent id Wrong (event ∷ events) says = silent id Wrong events tt
@@ -117,7 +118,7 @@ greets id asked given more None None events join is = inl (no_sync _ (silent id 
 joining_opens : (id : SessionId) (asked : Request) (events : List TalkEvent) → IsJoin asked → let walked = talk_walk id (Joining asked) events in Opens walked.asked walked.sent
 joining_opens id asked [] join = inl tt
 joining_opens id asked (MakesRequest given ∷ events) join = greets id asked given (talk_walk id (join_phase asked given) events).asked (first_cursor (joined_view asked) given) (join_answer given) events join refl
-joining_opens id asked (Misses ∷ events) join = inl (no_sync _ (silent id (Over ended.WantOfMemory) events tt))
+joining_opens id asked (Misses why ∷ events) join = inl (no_sync _ (silent id (Over (ended_by why)) events tt))
 joining_opens id asked (event ∷ events) join = inl (no_sync _ (silent id Wrong events tt))
 
 entered_opens : (id : SessionId) (frame : ClientFrame) (now : ℕ) (r : Result Request Early) (events : List TalkEvent) → first_request frame id now ≡ r → let walked = talk_walk id (entered_phase frame r) events in Opens walked.asked walked.sent
@@ -185,14 +186,14 @@ did_calls false s who made items caller asked given more own is later =
     one_more s (Did who made) items caller asked given (eqb who caller) own (λ front. refl) (later is)
 
 void_calls : (own : Bool) (s : PlainSession) (who : ℕ) (items : List Item) (caller : ℕ) (asked : Request) (given : Reply) (more : List Exchange) → eqb who caller ≡ own
-    → (if own then Unanswered ∷ [] else []) ++ exchanges_from s caller items ≡ Answered asked given ∷ more
+    → (if own then Unanswered fault.WantOfMemory ∷ [] else []) ++ exchanges_from s caller items ≡ Answered asked given ∷ more
     → (exchanges_from s caller items ≡ Answered asked given ∷ more → FirstCall s items caller asked given) → FirstCall s (Void who ∷ items) caller asked given
 void_calls true s who items caller asked given more own is later = absurd (cc (is))
 void_calls false s who items caller asked given more own is later =
     one_more s (Void who) items caller asked given (eqb who caller) own (λ front. refl) (later is)
 
 unkept_calls : (own : Bool) (s : PlainSession) (who : ℕ) (items : List Item) (caller : ℕ) (asked : Request) (given : Reply) (more : List Exchange) → eqb who caller ≡ own
-    → (if own then Unanswered ∷ [] else []) ++ exchanges_from s caller items ≡ Answered asked given ∷ more
+    → (if own then Unanswered fault.Unkept ∷ [] else []) ++ exchanges_from s caller items ≡ Answered asked given ∷ more
     → (exchanges_from s caller items ≡ Answered asked given ∷ more → FirstCall s items caller asked given) → FirstCall s (Unkept who ∷ items) caller asked given
 unkept_calls true s who items caller asked given more own is later = absurd (cc (is))
 unkept_calls false s who items caller asked given more own is later =

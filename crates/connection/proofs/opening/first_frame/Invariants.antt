@@ -1,4 +1,6 @@
 use Rattle.session_lock.specs.Passes.{PassState}
+use Rattle.session_lock.specs.Keeping.{SomeShut}
+use Rattle.connection.specs.Exchanges.{IsMadeSo}
 use Rattle.connection.specs.Phases.{Opening, opening_row}
 use Rattle.connection.specs.Talk.{TalksOn, account, link_account}
 use Rattle.connection.proofs.opening.first_frame.Given as goal
@@ -6,5 +8,5 @@ use Rattle.connection.proofs.opening.first_frame.Given as goal
 -- so many Quiets came
 abbrev pub invariant-loop-quiets : goal.invariant-loop-quiets
 invariant-loop-quiets g l =
-    (pass : PassState) → TalksOn (g.C.Clock.gives l.service.clock.now) l.service.id (Opening 0) (opening_row l._quiets)
+    (pass : PassState) → TalksOn (IsMadeSo (g.C.Clock.gives l.service.clock.now) (SomeShut g.K.Keeper.shut)) l.service.id (Opening 0) (opening_row l._quiets)
     (account pass (link_account g.L.Link.heard g.L.Link.sent g.L.Link.counts l.initial.link)) (account pass (link_account g.L.Link.heard g.L.Link.sent g.L.Link.counts l.link))

@@ -1,12 +1,13 @@
-use Rattle.std.proofs.Common.{ap, refl, ◌∙◌}
+use Rattle.std.proofs.Common.{ap, refl, sym, ◌∙◌}
 use Rattle.join_sync.specs.Answers.{first_cursor}
-use Rattle.connection.specs.Phases.{Joining}
+use Rattle.connection.specs.Phases.{Joining, Over}
 use Rattle.connection.proofs.Callers.{join_fits, joined_so, reply_fits_at}
 use Rattle.connection.proofs.Talking.{asks_join, asks_nothing}
 use Rattle.connection.proofs.opening.join.Goals as goal
 
 pub returns-in-Err-clause-talk : goal.returns-in-Err-clause-talk
-returns-in-Err-clause-talk g c = asks_nothing _ _ (Joining c.args.request.now) _ c.args.pass.now c.ask.new.pass _ c.in-Err.ensures.asked c.ask.ensures.sees refl refl refl
+returns-in-Err-clause-talk g c =
+    asks_nothing _ _ c.in-Err.fault (Joining c.args.request.now) _ c.args.pass.now c.ask.new.pass _ c.in-Err.ensures.asked c.ask.ensures.sees (tt, c.in-Err.ensures.unkept) refl refl (ap Over (sym c.ended_by.ensures))
 
 pub opened-cursor-requires : goal.opened-cursor-requires
 opened-cursor-requires g c =
@@ -21,5 +22,5 @@ returns-clause-standing g c =
 
 pub returns-clause-talk : goal.returns-clause-talk
 returns-clause-talk g c =
-    asks_join _ _ c.args.request.now c.in-Ok.reply c.opened-cursor.result.0 c.opened-cursor.result.1 c.greet.result _ c.args.pass.now c.ask.new.pass _ _ c.in-Ok.ensures.asked c.ask.ensures.sees (c.requires.timely c.in-Ok.reply)
+    asks_join _ _ c.args.request.now c.in-Ok.reply c.opened-cursor.result.0 c.opened-cursor.result.1 c.greet.result _ c.args.pass.now c.ask.new.pass _ _ c.in-Ok.ensures.asked c.ask.ensures.sees (c.requires.timely c.in-Ok.reply, tt)
     (c.opened-cursor.ensures.cursor ∙ ap (λ view. first_cursor view c.in-Ok.reply) c.joined_view.ensures) c.opened-cursor.ensures.answer (c.greet.ensures.talk _)

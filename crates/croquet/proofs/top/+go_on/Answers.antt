@@ -39,6 +39,9 @@ returns-in-Visits-clause-turns g t c = rw c.in-Visits.is (record { steps = []; c
 pub returns-in-Reflects-clause-turns : goal.returns-in-Reflects-clause-turns
 returns-in-Reflects-clause-turns g t c = rw c.in-Reflects.is (record { steps = []; comes = refl; acts = refl })
 
+pub returns-in-Keeps-clause-turns : goal.returns-in-Keeps-clause-turns
+returns-in-Keeps-clause-turns g t c = rw c.in-Keeps.is (record { steps = []; comes = refl; acts = refl })
+
 pub returns-in-Drills-clause-turns : goal.returns-in-Drills-clause-turns
 returns-in-Drills-clause-turns g t c = rw c.in-Drills.is (record { steps = []; comes = refl; acts = refl })
 

@@ -7,7 +7,7 @@ use Rattle.reflect_server.proofs.accepting.+accept_all+fn-accept_all-join+arg3.G
 
 pub returns-then-is_empty-clause-round : goal.returns-then-is_empty-clause-round
 returns-then-is_empty-clause-round g t c =
-    round_none _ _ _ _ c.args.round (vec_len c.args.passes) c.requires.keeper c.requires.begins.0 c.requires.begins.1 (search rules)
+    round_none _ _ _ _ c.args.round (vec_len c.args.passes) c.requires.lead c.requires.begins.0 c.requires.begins.1 (search rules)
 
 pub returns-in-Err-clause-round : goal.returns-in-Err-clause-round
 returns-in-Err-clause-round g t c =
@@ -16,11 +16,11 @@ returns-in-Err-clause-round g t c =
     round_stopped _ _ _ _ c.args.round c.stop.result c.accept.new.self (vec_len c.args.passes) c.in-Err.fault
     c.requires.begins.0 (search rules)
     (record { coming = told.kept; over = told.over; lent = told.none_lent; counts = told.counts; asked = told.asked; cause = told.cause })
-    stopped.keeper stopped.numbers stopped.rest.0 stopped.rest.1 stopped.rest.2
+    stopped.lead stopped.numbers stopped.rest.0 stopped.rest.1 stopped.rest.2
 
 pub join-pass-requires-after_bounds : goal.join-pass-requires-after_bounds
 join-pass-requires-after_bounds g t c κs within =
-    let popped = All-pop (IsFresh c.args.round.keeper) c.args.passes.items c.pop.new.self.items (Some c.in-Some.pass) c.in-Some.ensures.items c.requires.passes in
+    let popped = All-pop (IsFresh c.args.round.lead) c.args.passes.items c.pop.new.self.items (Some c.in-Some.pass) c.in-Some.ensures.items c.requires.passes in
     let one = popped.1 in
     let at = popped.1.session ∙ c.requires.session in
     let none = popped.1.calls in
@@ -29,12 +29,12 @@ join-pass-requires-after_bounds g t c κs within =
 
 pub with_one-requires-clause-pass : goal.with_one-requires-clause-pass
 with_one-requires-clause-pass g t c =
-    let popped = All-pop (IsFresh c.args.round.keeper) c.args.passes.items c.pop.new.self.items (Some c.in-Some.pass) c.in-Some.ensures.items c.requires.passes in
+    let popped = All-pop (IsFresh c.args.round.lead) c.args.passes.items c.pop.new.self.items (Some c.in-Some.pass) c.in-Some.ensures.items c.requires.passes in
     served_at _ _ _ c.args.post.now.shared.now.session c.in-Some.pass c.join-pass.result.0.0 c.in-Ok.link c.join-pass.result.0.1 (popped.1.session ∙ c.requires.session) c.join-pass.ensures.first
 
 pub returns-clause-round : goal.returns-clause-round
 returns-clause-round g t c =
-    let popped = All-pop (IsFresh c.args.round.keeper) c.args.passes.items c.pop.new.self.items (Some c.in-Some.pass) c.in-Some.ensures.items c.requires.passes in
+    let popped = All-pop (IsFresh c.args.round.lead) c.args.passes.items c.pop.new.self.items (Some c.in-Some.pass) c.in-Some.ensures.items c.requires.passes in
     let told = c.in-Ok.ensures in
     let last = c.with_one.ensures in
     round_more _ _ _ _ c.args.round _ c.join-pass.result.1 c.with_one.result c.in-Some.pass c.join-pass.result.0.0 (vec_len c.pop.new.self)

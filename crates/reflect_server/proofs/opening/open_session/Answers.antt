@@ -1,31 +1,29 @@
-use Rattle.std.proofs.Common.{ℕ, List, ap, ◌∙◌, ◌≡◌, subst, arith}
-use Rattle.session_lock.specs.Numbers.{count_of}
-use Rattle.session_lock.specs.Passes.{PassState, numbers_held, own_calls}
-use Rattle.reflect_server.specs.Opening.{HasMadeLeaves}
-use Rattle.reflect_server.proofs.OpeningLaws.{all_trusted, opened_by}
+use Rattle.std.proofs.Common.{ℕ, List, ap, ◌∙◌, subst}
+use Rattle.session_lock.specs.Passes.{PassState, own_calls}
+use Rattle.reflect_server.specs.Opening.{HasMadeLeaves, HasStopped}
+use Rattle.reflect_server.proofs.OpeningLaws.{all_trusted, keeps_of, not_opened, opened_by, unopened_wants}
+use Rattle.reflect_server.proofs.Reflections.{fails_when}
 use Rattle.reflect_server.proofs.opening.open_session.Goals as goal
 
-pub new-requires : goal.new-requires
-new-requires g c = all_trusted c.args.session.plain.kept
+pub with_keeper-requires-clause-trusted : goal.with_keeper-requires-clause-trusted
+with_keeper-requires-clause-trusted g c = all_trusted c.args.opening.session.plain.kept
 
-pub returns-clause-leaves : goal.returns-clause-leaves
-returns-clause-leaves g c =
+pub returns-in-Ok-leave_all-clause-leaves : goal.returns-in-Ok-leave_all-clause-leaves
+returns-in-Ok-leave_all-clause-leaves g c =
     let gives = g.C.Clock.gives c.args.clock.now in
-    opened_by gives c.args.session.plain c.in_ok-views.views.items c.in-Ok.pass c.leave_all.new.pass (ap (λ (p : PassState). p.callers) c.in-Ok.ensures.pass) (ap own_calls c.in-Ok.ensures.pass)
-    c.leave_all.ensures.kept c.in_ok-views.ensures
-    (subst (λ (l : List (ℕ × ℕ)). HasMadeLeaves gives l c.in-Ok.pass c.leave_all.new.pass) c.as_slice.ensures.value c.leave_all.ensures.left)
+    opened_by gives c.args.opening.session.plain c.in-Ok.views.items c.in-Ok-with_keeper.made.1 c.leave_all.new.pass (ap (λ (p : PassState). p.callers) c.in-Ok-with_keeper.ensures.pass) (ap own_calls c.in-Ok-with_keeper.ensures.pass)
+    c.leave_all.ensures.kept c.in-Ok.ensures
+    (subst (λ (l : List (ℕ × ℕ)). HasMadeLeaves gives l c.in-Ok-with_keeper.made.1 c.leave_all.new.pass) c.as_slice.ensures.value c.in-Ok-leave_all.ensures.left)
 
-pub returns-clause-session : goal.returns-clause-session
-returns-clause-session g c = ap (λ (p : PassState). p.session) c.leave_all.ensures.kept ∙ ap (λ (p : PassState). p.session) c.in-Ok.ensures.pass
+pub returns-in-Err-clause-unopened : goal.returns-in-Err-clause-unopened
+returns-in-Err-clause-unopened g c =
+    unopened_wants g.K.Keeper.holds g.K.Keeper.shut g.K.Keeper.faults (g.C.Clock.gives c.args.clock.now) c.args.opening.session.plain c.args.opening.keeper c.unmade.result.keeper c.unmade.result.fault
+    c.requires.covered c.requires.unshut (c.unmade.ensures.0 ∙ c.in-Err.ensures.unused) c.unmade.ensures.1
 
-pub returns-clause-begins : goal.returns-clause-begins
-returns-clause-begins g c = ap (λ (p : PassState). p.opening) c.leave_all.ensures.kept ∙ ap (λ (p : PassState). p.opening) c.in-Ok.ensures.pass
-
-pub returns-clause-numbers : goal.returns-clause-numbers
-returns-clause-numbers g c = ap numbers_held c.leave_all.ensures.kept ∙ ap numbers_held c.in-Ok.ensures.pass
-
-pub returns-clause-spare : goal.returns-clause-spare
-returns-clause-spare g c =
-    let all : count_of c.leave_all.new.pass.spare ≡ 4294967295 =
-    ap (λ (p : PassState). count_of p.spare) c.leave_all.ensures.kept ∙ ap (λ (p : PassState). count_of p.spare) c.in-Ok.ensures.pass in
-    omega (arith, all)
+pub returns-clause-unopened : goal.returns-clause-unopened
+returns-clause-unopened g c =
+    let begins = ap (λ (p : PassState). p.opening) c.leave_all.ensures.kept ∙ ap (λ (p : PassState). p.opening) c.in-Ok-with_keeper.ensures.pass in
+    let keeps = keeps_of g.K.Keeper.holds g.K.Keeper.shut g.K.Keeper.faults _ _ _ _ c.leave_all.new.pass.seen c.close_opened.result c.in-Ok-with_keeper.ensures.faults begins c.close_opened.ensures.keeper in
+    not_opened (g.C.Clock.gives c.args.clock.now) c.args.opening.session.plain _ c.in-Ok.views.items c.in-Ok-with_keeper.made.1 c.leave_all.new.pass (ap own_calls c.in-Ok-with_keeper.ensures.pass) c.in-Ok.ensures
+    (subst (λ (l : List (ℕ × ℕ)). HasStopped (g.C.Clock.gives c.args.clock.now) l c.in-Ok-with_keeper.made.1 c.leave_all.new.pass) c.as_slice.ensures.value c.in-Err-leave_all.ensures.stopped)
+    c.close_opened.ensures.calls keeps (fails_when g.K.Keeper.holds g.K.Keeper.shut g.K.Keeper.faults _ _ _ c.close_opened.result keeps)

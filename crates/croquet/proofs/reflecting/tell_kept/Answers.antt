@@ -1,0 +1,9 @@
+use Rattle.croquet.proofs.ReflectorRuns.{ran_unkept}
+use Rattle.croquet.proofs.reflecting.tell_kept.Goals as goal
+
+pub returns-in-Ok : goal.returns-in-Ok
+returns-in-Ok g c = rw c.in-Ok.is c.give_reflected.ensures
+
+pub returns-in-Err : goal.returns-in-Err
+returns-in-Err g c =
+    rw c.in-Err.is (ran_unkept _ _ c.args.log c.args.unkept c.in-Err.fault c.args.files.now c.args.out.now c.tell_kept_fault.new.out c.tell_kept_fault.result c.tell_kept_fault.ensures)

@@ -1,0 +1,5 @@
+pub mod Scripts
+pub mod Leading
+pub mod Queues
+pub mod Readings
+pub mod Machines

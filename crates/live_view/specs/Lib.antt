@@ -1,0 +1,6 @@
+pub mod Lines
+pub mod Said
+pub mod Live
+pub mod Script
+pub mod Doing
+pub mod View
