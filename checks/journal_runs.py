@@ -292,6 +292,22 @@ def a_torn_end_is_put_aside(program):
             expect(len(at.get("j")), expect_kept(at, view).good)
 
 
+def a_journal_is_read_while_its_reflector_goes_on(program):
+    """`replay` has the world of all that was told, and the reflector does not notice."""
+    with place(program) as at:
+        with journaled(at, 1) as reflector:
+            view = reflector.view(7)
+            view.done(b"1")
+            entries = expect_kept(at, view).entries
+            world = croquet.World.first(croquet.read_program(EMPTY), at.ident)
+            run = program.run(["replay", at.at("p"), "a", at.at("j"), "9007199254740991"])
+            expect(croquet.world_line(croquet.replayed(world, entries, 9_007_199_254_740_991)), run.told())
+            view.done(b"2")
+            leave_all(view)
+            expect(0, reflector.end().status)
+        expect([("join", 7), ("event", 7), ("event", 7), ("exit", 7)], kinds(expect_kept(at, view).entries))
+
+
 def zeros_are_no_torn_end(program):
     """A system may leave zeros where a file was growing. They are cut, and nothing is put aside."""
     with place(program) as at:
@@ -567,7 +583,7 @@ def joins_of_two_runs_have_the_world_of_one_journal(program):
 
 JOURNALED = [
     a_session_that_ends_well_has_its_journal_and_its_log, no_stamp_is_below_a_tick_of_an_earlier_run,
-    a_journal_that_is_there_is_gone_on_with, a_torn_end_is_put_aside, zeros_are_no_torn_end, a_second_reflector_is_kept_away,
+    a_journal_that_is_there_is_gone_on_with, a_torn_end_is_put_aside, a_journal_is_read_while_its_reflector_goes_on, zeros_are_no_torn_end, a_second_reflector_is_kept_away,
     the_lock_ends_with_its_program, two_that_found_at_one_time_are_not_both_served, what_is_no_journal_of_the_session_is_refused,
     what_is_no_file_is_no_journal, a_log_that_cannot_be_put_is_found_first, a_limit_of_a_files_length_shuts_the_journal,
     the_signal_of_a_files_length_loses_nothing, a_disk_that_fills_shuts_the_journal,

@@ -1,8 +1,7 @@
 """Journals that were cut, changed or added to: each reads as the records that are whole before that place.
 
-What a journal has to be read as follows from the list of its records alone: the state after the first so many. Until a command
-reads journals, the cases are of the reference, and READ_BY_REPLAY says so. Then `replay` has to print the line of the replay of the
-log that is read.
+What a journal has to be read as follows from the list of its records alone: the state after the first so many. The reference has
+to read just that, and `replay` has to print the line of the replay of the log that is read.
 """
 import random
 from bisect import bisect_right
@@ -10,10 +9,9 @@ from dataclasses import dataclass
 
 from case import Case, expect
 from reference import croquet
+from sessions import named_cases
 
 import journal_reference as journal  # found by the path that `reference` has added
-
-READ_BY_REPLAY = False
 
 PROGRAM = (b"class Root { field said; init() { this.said = []; subscribe(\"s\", \"said\", \"hear\"); }"
            b" hear(v) { this.said = push(this.said, v); } }")
@@ -106,8 +104,14 @@ def of_program(program, content, told, whole):
 
 def case_of(name, content, told, whole):
     """A case of bytes of which so many records are read, or a word that says why none is."""
-    if READ_BY_REPLAY:
-        return Case(name, lambda program: of_program(program, content, told, whole))
+    def check(program):
+        of_reference(content, told, whole)
+        of_program(program, content, told, whole)
+    return Case(name, check)
+
+
+def case_of_reference(name, content, told, whole):
+    """The same, of the reference alone."""
     return Case(name, lambda _: of_reference(content, told, whole), needs_program=False)
 
 
@@ -117,19 +121,21 @@ def whole_before(told, place):
     return count - 1 if count else "no-journal"
 
 
-def cut_cases(told):
+def cut_cases(told, kind=case_of):
     """Cut at each byte, just the records that are whole are read."""
-    return [case_of(f"the first {size} bytes", told.content[:size], told, whole_before(told, size))
+    return [kind(f"the first {size} bytes", told.content[:size], told, whole_before(told, size))
             for size in range(len(told.content) + 1)]
 
 
 def turned_case(told, place):
+    """A case of one bit; of each byte one bit is a case of the program too."""
     content = bytearray(told.content)
     content[place // 8] ^= 1 << place % 8
     mark = len(journal.MARK)
     in_header = "no-journal" if place // 8 < mark else "other-session"
     whole = in_header if place // 8 < told.ends[0] else whole_before(told, place // 8)
-    return case_of(f"bit {place} turned", bytes(content), told, whole)
+    kind = case_of if place % 8 == place // 8 % 8 else case_of_reference
+    return kind(f"bit {place} turned", bytes(content), told, whole)
 
 
 def turned_cases(told):
@@ -220,7 +226,6 @@ def header_cases(told):
     records = told.content[told.ends[0]:]
     return [case_of("no header", records, told, "no-journal"),
             case_of("no bytes", b"", told, "no-journal"),
-            case_of("a log", croquet.Session().encoded(), told, "no-journal"),
             case_of("a byte before the header", b"T" + told.content, told, "no-journal"),
             case_of("another session's header", journal.header(OTHER) + records, told, "other-session"),
             case_of("another session's journal", journal.spelled(OTHER, told.changes), told, "other-session")]
@@ -229,7 +234,104 @@ def header_cases(told):
 def journals_cases():
     few, drawn = told_of(few_changes()), told_of(drawn_changes(1))
     return (cut_cases(few) + turned_cases(few) + tail_cases(few) + added_cases() + bad_body_cases() + header_cases(few)
-            + cut_cases(drawn))
+            + cut_cases(drawn, case_of_reference))
 
 
-PARTS = {"journals": journals_cases}
+# ---------------------------------------------------------------- what each command makes of a journal
+
+TORN = b"\x00\x00\x00\x09\x02"
+WORDS = {"replay": ["replay", "p", "n", "j", str(END), "--snapshot", "w"], "inspect": ["inspect", "p", "n", "j", "2", "q"],
+         "trace": ["trace", "p", "n", "j", "1", str(END)]}
+STAMPING = ["stamp", "s", "--from", "j", "--log", "f"]
+REFLECTING = ["reflect", "p", "n", "localhost:1", "--from", "j", "--connections", "1", "--log", "f"]
+QUERIES = b"at 13\nfull 2000000\n"
+
+
+def torn():
+    """A journal with a torn end."""
+    return journal.spelled(ID, few_changes()) + TORN
+
+
+def recorded():
+    """What is read of it."""
+    return croquet.Replaying(ID, [], after(few_changes()).entries, croquet.read_program(PROGRAM), None)
+
+
+def files_of(content):
+    return {"p": PROGRAM, "j": content, "q": QUERIES, "s": b"join 9 100\npull 0 20\n", "bad": b"{"}
+
+
+def expect_told(program, command, lines, files):
+    run = program.run(WORDS[command], files_of(torn()))
+    expect((" / ".join(lines), files), (run.told(), run.files))
+
+
+def a_replay_passes_over_a_torn_end(program):
+    world = croquet.replayed(recorded().first_world(), recorded().entries, END)
+    expect_told(program, "replay", [croquet.world_line(world)], {"w": world.snapshot()})
+
+
+def an_inspection_passes_over_a_torn_end(program):
+    expect_told(program, "inspect", croquet.inspected(recorded(), 2, QUERIES), {})
+
+
+def a_trace_passes_over_a_torn_end(program):
+    expect_told(program, "trace", croquet.traced(recorded(), 1, END), {})
+
+
+def a_stamp_goes_on_from_the_journal_of_any_session(program):
+    """Its requests find the horizon that was written ahead, and who is here. What is kept goes on too."""
+    changes = few_changes()[:9]
+    for ident in (ID, OTHER):
+        session, files = after(changes).stored(), files_of(journal.spelled(ident, changes) + TORN)
+        lines = [session.reply(request) for request in croquet.read_script(files["s"])]
+        run = program.run(STAMPING, files)
+        expect((" / ".join(lines), {"f": session.encoded()}), (run.told(), run.files))
+
+
+def elsewhere():
+    return journal.spelled(OTHER, few_changes())
+
+
+def another_session_is_refused(program):
+    """Of each command that knows its session, with nothing put."""
+    for words in (*WORDS.values(), REFLECTING, [*REFLECTING, "--journal", "k"]):
+        run = program.run(words, files_of(elsewhere()))
+        expect(("input journal [3]", {}), (run.told(), run.files))
+
+
+def another_name_or_value_is_another_session(program):
+    files = {**files_of(torn()), "v": b"1"}
+    for words in WORDS.values():
+        for changed in (["other" if word == "n" else word for word in words], [*words, "--persisted", "v"]):
+            expect("input journal [3]", program.run(changed, files).told())
+
+
+def the_value_is_read_before_the_session_is_known(program):
+    """A value at fault is told first; so is a log that is none."""
+    for words in WORDS.values():
+        expect("input persisted [3]", program.run([*words, "--persisted", "bad"], files_of(elsewhere())).told())
+        expect("input log [3]", program.run([*words, "--persisted", "bad"], files_of(b"TEALOG03" + bytes(31))).told())
+
+
+def what_comes_after_is_not_read_of_another_session(program):
+    """EVERY is not looked at, and the queries and the snapshot are not read."""
+    replaying = [*WORDS["replay"], "--from", "none"]
+    inspecting = ["inspect", "p", "n", "j", "1", "none"]
+    for words in (replaying, inspecting):
+        expect("read-fault [4]", program.run(words, files_of(torn())).told())
+        expect("input journal [3]", program.run(words, files_of(elsewhere())).told())
+
+
+def no_header_is_no_log(program):
+    for words in (*WORDS.values(), STAMPING, REFLECTING):
+        for content in (b"TEALOG03", b"TEALOG03" + ID[:31]):
+            run = program.run(words, files_of(content))
+            expect(("input log [3]", {}), (run.told(), run.files))
+
+
+COMMANDS = [
+    a_replay_passes_over_a_torn_end, an_inspection_passes_over_a_torn_end, a_trace_passes_over_a_torn_end,
+    a_stamp_goes_on_from_the_journal_of_any_session, another_session_is_refused, another_name_or_value_is_another_session,
+    the_value_is_read_before_the_session_is_known, what_comes_after_is_not_read_of_another_session, no_header_is_no_log]
+PARTS = {"journals": journals_cases, "journal-logs": lambda: named_cases(COMMANDS)}

@@ -12,6 +12,8 @@ import stand_in_links as links
 from reference import croquet
 from stand_in_links import Failed, LinkEnd
 
+import journal_reference as journal  # found by the path that `reference` has added
+
 COMMANDS = {"stamp": (1, {"--from", "--log"}, set()), "check": (1, set(), set()),
             "replay": (4, {"--persisted", "--from", "--snapshot", "--saved"}, set()),
             "inspect": (5, {"--persisted"}, set()),
@@ -144,11 +146,38 @@ class Output:
 # ---------------------------------------------------------------- commands that wait for nobody
 
 
+def id_in(content):
+    """The id that a log names, if it is a journal."""
+    try:
+        return journal.session_of(content)
+    except journal.NoJournal:
+        return None
+
+
+def check_own(named, ident):
+    """A log of a session that is known names no other one."""
+    if named not in (None, ident):
+        raise croquet.Ended("input journal", 3)
+
+
 def opening_session(options):
     """The session of `--from`, or the first one."""
     if "--from" not in options:
         return croquet.Session()
-    return croquet.read_opening(read_file(options["--from"], "log"))
+    content = read_file(options["--from"], "log")
+    named = id_in(content)
+    if named is None:
+        return croquet.read_opening(content)
+    session = journal.read_journal(named, content).stored()
+    session.named = named
+    return session
+
+
+def own_session(options, ident):
+    """The same, of the session of this id."""
+    session = opening_session(options)
+    check_own(getattr(session, "named", None), ident)
+    return session
 
 
 def stamp(plain, options):
@@ -185,9 +214,13 @@ def read_recorded(plain, options):
     """The program, the log and the persisted value of a recorded session, read in this order."""
     source = read_file(plain[0], "program")
     program = croquet.read_program(source)
-    entries = read_or("log", croquet.read_log, read_file(plain[2], "log"))
+    log = read_file(plain[2], "log")
+    named = id_in(log)
+    entries = read_or("log", croquet.read_log, log) if named is None else journal.read_journal(named, log).entries
     persisted = read_persisted(options)
-    return croquet.Replaying(croquet.session_id(plain[1].encode(), source, persisted), [], entries, program, persisted)
+    ident = croquet.session_id(plain[1].encode(), source, persisted)
+    check_own(named, ident)
+    return croquet.Replaying(ident, [], entries, program, persisted)
 
 
 def replay(plain, options):
@@ -363,9 +396,9 @@ def is_shut(shared):
 def shared_session(ident, options):
     """The session that links share, and what their talks are."""
     if "--journal" not in options:
-        return Reflecting(ident, opening_session(options), lambda: links.now()), Talk
+        return Reflecting(ident, own_session(options, ident), lambda: links.now()), Talk
     name = options["--journal"]
-    kept = journals.Journal(name, ident, lambda: opening_session(options))
+    kept = journals.Journal(name, ident, lambda: own_session(options, ident))
     if kept.torn:
         write_file(f"{name}.torn", kept.torn)
         say(f"torn {len(kept.torn)}")

@@ -127,8 +127,7 @@ class Journal:
         except (journal.NoJournal, journal.OtherSession):
             raise fault("input journal", 3) from None
         self.torn = Torn(content[read.good:]).content
-        self.session, self.horizon = read.session, read.horizon
-        self.session.horizon = max(self.session.horizon, read.horizon)
+        self.session, self.horizon = read.stored(), read.horizon
         self.check = last_check(ident, content[:read.good])
         self.good, self.written = read.good, len(self.session.log)
 

@@ -9,8 +9,8 @@ is proved of it.
 
 prints each line of FILE with what it comes to. The kinds are evaluate, run,
 canonical, decode, payload, data (language) and scripts, logs, stored, onward,
-programs, worlds, saved, snapshots, resumed, inspects, traces, reflectors, views
-(commands).
+programs, worlds, saved, snapshots, resumed, inspects, traces, votes, reflectors,
+views (commands).
 """
 import hashlib
 import heapq
@@ -24,7 +24,7 @@ from dataclasses import dataclass, field
 
 PROGRAM_BYTES = 65_536
 SCRIPT_BYTES = 16_777_216
-LOG_FILE_BYTES = 134_217_728
+LOG_FILE_BYTES = 268_435_456
 MOST_OPEN = 32
 MOST_OPERATORS = 32
 MOST_CLASSES = MOST_FIELDS = MOST_METHODS = 256
@@ -2328,6 +2328,63 @@ def traced(recorded, begin, end):
     return tracing.lines
 
 
+# ---------------------------------------------------------------- votes
+
+@dataclass
+class Ballot:
+    """What an event votes: its entry and view, the entry that it is on, and the digest's digits."""
+    entry: int
+    view: int
+    at: int
+    digits: str
+
+
+def vote_payload(at, digits):
+    return payload("#vote", "digest", List([at, digits]))
+
+
+def read_ballot(entry):
+    """The vote that an entry is; None where it is none."""
+    if entry.kind != "event":
+        return None
+    try:
+        scope, event, v = read_payload(entry.payload)
+    except Bad:
+        return None
+    if (scope, event) != ("#vote", "digest") or type(v) is not List or len(v.items) != 2:
+        return None
+    at, digits = v.items
+    if not is_int(at) or not 1 <= at < entry.seq:
+        return None
+    if not is_text(digits) or not re.fullmatch(r"[0-9a-f]{64}", digits, re.ASCII):
+        return None
+    return Ballot(entry.seq, entry.view, at, digits)
+
+
+def counted(ballots):
+    """The votes that count: of those of one view on one entry the first."""
+    first = {}
+    for ballot in ballots:
+        first.setdefault((ballot.at, ballot.view), ballot)
+    return list(first.values())
+
+
+def verdict_line(at, ballots):
+    first = ballots[0]
+    other = next((ballot for ballot in ballots if ballot.digits != first.digits), None)
+    said = "agreed" if other is None else f"diverged {first.entry} {other.entry}"
+    return f"at {at} votes {len(ballots)} {said}"
+
+
+def voted(entries):
+    """The lines of what the votes of a log come to."""
+    ballots = counted([ballot for ballot in map(read_ballot, entries) if ballot is not None])
+    on = {}
+    for ballot in ballots:
+        on.setdefault(ballot.at, []).append(ballot)
+    return [*(verdict_line(at, on[at]) for at in sorted(on)), f"votes {len(ballots)}"]
+
+
 # ---------------------------------------------------------------- frames
 
 def framed(tag, *fields):
@@ -3292,6 +3349,11 @@ def traces_case(line):
     return " / ".join(traced(recorded, *recorded.times))
 
 
+def votes_case(case):
+    """The votes of the log that a script leaves."""
+    return " / ".join(voted(stamped(lines_of(case))[0].log))
+
+
 def numbers_in(word):
     """`N` or `N-M`."""
     first, _, last = word.partition("-")
@@ -3379,9 +3441,9 @@ KINDS = {"evaluate": evaluate_case, "run": run_case, "canonical": canonical_case
          "logs": logs_case, "stored": stored_case, "onward": onward_case,
          "programs": programs_case, "worlds": worlds_case, "saved": saved_case,
          "snapshots": snapshots_case, "resumed": resumed_case, "inspects": inspects_case,
-         "traces": traces_case, "reflectors": reflectors_case, "views": views_case}
+         "traces": traces_case, "votes": votes_case, "reflectors": reflectors_case, "views": views_case}
 WITH_STATUS = {"scripts", "logs", "onward", "programs", "worlds", "saved", "snapshots", "resumed",
-               "inspects", "traces"}
+               "inspects", "traces", "votes"}
 
 
 def outcome_of(kind, case):

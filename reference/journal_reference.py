@@ -81,6 +81,11 @@ class Read:
     def kept(self):
         return self.session.kept
 
+    def stored(self):
+        """The session as it goes on: at the horizon that was written ahead."""
+        self.session.horizon = max(self.session.horizon, self.horizon)
+        return self.session
+
     def take(self, change):
         """Takes a change; it is `Bad`, and nothing has changed, where it may not come."""
         horizon, here = self.after(change)

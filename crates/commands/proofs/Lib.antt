@@ -1,5 +1,6 @@
 pub mod Agreement
 pub mod InspectLaws
+pub mod LogLaws
 pub mod NetLaws
 pub mod OneVerdict
 pub mod OpeningLaws

@@ -3,10 +3,7 @@ use Rattle.std.proofs.Common.{◌≡◌, ◌⊎◌, inl, inr, ℕ, Bool, true, f
 use Rattle.std.specs.Prelude.{⊤}
 use Rattle.tea_base.specs.declared.entry.Entry.{Entry}
 use Rattle.reflector_core.specs.declared.request.Request.{Request}
-use Rattle.reflector_core.specs.PlainSession.{PlainSession}
-use Rattle.reflector_core.specs.Play.{first_session}
 use Rattle.reflector_core.specs.Stored.{session_of}
-use Rattle.session_log.specs.Stored.{PlainStored}
 use Rattle.model_tree.specs.Tree.{ProgramTree}
 use Rattle.model_solved.specs.Founding.{Founding}
 use Rattle.model_value.specs.Plain.{PlainValue, nil}
@@ -33,7 +30,7 @@ use Rattle.model_tree.specs.Bounds.{most_program_bytes}
 use Rattle.persist_json.specs.JsonOf.{most_json}
 use Rattle.tea_base.specs.Limits.{most_snapshot}
 use Rattle.commands.specs.Work.{NamesNoJournal, RunsOn}
-use Rattle.commands.specs.Verdict.{ByDrill, ByGoingOn, ByKeeping, ByNetFault, ByReadFault, ByRefusal, ByReflecting, ByVisit, ByWant, ByWriteFault, Closing, Coming, Comes, Fine, Free, Only, OfFile, OfFounded, OfGiven, OfInspect, OfInspectedLog, OfJson, OfKeyframes, OfPersisted, OfProgram, OfQueries, OfRecorded, OfRight, OfScript, OfSnapshot, OfTimeLine, OfTree, OfWords, Starts, Verdict, ask_file, at_once, count_verdict, fine, founded, inspect_verdict, keeps_few, stamp_verdict, most_queries, most_script, most_log, OfOpening, OfStored, session_id_of, OfTrace, OfTraced, OfTracedLog, trace_verdict, OfJoin, OfJournal, OfReflect, OfServed, OfUnkept, OfView, OfViewScript, PlainKeeping, PlainReflection, PlainVisit, keeping_of, reflection_of, visit_to}
+use Rattle.commands.specs.Verdict.{ByDrill, ByGoingOn, ByKeeping, ByNetFault, ByReadFault, ByRefusal, ByReflecting, ByVisit, ByWant, ByWriteFault, Closing, Coming, Comes, Fine, Free, Only, OfFile, OfFounded, OfGiven, OfInspect, OfInspectedLog, OfJson, OfKeyframes, OfLog, OfOwn, OfPersisted, OfProgram, OfQueries, OfRecorded, OfRight, OfScript, OfSnapshot, OfTimeLine, OfTree, OfWords, Starts, Verdict, ask_file, at_once, count_verdict, fine, founded, inspect_verdict, keeps_few, stamp_verdict, most_queries, most_script, most_log, OfOpening, OfReflected, PlainSource, first_source, names_no_other, session_id_of, OfTrace, OfTraced, OfTracedLog, trace_verdict, OfJoin, OfJournal, OfReflect, OfServed, OfUnkept, OfView, OfViewScript, PlainKeeping, PlainReflection, PlainVisit, keeping_of, reflection_of, visit_to}
 
 map_right : {A B C : Type 0} → A ⊎ B → (B → C) → A ⊎ C
 map_right (inl a) f = inl a
@@ -71,20 +68,28 @@ module _ (IsBad : Closing → Type 0) (not_fine : ¬ IsBad Fine) (not_refused : 
 
   -- ---- the commands
 
-  stored_never : (next : PlainStored → Coming) (bytes : List ℕ) → ((stored : PlainStored) → Never (next stored)) → Never (OfStored next bytes)
-  stored_never next bytes each verdict (inl (stored, sound, is, comes)) on = each stored verdict comes on
-  stored_never next bytes each verdict (inr (none, comes)) on = refused_never (refusal.Input input.Log) verdict comes on
+  right_never : (at : Input) (is : Bool) (next : Coming) → Never next → Never (OfRight at is next)
+  right_never at true next never = never
+  right_never at false next never = refused_never (refusal.Input at)
 
-  opening_never : (from : Option (List ℕ)) (next : PlainSession → Coming) → ((opening : PlainSession) → Never (next opening)) → Never (OfOpening from next)
-  opening_never None next each = each first_session
-  opening_never (Some name) next each =
-      file_never input.Log (ask_file name most_log) (OfStored (λ stored. next (session_of stored)))
-      (λ bytes. stored_never (λ stored. next (session_of stored)) bytes (λ stored. each (session_of stored)))
+  log_never : (next : PlainSource → Coming) (bytes : List ℕ) → ((source : PlainSource) → Never (next source)) → Never (OfLog next bytes)
+  log_never next bytes each verdict (inl (source, is, comes)) on = each source verdict comes on
+  log_never next bytes each verdict (inr (none, comes)) on = refused_never (refusal.Input input.Log) verdict comes on
+
+  log_file_never : (name : List ℕ) (next : PlainSource → Coming) → ((source : PlainSource) → Never (next source)) → Never (OfFile input.Log (ask_file name most_log) (OfLog next))
+  log_file_never name next each = file_never input.Log (ask_file name most_log) (OfLog next) (λ bytes. log_never next bytes each)
+
+  opening_never : (from : Option (List ℕ)) (next : PlainSource → Coming) → ((source : PlainSource) → Never (next source)) → Never (OfOpening from next)
+  opening_never None next each = each first_source
+  opening_never (Some name) next each = log_file_never name next each
+
+  own_never : (source : PlainSource) (id : List ℕ) (next : Coming) → Never next → Never (OfOwn source id next)
+  own_never source id next never = right_never input.Journal (names_no_other source.named id) next never
 
   script_never : (from log : Option (List ℕ)) (requests : Option (List Request)) → Never (OfScript from log requests)
   script_never from log None = refused_never (refusal.Input input.Script)
   script_never from log (Some requests) =
-      opening_never from (λ opening. Only (stamp_verdict opening log requests)) (λ opening. fine_never (stamp_verdict opening log requests).steps)
+      opening_never from (λ source. Only (stamp_verdict (session_of source.stored) log requests)) (λ source. fine_never (stamp_verdict (session_of source.stored) log requests).steps)
 
   program_never : (next : ProgramTree → Coming) (bytes : List ℕ) → ((tree : ProgramTree) → Never (next tree)) → Never (OfProgram next bytes)
   program_never next bytes each verdict (inl (tree, sound, comes)) on = each tree verdict comes on
@@ -111,18 +116,17 @@ module _ (IsBad : Closing → Type 0) (not_fine : ¬ IsBad Fine) (not_refused : 
   persisted_never None next each = each nil
   persisted_never (Some name) next each = file_never input.Persisted (ask_file name most_json) (OfJson next) (λ bytes. json_never next bytes each)
 
-  recorded_never : (request : ReplayRequest) (text : List ℕ) (tree : ProgramTree) (log : List Entry) → Never (OfRecorded request text tree log)
-  recorded_never request text tree log =
-      persisted_never request.persisted (λ v. OfFounded request text log (founded tree v)) (λ v. starts_never request.from request (founded tree v) (session_id_of request.name text v) log)
+  founded_never : (request : ReplayRequest) (text : List ℕ) (source : PlainSource) (founding : Founding) → Never (OfFounded request text source founding)
+  founded_never request text source founding =
+      let id = session_id_of request.name text founding.persisted in
+      own_never source id (Starts request.from request founding id source.stored.log) (starts_never request.from request founding id source.stored.log)
+
+  recorded_never : (request : ReplayRequest) (text : List ℕ) (tree : ProgramTree) (source : PlainSource) → Never (OfRecorded request text tree source)
+  recorded_never request text tree source =
+      persisted_never request.persisted (λ v. OfFounded request text source (founded tree v)) (λ v. founded_never request text source (founded tree v))
 
   tree_never : (request : ReplayRequest) (text : List ℕ) (tree : ProgramTree) → Never (OfTree request text tree)
-  tree_never request text tree =
-      file_never input.Log (ask_file request.log most_log) (OfStored (λ stored. OfRecorded request text tree stored.log))
-      (λ bytes. stored_never (λ stored. OfRecorded request text tree stored.log) bytes (λ stored. recorded_never request text tree stored.log))
-
-  right_never : (at : Input) (is : Bool) (next : Coming) → Never next → Never (OfRight at is next)
-  right_never at true next never = never
-  right_never at false next never = refused_never (refusal.Input at)
+  tree_never request text tree = log_file_never request.log (OfRecorded request text tree) (recorded_never request text tree)
 
   queries_never : (founding : Founding) (id : List ℕ) (log : List Entry) (queries : Option (List Query)) → Never (OfQueries founding id log queries)
   queries_never founding id log None = refused_never (refusal.Input input.Queries)
@@ -134,23 +138,30 @@ module _ (IsBad : Closing → Type 0) (not_fine : ¬ IsBad Fine) (not_refused : 
       right_never input.Every (keeps_few every log) (OfFile input.Queries (ask_file queries most_queries) of_bytes)
       (file_never input.Queries (ask_file queries most_queries) of_bytes (λ bytes. queries_never founding id log (queries_of bytes)))
 
-  inspected_log_never : (request : InspectRequest) (text : List ℕ) (tree : ProgramTree) (log : List Entry) → Never (OfInspectedLog request text tree log)
-  inspected_log_never request text tree log =
-      persisted_never request.persisted (λ v. OfTimeLine request text log (founded tree v)) (λ v. keyframes_never request.every request.queries (founded tree v) (session_id_of request.name text v) log)
+  time_line_never : (request : InspectRequest) (text : List ℕ) (source : PlainSource) (founding : Founding) → Never (OfTimeLine request text source founding)
+  time_line_never request text source founding =
+      let id = session_id_of request.name text founding.persisted in
+      own_never source id (OfKeyframes request.every request.queries founding id source.stored.log) (keyframes_never request.every request.queries founding id source.stored.log)
+
+  inspected_log_never : (request : InspectRequest) (text : List ℕ) (tree : ProgramTree) (source : PlainSource) → Never (OfInspectedLog request text tree source)
+  inspected_log_never request text tree source =
+      persisted_never request.persisted (λ v. OfTimeLine request text source (founded tree v)) (λ v. time_line_never request text source (founded tree v))
 
   inspect_never : (request : InspectRequest) (text : List ℕ) (tree : ProgramTree) → Never (OfInspect request text tree)
-  inspect_never request text tree =
-      file_never input.Log (ask_file request.log most_log) (OfStored (λ stored. OfInspectedLog request text tree stored.log))
-      (λ bytes. stored_never (λ stored. OfInspectedLog request text tree stored.log) bytes (λ stored. inspected_log_never request text tree stored.log))
+  inspect_never request text tree = log_file_never request.log (OfInspectedLog request text tree) (inspected_log_never request text tree)
 
-  traced_log_never : (request : TraceRequest) (text : List ℕ) (tree : ProgramTree) (log : List Entry) → Never (OfTracedLog request text tree log)
-  traced_log_never request text tree log =
-      persisted_never request.persisted (λ v. OfTraced request text log (founded tree v)) (λ v. fine_never (trace_verdict (founded tree v) (session_id_of request.name text v) log request.from request.to).steps)
+  traced_never : (request : TraceRequest) (text : List ℕ) (source : PlainSource) (founding : Founding) → Never (OfTraced request text source founding)
+  traced_never request text source founding =
+      let id = session_id_of request.name text founding.persisted in
+      let told : Verdict = trace_verdict founding id source.stored.log request.from request.to in
+      own_never source id (Only told) (fine_never told.steps)
+
+  traced_log_never : (request : TraceRequest) (text : List ℕ) (tree : ProgramTree) (source : PlainSource) → Never (OfTracedLog request text tree source)
+  traced_log_never request text tree source =
+      persisted_never request.persisted (λ v. OfTraced request text source (founded tree v)) (λ v. traced_never request text source (founded tree v))
 
   trace_never : (request : TraceRequest) (text : List ℕ) (tree : ProgramTree) → Never (OfTrace request text tree)
-  trace_never request text tree =
-      file_never input.Log (ask_file request.log most_log) (OfStored (λ stored. OfTracedLog request text tree stored.log))
-      (λ bytes. stored_never (λ stored. OfTracedLog request text tree stored.log) bytes (λ stored. traced_log_never request text tree stored.log))
+  trace_never request text tree = log_file_never request.log (OfTracedLog request text tree) (traced_log_never request text tree)
 
   -- ---- join
 
@@ -173,12 +184,16 @@ module _ (IsBad : Closing → Type 0) (not_fine : ¬ IsBad Fine) (not_refused : 
   journal_never (Some name) without with_one none (inl is) = absurd cc
   journal_never (Some name) without with_one none (inr each) = each name
 
+  reflected_never : ((reflection : PlainReflection) → ¬ IsBad (ByReflecting reflection)) → (request : ReflectRequest) (id : List ℕ) (source : PlainSource) → Never (OfReflected request id source)
+  reflected_never not_reflecting request id source =
+      let reflection : PlainReflection = reflection_of request id (session_of source.stored) in
+      own_never source id (Only (at_once (ByReflecting reflection))) (only_never (at_once (ByReflecting reflection)) (not_reflecting reflection))
+
   served_never : ((reflection : PlainReflection) → ¬ IsBad (ByReflecting reflection)) → (request : ReflectRequest) → (request.journal ≡ None) ⊎ ((keeping : PlainKeeping) → ¬ IsBad (ByKeeping keeping)) → (id : List ℕ)
       → Never (OfServed request id)
   served_never not_reflecting request kept id =
       journal_never request.journal (OfUnkept request id) (λ journal. Only (at_once (ByKeeping (keeping_of request id journal))))
-      (opening_never request.from (λ opening. Only (at_once (ByReflecting (reflection_of request id opening))))
-      (λ opening. only_never (at_once (ByReflecting (reflection_of request id opening))) (not_reflecting (reflection_of request id opening))))
+      (opening_never request.from (OfReflected request id) (reflected_never not_reflecting request id))
       (map_right kept (λ not_keeping name. only_never (at_once (ByKeeping (keeping_of request id name))) (not_keeping (keeping_of request id name))))
 
   reflect_never : ((reflection : PlainReflection) → ¬ IsBad (ByReflecting reflection)) → (request : ReflectRequest) → (request.journal ≡ None) ⊎ ((keeping : PlainKeeping) → ¬ IsBad (ByKeeping keeping)) → (text : List ℕ)

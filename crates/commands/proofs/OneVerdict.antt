@@ -2,13 +2,6 @@
 use Rattle.std.proofs.Common.{◌≡◌, ◌⊎◌, inl, inr, ℕ, Bool, true, false, encode_utf8_all, List, [], ◌∷◌, length, Option, Some, None, refl, sym, ap, subst, ◌∙◌}
 use Rattle.std.proofs.lemmas.Option.{same_Some}
 use Rattle.tea_base.specs.declared.entry.Entry.{Entry}
-use Rattle.session_log.specs.Stored.{PlainStored, IsStored, stored_spelling}
-use Rattle.session_log.specs.StoredReading.{stored_at}
-use Rattle.session_log.proofs.StoredCodec.{stored_codec}
-use Rattle.byte_fields.specs.Fields.{whole}
-use Rattle.byte_fields.proofs.Codecs.{whole_again}
-use Rattle.reflector_core.specs.PlainSession.{PlainSession}
-use Rattle.reflector_core.specs.Play.{first_session}
 use Rattle.reflector_core.specs.Stored.{session_of}
 use Rattle.reflector_core.specs.declared.request.Request.{Request}
 use Rattle.model_tree.specs.Program.{Reading, a_program, no_program, too_large, IsReading}
@@ -46,8 +39,9 @@ use Rattle.command_inspect.specs.Queries.{queries_of}
 use Rattle.command_outcome.specs.ProgramEnd.{IsLineOf, IsRefused, IsRefusedBy}
 use Rattle.model_tree.specs.Bounds.{most_program_bytes}
 use Rattle.tea_base.specs.Limits.{most_snapshot}
+use Rattle.commands.proofs.LogLaws.{same_source}
 use Rattle.commands.specs.Laws.{AreAlike, AreDoneAlike, IsOneVerdict, IsFunction}
-use Rattle.commands.specs.Verdict.{Closing, ByDrill, ByKeeping, ByRefusal, ByReflecting, ByVisit, ByWant, Verdict, Coming, Free, OfFile, OfFounded, OfGiven, OfInspect, OfInspectedLog, OfJoin, OfJournal, OfJson, OfKeyframes, OfPersisted, OfProgram, OfQueries, OfRecorded, OfReflect, OfRight, OfScript, OfSnapshot, OfTimeLine, OfTree, OfView, OfViewScript, OfWords, Only, Starts, before, ask_file, at_once, count_verdict, founded, inspect_verdict, keeps_few, reflection_of, resumed_verdict, stamp_verdict, visit_to, most_queries, most_script, most_log, OfOpening, OfServed, OfStored, OfUnkept, keeping_of, session_id_of, OfTrace, OfTraced, OfTracedLog, trace_verdict}
+use Rattle.commands.specs.Verdict.{Closing, ByDrill, ByKeeping, ByRefusal, ByReflecting, ByVisit, ByWant, Verdict, Coming, Free, OfFile, OfFounded, OfGiven, OfInspect, OfInspectedLog, OfJoin, OfJournal, OfJson, OfKeyframes, OfLog, OfOwn, OfPersisted, OfProgram, OfQueries, OfRecorded, OfReflect, OfReflected, OfRight, PlainSource, first_source, names_no_other, OfScript, OfSnapshot, OfTimeLine, OfTree, OfView, OfViewScript, OfWords, Only, Starts, before, ask_file, at_once, count_verdict, founded, inspect_verdict, keeps_few, reflection_of, resumed_verdict, stamp_verdict, visit_to, most_queries, most_script, most_log, OfOpening, OfServed, OfUnkept, keeping_of, session_id_of, OfTrace, OfTraced, OfTracedLog, trace_verdict}
 
 -- what `model_lang::one_reading` says
 abbrev pub IsOneReading : Type 0
@@ -108,26 +102,28 @@ one_right : (at : Input) (is : Bool) (next : Coming) → IsOneVerdict next → I
 one_right at true next one = one
 one_right at false next one = one_only (at_once (ByRefusal (refusal.Input at)))
 
--- ---- stored sessions
+-- ---- logs
 
-same_stored : (stored other : PlainStored) → IsStored stored → IsStored other → stored_spelling stored ≡ stored_spelling other → stored ≡ other
-same_stored stored other is is' same =
-    same_Some stored other (sym (whole_again stored_codec stored is) ∙ ap (whole stored_at) same ∙ whole_again stored_codec other is')
+one_log : (next : PlainSource → Coming) → ((source : PlainSource) → IsOneVerdict (next source)) → (bytes : List ℕ) → IsOneVerdict (OfLog next bytes)
+one_log next each bytes verdict other (inl (source, is, a)) (inl (source', is', b)) =
+    each source verdict other a (subst (λ (s : PlainSource). next s other) (same_source bytes source' source is' is) b)
+one_log next each bytes verdict other (inl (source, is, a)) (inr (none, b)) = absurd (none source is)
+one_log next each bytes verdict other (inr (none, a)) (inl (source, is, b)) = absurd (none source is)
+one_log next each bytes verdict other (inr (none, a)) (inr (none', b)) = one_only (at_once (ByRefusal (refusal.Input input.Log))) verdict other a b
 
-one_stored : (next : PlainStored → Coming) → ((stored : PlainStored) → IsOneVerdict (next stored)) → (bytes : List ℕ) → IsOneVerdict (OfStored next bytes)
-one_stored next each bytes verdict other (inl (stored, is, spelled, a)) (inl (stored', is', spelled', b)) =
-    each stored verdict other a (subst (λ (s : PlainStored). next s other) (same_stored stored' stored is' is (sym spelled' ∙ spelled)) b)
-one_stored next each bytes verdict other (inl (stored, is, spelled, a)) (inr (none, b)) = absurd (none stored is spelled)
-one_stored next each bytes verdict other (inr (none, a)) (inl (stored, is, spelled, b)) = absurd (none stored is spelled)
-one_stored next each bytes verdict other (inr (none, a)) (inr (none', b)) = one_only (at_once (ByRefusal (refusal.Input input.Log))) verdict other a b
+one_log_file : (name : List ℕ) (next : PlainSource → Coming) → ((source : PlainSource) → IsOneVerdict (next source)) → IsOneVerdict (OfFile input.Log (ask_file name most_log) (OfLog next))
+one_log_file name next each = one_file input.Log (ask_file name most_log) (OfLog next) (one_log next each)
 
-one_opening : (from : Option (List ℕ)) (next : PlainSession → Coming) → ((opening : PlainSession) → IsOneVerdict (next opening)) → IsOneVerdict (OfOpening from next)
-one_opening None next each = each first_session
-one_opening (Some name) next each = one_file input.Log (ask_file name most_log) (OfStored (λ stored. next (session_of stored))) (one_stored (λ stored. next (session_of stored)) (λ stored. each (session_of stored)))
+one_opening : (from : Option (List ℕ)) (next : PlainSource → Coming) → ((source : PlainSource) → IsOneVerdict (next source)) → IsOneVerdict (OfOpening from next)
+one_opening None next each = each first_source
+one_opening (Some name) next each = one_log_file name next each
+
+one_own : (source : PlainSource) (id : List ℕ) (next : Coming) → IsOneVerdict next → IsOneVerdict (OfOwn source id next)
+one_own source id next one = one_right input.Journal (names_no_other source.named id) next one
 
 one_script : (from log : Option (List ℕ)) (script : Option (List Request)) → IsOneVerdict (OfScript from log script)
 one_script from log None = one_only (at_once (ByRefusal (refusal.Input input.Script)))
-one_script from log (Some requests) = one_opening from (λ opening. Only (stamp_verdict opening log requests)) (λ opening. one_only (stamp_verdict opening log requests))
+one_script from log (Some requests) = one_opening from (λ source. Only (stamp_verdict (session_of source.stored) log requests)) (λ source. one_only (stamp_verdict (session_of source.stored) log requests))
 
 -- ---- programs
 
@@ -215,14 +211,17 @@ one_start : (from : Option (List ℕ)) (request : ReplayRequest) (founding : Fou
 one_start None request founding id log = one_only _
 one_start (Some from) request founding id log = one_file input.Snapshot (ask_file from most_snapshot) (OfSnapshot request founding.tree id log) (one_snapshot request founding.tree id log)
 
-one_recorded : (request : ReplayRequest) (text : List ℕ) (tree : ProgramTree) (log : List Entry) → IsOneVerdict (OfRecorded request text tree log)
-one_recorded request text tree log =
-    one_persisted request.persisted (λ v. OfFounded request text log (founded tree v)) (λ v. one_start request.from request (founded tree v) (session_id_of request.name text v) log)
+one_founded : (request : ReplayRequest) (text : List ℕ) (source : PlainSource) (founding : Founding) → IsOneVerdict (OfFounded request text source founding)
+one_founded request text source founding =
+    let id = session_id_of request.name text founding.persisted in
+    one_own source id (Starts request.from request founding id source.stored.log) (one_start request.from request founding id source.stored.log)
+
+one_recorded : (request : ReplayRequest) (text : List ℕ) (tree : ProgramTree) (source : PlainSource) → IsOneVerdict (OfRecorded request text tree source)
+one_recorded request text tree source =
+    one_persisted request.persisted (λ v. OfFounded request text source (founded tree v)) (λ v. one_founded request text source (founded tree v))
 
 one_tree : (request : ReplayRequest) (text : List ℕ) (tree : ProgramTree) → IsOneVerdict (OfTree request text tree)
-one_tree request text tree =
-    one_file input.Log (ask_file request.log most_log) (OfStored (λ stored. OfRecorded request text tree stored.log))
-    (one_stored (λ stored. OfRecorded request text tree stored.log) (λ stored. one_recorded request text tree stored.log))
+one_tree request text tree = one_log_file request.log (OfRecorded request text tree) (one_recorded request text tree)
 
 -- ---- inspect
 
@@ -236,25 +235,32 @@ one_keyframes every queries founding id log =
     one_right input.Every (keeps_few every log) (OfFile input.Queries (ask_file queries most_queries) of_bytes)
     (one_file input.Queries (ask_file queries most_queries) of_bytes (λ bytes. one_queries founding id log (queries_of bytes)))
 
-one_inspected_log : (request : InspectRequest) (text : List ℕ) (tree : ProgramTree) (log : List Entry) → IsOneVerdict (OfInspectedLog request text tree log)
-one_inspected_log request text tree log =
-    one_persisted request.persisted (λ v. OfTimeLine request text log (founded tree v)) (λ v. one_keyframes request.every request.queries (founded tree v) (session_id_of request.name text v) log)
+one_time_line : (request : InspectRequest) (text : List ℕ) (source : PlainSource) (founding : Founding) → IsOneVerdict (OfTimeLine request text source founding)
+one_time_line request text source founding =
+    let id = session_id_of request.name text founding.persisted in
+    one_own source id (OfKeyframes request.every request.queries founding id source.stored.log) (one_keyframes request.every request.queries founding id source.stored.log)
+
+one_inspected_log : (request : InspectRequest) (text : List ℕ) (tree : ProgramTree) (source : PlainSource) → IsOneVerdict (OfInspectedLog request text tree source)
+one_inspected_log request text tree source =
+    one_persisted request.persisted (λ v. OfTimeLine request text source (founded tree v)) (λ v. one_time_line request text source (founded tree v))
 
 one_inspect : (request : InspectRequest) (text : List ℕ) (tree : ProgramTree) → IsOneVerdict (OfInspect request text tree)
-one_inspect request text tree =
-    one_file input.Log (ask_file request.log most_log) (OfStored (λ stored. OfInspectedLog request text tree stored.log))
-    (one_stored (λ stored. OfInspectedLog request text tree stored.log) (λ stored. one_inspected_log request text tree stored.log))
+one_inspect request text tree = one_log_file request.log (OfInspectedLog request text tree) (one_inspected_log request text tree)
 
 -- ---- trace
 
-one_traced_log : (request : TraceRequest) (text : List ℕ) (tree : ProgramTree) (log : List Entry) → IsOneVerdict (OfTracedLog request text tree log)
-one_traced_log request text tree log =
-    one_persisted request.persisted (λ v. OfTraced request text log (founded tree v)) (λ v. one_only (trace_verdict (founded tree v) (session_id_of request.name text v) log request.from request.to))
+one_traced : (request : TraceRequest) (text : List ℕ) (source : PlainSource) (founding : Founding) → IsOneVerdict (OfTraced request text source founding)
+one_traced request text source founding =
+    let id = session_id_of request.name text founding.persisted in
+    let told : Verdict = trace_verdict founding id source.stored.log request.from request.to in
+    one_own source id (Only told) (one_only told)
+
+one_traced_log : (request : TraceRequest) (text : List ℕ) (tree : ProgramTree) (source : PlainSource) → IsOneVerdict (OfTracedLog request text tree source)
+one_traced_log request text tree source =
+    one_persisted request.persisted (λ v. OfTraced request text source (founded tree v)) (λ v. one_traced request text source (founded tree v))
 
 one_trace : (request : TraceRequest) (text : List ℕ) (tree : ProgramTree) → IsOneVerdict (OfTrace request text tree)
-one_trace request text tree =
-    one_file input.Log (ask_file request.log most_log) (OfStored (λ stored. OfTracedLog request text tree stored.log))
-    (one_stored (λ stored. OfTracedLog request text tree stored.log) (λ stored. one_traced_log request text tree stored.log))
+one_trace request text tree = one_log_file request.log (OfTracedLog request text tree) (one_traced_log request text tree)
 
 -- ---- join
 
@@ -272,9 +278,13 @@ one_join request text tree = one_right input.Address (is_address (encode_utf8_al
 
 -- ---- reflect
 
+one_reflected : (request : ReflectRequest) (id : List ℕ) (source : PlainSource) → IsOneVerdict (OfReflected request id source)
+one_reflected request id source =
+    let reflects : Verdict = at_once (ByReflecting (reflection_of request id (session_of source.stored))) in
+    one_own source id (Only reflects) (one_only reflects)
+
 one_unkept : (request : ReflectRequest) (id : List ℕ) → IsOneVerdict (OfUnkept request id)
-one_unkept request id =
-    one_opening request.from (λ opening. Only (at_once (ByReflecting (reflection_of request id opening)))) (λ opening. one_only (at_once (ByReflecting (reflection_of request id opening))))
+one_unkept request id = one_opening request.from (OfReflected request id) (one_reflected request id)
 
 one_journal : (journal : Option (List ℕ)) (without : Coming) (with_one : List ℕ → Coming) → IsOneVerdict without → ((name : List ℕ) → IsOneVerdict (with_one name)) → IsOneVerdict (OfJournal journal without with_one)
 one_journal None without with_one one each = one

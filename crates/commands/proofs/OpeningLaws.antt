@@ -1,29 +1,32 @@
 -- A session that goes on, or a first one; with a journal, or without one.
-use Rattle.std.proofs.Common.{◌≡◌, ℕ, List, Option, Some, None, inl, inr, subst, sym}
+use Rattle.std.proofs.Common.{◌≡◌, ℕ, List, Option, Some, None, subst, sym}
 use Rattle.command_outcome.specs.declared.outcome.Input.TheVariants as input
 use Rattle.reflector_core.specs.PlainSession.{PlainSession}
 use Rattle.reflector_core.specs.Play.{first_session}
 use Rattle.reflector_core.specs.Stored.{session_of}
-use Rattle.session_log.specs.Stored.{PlainStored, IsStored, stored_spelling}
+use Rattle.session_log.specs.Stored.{PlainStored}
 use Rattle.session_journal.specs.State.{founded}
-use Rattle.commands.specs.Keeping.{OfFounding, founded_with}
-use Rattle.commands.specs.Verdict.{ByKeeping, Coming, Free, OfFile, OfJournal, OfOpening, OfStored, Only, PlainKeeping, Verdict, ask_file, at_once, most_log}
+use Rattle.command_words.specs.declared.words.ReflectRequest.{ReflectRequest}
+use Rattle.commands.specs.Keeping.{OfFounding, OfFoundingLog, founded_with}
+use Rattle.commands.specs.Verdict.{ByKeeping, ByReflecting, Coming, Free, OfFile, OfJournal, OfLog, OfOpening, OfReflected, OfUnkept, Only, PlainKeeping, PlainSource, Verdict, ask_file, at_once, most_log, reflection_of}
 
 -- a log is named
-pub opened_by_file : (from : Option (List ℕ)) (file : List ℕ) (next : PlainSession → Coming) (verdict : Verdict) → from ≡ Some file
-    → OfFile input.Log (ask_file file most_log) (OfStored (λ stored. next (session_of stored))) verdict → OfOpening from next verdict
+pub opened_by_file : (from : Option (List ℕ)) (file : List ℕ) (next : PlainSource → Coming) (verdict : Verdict) → from ≡ Some file
+    → OfFile input.Log (ask_file file most_log) (OfLog next) verdict → OfOpening from next verdict
 opened_by_file from file next verdict is comes = subst (λ (f : Option (List ℕ)). OfOpening f next verdict) (sym is) comes
 
 -- none is
-pub opened_first : (from : Option (List ℕ)) (session : PlainSession) (next : PlainSession → Coming) (verdict : Verdict) → from ≡ None → session ≡ first_session
-    → next session verdict → OfOpening from next verdict
-opened_first from session next verdict is first comes =
-    subst (λ (f : Option (List ℕ)). OfOpening f next verdict) (sym is) (subst (λ (s : PlainSession). next s verdict) first comes)
-
 pub opened_freely : (from : Option (List ℕ)) (session : PlainSession) (next : PlainSession → Coming) (verdict : Verdict) → from ≡ None → session ≡ first_session
-    → Free (next session) verdict → Free (OfOpening from next) verdict
+    → Free (next session) verdict → Free (OfOpening from (λ source. next (session_of source.stored))) verdict
 opened_freely from session next verdict is first comes =
-    subst (λ (f : Option (List ℕ)). Free (OfOpening f next) verdict) (sym is) (subst (λ (s : PlainSession). Free (next s) verdict) first comes)
+    subst (λ (f : Option (List ℕ)). Free (OfOpening f (λ source. next (session_of source.stored))) verdict) (sym is) (subst (λ (s : PlainSession). Free (next s) verdict) first comes)
+
+-- none is, and the session is reflected
+pub reflected_first : (request : ReflectRequest) (id : List ℕ) (session : PlainSession) (verdict : Verdict) → request.from ≡ None → session ≡ first_session
+    → Only (at_once (ByReflecting (reflection_of request id session))) verdict → OfUnkept request id verdict
+reflected_first request id session verdict is first comes =
+    subst (λ (f : Option (List ℕ)). OfOpening f (OfReflected request id) verdict) (sym is)
+    (subst (λ (s : PlainSession). Only (at_once (ByReflecting (reflection_of request id s))) verdict) first comes)
 
 -- ---- a journal
 
@@ -35,7 +38,7 @@ without_journal journal without with_one verdict is comes = subst (λ (j : Optio
 
 -- it is founded with a log
 pub founded_by_file : (from : Option (List ℕ)) (file : List ℕ) (keeping : PlainKeeping) (verdict : Verdict) → from ≡ Some file
-    → OfFile input.Log (ask_file file most_log) (OfStored (λ stored. Only (at_once (ByKeeping (founded_with keeping stored))))) verdict → OfFounding from keeping verdict
+    → OfFile input.Log (ask_file file most_log) (OfLog (OfFoundingLog keeping)) verdict → OfFounding from keeping verdict
 founded_by_file from file keeping verdict is comes = subst (λ (f : Option (List ℕ)). OfFounding f keeping verdict) (sym is) comes
 
 -- it is founded with a first session
@@ -43,7 +46,3 @@ pub founded_first : (from : Option (List ℕ)) (stored : PlainStored) (keeping :
     → Only (at_once (ByKeeping (founded_with keeping stored))) verdict → OfFounding from keeping verdict
 founded_first from stored keeping verdict is first comes =
     subst (λ (f : Option (List ℕ)). OfFounding f keeping verdict) (sym is) (subst (λ (s : PlainStored). Only (at_once (ByKeeping (founded_with keeping s))) verdict) first comes)
-
--- it is founded with what is stored in these bytes
-pub founded_by_bytes : (next : PlainStored → Coming) (bytes : List ℕ) (stored : PlainStored) (verdict : Verdict) → IsStored stored → bytes ≡ stored_spelling stored → next stored verdict → Free (OfStored next bytes) verdict
-founded_by_bytes next bytes stored verdict sound is comes = inr (inl (stored, sound, is, comes))

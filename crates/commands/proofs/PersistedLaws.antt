@@ -1,5 +1,5 @@
 -- A replay whose persisted value was read goes on as its request says.
-use Rattle.std.proofs.Common.{◌≡◌, ℕ, List, Option, Some, None, inl, inr, subst, sym}
+use Rattle.std.proofs.Common.{◌≡◌, ℕ, Bool, true, false, List, Option, Some, None, inl, inr, subst, sym}
 use Rattle.tea_base.specs.declared.entry.Entry.{Entry}
 use Rattle.model_tree.specs.Tree.{ProgramTree}
 use Rattle.model_solved.specs.Founding.{Founding}
@@ -12,7 +12,7 @@ use Rattle.command_outcome.specs.declared.outcome.Input.{Input}
 use Rattle.command_outcome.specs.declared.outcome.Input.TheVariants as input
 use Rattle.command_words.specs.declared.words.ReplayRequest.{ReplayRequest}
 use Rattle.persist_json.specs.JsonOf.{most_json}
-use Rattle.commands.specs.Verdict.{Coming, Free, OfFile, OfFounded, OfJson, OfPersisted, OfRecorded, Starts, Verdict, founded, session_id_of, ask_file}
+use Rattle.commands.specs.Verdict.{Coming, Free, OfFile, OfFounded, OfJson, OfPersisted, OfRecorded, OfRight, PlainSource, Starts, Verdict, founded, names_no_other, session_id_of, ask_file}
 
 -- what a request asks for once its persisted value is known does not depend on where that is named
 abbrev pub renamed : Option (List ℕ) → ReplayRequest → ReplayRequest
@@ -23,9 +23,17 @@ pub starts_alike : (from name : Option (List ℕ)) (request : ReplayRequest) (fo
 starts_alike None name request founding id log verdict comes = comes
 starts_alike (Some from) name request founding id log verdict comes = comes
 
-pub founded_alike : (name : Option (List ℕ)) (request : ReplayRequest) (text : List ℕ) (log : List Entry) (founding : Founding) (verdict : Verdict)
-    → OfFounded (renamed name request) text log founding verdict → OfFounded request text log founding verdict
-founded_alike name request text log founding verdict = starts_alike request.from name request founding (session_id_of request.name text founding.persisted) log verdict
+-- where the log is not the journal of another session
+right_alike : (is : Bool) (one other : Coming) (verdict : Verdict) → (one verdict → other verdict) → OfRight input.Journal is one verdict → OfRight input.Journal is other verdict
+right_alike true one other verdict goes comes = goes comes
+right_alike false one other verdict goes refused = refused
+
+pub founded_alike : (name : Option (List ℕ)) (request : ReplayRequest) (text : List ℕ) (source : PlainSource) (founding : Founding) (verdict : Verdict)
+    → OfFounded (renamed name request) text source founding verdict → OfFounded request text source founding verdict
+founded_alike name request text source founding verdict =
+    let id = session_id_of request.name text founding.persisted in
+    right_alike (names_no_other source.named id) (Starts request.from (renamed name request) founding id source.stored.log) (Starts request.from request founding id source.stored.log) verdict
+    (starts_alike request.from name request founding id source.stored.log verdict)
 
 -- where each file's bytes lead on alike, so does the file
 pub file_alike : (at : Input) (ask : Ask) (one other : List ℕ → Coming) → ((bytes : List ℕ) (verdict : Verdict) → one bytes verdict → other bytes verdict)
@@ -40,21 +48,21 @@ json_alike one other goes bytes verdict (inl (v, is, comes)) = inl (v, is, goes 
 json_alike one other goes bytes verdict (inr refused) = inr refused
 
 -- the persisted value is in a file
-pub recorded_by_file : (request : ReplayRequest) (name : List ℕ) (other : Option (List ℕ)) (text : List ℕ) (tree : ProgramTree) (log : List Entry) (verdict : Verdict) → request.persisted ≡ Some name
-    → OfFile input.Persisted (ask_file name most_json) (OfJson (λ v. OfFounded (renamed other request) text log (founded tree v))) verdict → Free (OfRecorded request text tree log) verdict
-recorded_by_file request name other text tree log verdict named comes =
-    let asked = λ (v : PlainValue). OfFounded request text log (founded tree v) in
-    let left = λ (v : PlainValue). OfFounded (renamed other request) text log (founded tree v) in
-    let alike = json_alike left asked (λ v verdict came. founded_alike other request text log (founded tree v) verdict came) in
+pub recorded_by_file : (request : ReplayRequest) (name : List ℕ) (other : Option (List ℕ)) (text : List ℕ) (tree : ProgramTree) (source : PlainSource) (verdict : Verdict) → request.persisted ≡ Some name
+    → OfFile input.Persisted (ask_file name most_json) (OfJson (λ v. OfFounded (renamed other request) text source (founded tree v))) verdict → Free (OfRecorded request text tree source) verdict
+recorded_by_file request name other text tree source verdict named comes =
+    let asked = λ (v : PlainValue). OfFounded request text source (founded tree v) in
+    let left = λ (v : PlainValue). OfFounded (renamed other request) text source (founded tree v) in
+    let alike = json_alike left asked (λ v verdict came. founded_alike other request text source (founded tree v) verdict came) in
     inr (subst (λ (p : Option (List ℕ)). OfPersisted p asked verdict) (sym named) (file_alike input.Persisted (ask_file name most_json) (OfJson left) (OfJson asked) alike verdict comes))
 
 -- there is none
-pub recorded_without : (request : ReplayRequest) (other : Option (List ℕ)) (text : List ℕ) (tree : ProgramTree) (log : List Entry) (verdict : Verdict) → request.persisted ≡ None
-    → Free (OfFounded (renamed other request) text log (founded tree nil)) verdict → Free (OfRecorded request text tree log) verdict
-recorded_without request other text tree log verdict named (inl want) = inl want
-recorded_without request other text tree log verdict named (inr comes) =
-    let asked = λ (v : PlainValue). OfFounded request text log (founded tree v) in
-    inr (subst (λ (p : Option (List ℕ)). OfPersisted p asked verdict) (sym named) (founded_alike other request text log (founded tree nil) verdict comes))
+pub recorded_without : (request : ReplayRequest) (other : Option (List ℕ)) (text : List ℕ) (tree : ProgramTree) (source : PlainSource) (verdict : Verdict) → request.persisted ≡ None
+    → Free (OfFounded (renamed other request) text source (founded tree nil)) verdict → Free (OfRecorded request text tree source) verdict
+recorded_without request other text tree source verdict named (inl want) = inl want
+recorded_without request other text tree source verdict named (inr comes) =
+    let asked = λ (v : PlainValue). OfFounded request text source (founded tree v) in
+    inr (subst (λ (p : Option (List ℕ)). OfPersisted p asked verdict) (sym named) (founded_alike other request text source (founded tree nil) verdict comes))
 
 -- the program has its persisted value, and the session its id
 pub founded_so : (next : Founding → List ℕ → Coming) (name text id : List ℕ) (founding asked : Founding) (verdict : Verdict) → founding ≡ asked → id ≡ session_id_of name text asked.persisted

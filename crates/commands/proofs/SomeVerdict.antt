@@ -2,10 +2,7 @@
 use Rattle.std.proofs.Common.{◌≡◌, inl, inr, ℕ, Bool, true, false, cond, nat_lt, encode_utf8_all, List, [], ◌∷◌, Option, Some, None, refl, sym, arith, subst}
 use Rattle.tea_base.specs.declared.entry.Entry.{Entry}
 use Rattle.reflector_core.specs.declared.request.Request.{Request}
-use Rattle.reflector_core.specs.PlainSession.{PlainSession}
-use Rattle.reflector_core.specs.Play.{first_session}
 use Rattle.reflector_core.specs.Stored.{session_of}
-use Rattle.session_log.specs.Stored.{PlainStored}
 use Rattle.model_tree.specs.Program.{Reading, a_program, no_program, too_large, IsReading, IsRead}
 use Rattle.model_tree.specs.Tree.{ProgramTree}
 use Rattle.model_solved.specs.Founding.{Founding}
@@ -41,7 +38,7 @@ use Rattle.model_tree.specs.Bounds.{most_program_bytes}
 use Rattle.persist_json.specs.JsonOf.{most_json}
 use Rattle.tea_base.specs.Limits.{most_snapshot}
 use Rattle.commands.specs.Laws.{AreGiven, IsOnlyWant, SomeVerdictComes}
-use Rattle.commands.specs.Verdict.{PlainKeeping, PlainVisit, Fine, ByDrill, ByKeeping, ByRefusal, ByReflecting, ByVisit, ByWant, Coming, OfCommand, OfFile, OfFounded, OfGiven, OfInspect, OfInspectedLog, OfJoin, OfJournal, OfJson, OfKeyframes, OfPersisted, OfProgram, OfQueries, OfRecorded, OfReflect, OfRight, OfScript, OfSnapshot, OfTimeLine, OfTree, OfView, OfViewScript, Only, Starts, ask_file, at_once, before, count_verdict, fine, founded, keeps_few, reflection_of, stamp_verdict, visit_to, most_queries, most_script, most_log, PlainReflection, OfOpening, OfServed, OfStored, OfUnkept, keeping_of, session_id_of, OfTrace, OfTraced, OfTracedLog}
+use Rattle.commands.specs.Verdict.{PlainKeeping, PlainVisit, Fine, ByDrill, ByKeeping, ByRefusal, ByReflecting, ByVisit, ByWant, Coming, OfCommand, OfFile, OfFounded, OfGiven, OfInspect, OfInspectedLog, OfJoin, OfJournal, OfJson, OfKeyframes, OfLog, OfOwn, OfPersisted, OfProgram, OfQueries, OfRecorded, OfReflect, OfReflected, OfRight, PlainSource, first_source, names_no_other, trace_verdict, OfScript, OfSnapshot, OfTimeLine, OfTree, OfView, OfViewScript, Only, Starts, ask_file, at_once, before, count_verdict, fine, founded, keeps_few, reflection_of, stamp_verdict, visit_to, most_queries, most_script, most_log, PlainReflection, OfOpening, OfServed, OfUnkept, keeping_of, session_id_of, OfTrace, OfTraced, OfTracedLog}
 
 abbrev pub Told : Type 0
 Told = Ask → Option (List ℕ)
@@ -87,26 +84,30 @@ right_not_want : (told : Told) (at : Input) (is : Bool) (next : Coming) → ¬ I
 right_not_want told at true next each = each
 right_not_want told at false next each = refused_not_want told (OfRight at false next) (refusal.Input at) refl
 
--- ---- stored sessions
+-- ---- logs
 
-stored_not_want : (told : Told) (next : PlainStored → Coming) (bytes : List ℕ) → ((stored : PlainStored) → ¬ IsOnlyWant told (next stored)) → ¬ IsOnlyWant told (OfStored next bytes)
-stored_not_want told next bytes each only =
-    refused_not_want told (OfStored next bytes) (refusal.Input input.Log)
-    (inr (λ stored sound is. each stored (λ verdict comes given. only verdict (inl (stored, sound, is, comes)) given), refl))
+log_not_want : (told : Told) (next : PlainSource → Coming) (bytes : List ℕ) → ((source : PlainSource) → ¬ IsOnlyWant told (next source)) → ¬ IsOnlyWant told (OfLog next bytes)
+log_not_want told next bytes each only =
+    refused_not_want told (OfLog next bytes) (refusal.Input input.Log)
+    (inr (λ source is. each source (λ verdict comes given. only verdict (inl (source, is, comes)) given), refl))
     only
 
-opening_not_want : (told : Told) (from : Option (List ℕ)) (next : PlainSession → Coming) → ((opening : PlainSession) → ¬ IsOnlyWant told (next opening)) → ¬ IsOnlyWant told (OfOpening from next)
-opening_not_want told None next each = each first_session
-opening_not_want told (Some name) next each =
-    file_not_want told input.Log (ask_file name most_log) (OfStored (λ stored. next (session_of stored)))
-    (λ bytes. stored_not_want told (λ stored. next (session_of stored)) bytes (λ stored. each (session_of stored)))
+log_file_not_want : (told : Told) (name : List ℕ) (next : PlainSource → Coming) → ((source : PlainSource) → ¬ IsOnlyWant told (next source)) → ¬ IsOnlyWant told (OfFile input.Log (ask_file name most_log) (OfLog next))
+log_file_not_want told name next each = file_not_want told input.Log (ask_file name most_log) (OfLog next) (λ bytes. log_not_want told next bytes each)
+
+opening_not_want : (told : Told) (from : Option (List ℕ)) (next : PlainSource → Coming) → ((source : PlainSource) → ¬ IsOnlyWant told (next source)) → ¬ IsOnlyWant told (OfOpening from next)
+opening_not_want told None next each = each first_source
+opening_not_want told (Some name) next each = log_file_not_want told name next each
+
+own_not_want : (told : Told) (source : PlainSource) (id : List ℕ) (next : Coming) → ¬ IsOnlyWant told next → ¬ IsOnlyWant told (OfOwn source id next)
+own_not_want told source id next each = right_not_want told input.Journal (names_no_other source.named id) next each
 
 -- ---- stamp
 
 script_not_want : (told : Told) (from log : Option (List ℕ)) (requests : Option (List Request)) → ¬ IsOnlyWant told (OfScript from log requests)
 script_not_want told from log None = refused_not_want told (OfScript from log None) (refusal.Input input.Script) refl
 script_not_want told from log (Some requests) =
-    opening_not_want told from (λ opening. Only (stamp_verdict opening log requests)) (λ opening. fine_not_want told (Only (stamp_verdict opening log requests)) _ _ refl)
+    opening_not_want told from (λ source. Only (stamp_verdict (session_of source.stored) log requests)) (λ source. fine_not_want told (Only (stamp_verdict (session_of source.stored) log requests)) _ _ refl)
 
 -- ---- programs
 
@@ -161,14 +162,17 @@ starts_not_want told None request founding id log = fine_not_want told (Starts N
 starts_not_want told (Some from) request founding id log =
     file_not_want told input.Snapshot (ask_file from most_snapshot) (OfSnapshot request founding.tree id log) (snapshot_not_want told request founding.tree id log)
 
-recorded_not_want : (told : Told) (request : ReplayRequest) (text : List ℕ) (tree : ProgramTree) (log : List Entry) → ¬ IsOnlyWant told (OfRecorded request text tree log)
-recorded_not_want told request text tree log =
-    persisted_not_want told request.persisted (λ v. OfFounded request text log (founded tree v)) (λ v. starts_not_want told request.from request (founded tree v) (session_id_of request.name text v) log)
+founded_not_want : (told : Told) (request : ReplayRequest) (text : List ℕ) (source : PlainSource) (founding : Founding) → ¬ IsOnlyWant told (OfFounded request text source founding)
+founded_not_want told request text source founding =
+    let id = session_id_of request.name text founding.persisted in
+    own_not_want told source id (Starts request.from request founding id source.stored.log) (starts_not_want told request.from request founding id source.stored.log)
+
+recorded_not_want : (told : Told) (request : ReplayRequest) (text : List ℕ) (tree : ProgramTree) (source : PlainSource) → ¬ IsOnlyWant told (OfRecorded request text tree source)
+recorded_not_want told request text tree source =
+    persisted_not_want told request.persisted (λ v. OfFounded request text source (founded tree v)) (λ v. founded_not_want told request text source (founded tree v))
 
 tree_not_want : (told : Told) (request : ReplayRequest) (text : List ℕ) (tree : ProgramTree) → ¬ IsOnlyWant told (OfTree request text tree)
-tree_not_want told request text tree =
-    file_not_want told input.Log (ask_file request.log most_log) (OfStored (λ stored. OfRecorded request text tree stored.log))
-    (λ bytes. stored_not_want told (λ stored. OfRecorded request text tree stored.log) bytes (λ stored. recorded_not_want told request text tree stored.log))
+tree_not_want told request text tree = log_file_not_want told request.log (OfRecorded request text tree) (recorded_not_want told request text tree)
 
 -- ---- inspect
 
@@ -182,26 +186,32 @@ keyframes_not_want told every queries founding id log =
     right_not_want told input.Every (keeps_few every log) (OfFile input.Queries (ask_file queries most_queries) of_bytes)
     (file_not_want told input.Queries (ask_file queries most_queries) of_bytes (λ bytes. queries_not_want told founding id log (queries_of bytes)))
 
-inspected_log_not_want : (told : Told) (request : InspectRequest) (text : List ℕ) (tree : ProgramTree) (log : List Entry) → ¬ IsOnlyWant told (OfInspectedLog request text tree log)
-inspected_log_not_want told request text tree log =
-    persisted_not_want told request.persisted (λ v. OfTimeLine request text log (founded tree v)) (λ v. keyframes_not_want told request.every request.queries (founded tree v) (session_id_of request.name text v) log)
+time_line_not_want : (told : Told) (request : InspectRequest) (text : List ℕ) (source : PlainSource) (founding : Founding) → ¬ IsOnlyWant told (OfTimeLine request text source founding)
+time_line_not_want told request text source founding =
+    let id = session_id_of request.name text founding.persisted in
+    own_not_want told source id (OfKeyframes request.every request.queries founding id source.stored.log) (keyframes_not_want told request.every request.queries founding id source.stored.log)
+
+inspected_log_not_want : (told : Told) (request : InspectRequest) (text : List ℕ) (tree : ProgramTree) (source : PlainSource) → ¬ IsOnlyWant told (OfInspectedLog request text tree source)
+inspected_log_not_want told request text tree source =
+    persisted_not_want told request.persisted (λ v. OfTimeLine request text source (founded tree v)) (λ v. time_line_not_want told request text source (founded tree v))
 
 inspect_not_want : (told : Told) (request : InspectRequest) (text : List ℕ) (tree : ProgramTree) → ¬ IsOnlyWant told (OfInspect request text tree)
-inspect_not_want told request text tree =
-    file_not_want told input.Log (ask_file request.log most_log) (OfStored (λ stored. OfInspectedLog request text tree stored.log))
-    (λ bytes. stored_not_want told (λ stored. OfInspectedLog request text tree stored.log) bytes (λ stored. inspected_log_not_want told request text tree stored.log))
+inspect_not_want told request text tree = log_file_not_want told request.log (OfInspectedLog request text tree) (inspected_log_not_want told request text tree)
 
 -- ---- trace
 
-traced_log_not_want : (told : Told) (request : TraceRequest) (text : List ℕ) (tree : ProgramTree) (log : List Entry) → ¬ IsOnlyWant told (OfTracedLog request text tree log)
-traced_log_not_want told request text tree log =
-    persisted_not_want told request.persisted (λ v. OfTraced request text log (founded tree v))
-    (λ v. fine_not_want told (OfTraced request text log (founded tree v)) [] (trace_text (founded tree v) (session_id_of request.name text v) log request.from request.to) refl)
+traced_not_want : (told : Told) (request : TraceRequest) (text : List ℕ) (source : PlainSource) (founding : Founding) → ¬ IsOnlyWant told (OfTraced request text source founding)
+traced_not_want told request text source founding =
+    let id = session_id_of request.name text founding.persisted in
+    let traced : Coming = Only (trace_verdict founding id source.stored.log request.from request.to) in
+    own_not_want told source id traced (fine_not_want told traced [] (trace_text founding id source.stored.log request.from request.to) refl)
+
+traced_log_not_want : (told : Told) (request : TraceRequest) (text : List ℕ) (tree : ProgramTree) (source : PlainSource) → ¬ IsOnlyWant told (OfTracedLog request text tree source)
+traced_log_not_want told request text tree source =
+    persisted_not_want told request.persisted (λ v. OfTraced request text source (founded tree v)) (λ v. traced_not_want told request text source (founded tree v))
 
 trace_not_want : (told : Told) (request : TraceRequest) (text : List ℕ) (tree : ProgramTree) → ¬ IsOnlyWant told (OfTrace request text tree)
-trace_not_want told request text tree =
-    file_not_want told input.Log (ask_file request.log most_log) (OfStored (λ stored. OfTracedLog request text tree stored.log))
-    (λ bytes. stored_not_want told (λ stored. OfTracedLog request text tree stored.log) bytes (λ stored. traced_log_not_want told request text tree stored.log))
+trace_not_want told request text tree = log_file_not_want told request.log (OfTracedLog request text tree) (traced_log_not_want told request text tree)
 
 -- ---- join
 
@@ -219,10 +229,14 @@ join_not_want told request text tree =
 
 -- ---- reflect
 
+reflected_not_want : (told : Told) (request : ReflectRequest) (id : List ℕ) (source : PlainSource) → ¬ IsOnlyWant told (OfReflected request id source)
+reflected_not_want told request id source =
+    let reflection : PlainReflection = reflection_of request id (session_of source.stored) in
+    let reflects : Coming = Only (at_once (ByReflecting reflection)) in
+    own_not_want told source id reflects (reflection_not_want told reflects reflection refl)
+
 unkept_not_want : (told : Told) (request : ReflectRequest) (id : List ℕ) → ¬ IsOnlyWant told (OfUnkept request id)
-unkept_not_want told request id =
-    let reflects : PlainSession → Coming = λ opening. Only (at_once (ByReflecting (reflection_of request id opening))) in
-    opening_not_want told request.from reflects (λ opening. reflection_not_want told (reflects opening) (reflection_of request id opening) refl)
+unkept_not_want told request id = opening_not_want told request.from (OfReflected request id) (reflected_not_want told request id)
 
 journal_not_want : (told : Told) (journal : Option (List ℕ)) (without : Coming) (with_one : List ℕ → Coming) → ¬ IsOnlyWant told without → ((name : List ℕ) → ¬ IsOnlyWant told (with_one name)) → ¬ IsOnlyWant told (OfJournal journal without with_one)
 journal_not_want told None without with_one none each = none

@@ -7,17 +7,20 @@ use Rattle.session_journal.specs.Journal.{Found, NoJournal, OtherSession, Goes, 
 use Rattle.command_outcome.specs.declared.outcome.Input.TheVariants as input
 use Rattle.command_outcome.specs.declared.outcome.CommandRefusal.TheVariants as refusal
 use Rattle.command_reflect.specs.KeptSteps.{going_on_steps}
-use Rattle.commands.specs.Verdict.{ByGoingOn, ByKeeping, ByReadFault, ByRefusal, Closing, Coming, Free, OfFile, OfStored, Only, PlainKeeping, Verdict, ask_file, at_once, most_log}
+use Rattle.commands.specs.Verdict.{ByGoingOn, ByKeeping, ByReadFault, ByRefusal, Closing, Coming, Free, OfFile, OfLog, OfOwn, Only, PlainKeeping, PlainSource, Verdict, ask_file, at_once, most_log}
 
 -- the journal is to be founded with this
 abbrev pub founded_with : PlainKeeping → PlainStored → PlainKeeping
 founded_with keeping stored = record keeping { from = None; opening = Some stored }
 
--- it is founded with the session that is stored under a name, or with a first one
+-- it is founded with what a log holds, if that is of the session
+abbrev pub OfFoundingLog : PlainKeeping → PlainSource → Coming
+OfFoundingLog keeping source = OfOwn source keeping.id (Only (at_once (ByKeeping (founded_with keeping source.stored))))
+
+-- it is founded with what the log of a name holds, or with a first session
 abbrev pub OfFounding : Option (List ℕ) → PlainKeeping → Coming
 OfFounding None keeping = Only (at_once (ByKeeping (founded_with keeping founded)))
-OfFounding (Some from) keeping =
-    OfFile input.Log (ask_file from most_log) (OfStored (λ stored. Only (at_once (ByKeeping (founded_with keeping stored)))))
+OfFounding (Some from) keeping = OfFile input.Log (ask_file from most_log) (OfLog (OfFoundingLog keeping))
 
 -- What comes of a journal that is not there: it is founded, unless it was founded just now.
 abbrev pub OfAbsent : Option PlainStored → PlainKeeping → Coming

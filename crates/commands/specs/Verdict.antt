@@ -1,13 +1,16 @@
 -- What comes of a command: the steps that it does, one after the other, and how it is closed.
-use Rattle.std.specs.Prelude.{◌≡◌, ◌≢◌, ◌⊎◌, ℕ, ℤ, ◌/◌, Bool, true, false, nat_le, nat_lt, if◌then◌else◌, List, [], ◌∷◌, ◌++◌, length, encode_utf8_all, Option, Some, None}
+use Rattle.std.specs.Prelude.{◌≡◌, ◌⊎◌, ℕ, ℤ, ◌/◌, Bool, true, false, nat_le, nat_lt, if◌then◌else◌, List, [], ◌∷◌, ◌++◌, length, encode_utf8_all, Option, Some, None}
+use Rattle.std.specs.Str.{bytes_eq}
 use Rattle.tea_base.specs.declared.entry.Entry.{Entry}
 use Rattle.connection.specs.declared.ending.Ended.{Ended}
 use Rattle.reflector_core.specs.PlainSession.{PlainSession}
 use Rattle.reflector_core.specs.Stored.{session_of, stored_of}
 use Rattle.session_log.specs.Stored.{PlainStored, IsStored, stored_spelling}
 use Rattle.session_journal.specs.Frames.{Place}
+use Rattle.session_journal.specs.State.{founded as founded_session}
+use Rattle.session_journal.specs.Journal.{Goes, most_journal, read_journal}
 use Rattle.reflector_core.specs.declared.request.Request.{Request}
-use Rattle.reflector_core.specs.Play.{first_session, after_all, replies_from}
+use Rattle.reflector_core.specs.Play.{after_all, replies_from}
 use Rattle.model_tree.specs.Bounds.{most_program_bytes}
 use Rattle.model_tree.specs.Tree.{ProgramTree}
 use Rattle.model_solved.specs.Founding.{Founding}
@@ -158,22 +161,54 @@ ask_file name limit = record { name = name; limit = limit }
 abbrev pub OfFile : Input → Ask → (List ℕ → Coming) → Coming
 OfFile at ask next verdict = (given : Option (List ℕ)) × Then (Loads ask given) (Free (OfGiven at given next)) verdict
 
--- ---- stored sessions
+-- ---- logs
 
--- the bytes are the spelling of a stored session, or of none
-abbrev pub OfStored : (PlainStored → Coming) → List ℕ → Coming
-OfStored next bytes verdict =
-    ((stored : PlainStored) × IsStored stored × (bytes ≡ stored_spelling stored) × next stored verdict)
-    ⊎ (((stored : PlainStored) → IsStored stored → bytes ≢ stored_spelling stored) × Only (at_once (ByRefusal (refusal.Input input.Log))) verdict)
+-- what a log holds: the id that it names, if it is a journal, and the session that is stored in it
+pub record PlainSource : Type 0 where
+  pub named : Option (List ℕ)
+  pub stored : PlainStored
+
+-- the spelling of a stored session names no id
+abbrev pub IsStoredLog : List ℕ → PlainSource → Type 0
+IsStoredLog bytes source = (source.named ≡ None) × IsStored source.stored × (bytes ≡ stored_spelling source.stored)
+
+-- a journal names an id of 32 bytes, and holds what is read of it; the bytes after that, which are a torn end, are passed over
+abbrev pub IsJournalLog : List ℕ → PlainSource → Type 0
+IsJournalLog bytes source =
+    (id : List ℕ) × (place : Place PlainStored) × (length id ≡ 32) × (read_journal id bytes ≡ Goes place)
+    × (source ≡ record { named = Some id; stored = place.state })
+
+-- the bytes are a log that holds this
+abbrev pub IsLog : List ℕ → PlainSource → Type 0
+IsLog bytes source = IsStoredLog bytes source ⊎ IsJournalLog bytes source
+
+-- the bytes are a log, or none
+abbrev pub OfLog : (PlainSource → Coming) → List ℕ → Coming
+OfLog next bytes verdict =
+    ((source : PlainSource) × IsLog bytes source × next source verdict)
+    ⊎ (((source : PlainSource) → ¬ IsLog bytes source) × Only (at_once (ByRefusal (refusal.Input input.Log))) verdict)
 
 -- the most bytes of a log
 abbrev pub most_log : ℕ
-most_log = 134217728
+most_log = most_journal
 
--- where a log is named, the session that is stored there goes on, and else a first one begins
-abbrev pub OfOpening : Option (List ℕ) → (PlainSession → Coming) → Coming
-OfOpening None next = next first_session
-OfOpening (Some name) next = OfFile input.Log (ask_file name most_log) (OfStored (λ stored. next (session_of stored)))
+-- what a session begins with where no log is named
+abbrev pub first_source : PlainSource
+first_source = record { named = None; stored = founded_session }
+
+-- where a log is named, the session that it holds goes on, and else a first one begins
+abbrev pub OfOpening : Option (List ℕ) → (PlainSource → Coming) → Coming
+OfOpening None next = next first_source
+OfOpening (Some name) next = OfFile input.Log (ask_file name most_log) (OfLog next)
+
+-- it names no other id than this one
+abbrev pub names_no_other : Option (List ℕ) → List ℕ → Bool
+names_no_other None id = true
+names_no_other (Some named) id = bytes_eq named id
+
+-- where the session's id is known, a journal of another session is refused
+abbrev pub OfOwn : PlainSource → List ℕ → Coming → Coming
+OfOwn source id next = OfRight input.Journal (names_no_other source.named id) next
 
 -- ---- stamp
 
@@ -182,10 +217,10 @@ abbrev pub stamp_verdict : PlainSession → Option (List ℕ) → List Request �
 stamp_verdict opening log requests =
     fine (steps_of (optional_put log (stored_spelling (stored_of (after_all opening requests)))) (text_of (replies_from opening requests)))
 
--- once the script was read, the session begins
+-- once the script was read, the session begins; a journal may name any id
 abbrev pub OfScript : Option (List ℕ) → Option (List ℕ) → Option (List Request) → Coming
 OfScript from log None = Only (at_once (ByRefusal (refusal.Input input.Script)))
-OfScript from log (Some requests) = OfOpening from (λ opening. Only (stamp_verdict opening log requests))
+OfScript from log (Some requests) = OfOpening from (λ source. Only (stamp_verdict (session_of source.stored) log requests))
 
 -- the most bytes of a script
 abbrev pub most_script : ℕ
@@ -251,17 +286,18 @@ abbrev pub Starts : Option (List ℕ) → ReplayRequest → Founding → List �
 Starts None request founding id log = Only (world_verdict request (replay founding id log request.time).world)
 Starts (Some from) request founding id log = OfFile input.Snapshot (ask_file from most_snapshot) (OfSnapshot request founding.tree id log)
 
--- once the persisted value is known, the replay begins
-abbrev pub OfFounded : ReplayRequest → List ℕ → List Entry → Founding → Coming
-OfFounded request text log founding = Starts request.from request founding (session_id_of request.name text founding.persisted) log
+-- once the persisted value is known, the log has to be of the session, and the replay begins
+abbrev pub OfFounded : ReplayRequest → List ℕ → PlainSource → Founding → Coming
+OfFounded request text source founding =
+    let id = session_id_of request.name text founding.persisted in OfOwn source id (Starts request.from request founding id source.stored.log)
 
 -- once the log was read, the persisted value is
-abbrev pub OfRecorded : ReplayRequest → List ℕ → ProgramTree → List Entry → Coming
-OfRecorded request text tree log = OfPersisted request.persisted (λ v. OfFounded request text log (founded tree v))
+abbrev pub OfRecorded : ReplayRequest → List ℕ → ProgramTree → PlainSource → Coming
+OfRecorded request text tree source = OfPersisted request.persisted (λ v. OfFounded request text source (founded tree v))
 
--- once the program was read, the log of a stored session is
+-- once the program was read, the log is
 abbrev pub OfTree : ReplayRequest → List ℕ → ProgramTree → Coming
-OfTree request text tree = OfFile input.Log (ask_file request.log most_log) (OfStored (λ stored. OfRecorded request text tree stored.log))
+OfTree request text tree = OfFile input.Log (ask_file request.log most_log) (OfLog (OfRecorded request text tree))
 
 -- ---- inspect
 
@@ -287,17 +323,18 @@ abbrev pub OfKeyframes : ℕ → List ℕ → Founding → List ℕ → List Ent
 OfKeyframes every queries founding id log =
     OfRight input.Every (keeps_few every log) (OfFile input.Queries (ask_file queries most_queries) (λ bytes. OfQueries founding id log (queries_of bytes)))
 
--- once the persisted value is known, the worlds are kept
-abbrev pub OfTimeLine : InspectRequest → List ℕ → List Entry → Founding → Coming
-OfTimeLine request text log founding = OfKeyframes request.every request.queries founding (session_id_of request.name text founding.persisted) log
+-- once the persisted value is known, the log has to be of the session, and the worlds are kept
+abbrev pub OfTimeLine : InspectRequest → List ℕ → PlainSource → Founding → Coming
+OfTimeLine request text source founding =
+    let id = session_id_of request.name text founding.persisted in OfOwn source id (OfKeyframes request.every request.queries founding id source.stored.log)
 
 -- once the log was read, the persisted value is
-abbrev pub OfInspectedLog : InspectRequest → List ℕ → ProgramTree → List Entry → Coming
-OfInspectedLog request text tree log = OfPersisted request.persisted (λ v. OfTimeLine request text log (founded tree v))
+abbrev pub OfInspectedLog : InspectRequest → List ℕ → ProgramTree → PlainSource → Coming
+OfInspectedLog request text tree source = OfPersisted request.persisted (λ v. OfTimeLine request text source (founded tree v))
 
--- once the program was read, the log of a stored session is
+-- once the program was read, the log is
 abbrev pub OfInspect : InspectRequest → List ℕ → ProgramTree → Coming
-OfInspect request text tree = OfFile input.Log (ask_file request.log most_log) (OfStored (λ stored. OfInspectedLog request text tree stored.log))
+OfInspect request text tree = OfFile input.Log (ask_file request.log most_log) (OfLog (OfInspectedLog request text tree))
 
 -- ---- trace
 
@@ -305,17 +342,18 @@ OfInspect request text tree = OfFile input.Log (ask_file request.log most_log) (
 abbrev pub trace_verdict : Founding → List ℕ → List Entry → ℕ → ℕ → Verdict
 trace_verdict founding id log from to = fine (steps_of [] (trace_text founding id log from to))
 
--- once the persisted value is known, what ran is printed
-abbrev pub OfTraced : TraceRequest → List ℕ → List Entry → Founding → Coming
-OfTraced request text log founding = Only (trace_verdict founding (session_id_of request.name text founding.persisted) log request.from request.to)
+-- once the persisted value is known, the log has to be of the session, and what ran is printed
+abbrev pub OfTraced : TraceRequest → List ℕ → PlainSource → Founding → Coming
+OfTraced request text source founding =
+    let id = session_id_of request.name text founding.persisted in OfOwn source id (Only (trace_verdict founding id source.stored.log request.from request.to))
 
 -- once the log was read, the persisted value is
-abbrev pub OfTracedLog : TraceRequest → List ℕ → ProgramTree → List Entry → Coming
-OfTracedLog request text tree log = OfPersisted request.persisted (λ v. OfTraced request text log (founded tree v))
+abbrev pub OfTracedLog : TraceRequest → List ℕ → ProgramTree → PlainSource → Coming
+OfTracedLog request text tree source = OfPersisted request.persisted (λ v. OfTraced request text source (founded tree v))
 
--- once the program was read, the log of a stored session is
+-- once the program was read, the log is
 abbrev pub OfTrace : TraceRequest → List ℕ → ProgramTree → Coming
-OfTrace request text tree = OfFile input.Log (ask_file request.log most_log) (OfStored (λ stored. OfTracedLog request text tree stored.log))
+OfTrace request text tree = OfFile input.Log (ask_file request.log most_log) (OfLog (OfTracedLog request text tree))
 
 -- ---- join
 
@@ -353,9 +391,13 @@ abbrev pub OfJournal : Option (List ℕ) → Coming → (List ℕ → Coming) �
 OfJournal None without with_one = without
 OfJournal (Some journal) without with_one = with_one journal
 
+-- what a log holds is reflected, if it is of the session
+abbrev pub OfReflected : ReflectRequest → List ℕ → PlainSource → Coming
+OfReflected request id source = OfOwn source id (Only (at_once (ByReflecting (reflection_of request id (session_of source.stored)))))
+
 -- without a journal the session begins, and is reflected
 abbrev pub OfUnkept : ReflectRequest → List ℕ → Coming
-OfUnkept request id = OfOpening request.from (λ opening. Only (at_once (ByReflecting (reflection_of request id opening))))
+OfUnkept request id = OfOpening request.from (OfReflected request id)
 
 -- once the id is known, the journal is opened, if one is named
 abbrev pub OfServed : ReflectRequest → List ℕ → Coming

@@ -9,12 +9,13 @@ use Rattle.command_outcome.specs.declared.outcome.Input.{Input}
 use Rattle.command_outcome.specs.declared.outcome.Input.TheVariants as input
 use Rattle.command_words.specs.declared.words.Command.{Command}
 use Rattle.command_words.specs.declared.words.Command.TheVariants.{Join, Reflect, Drill}
-use Rattle.reflector_core.specs.PlainSession.{PlainSession}
 use Rattle.reflector_core.specs.Stored.{session_of}
-use Rattle.session_log.specs.Stored.{PlainStored, IsStored, plain_stored, stored_spelling}
+use Rattle.session_log.specs.Stored.{PlainStored, IsStored, plain_stored}
 use Rattle.session_log.specs.declared.stored.Stored.{Stored}
 use Rattle.command_reflect.specs.declared.reflection.Reflection.{Reflection}
 use Rattle.command_reflect.specs.declared.keeping.Keeping.{Keeping}
+use Rattle.tea_base.specs.declared.entry.SessionId.{SessionId}
+use Rattle.commands.specs.declared.opening.Source.{Source}
 use Rattle.commands.specs.declared.visit.VisitRequest.{VisitRequest}
 use Rattle.commands.specs.declared.work.Waiting.{Waiting}
 use Rattle.commands.specs.declared.work.Waiting.TheVariants as waiting
@@ -36,8 +37,8 @@ use Rattle.commands.specs.declared.work.Next.TheVariants as next
 use Rattle.view_script.specs.PlainLine.{plain_lines}
 use Rattle.command_words.specs.Bounds.{AreConnections, IsBounded, IsBoundedDrill, IsBoundedInspect, IsBoundedJoin, IsBoundedReflect, IsBoundedTrace}
 use Rattle.command_outcome.specs.Outcome.{steps_of}
-use Rattle.commands.specs.Keeping.{founded_with}
-use Rattle.commands.specs.Verdict.{Verdict, PlainKeeping, PlainReflection, PlainVisit, ByDrill, ByKeeping, ByRefusal, ByReflecting, ByVisit, ByWant, Coming, Only, OfFile, OfFounded, OfInspect, OfJoin, OfJson, OfTimeLine, OfInspectedLog, OfProgram, OfQueries, OfRecorded, OfReflect, OfScript, OfServed, OfSnapshot, OfStored, OfTree, OfViewScript, ask_file, at_once, count_verdict, fine, founded, keeps_few, most_log, most_queries, most_script, reflection_of, session_id_of, stamp_verdict, visit_to, OfTrace, OfTraced, OfTracedLog}
+use Rattle.commands.specs.Keeping.{OfFoundingLog}
+use Rattle.commands.specs.Verdict.{Verdict, PlainKeeping, PlainReflection, PlainVisit, ByDrill, ByKeeping, ByRefusal, ByReflecting, ByVisit, ByWant, Coming, Only, OfFile, OfFounded, OfInspect, OfJoin, OfJson, OfTimeLine, OfInspectedLog, OfProgram, OfQueries, OfLog, OfRecorded, OfReflect, OfReflected, OfScript, OfServed, OfSnapshot, OfTree, PlainSource, OfViewScript, ask_file, at_once, count_verdict, fine, founded, keeps_few, most_log, most_queries, most_script, session_id_of, stamp_verdict, visit_to, OfTrace, OfTraced, OfTracedLog}
 
 -- ---- a command that waits for a file
 
@@ -108,6 +109,18 @@ most_bytes input.Every = 0
 abbrev pub ask_of : Waiting → Ask
 ask_of wait = ask_file (file_of wait) (most_bytes (input_of wait))
 
+-- ---- logs
+
+-- the id that a log names, if it is a journal
+abbrev pub plain_named : Option SessionId → Option (List ℕ)
+plain_named named = option_map (λ id. id.0) named
+
+-- what a log holds
+abbrev pub plain_source : Source → PlainSource
+plain_source source = record { named = plain_named source.named; stored = plain_stored source.stored }
+
+-- ---- what comes of the file
+
 -- what is known of an opening
 abbrev pub plain_opening : Option Stored → Option PlainStored
 plain_opening opening = option_map plain_stored opening
@@ -136,26 +149,26 @@ IsBoundedKeeping keeping = AreConnections keeping.connections × IsOpening keepi
 -- what comes of its bytes
 abbrev pub next_of : Waiting → List ℕ → Coming
 next_of (waiting.Stamp (stamp_wait.Script script from log)) bytes = OfScript from log (script_of bytes)
-next_of (waiting.Stamp (stamp_wait.Log wait)) bytes = OfStored (λ stored. Only (stamp_verdict (session_of stored) wait.log wait.requests)) bytes
+next_of (waiting.Stamp (stamp_wait.Log wait)) bytes = OfLog (λ source. Only (stamp_verdict (session_of source.stored) wait.log wait.requests)) bytes
 next_of (waiting.Check program) bytes = OfProgram (λ tree. Only (count_verdict tree)) bytes
 next_of (waiting.Replay (replay_wait.Program request)) bytes = OfProgram (OfTree request bytes) bytes
-next_of (waiting.Replay (replay_wait.Log wait)) bytes = OfStored (λ stored. OfRecorded wait.request wait.text (checked_tree wait.program) stored.log) bytes
+next_of (waiting.Replay (replay_wait.Log wait)) bytes = OfLog (OfRecorded wait.request wait.text (checked_tree wait.program)) bytes
 next_of (waiting.Replay (replay_wait.Value wait)) bytes =
     let read = wait.read in
-    OfJson (λ v. OfFounded read.request read.text read.log.entries (founded (checked_tree read.program) v)) bytes
+    OfJson (λ v. OfFounded read.request read.text (plain_source read.source) (founded (checked_tree read.program) v)) bytes
 next_of (waiting.Replay (replay_wait.Snapshot wait)) bytes =
     OfSnapshot wait.request (checked_tree wait.recording.program) wait.recording.id.0 wait.recording.log.entries bytes
 next_of (waiting.Inspect (inspect_wait.Program request)) bytes = OfProgram (OfInspect request bytes) bytes
-next_of (waiting.Inspect (inspect_wait.Log wait)) bytes = OfStored (λ stored. OfInspectedLog wait.request wait.text (checked_tree wait.program) stored.log) bytes
+next_of (waiting.Inspect (inspect_wait.Log wait)) bytes = OfLog (OfInspectedLog wait.request wait.text (checked_tree wait.program)) bytes
 next_of (waiting.Inspect (inspect_wait.Value wait)) bytes =
     let read = wait.read in
-    OfJson (λ v. OfTimeLine read.request read.text read.log.entries (founded (checked_tree read.program) v)) bytes
+    OfJson (λ v. OfTimeLine read.request read.text (plain_source read.source) (founded (checked_tree read.program) v)) bytes
 next_of (waiting.Inspect (inspect_wait.Queries wait)) bytes = OfQueries (founding_of wait.line.program) wait.line.id wait.line.entries (queries_of bytes)
 next_of (waiting.Trace (trace_wait.Program request)) bytes = OfProgram (OfTrace request bytes) bytes
-next_of (waiting.Trace (trace_wait.Log wait)) bytes = OfStored (λ stored. OfTracedLog wait.request wait.text (checked_tree wait.program) stored.log) bytes
+next_of (waiting.Trace (trace_wait.Log wait)) bytes = OfLog (OfTracedLog wait.request wait.text (checked_tree wait.program)) bytes
 next_of (waiting.Trace (trace_wait.Value wait)) bytes =
     let read = wait.read in
-    OfJson (λ v. OfTraced read.request read.text read.log.entries (founded (checked_tree read.program) v)) bytes
+    OfJson (λ v. OfTraced read.request read.text (plain_source read.source) (founded (checked_tree read.program) v)) bytes
 next_of (waiting.Join (join_wait.Program request)) bytes = OfProgram (OfJoin request bytes) bytes
 next_of (waiting.Join (join_wait.Script wait)) bytes = OfViewScript wait.request wait.text (checked_tree wait.program) (view_script_of bytes)
 next_of (waiting.Join (join_wait.Value wait)) bytes =
@@ -163,10 +176,8 @@ next_of (waiting.Join (join_wait.Value wait)) bytes =
     OfJson (λ v. Only (at_once (ByVisit (visit_to read.request read.text (plain_lines wait.script) (founded (checked_tree read.program) v))))) bytes
 next_of (waiting.Reflect (reflect_wait.Program request)) bytes = OfProgram (λ tree. OfReflect request bytes) bytes
 next_of (waiting.Reflect (reflect_wait.Value wait)) bytes = OfJson (λ v. OfServed wait.request (session_id_of wait.request.name wait.text v)) bytes
-next_of (waiting.Reflect (reflect_wait.Log wait)) bytes =
-    OfStored (λ stored. Only (at_once (ByReflecting (reflection_of wait.request wait.id.0 (session_of stored))))) bytes
-next_of (waiting.Reflect (reflect_wait.Founding wait)) bytes =
-    OfStored (λ stored. Only (at_once (ByKeeping (founded_with (plain_keeping wait.keeping) stored)))) bytes
+next_of (waiting.Reflect (reflect_wait.Log wait)) bytes = OfLog (OfReflected wait.request wait.id.0) bytes
+next_of (waiting.Reflect (reflect_wait.Founding wait)) bytes = OfLog (OfFoundingLog (plain_keeping wait.keeping)) bytes
 
 -- what comes of the files that are read from here on
 abbrev pub Remains : Waiting → Coming
@@ -238,10 +249,6 @@ plain_reflection reflection = record {
   connections = reflection.connections;
   log = reflection.log;
 }
-
--- the session that goes on from the one that is stored in these bytes
-abbrev pub IsStoredIn : List ℕ → PlainSession → Type 0
-IsStoredIn bytes session = (stored : PlainStored) × IsStored stored × (bytes ≡ stored_spelling stored) × (session ≡ session_of stored)
 
 -- a time line is that of a recorded session, keeps a world after each so many entries, and not too many worlds
 pub record IsTimeLineOf (recording : Recording) (every : ℕ) (line : LineView) : Type 0 where

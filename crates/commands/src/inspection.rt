@@ -5,10 +5,12 @@ ghost use Rattle.model_value.specs.View.{plain};
 ghost use Rattle.saved_value.specs.Saving.{CanBeSaved};
 ghost use Rattle.command_inspect.specs.Queries.{queries_of};
 ghost use Rattle.command_words.specs.Bounds.{IsBoundedInspect};
-ghost use Rattle.commands.specs.Verdict.{Free, OfInspect, OfInspectedLog, OfJson, OfKeyframes, OfProgram, OfQueries, OfStored, OfTimeLine, Only, founded, inspect_verdict};
-ghost use Rattle.commands.specs.Work.{IsBoundedNext, IsBoundedWait, Leads, MakesTimeLine, file_of, files_left, input_of, next_of, reads_left};
+ghost use Rattle.commands.specs.Verdict.{Free, OfInspect, OfInspectedLog, OfJson, OfKeyframes, OfLog, OfProgram, OfQueries, OfRight, OfTimeLine, Only, founded, inspect_verdict, names_no_other as names_own};
+ghost use Rattle.commands.specs.Work.{IsBoundedNext, IsBoundedWait, Leads, MakesTimeLine, file_of, files_left, input_of, next_of, plain_named, plain_source, reads_left};
+ghost use Rattle.command_outcome.specs.declared.outcome.Input.TheVariants as input;
 ghost use Rattle.commands.specs.declared.work.Waiting.TheVariants as waiting;
 
+use crate::opening::{Source, names_no_other, read_log};
 use crate::work::{Next, Waiting};
 use command_inspect::{Queries, QueriesFault, inspect, parse_queries};
 use command_outcome::{CommandRefusal, Input, Outcome, ProgramFault, Puts, read_program};
@@ -17,11 +19,11 @@ use command_words::InspectRequest;
 use model_solved::Checked;
 use model_value::Value;
 use persist_json::{JsonFault, from_json};
-use session_log::{Log, LogFault, Stored, decode_stored};
+use session_log::LogFault;
 use snapshot_codec::session_id;
 use std::alloc::Global;
 use std::sync::Arc;
-use tea_base::{Blob, Text, WantOfMemory};
+use tea_base::{Blob, SessionId, Text, WantOfMemory};
 use time_line::{LineFault, TimeLine};
 
 /// An inspection that has read its program, and waits for its log.
@@ -40,7 +42,8 @@ pub struct ReadInspection {
     pub program: Checked,
     /// The program's text.
     pub text: Blob,
-    pub log: Log,
+    /// What its log holds.
+    pub source: Source,
 }
 
 /// An inspection that has read its program and its log, and waits for its persisted value.
@@ -137,11 +140,31 @@ fn keep(alloc: Global, recording: Recording, every: u32, queries: Text) -> Next
     }
 }
 
+/// The same, if its log names no other session.
+fn keep_own(
+    alloc: Global,
+    recording: Recording,
+    named: Option<SessionId>,
+    every: u32,
+    queries: Text,
+) -> Next
+    requires { 1 ≤ every }
+    ensures leads { Leads result (Free (OfRight input.Journal (names_own (plain_named named) recording.id.0)
+        (OfKeyframes every queries (founding_of recording.program) recording.id.0 recording.log.entries))) }
+    ensures bounded { IsBoundedNext result }
+    ensures fewer { reads_left result < 2 }
+{
+    if !names_no_other(named, &recording.id) {
+        return Next::Refuses(CommandRefusal::Input(Input::Journal));
+    }
+    keep(alloc, recording, every, queries)
+}
+
 /// What comes of an inspection whose persisted value is known.
 fn found(alloc: Global, read: ReadInspection, persisted: Value) -> Next
     requires words { IsBoundedInspect read.request }
     requires fit { CanBeSaved (plain persisted) }
-    ensures leads { Leads result (Free (OfTimeLine read.request read.text read.log.entries (founded (checked_tree read.program) (plain persisted)))) }
+    ensures leads { Leads result (Free (OfTimeLine read.request read.text (plain_source read.source) (founded (checked_tree read.program) (plain persisted)))) }
     ensures bounded { IsBoundedNext result }
     ensures fewer { reads_left result < 2 }
 {
@@ -149,21 +172,22 @@ fn found(alloc: Global, read: ReadInspection, persisted: Value) -> Next
         request,
         program,
         text,
-        log,
+        source,
     } = read;
+    let Source { named, stored } = source;
     let id = session_id(&request.name, text.bytes(), &persisted);
     let recording = Recording {
         program: program.with_persisted(persisted),
         id,
-        log,
+        log: stored.log,
     };
-    keep(alloc, recording, request.every, request.queries)
+    keep_own(alloc, recording, named, request.every, request.queries)
 }
 
 /// What comes of an inspection that has read its program and its log: its persisted value is read, where it has one.
 fn record(alloc: Global, mut read: ReadInspection) -> Next
     requires { IsBoundedInspect read.request }
-    ensures leads { Leads result (Free (OfInspectedLog read.request read.text (checked_tree read.program) read.log.entries)) }
+    ensures leads { Leads result (Free (OfInspectedLog read.request read.text (checked_tree read.program) (plain_source read.source))) }
     ensures bounded { IsBoundedNext result }
     ensures fewer { reads_left result < 3 }
 {
@@ -197,7 +221,7 @@ fn take_program(alloc: Global, request: InspectRequest, text: Blob) -> Next
 /// What comes of a log's bytes.
 fn take_log(alloc: Global, wait: InspectLogWait, bytes: &[u8]) -> Next
     requires { IsBoundedInspect wait.request }
-    ensures leads { Leads result (Free (OfStored (λ stored. OfInspectedLog wait.request wait.text (checked_tree wait.program) stored.log) bytes.now)) }
+    ensures leads { Leads result (Free (OfLog (OfInspectedLog wait.request wait.text (checked_tree wait.program)) bytes.now)) }
     ensures bounded { IsBoundedNext result }
     ensures fewer { reads_left result < 3 }
 {
@@ -206,13 +230,13 @@ fn take_log(alloc: Global, wait: InspectLogWait, bytes: &[u8]) -> Next
         program,
         text,
     } = wait;
-    match decode_stored(alloc, bytes) {
-        Ok(Stored { log, .. }) => {
+    match read_log(alloc, bytes) {
+        Ok(source) => {
             let read = ReadInspection {
                 request,
                 program,
                 text,
-                log,
+                source,
             };
             record(alloc, read)
         }
@@ -225,7 +249,7 @@ fn take_log(alloc: Global, wait: InspectLogWait, bytes: &[u8]) -> Next
 fn take_value(alloc: Global, wait: InspectValueWait, bytes: &[u8]) -> Next
     requires { IsBoundedInspect wait.read.request }
     ensures leads { let read = wait.read in
-        Leads result (Free (OfJson (λ v. OfTimeLine read.request read.text read.log.entries (founded (checked_tree read.program) v)) bytes.now)) }
+        Leads result (Free (OfJson (λ v. OfTimeLine read.request read.text (plain_source read.source) (founded (checked_tree read.program) v)) bytes.now)) }
     ensures bounded { IsBoundedNext result }
     ensures fewer { reads_left result < 2 }
 {

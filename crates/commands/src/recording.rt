@@ -10,11 +10,13 @@ ghost use Rattle.world_plain.specs.Valid.{Valid};
 ghost use Rattle.world_plain.specs.World.{world_record};
 ghost use Rattle.command_words.specs.Bounds.{IsBounded};
 ghost use Rattle.command_outcome.specs.Outcome.{optional_put, steps_of};
-ghost use Rattle.commands.specs.Verdict.{Free, OfFounded, OfJson, OfProgram, OfRecorded, OfSnapshot, OfStored, OfTree, Only, Starts, fine, founded, resumed_verdict, world_verdict};
+ghost use Rattle.commands.specs.Verdict.{Free, OfFounded, OfJson, OfProgram, OfLog, OfRecorded, OfRight, OfSnapshot, OfTree, Only, Starts, fine, founded, names_no_other as names_own, resumed_verdict, world_verdict};
 ghost use Rattle.command_replay.specs.Replays.{world_at};
-ghost use Rattle.commands.specs.Work.{IsBoundedNext, IsBoundedWait, Leads, file_of, files_left, input_of, next_of, reads_left};
+ghost use Rattle.commands.specs.Work.{IsBoundedNext, IsBoundedWait, Leads, file_of, files_left, input_of, next_of, plain_named, plain_source, reads_left};
+ghost use Rattle.command_outcome.specs.declared.outcome.Input.TheVariants as input;
 ghost use Rattle.commands.specs.declared.work.Waiting.TheVariants as waiting;
 
+use crate::opening::{Source, names_no_other, read_log};
 use crate::work::{Next, Waiting};
 use command_outcome::{
     CommandRefusal, Input, Outcome, ProgramFault, Put, optional_put, read_program,
@@ -24,10 +26,10 @@ use command_words::ReplayRequest;
 use model_solved::Checked;
 use model_value::Value;
 use persist_json::{JsonFault, from_json};
-use session_log::{Log, LogFault, Stored, decode_stored};
+use session_log::LogFault;
 use snapshot_codec::{SnapFault, session_id, unsnap};
 use std::alloc::Global;
-use tea_base::{Blob, List, Text, WantOfMemory};
+use tea_base::{Blob, List, SessionId, Text, WantOfMemory};
 use world_plain::PlainWorld;
 
 /// A replay that has read its program, and waits for its log.
@@ -46,7 +48,8 @@ pub struct ReadReplay {
     pub program: Checked,
     /// The program's text.
     pub text: Blob,
-    pub log: Log,
+    /// What its log holds.
+    pub source: Source,
 }
 
 /// A replay that has read its program and its log, and waits for its persisted value.
@@ -169,11 +172,30 @@ fn start(alloc: Global, mut request: ReplayRequest, recording: Recording) -> Nex
     }
 }
 
+/// The same, if its log names no other session.
+fn start_own(
+    alloc: Global,
+    request: ReplayRequest,
+    recording: Recording,
+    named: Option<SessionId>,
+) -> Next
+    requires { IsBounded request }
+    ensures leads { Leads result (Free (OfRight input.Journal (names_own (plain_named named) recording.id.0)
+        (Starts request.from request (founding_of recording.program) recording.id.0 recording.log.entries))) }
+    ensures bounded { IsBoundedNext result }
+    ensures fewer { reads_left result < 2 }
+{
+    if !names_no_other(named, &recording.id) {
+        return Next::Refuses(CommandRefusal::Input(Input::Journal));
+    }
+    start(alloc, request, recording)
+}
+
 /// How a replay begins, once its persisted value is known.
 fn found(alloc: Global, read: ReadReplay, persisted: Value) -> Next
     requires words { IsBounded read.request }
     requires fit { CanBeSaved (plain persisted) }
-    ensures leads { Leads result (Free (OfFounded read.request read.text read.log.entries (founded (checked_tree read.program) (plain persisted)))) }
+    ensures leads { Leads result (Free (OfFounded read.request read.text (plain_source read.source) (founded (checked_tree read.program) (plain persisted)))) }
     ensures bounded { IsBoundedNext result }
     ensures fewer { reads_left result < 2 }
 {
@@ -181,21 +203,22 @@ fn found(alloc: Global, read: ReadReplay, persisted: Value) -> Next
         request,
         program,
         text,
-        log,
+        source,
     } = read;
+    let Source { named, stored } = source;
     let id = session_id(&request.name, text.bytes(), &persisted);
     let recording = Recording {
         program: program.with_persisted(persisted),
         id,
-        log,
+        log: stored.log,
     };
-    start(alloc, request, recording)
+    start_own(alloc, request, recording, named)
 }
 
 /// What comes of a replay that has read its program and its log: its persisted value is read, where it has one.
 fn record(alloc: Global, mut read: ReadReplay) -> Next
     requires { IsBounded read.request }
-    ensures leads { Leads result (Free (OfRecorded read.request read.text (checked_tree read.program) read.log.entries)) }
+    ensures leads { Leads result (Free (OfRecorded read.request read.text (checked_tree read.program) (plain_source read.source))) }
     ensures bounded { IsBoundedNext result }
     ensures fewer { reads_left result < 3 }
 {
@@ -210,7 +233,7 @@ fn record(alloc: Global, mut read: ReadReplay) -> Next
 /// What comes of a log's bytes.
 fn take_log(alloc: Global, wait: LogWait, bytes: &[u8]) -> Next
     requires { IsBounded wait.request }
-    ensures leads { Leads result (Free (OfStored (λ stored. OfRecorded wait.request wait.text (checked_tree wait.program) stored.log) bytes.now)) }
+    ensures leads { Leads result (Free (OfLog (OfRecorded wait.request wait.text (checked_tree wait.program)) bytes.now)) }
     ensures bounded { IsBoundedNext result }
     ensures fewer { reads_left result < 3 }
 {
@@ -219,13 +242,13 @@ fn take_log(alloc: Global, wait: LogWait, bytes: &[u8]) -> Next
         program,
         text,
     } = wait;
-    match decode_stored(alloc, bytes) {
-        Ok(Stored { log, .. }) => {
+    match read_log(alloc, bytes) {
+        Ok(source) => {
             let read = ReadReplay {
                 request,
                 program,
                 text,
-                log,
+                source,
             };
             record(alloc, read)
         }
@@ -238,7 +261,7 @@ fn take_log(alloc: Global, wait: LogWait, bytes: &[u8]) -> Next
 fn take_value(alloc: Global, wait: ReplayValueWait, bytes: &[u8]) -> Next
     requires { IsBounded wait.read.request }
     ensures leads { let read = wait.read in
-        Leads result (Free (OfJson (λ v. OfFounded read.request read.text read.log.entries (founded (checked_tree read.program) v)) bytes.now)) }
+        Leads result (Free (OfJson (λ v. OfFounded read.request read.text (plain_source read.source) (founded (checked_tree read.program) v)) bytes.now)) }
     ensures bounded { IsBoundedNext result }
     ensures fewer { reads_left result < 2 }
 {

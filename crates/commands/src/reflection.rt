@@ -1,17 +1,16 @@
 //! What comes of the files that the command `reflect` reads, but for its journal.
 ghost use Rattle.std.specs.Prelude.{◌≡◌, ◌<◌, IfOk};
 ghost use Rattle.command_words.specs.Bounds.{AreConnections, IsBoundedReflect};
-ghost use Rattle.reflector_core.specs.Stored.{session_of};
 ghost use Rattle.model_value.specs.Plain.{InBounds};
 ghost use Rattle.model_value.specs.View.{plain};
 ghost use Rattle.session_log.specs.Stored.{IsStored, plain_stored};
 ghost use Rattle.session_journal.specs.State.{founded as founded_session};
-ghost use Rattle.commands.specs.Keeping.{OfFounding, founded_with};
-ghost use Rattle.commands.specs.Verdict.{ByKeeping, ByReflecting, Free, OfJson, OfPersisted, OfProgram, OfReflect, OfServed, OfStored, OfUnkept, Only, at_once, keeping_of, reflection_of, session_id_of};
-ghost use Rattle.commands.specs.Work.{IsBoundedNext, IsBoundedWait, Leads, file_of, files_left, input_of, next_of, plain_keeping, reads_left};
+ghost use Rattle.commands.specs.Keeping.{OfFounding, OfFoundingLog, founded_with};
+ghost use Rattle.commands.specs.Verdict.{ByKeeping, ByReflecting, Free, OfJson, OfLog, OfPersisted, OfProgram, OfReflect, OfReflected, OfServed, OfUnkept, Only, at_once, keeping_of, reflection_of, session_id_of};
+ghost use Rattle.commands.specs.Work.{IsBoundedNext, IsBoundedWait, Leads, file_of, files_left, input_of, next_of, plain_keeping, plain_source, reads_left};
 ghost use Rattle.commands.specs.declared.work.Waiting.TheVariants as waiting;
 
-use crate::opening::read_opening;
+use crate::opening::{Source, names_no_other, read_log};
 use crate::work::{Next, Waiting};
 use command_outcome::{CommandRefusal, Input, ProgramFault, read_program};
 use command_reflect::{Keeping, Reflection};
@@ -19,7 +18,7 @@ use command_words::{ReflectRequest, is_address};
 use model_value::Value;
 use persist_json::{JsonFault, from_json};
 use reflector_core::Session;
-use session_log::{Log, LogFault, Stored, decode_stored};
+use session_log::{Log, LogFault, Stored};
 use snapshot_codec::session_id;
 use std::alloc::Global;
 use tea_base::{Blob, SessionId, Text, WantOfMemory};
@@ -251,29 +250,60 @@ fn take_value(alloc: Global, wait: ReflectValueWait, bytes: &[u8]) -> Next
     }
 }
 
-/// What comes of the bytes of the log.
-fn take_log(alloc: Global, wait: ReflectLogWait, bytes: &[u8]) -> Next
-    requires { IsBoundedReflect wait.request }
-    ensures leads { Leads result (Free (OfStored (λ stored. Only (at_once (ByReflecting (reflection_of wait.request wait.id.0 (session_of stored))))) bytes.now)) }
+/// What comes of what a log holds: it is reflected, if it is of the session.
+fn reflect_log(alloc: Global, request: ReflectRequest, id: SessionId, source: Source) -> Next
+    requires words { IsBoundedReflect request }
+    requires stored { IsStored (plain_stored source.stored) }
+    ensures leads { Leads result (Free (OfReflected request id.0 (plain_source source))) }
     ensures bounded { IsBoundedNext result }
     ensures fewer { reads_left result < 1 }
 {
-    match read_opening(alloc, bytes) {
-        Ok(opening) => reflect(wait.request, wait.id, opening),
+    if !names_no_other(source.named, &id) {
+        return Next::Refuses(CommandRefusal::Input(Input::Journal));
+    }
+    match Session::resume(alloc, source.stored) {
+        Ok(opening) => reflect(request, id, opening),
+        Err(WantOfMemory) => Next::WantOfMemory,
+    }
+}
+
+/// What comes of the bytes of the log.
+fn take_log(alloc: Global, wait: ReflectLogWait, bytes: &[u8]) -> Next
+    requires { IsBoundedReflect wait.request }
+    ensures leads { Leads result (Free (OfLog (OfReflected wait.request wait.id.0) bytes.now)) }
+    ensures bounded { IsBoundedNext result }
+    ensures fewer { reads_left result < 1 }
+{
+    match read_log(alloc, bytes) {
+        Ok(source) => reflect_log(alloc, wait.request, wait.id, source),
         Err(LogFault::BadLog) => Next::Refuses(CommandRefusal::Input(Input::Log)),
         Err(LogFault::WantOfMemory) => Next::WantOfMemory,
     }
 }
 
-/// What comes of the bytes of the log with which a journal is founded.
-fn take_founding(alloc: Global, wait: FoundingWait, bytes: &[u8]) -> Next
-    requires { AreConnections wait.keeping.connections }
-    ensures leads { Leads result (Free (OfStored (λ stored. Only (at_once (ByKeeping (founded_with (plain_keeping wait.keeping) stored)))) bytes.now)) }
+/// What comes of what a log holds: a journal is founded with it, if it is of the session.
+fn found_log(keeping: Keeping, source: Source) -> Next
+    requires links { AreConnections keeping.connections }
+    requires stored { IsStored (plain_stored source.stored) }
+    ensures leads { Leads result (OfFoundingLog (plain_keeping keeping) (plain_source source)) }
     ensures bounded { IsBoundedNext result }
     ensures fewer { reads_left result < 1 }
 {
-    match decode_stored(alloc, bytes) {
-        Ok(stored) => found_with(wait.keeping, stored),
+    if !names_no_other(source.named, &keeping.id) {
+        return Next::Refuses(CommandRefusal::Input(Input::Journal));
+    }
+    found_with(keeping, source.stored)
+}
+
+/// What comes of the bytes of the log with which a journal is founded.
+fn take_founding(alloc: Global, wait: FoundingWait, bytes: &[u8]) -> Next
+    requires { AreConnections wait.keeping.connections }
+    ensures leads { Leads result (Free (OfLog (OfFoundingLog (plain_keeping wait.keeping)) bytes.now)) }
+    ensures bounded { IsBoundedNext result }
+    ensures fewer { reads_left result < 1 }
+{
+    match read_log(alloc, bytes) {
+        Ok(source) => found_log(wait.keeping, source),
         Err(LogFault::BadLog) => Next::Refuses(CommandRefusal::Input(Input::Log)),
         Err(LogFault::WantOfMemory) => Next::WantOfMemory,
     }

@@ -3,16 +3,17 @@ ghost use Rattle.std.specs.Prelude.{◌≡◌, ◌<◌, IfOk, Some};
 ghost use Rattle.command_outcome.specs.Outcome.{steps_of};
 ghost use Rattle.command_stamp.specs.Script.{script_of};
 ghost use Rattle.reflector_core.specs.Stored.{session_of};
-ghost use Rattle.commands.specs.Verdict.{Free, OfScript, OfStored, Only, fine, stamp_verdict};
+ghost use Rattle.session_log.specs.Stored.{IsStored, plain_stored};
+ghost use Rattle.commands.specs.Verdict.{Free, OfLog, OfScript, Only, fine, stamp_verdict};
 ghost use Rattle.commands.specs.Work.{IsBoundedNext, IsBoundedWait, Leads, file_of, files_left, input_of, next_of, reads_left};
 ghost use Rattle.commands.specs.declared.work.Waiting.TheVariants as waiting;
 
-use crate::opening::read_opening;
+use crate::opening::read_log;
 use crate::work::{Next, Waiting};
 use command_outcome::{CommandRefusal, Input, Outcome};
 use command_stamp::{log_files, read_script, text};
 use reflector_core::{Requests, Session, play};
-use session_log::LogFault;
+use session_log::{LogFault, Stored};
 use std::alloc::Global;
 use tea_base::{Blob, Text, WantOfMemory};
 
@@ -67,6 +68,19 @@ fn answer(alloc: Global, opening: Session, requests: &Requests, log: Option<Text
     }
 }
 
+/// What comes of the requests to the session that goes on from what was stored.
+fn resume(alloc: Global, stored: Stored, requests: &Requests, log: Option<Text>) -> Next
+    requires { IsStored (plain_stored stored) }
+    ensures leads { Leads result (Free (Only (stamp_verdict (session_of (plain_stored stored)) log requests.now))) }
+    ensures bounded { IsBoundedNext result }
+    ensures fewer { reads_left result < 1 }
+{
+    match Session::resume(alloc, stored) {
+        Ok(opening) => answer(alloc, opening, requests, log),
+        Err(WantOfMemory) => Next::WantOfMemory,
+    }
+}
+
 /// What comes of a script's requests: a first session answers them, or the log of the session that goes on is read.
 fn begin(alloc: Global, from: Option<Text>, log: Option<Text>, requests: Requests) -> Next
     ensures leads { Leads result (Free (OfScript from log (Some requests))) }
@@ -98,7 +112,7 @@ fn stamp(alloc: Global, from: Option<Text>, log: Option<Text>, script: &[u8]) ->
 
 /// What comes of the bytes of the log.
 fn take_log(alloc: Global, wait: StampLogWait, bytes: &[u8]) -> Next
-    ensures leads { Leads result (Free (OfStored (λ stored. Only (stamp_verdict (session_of stored) wait.log wait.requests)) bytes.now)) }
+    ensures leads { Leads result (Free (OfLog (λ source. Only (stamp_verdict (session_of source.stored) wait.log wait.requests)) bytes.now)) }
     ensures bounded { IsBoundedNext result }
     ensures fewer { reads_left result < 1 }
 {
@@ -107,8 +121,8 @@ fn take_log(alloc: Global, wait: StampLogWait, bytes: &[u8]) -> Next
         requests,
         log,
     } = wait;
-    match read_opening(alloc, bytes) {
-        Ok(opening) => answer(alloc, opening, &requests, log),
+    match read_log(alloc, bytes) {
+        Ok(source) => resume(alloc, source.stored, &requests, log),
         Err(LogFault::BadLog) => Next::Refuses(CommandRefusal::Input(Input::Log)),
         Err(LogFault::WantOfMemory) => Next::WantOfMemory,
     }

@@ -6,10 +6,12 @@ ghost use Rattle.model_solved.specs.Founding.{checked_tree, founding_of};
 ghost use Rattle.model_value.specs.View.{plain};
 ghost use Rattle.saved_value.specs.Saving.{CanBeSaved};
 ghost use Rattle.command_words.specs.Bounds.{IsBoundedTrace};
-ghost use Rattle.commands.specs.Verdict.{Free, OfJson, OfProgram, OfStored, OfTrace, OfTraced, OfTracedLog, Only, founded, trace_verdict};
-ghost use Rattle.commands.specs.Work.{IsBoundedNext, IsBoundedWait, Leads, file_of, files_left, input_of, next_of, reads_left};
+ghost use Rattle.commands.specs.Verdict.{Free, OfJson, OfLog, OfProgram, OfRight, OfTrace, OfTraced, OfTracedLog, Only, founded, names_no_other as names_own, trace_verdict};
+ghost use Rattle.commands.specs.Work.{IsBoundedNext, IsBoundedWait, Leads, file_of, files_left, input_of, next_of, plain_named, plain_source, reads_left};
+ghost use Rattle.command_outcome.specs.declared.outcome.Input.TheVariants as input;
 ghost use Rattle.commands.specs.declared.work.Waiting.TheVariants as waiting;
 
+use crate::opening::{Source, names_no_other, read_log};
 use crate::work::{Next, Waiting};
 use command_outcome::{CommandRefusal, Input, Outcome, ProgramFault, Puts, read_program};
 use command_replay::Recording;
@@ -18,7 +20,7 @@ use command_words::TraceRequest;
 use model_solved::Checked;
 use model_value::Value;
 use persist_json::{JsonFault, from_json};
-use session_log::{Log, LogFault, Stored, decode_stored};
+use session_log::{Log, LogFault};
 use snapshot_codec::session_id;
 use std::alloc::Global;
 use std::sync::Arc;
@@ -40,7 +42,8 @@ pub struct ReadTrace {
     pub program: Checked,
     /// The program's text.
     pub text: Blob,
-    pub log: Log,
+    /// What its log holds.
+    pub source: Source,
 }
 
 /// A trace that has read its program and its log, and waits for its persisted value.
@@ -97,11 +100,30 @@ fn share(alloc: Global, recording: Recording, stretch: Stretch) -> Next
     answer(alloc, program, id, &log, stretch)
 }
 
+/// The same, if its log names no other session.
+fn share_own(
+    alloc: Global,
+    recording: Recording,
+    named: Option<SessionId>,
+    stretch: Stretch,
+) -> Next
+    requires { stretch.to < time_limit }
+    ensures leads { Leads result (Free (OfRight input.Journal (names_own (plain_named named) recording.id.0)
+        (Only (trace_verdict (founding_of recording.program) recording.id.0 recording.log.entries stretch.from stretch.to)))) }
+    ensures bounded { IsBoundedNext result }
+    ensures fewer { reads_left result < 1 }
+{
+    if !names_no_other(named, &recording.id) {
+        return Next::Refuses(CommandRefusal::Input(Input::Journal));
+    }
+    share(alloc, recording, stretch)
+}
+
 /// What comes of a trace whose persisted value is known.
 fn found(alloc: Global, read: ReadTrace, persisted: Value) -> Next
     requires words { IsBoundedTrace read.request }
     requires fit { CanBeSaved (plain persisted) }
-    ensures leads { Leads result (Free (OfTraced read.request read.text read.log.entries (founded (checked_tree read.program) (plain persisted)))) }
+    ensures leads { Leads result (Free (OfTraced read.request read.text (plain_source read.source) (founded (checked_tree read.program) (plain persisted)))) }
     ensures bounded { IsBoundedNext result }
     ensures fewer { reads_left result < 1 }
 {
@@ -109,25 +131,26 @@ fn found(alloc: Global, read: ReadTrace, persisted: Value) -> Next
         request,
         program,
         text,
-        log,
+        source,
     } = read;
+    let Source { named, stored } = source;
     let id = session_id(&request.name, text.bytes(), &persisted);
     let recording = Recording {
         program: program.with_persisted(persisted),
         id,
-        log,
+        log: stored.log,
     };
     let stretch = Stretch {
         from: request.from,
         to: request.to,
     };
-    share(alloc, recording, stretch)
+    share_own(alloc, recording, named, stretch)
 }
 
 /// What comes of a trace that has read its program and its log: its persisted value is read, where it has one.
 fn record(alloc: Global, mut read: ReadTrace) -> Next
     requires { IsBoundedTrace read.request }
-    ensures leads { Leads result (Free (OfTracedLog read.request read.text (checked_tree read.program) read.log.entries)) }
+    ensures leads { Leads result (Free (OfTracedLog read.request read.text (checked_tree read.program) (plain_source read.source))) }
     ensures bounded { IsBoundedNext result }
     ensures fewer { reads_left result < 2 }
 {
@@ -160,7 +183,7 @@ fn take_program(alloc: Global, request: TraceRequest, text: Blob) -> Next
 /// What comes of a log's bytes.
 fn take_log(alloc: Global, wait: TraceLogWait, bytes: &[u8]) -> Next
     requires { IsBoundedTrace wait.request }
-    ensures leads { Leads result (Free (OfStored (λ stored. OfTracedLog wait.request wait.text (checked_tree wait.program) stored.log) bytes.now)) }
+    ensures leads { Leads result (Free (OfLog (OfTracedLog wait.request wait.text (checked_tree wait.program)) bytes.now)) }
     ensures bounded { IsBoundedNext result }
     ensures fewer { reads_left result < 2 }
 {
@@ -169,13 +192,13 @@ fn take_log(alloc: Global, wait: TraceLogWait, bytes: &[u8]) -> Next
         program,
         text,
     } = wait;
-    match decode_stored(alloc, bytes) {
-        Ok(Stored { log, .. }) => {
+    match read_log(alloc, bytes) {
+        Ok(source) => {
             let read = ReadTrace {
                 request,
                 program,
                 text,
-                log,
+                source,
             };
             record(alloc, read)
         }
@@ -188,7 +211,7 @@ fn take_log(alloc: Global, wait: TraceLogWait, bytes: &[u8]) -> Next
 fn take_value(alloc: Global, wait: TraceValueWait, bytes: &[u8]) -> Next
     requires { IsBoundedTrace wait.read.request }
     ensures leads { let read = wait.read in
-        Leads result (Free (OfJson (λ v. OfTraced read.request read.text read.log.entries (founded (checked_tree read.program) v)) bytes.now)) }
+        Leads result (Free (OfJson (λ v. OfTraced read.request read.text (plain_source read.source) (founded (checked_tree read.program) v)) bytes.now)) }
     ensures bounded { IsBoundedNext result }
     ensures fewer { reads_left result < 1 }
 {

@@ -60,7 +60,7 @@ pub enum Next {
 const MOST_SCRIPT: u64 = 16_777_216;
 
 /// The most bytes of a log.
-const MOST_LOG: u64 = 134_217_728;
+const MOST_LOG: u64 = 268_435_456;
 
 /// The most bytes of queries.
 const MOST_QUERIES: u64 = 65_536;

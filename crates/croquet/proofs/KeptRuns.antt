@@ -1,5 +1,5 @@
 -- The run of a reflector that keeps a journal.
-use Rattle.std.proofs.Common.{◌≡◌, ◌⊎◌, inl, inr, ℕ, true, false, List, [], ◌∷◌, Option, Some, None, is_some, Result, Ok, Err, IfOk, refl, sym, ap, subst, ◌∙◌}
+use Rattle.std.proofs.Common.{◌≡◌, ◌⊎◌, inl, inr, ℕ, Bool, true, false, List, [], ◌∷◌, Option, Some, None, is_some, Result, Ok, Err, IfOk, refl, sym, ap, subst, ◌∙◌}
 use Rattle.std.specs.Prelude.{⊤}
 use Rattle.run_steps.specs.Steps.{Step}
 use Rattle.run_steps.specs.Outside.{Acts, FilesTell, LinksTell, NetTells, Outside, OutputTells, desk, desk_tells, outside, outside_tells}
@@ -28,8 +28,8 @@ use Rattle.command_outcome.specs.declared.outcome.CommandRefusal.TheVariants as 
 use Rattle.command_reflect.specs.declared.keeping.GoingOn.{GoingOn}
 use Rattle.command_reflect.specs.declared.keeping.Keeping.{Keeping}
 use Rattle.command_reflect.specs.KeptSteps.{GoesOnFrom, kept_place}
-use Rattle.commands.specs.Keeping.{OfAbsent, OfBytes, OfFound, OfFounding, founded_with, no_journal}
-use Rattle.commands.specs.Verdict.{ByDrill, ByGoingOn, ByKeeping, ByReadFault, ByReflecting, ByRefusal, ByVisit, ByWant, ByWriteFault, Closing, Coming, Free, OfGiven, OfStored, Only, PlainKeeping, Verdict, at_once}
+use Rattle.commands.specs.Keeping.{OfAbsent, OfBytes, OfFound, OfFounding, OfFoundingLog, founded_with, no_journal}
+use Rattle.commands.specs.Verdict.{ByDrill, ByGoingOn, ByKeeping, ByReadFault, ByReflecting, ByRefusal, ByVisit, ByWant, ByWriteFault, Closing, Coming, Free, OfGiven, OfLog, OfRight, names_no_other, Only, PlainKeeping, Verdict, at_once}
 use Rattle.commands.specs.Work.{IsBoundedKeeping, plain_keeping, plain_opening}
 use Rattle.croquet.specs.declared.keeping.Stopped.{Stopped}
 use Rattle.croquet.specs.declared.keeping.There.{There}
@@ -248,14 +248,18 @@ IsKeptClosing closing = ⊤
 only_kept : (made verdict : Verdict) → IsKeptClosing made.closing → Only made verdict → IsKeptClosing verdict.closing
 only_kept made verdict kept is = subst (λ (v : Verdict). IsKeptClosing v.closing) (sym is) kept
 
-stored_kept : (keeping : PlainKeeping) (bytes : List ℕ) (verdict : Verdict) → OfStored (λ stored. Only (at_once (ByKeeping (founded_with keeping stored)))) bytes verdict → IsKeptClosing verdict.closing
-stored_kept keeping bytes verdict (inl (stored, sound, is, comes)) = only_kept (at_once (ByKeeping (founded_with keeping stored))) verdict refl comes
-stored_kept keeping bytes verdict (inr (none, comes)) = only_kept (at_once (ByRefusal (refusal.Input input.Log))) verdict tt comes
+own_kept : (is : Bool) (keeping : PlainKeeping) (stored : PlainStored) (verdict : Verdict) → OfRight input.Journal is (Only (at_once (ByKeeping (founded_with keeping stored)))) verdict → IsKeptClosing verdict.closing
+own_kept true keeping stored verdict comes = only_kept (at_once (ByKeeping (founded_with keeping stored))) verdict refl comes
+own_kept false keeping stored verdict comes = only_kept (at_once (ByRefusal (refusal.Input input.Journal))) verdict tt comes
 
-given_kept : (keeping : PlainKeeping) (given : Option (List ℕ)) (verdict : Verdict) → Free (OfGiven input.Log given (OfStored (λ stored. Only (at_once (ByKeeping (founded_with keeping stored)))))) verdict → IsKeptClosing verdict.closing
+log_kept : (keeping : PlainKeeping) (bytes : List ℕ) (verdict : Verdict) → OfLog (OfFoundingLog keeping) bytes verdict → IsKeptClosing verdict.closing
+log_kept keeping bytes verdict (inl (source, is, comes)) = own_kept (names_no_other source.named keeping.id) keeping source.stored verdict comes
+log_kept keeping bytes verdict (inr (none, comes)) = only_kept (at_once (ByRefusal (refusal.Input input.Log))) verdict tt comes
+
+given_kept : (keeping : PlainKeeping) (given : Option (List ℕ)) (verdict : Verdict) → Free (OfGiven input.Log given (OfLog (OfFoundingLog keeping))) verdict → IsKeptClosing verdict.closing
 given_kept keeping given verdict (inl want) = only_kept (at_once ByWant) verdict tt want
 given_kept keeping None verdict (inr comes) = only_kept (at_once (ByRefusal (refusal.Input input.Log))) verdict tt comes
-given_kept keeping (Some bytes) verdict (inr comes) = stored_kept keeping bytes verdict comes
+given_kept keeping (Some bytes) verdict (inr comes) = log_kept keeping bytes verdict comes
 
 founding_kept : (from : Option (List ℕ)) (keeping : PlainKeeping) (verdict : Verdict) → OfFounding from keeping verdict → IsKeptClosing verdict.closing
 founding_kept None keeping verdict comes = only_kept (at_once (ByKeeping (founded_with keeping founded))) verdict refl comes

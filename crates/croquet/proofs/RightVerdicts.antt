@@ -2,10 +2,10 @@
 use Rattle.std.proofs.Common.{◌≡◌, inl, inr, ℕ, Bool, true, List, [], ◌∷◌, encode_utf8_all, Option, Some, None, refl, sym, subst}
 use Rattle.std.proofs.lemmas.Bool.{le-leb}
 use Rattle.tea_base.specs.declared.entry.Entry.{Entry}
-use Rattle.session_log.specs.Stored.{PlainStored, IsStored, stored_spelling}
+use Rattle.session_log.specs.Stored.{stored_spelling}
 use Rattle.reflector_core.specs.declared.request.Request.{Request}
 use Rattle.reflector_core.specs.PlainSession.{PlainSession}
-use Rattle.reflector_core.specs.Play.{after_all, first_session, replies_from}
+use Rattle.reflector_core.specs.Play.{after_all, replies_from}
 use Rattle.reflector_core.specs.Stored.{session_of, stored_of}
 use Rattle.model_tree.specs.Tree.{ProgramTree}
 use Rattle.world.specs.Worlds.{field_counts, replay, replay_on}
@@ -40,9 +40,9 @@ use Rattle.command_words.specs.declared.words.Command.{Command}
 use Rattle.command_words.specs.declared.words.Command.TheVariants.{Stamp, Check, Replay, Inspect, Trace, Join, Reflect, Drill}
 use Rattle.model_tree.specs.Bounds.{most_program_bytes}
 use Rattle.tea_base.specs.Limits.{most_snapshot}
-use Rattle.commands.specs.Verdict.{ByDrill, ByKeeping, ByReflecting, ByVisit, Closing, Coming, Fine, OfFile, OfInspectedLog, OfInspect, OfJoin, OfJournal, OfKeyframes, OfOpening, OfProgram, OfQueries, OfReflect, OfRight, OfScript, OfServed, OfSnapshot, OfStored, OfTimeLine, OfTrace, OfTraced, OfTracedLog, OfTree, OfUnkept, OfView, OfViewScript, OfWords, Only, Starts, Verdict, OfFounded, OfJson, OfPersisted, OfRecorded, ask_file, at_once, before, count_verdict, fine, founded, inspect_verdict, keeping_of, keeps_few, most_queries, most_script, reflection_of, session_id_of, stamp_verdict, visit_to, world_puts, most_log}
+use Rattle.commands.specs.Verdict.{ByDrill, ByKeeping, ByReflecting, ByVisit, Closing, Coming, Fine, OfFile, OfInspectedLog, OfInspect, OfJoin, OfJournal, OfKeyframes, OfOpening, OfProgram, OfQueries, OfReflect, OfRight, OfScript, OfServed, OfSnapshot, OfLog, OfOwn, OfReflected, IsLog, PlainReflection, PlainSource, first_source, names_no_other, trace_verdict, OfTimeLine, OfTrace, OfTraced, OfTracedLog, OfTree, OfUnkept, OfView, OfViewScript, OfWords, Only, Starts, Verdict, OfFounded, OfJson, OfPersisted, OfRecorded, ask_file, at_once, before, count_verdict, fine, founded, inspect_verdict, keeping_of, keeps_few, most_queries, most_script, reflection_of, session_id_of, stamp_verdict, visit_to, world_puts, most_log}
 use Rattle.commands.proofs.Agreement.{late_verdict}
-use Rattle.croquet.specs.Complete.{HasRightInput, HoldsFile, HoldsInspection, HoldsOpening, HoldsPersisted, HoldsProgram, HoldsRecording, HoldsStart, HoldsTrace, IsJsonText, IsQueriesText, IsScriptText, IsSnapshotUntil, IsStoredText, IsProgramText, IsViewScriptText, NamesAddress, persisted_in}
+use Rattle.croquet.specs.Complete.{HasRightInput, HoldsFile, HoldsInspection, HoldsOpening, HoldsPersisted, HoldsProgram, HoldsRecording, HoldsStart, HoldsTrace, IsJsonText, IsAny, IsLogText, IsOwn, IsQueriesText, IsScriptText, IsSnapshotUntil, IsProgramText, IsViewScriptText, NamesAddress, persisted_in}
 use Rattle.croquet.proofs.RightSteps.{AreRight, GivesHeld, IsGiving, giving_are_right}
 
 -- what is put and printed is put and printed alone
@@ -97,9 +97,9 @@ module _ (held : List ℕ → Content) where
   program_right Closes next bytes tree faultless right =
       record { verdict = right.verdict; comes = inl (tree, faultless, right.comes); reads = right.reads; closing = right.closing }
 
-  stored_right : (Closes : Closing → Type 0) (next : PlainStored → Coming) (bytes : List ℕ) (stored : PlainStored) → IsStored stored → bytes ≡ stored_spelling stored → ComesRight held Closes (next stored) → ComesRight held Closes (OfStored next bytes)
-  stored_right Closes next bytes stored is spelled right =
-      record { verdict = right.verdict; comes = inl (stored, is, spelled, right.comes); reads = right.reads; closing = right.closing }
+  log_right : (Closes : Closing → Type 0) (next : PlainSource → Coming) (bytes : List ℕ) (source : PlainSource) → IsLog bytes source → ComesRight held Closes (next source) → ComesRight held Closes (OfLog next bytes)
+  log_right Closes next bytes source is right =
+      record { verdict = right.verdict; comes = inl (source, is, right.comes); reads = right.reads; closing = right.closing }
 
   json_right : (Closes : Closing → Type 0) (next : PlainValue → Coming) (bytes : List ℕ) (v : PlainValue) → IsJsonOf bytes v → ComesRight held Closes (next v) → ComesRight held Closes (OfJson next bytes)
   json_right Closes next bytes v is right =
@@ -107,6 +107,9 @@ module _ (held : List ℕ → Content) where
 
   right_right : (Closes : Closing → Type 0) (at : Input) (is : Bool) (next : Coming) → is ≡ true → ComesRight held Closes next → ComesRight held Closes (OfRight at is next)
   right_right Closes at is next so right = subst (λ (b : Bool). ComesRight held Closes (OfRight at b next)) (sym so) right
+
+  own_right : (Closes : Closing → Type 0) (source : PlainSource) (id : List ℕ) (next : Coming) → IsOwn id source → ComesRight held Closes next → ComesRight held Closes (OfOwn source id next)
+  own_right Closes source id next own right = right_right Closes input.Journal (names_no_other source.named id) next own right
 
 -- ---- what the files hold
 
@@ -129,18 +132,20 @@ module _ {F : Type 0} (files : FilesTell F) (old : F) where
   persisted_right Closes (Some name) holds next right =
       read_right Closes input.Persisted (ask_file name most_json) (OfJson next) IsJsonText holds (json_right (files.held old) Closes next holds.bytes holds.right.0 holds.right.1 right)
 
-  opening_right : (Closes : Closing → Type 0) (from : Option (List ℕ)) (next : PlainSession → Coming) → HoldsOpening files old from → ((opening : PlainSession) → ComesRight (files.held old) Closes (next opening))
-      → ComesRight (files.held old) Closes (OfOpening from next)
-  opening_right Closes None next holds right = right first_session
-  opening_right Closes (Some name) next holds right =
-      let next_stored : PlainStored → Coming = λ stored. next (session_of stored) in
-      read_right Closes input.Log (ask_file name most_log) (OfStored next_stored) IsStoredText holds
-      (stored_right (files.held old) Closes next_stored holds.bytes holds.right.0 holds.right.1 holds.right.2 (right (session_of holds.right.0)))
+  log_read : (Closes : Closing → Type 0) (IsSuch : PlainSource → Type 0) (name : List ℕ) (next : PlainSource → Coming) (holds : HoldsFile files old name most_log (IsLogText IsSuch))
+      → ComesRight (files.held old) Closes (next holds.right.0) → ComesRight (files.held old) Closes (OfFile input.Log (ask_file name most_log) (OfLog next))
+  log_read Closes IsSuch name next holds right =
+      read_right Closes input.Log (ask_file name most_log) (OfLog next) (IsLogText IsSuch) holds (log_right (files.held old) Closes next holds.bytes holds.right.0 holds.right.1 right)
 
-  script_right : (from log : Option (List ℕ)) (script : Option (List Request)) (requests : List Request) → script ≡ Some requests → HoldsOpening files old from → ComesRight (files.held old) ClosesWell (OfScript from log script)
+  opening_right : (Closes : Closing → Type 0) (IsSuch : PlainSource → Type 0) (from : Option (List ℕ)) (next : PlainSource → Coming) → HoldsOpening files old from IsSuch → IsSuch first_source
+      → ((source : PlainSource) → IsSuch source → ComesRight (files.held old) Closes (next source)) → ComesRight (files.held old) Closes (OfOpening from next)
+  opening_right Closes IsSuch None next holds first right = right first_source first
+  opening_right Closes IsSuch (Some name) next holds first right = log_read Closes IsSuch name next holds (right holds.right.0 holds.right.2)
+
+  script_right : (from log : Option (List ℕ)) (script : Option (List Request)) (requests : List Request) → script ≡ Some requests → HoldsOpening files old from IsAny → ComesRight (files.held old) ClosesWell (OfScript from log script)
   script_right from log script requests is opening =
       subst (λ (s : Option (List Request)). ComesRight (files.held old) ClosesWell (OfScript from log s)) (sym is)
-      (opening_right ClosesWell from (λ opening. Only (stamp_verdict opening log requests)) opening (stamp_right (files.held old) log requests))
+      (opening_right ClosesWell IsAny from (λ source. Only (stamp_verdict (session_of source.stored) log requests)) opening tt (λ source any. stamp_right (files.held old) log requests (session_of source.stored)))
 
   snapshot_right : (request : ReplayRequest) (tree : ProgramTree) (id : List ℕ) (log : List Entry) (bytes : List ℕ) → IsSnapshotUntil request.time (field_counts tree) id bytes → ComesRight (files.held old) ClosesWell (OfSnapshot request tree id log bytes)
   snapshot_right request tree id log bytes (start, is, early) =
@@ -160,14 +165,14 @@ module _ {F : Type 0} (files : FilesTell F) (old : F) where
   recording_right request recording =
       let program = recording.program in
       let tree = program.right.0 in
-      let stored = recording.log.right.0 in
-      let next : PlainStored → Coming = λ stored. OfRecorded request program.bytes tree stored.log in
+      let source = recording.log.right.0 in
       let v = persisted_in files old request.persisted recording.persisted in
+      let id = session_id_of request.name program.bytes v in
       read_program ClosesWell request.program program (λ bytes tree. OfTree request bytes tree)
-      (read_right ClosesWell input.Log (ask_file request.log most_log) (OfStored next) IsStoredText recording.log
-      (stored_right (files.held old) ClosesWell next recording.log.bytes stored recording.log.right.1 recording.log.right.2
-      (persisted_right ClosesWell request.persisted recording.persisted (λ v. OfFounded request program.bytes stored.log (founded tree v))
-      (start_right request.from request (founded tree v) (session_id_of request.name program.bytes v) stored.log recording.start))))
+      (log_read ClosesWell (IsOwn id) request.log (OfRecorded request program.bytes tree) recording.log
+      (persisted_right ClosesWell request.persisted recording.persisted (λ v. OfFounded request program.bytes source (founded tree v))
+      (own_right (files.held old) ClosesWell source id (Starts request.from request (founded tree v) id source.stored.log) recording.log.right.2
+      (start_right request.from request (founded tree v) id source.stored.log recording.start))))
 
   queries_right : (founding : Founding) (id : List ℕ) (log : List Entry) (read : Option (List Query)) (queries : List Query) → read ≡ Some queries → ComesRight (files.held old) ClosesWell (OfQueries founding id log read)
   queries_right founding id log read queries is =
@@ -185,44 +190,48 @@ module _ {F : Type 0} (files : FilesTell F) (old : F) where
   inspection_right request inspection =
       let program = inspection.program in
       let tree = program.right.0 in
-      let stored = inspection.log.right.0 in
-      let next : PlainStored → Coming = λ stored. OfInspectedLog request program.bytes tree stored.log in
+      let source = inspection.log.right.0 in
       let v = persisted_in files old request.persisted inspection.persisted in
+      let id = session_id_of request.name program.bytes v in
       read_program ClosesWell request.program program (λ bytes tree. OfInspect request bytes tree)
-      (read_right ClosesWell input.Log (ask_file request.log most_log) (OfStored next) IsStoredText inspection.log
-      (stored_right (files.held old) ClosesWell next inspection.log.bytes stored inspection.log.right.1 inspection.log.right.2
-      (persisted_right ClosesWell request.persisted inspection.persisted (λ v. OfTimeLine request program.bytes stored.log (founded tree v))
-      (keyframes_right request.every request.queries (founded tree v) (session_id_of request.name program.bytes v) stored.log (le-leb _ _ inspection.few) inspection.queries))))
+      (log_read ClosesWell (IsOwn id) request.log (OfInspectedLog request program.bytes tree) inspection.log
+      (persisted_right ClosesWell request.persisted inspection.persisted (λ v. OfTimeLine request program.bytes source (founded tree v))
+      (own_right (files.held old) ClosesWell source id (OfKeyframes request.every request.queries (founded tree v) id source.stored.log) inspection.log.right.2
+      (keyframes_right request.every request.queries (founded tree v) id source.stored.log (le-leb _ _ inspection.few) inspection.queries))))
 
   trace_right : (request : TraceRequest) → HoldsTrace files old request → ComesRight (files.held old) ClosesWell (OfWords (Some (Trace request)))
   trace_right request trace =
       let program = trace.program in
       let tree = program.right.0 in
-      let stored = trace.log.right.0 in
-      let next : PlainStored → Coming = λ stored. OfTracedLog request program.bytes tree stored.log in
+      let source = trace.log.right.0 in
       let v = persisted_in files old request.persisted trace.persisted in
-      let traced : PlainValue → Coming = λ v. OfTraced request program.bytes stored.log (founded tree v) in
+      let id = session_id_of request.name program.bytes v in
+      let told : Coming = Only (trace_verdict (founded tree v) id source.stored.log request.from request.to) in
       read_program ClosesWell request.program program (λ bytes tree. OfTrace request bytes tree)
-      (read_right ClosesWell input.Log (ask_file request.log most_log) (OfStored next) IsStoredText trace.log
-      (stored_right (files.held old) ClosesWell next trace.log.bytes stored trace.log.right.1 trace.log.right.2
-      (persisted_right ClosesWell request.persisted trace.persisted traced
-      (fine_right (files.held old) [] (trace_text (founded tree v) (session_id_of request.name program.bytes v) stored.log request.from request.to) (traced v) refl))))
+      (log_read ClosesWell (IsOwn id) request.log (OfTracedLog request program.bytes tree) trace.log
+      (persisted_right ClosesWell request.persisted trace.persisted (λ v. OfTraced request program.bytes source (founded tree v))
+      (own_right (files.held old) ClosesWell source id told trace.log.right.2
+      (fine_right (files.held old) [] (trace_text (founded tree v) id source.stored.log request.from request.to) told refl))))
 
   unkept_right : (request : ReflectRequest) (id : List ℕ) → request.journal ≡ None → ComesRight (files.held old) ClosesWell (OfUnkept request id) → ComesRight (files.held old) ClosesWell (OfServed request id)
   unkept_right request id none right =
       subst (λ (journal : Option (List ℕ)). ComesRight (files.held old) ClosesWell (OfJournal journal (OfUnkept request id) (λ name. Only (at_once (ByKeeping (keeping_of request id name)))))) (sym none) right
 
-  reflect_right : (request : ReflectRequest) → request.journal ≡ None → HoldsProgram files old request.program → NamesAddress request.address → HoldsPersisted files old request.persisted → HoldsOpening files old request.from
-      → ComesRight (files.held old) ClosesWell (OfWords (Some (Reflect request)))
+  reflected_right : (request : ReflectRequest) (id : List ℕ) (source : PlainSource) → IsOwn id source → ComesRight (files.held old) ClosesWell (OfReflected request id source)
+  reflected_right request id source own =
+      let reflection : PlainReflection = reflection_of request id (session_of source.stored) in
+      own_right (files.held old) ClosesWell source id (Only (at_once (ByReflecting reflection))) own
+      (closed_right (files.held old) ClosesWell (ByReflecting reflection) (Only (at_once (ByReflecting reflection))) tt refl)
+
+  reflect_right : (request : ReflectRequest) → request.journal ≡ None → (program : HoldsProgram files old request.program) → NamesAddress request.address → (persisted : HoldsPersisted files old request.persisted)
+      → HoldsOpening files old request.from (IsOwn (session_id_of request.name program.bytes (persisted_in files old request.persisted persisted))) → ComesRight (files.held old) ClosesWell (OfWords (Some (Reflect request)))
   reflect_right request none program address persisted opening =
       let id = session_id_of request.name program.bytes (persisted_in files old request.persisted persisted) in
       let next : PlainValue → Coming = λ v. OfServed request (session_id_of request.name program.bytes v) in
       read_program ClosesWell request.program program (λ bytes tree. OfReflect request bytes)
       (right_right (files.held old) ClosesWell input.Address (is_address (encode_utf8_all request.address)) (OfPersisted request.persisted next) address
       (persisted_right ClosesWell request.persisted persisted next
-      (unkept_right request id none
-      (opening_right ClosesWell request.from (λ opening. Only (at_once (ByReflecting (reflection_of request id opening)))) opening
-      (λ opening. closed_right (files.held old) ClosesWell (ByReflecting (reflection_of request id opening)) (Only (at_once (ByReflecting (reflection_of request id opening)))) tt refl)))))
+      (unkept_right request id none (opening_right ClosesWell (IsOwn id) request.from (OfReflected request id) opening refl (reflected_right request id)))))
 
   view_script_right : (request : JoinRequest) (text : List ℕ) (tree : ProgramTree) (script : Option (List PlainLine)) (lines : List PlainLine) → script ≡ Some lines → HoldsPersisted files old request.persisted
       → ComesRight (files.held old) ClosesByVisit (OfViewScript request text tree script)

@@ -2,7 +2,6 @@
 use Rattle.std.specs.Prelude.{◌≡◌, ◌≢◌, ◌⊎◌, ℕ, ⊤, ◌/◌, ◌≤◌, true, List, length, encode_utf8_all, Option, Some, None}
 use Rattle.tea_base.specs.Limits.{most_snapshot}
 use Rattle.tea_base.specs.declared.entry.Entry.{Entry}
-use Rattle.session_log.specs.Stored.{PlainStored, IsStored, stored_spelling}
 use Rattle.reflector_core.specs.declared.request.Request.{Request}
 use Rattle.model_tree.specs.Bounds.{most_program_bytes}
 use Rattle.model_tree.specs.Tree.{ProgramTree}
@@ -29,7 +28,7 @@ use Rattle.time_line.specs.Keyframes.{most_frames}
 use Rattle.command_inspect.specs.declared.query.Query.{Query}
 use Rattle.command_inspect.specs.Queries.{queries_of}
 use Rattle.command_outcome.specs.ProgramEnd.{IsFaultless}
-use Rattle.commands.specs.Verdict.{ByVisit, Closing, Comes, PlainVisit, most_log, most_queries, most_script, session_id_of}
+use Rattle.commands.specs.Verdict.{ByVisit, Closing, Comes, IsLog, PlainSource, PlainVisit, names_no_other, most_log, most_queries, most_script, session_id_of}
 use Rattle.croquet.specs.Run.{RanBySteps}
 use Rattle.croquet.specs.declared.status.Status.{Status}
 use Rattle.croquet.specs.declared.status.Status.TheVariants as status
@@ -56,9 +55,17 @@ IsQueriesText bytes = (queries : List Query) × (queries_of bytes ≡ Some queri
 abbrev pub IsProgramText : List ℕ → Type 0
 IsProgramText bytes = (tree : ProgramTree) × IsFaultless bytes tree
 
--- a stored session
-abbrev pub IsStoredText : List ℕ → Type 0
-IsStoredText bytes = (stored : PlainStored) × IsStored stored × (bytes ≡ stored_spelling stored)
+-- a log that holds such a session
+abbrev pub IsLogText : (PlainSource → Type 0) → List ℕ → Type 0
+IsLogText IsSuch bytes = (source : PlainSource) × IsLog bytes source × IsSuch source
+
+-- any one
+abbrev pub IsAny : PlainSource → Type 0
+IsAny source = ⊤
+
+-- the one of this id: a journal names it, and a stored session names none
+abbrev pub IsOwn : List ℕ → PlainSource → Type 0
+IsOwn id source = names_no_other source.named id ≡ true
 
 -- the snapshot of a world that is valid for a program with so many fields in each class, is of the session of this id, and has at most this time
 abbrev pub IsSnapshotUntil : ℕ → List ℕ → List ℕ → List ℕ → Type 0
@@ -86,31 +93,31 @@ abbrev pub persisted_in : {F : Type 0} (files : FilesTell F) (old : F) (name : O
 persisted_in files old None holds = nil
 persisted_in files old (Some name) holds = holds.right.0
 
--- the session that goes on, if a name for it is given
-abbrev pub HoldsOpening : {F : Type 0} → FilesTell F → F → Option (List ℕ) → Type 0
-HoldsOpening files old None = ⊤
-HoldsOpening files old (Some name) = HoldsFile files old name most_log IsStoredText
+-- such a session that goes on, if a name for its log is given
+abbrev pub HoldsOpening : {F : Type 0} → FilesTell F → F → Option (List ℕ) → (PlainSource → Type 0) → Type 0
+HoldsOpening files old None IsSuch = ⊤
+HoldsOpening files old (Some name) IsSuch = HoldsFile files old name most_log (IsLogText IsSuch)
 
 -- the files of a replay
 pub record HoldsRecording {F : Type 0} (files : FilesTell F) (old : F) (request : ReplayRequest) : Type 0 where
   pub program : HoldsProgram files old request.program
-  pub log : HoldsFile files old request.log most_log IsStoredText
   pub persisted : HoldsPersisted files old request.persisted
+  pub log : HoldsFile files old request.log most_log (IsLogText (IsOwn (session_id_of request.name program.bytes (persisted_in files old request.persisted persisted))))
   pub start : HoldsStart files old request.from (IsSnapshotUntil request.time (field_counts program.right.0) (session_id_of request.name program.bytes (persisted_in files old request.persisted persisted)))
 
 -- the files of an inspection, which keeps not too many worlds
 pub record HoldsInspection {F : Type 0} (files : FilesTell F) (old : F) (request : InspectRequest) : Type 0 where
   pub program : HoldsProgram files old request.program
-  pub log : HoldsFile files old request.log most_log IsStoredText
   pub persisted : HoldsPersisted files old request.persisted
-  pub few : length log.right.0.log / request.every ≤ most_frames
+  pub log : HoldsFile files old request.log most_log (IsLogText (IsOwn (session_id_of request.name program.bytes (persisted_in files old request.persisted persisted))))
+  pub few : length log.right.0.stored.log / request.every ≤ most_frames
   pub queries : HoldsFile files old request.queries most_queries IsQueriesText
 
 -- the files of a trace
 pub record HoldsTrace {F : Type 0} (files : FilesTell F) (old : F) (request : TraceRequest) : Type 0 where
   pub program : HoldsProgram files old request.program
-  pub log : HoldsFile files old request.log most_log IsStoredText
   pub persisted : HoldsPersisted files old request.persisted
+  pub log : HoldsFile files old request.log most_log (IsLogText (IsOwn (session_id_of request.name program.bytes (persisted_in files old request.persisted persisted))))
 
 -- a word is the address of a net
 abbrev pub NamesAddress : List ℕ → Type 0
@@ -119,7 +126,7 @@ NamesAddress word = is_address (encode_utf8_all word) ≡ true
 -- the inputs of a command are right: a row for each; words that are refused have none
 abbrev pub HasRightInput : {F : Type 0} → FilesTell F → F → Option Command → Type 0
 HasRightInput files old None = ⊥
-HasRightInput files old (Some (Stamp script from log)) = HoldsFile files old script most_script IsScriptText × HoldsOpening files old from
+HasRightInput files old (Some (Stamp script from log)) = HoldsFile files old script most_script IsScriptText × HoldsOpening files old from IsAny
 HasRightInput files old (Some (Check program)) = HoldsProgram files old program
 HasRightInput files old (Some (Replay request)) = HoldsRecording files old request
 HasRightInput files old (Some (Inspect request)) = HoldsInspection files old request
@@ -128,7 +135,8 @@ HasRightInput files old (Some (Join request)) =
     HoldsProgram files old request.program × NamesAddress request.address × HoldsFile files old request.script most_script IsViewScriptText × HoldsPersisted files old request.persisted
 -- of one that names a journal nothing is said
 HasRightInput files old (Some (Reflect request)) =
-    (request.journal ≡ None) × HoldsProgram files old request.program × NamesAddress request.address × HoldsPersisted files old request.persisted × HoldsOpening files old request.from
+    (request.journal ≡ None) × (program : HoldsProgram files old request.program) × NamesAddress request.address × (persisted : HoldsPersisted files old request.persisted)
+    × HoldsOpening files old request.from (IsOwn (session_id_of request.name program.bytes (persisted_in files old request.persisted persisted)))
 -- a drill reads no file
 HasRightInput files old (Some (Drill request)) = ⊤
 

@@ -7,6 +7,8 @@ ghost use Rattle.command_words.specs.Bounds.{UsesNet};
 ghost use Rattle.commands.specs.Laws.{IsFunction, LogsTellTheirEvents, SnapshotsAgree, SomeVerdictComes};
 ghost use Rattle.commands.specs.Verdict.{Comes};
 ghost use Rattle.commands.specs.Work.{ComesNext, IsBoundedNext, ask_of, RunsOn};
+ghost use Rattle.view_follows.specs.AnyEnds.{OfRunsOfViews, RunsLiveOn};
+ghost use Rattle.view_follows.specs.Journals.{JournalsLeave};
 ghost use Rattle.view_follows.specs.SessionsReplay.{EndsViews, OfViewRuns};
 ghost use Rattle.view_follows.specs.ViewsReplay.{VisitsEndInReplay};
 ghost use Rattle.view_shell.specs.OneRun.{IsOneRun};
@@ -37,7 +39,10 @@ use std::thread::Threads;
 use store_io::{Store, Stores};
 use tea_base::{Blob, WantOfMemory, Words};
 use tea_io::{Clock, Files, Gate, Net, Sink};
-use view_follows::{ends_are_caused, views_of_many_runs, views_replay};
+use view_follows::{
+    ends_are_caused, journals_leave, runs_live_on, views_of_any_runs, views_of_many_runs,
+    views_replay,
+};
 use view_shell::one_run;
 
 /// A command is over, or the run goes on as a view's, a reflector's, or a drill.
@@ -163,6 +168,13 @@ pub fn croquet<
     // However often a reflector whose only clients are views was started again on the file that it wrote, each view that is done printed last
     // the line of the replay of the last log.
     ensures views { OfViewRuns C.gives (links_tell N.Conn.coming N.Conn.heard N.Conn.sent N.Conn.counts) EndsViews }
+    // So it is too where runs ended in any way, also by a kill, and each began with what the one before it may have left.
+    ensures lives { OfRunsOfViews C.gives (links_tell N.Conn.coming N.Conn.heard N.Conn.sent N.Conn.counts) EndsViews }
+    // Whoever its clients are, the log of the last of such runs is legal, goes on from that of each run, and serves each connection of each run.
+    ensures serves { RunsLiveOn C.gives (links_tell N.Conn.coming N.Conn.heard N.Conn.sent N.Conn.counts) }
+    // Any bytes that begin with the safe ones of a run's journal are read as what the run may have left, where each record behind the safe ones is
+    // one that the run was writing and that nobody was told.
+    ensures left { JournalsLeave C N.Conn J.bytes J.safe }
     // Some verdict comes that is not want of memory, whatever the files give.
     ensures some { SomeVerdictComes }
     // The log that a script leaves has the events of the log that it began with, and then each event that was answered Stamped, once and in
@@ -179,6 +191,9 @@ pub fn croquet<
     ends_are_caused();
     views_replay();
     views_of_many_runs::<C, N::Conn>();
+    views_of_any_runs::<C, N::Conn>();
+    runs_live_on::<C, N::Conn>();
+    journals_leave::<C, N::Conn, J>();
     some_verdict();
     logs_tell_their_events();
     snapshots_agree();

@@ -9,7 +9,8 @@ use std::thread::Threads;
 use tea_base::{Blob, WantOfMemory};
 
 /// A command: `WORDS ; NAME=CONTENT ; NAME:HEX ; .. ; fail file N ; want output N`. The words are divided by blanks; the lines of
-/// a content are divided by ` / `; call N of the files, or of the output, fails, or wants memory.
+/// a content are divided by ` / `; call N of the files, or of the output, fails, or wants memory; `fail store N` and `fail journal N` are of the
+/// stores and of a journal that was opened.
 #[derive(Drop)]
 struct Command {
     given: Given,
@@ -33,6 +34,10 @@ impl Command {
     fn add(&mut self, alloc: Global, part: &str) -> Result<(), CaseFault> {
         if let Some(digits) = part.strip_prefix("fail file ") {
             self.faults.failing_file = number_of(digits)?;
+        } else if let Some(digits) = part.strip_prefix("fail store ") {
+            self.faults.failing_store = number_of(digits)?;
+        } else if let Some(digits) = part.strip_prefix("fail journal ") {
+            self.faults.failing_journal = number_of(digits)?;
         } else if let Some(digits) = part.strip_prefix("fail output ") {
             self.faults.failing_output = number_of(digits)?;
         } else if let Some(digits) = part.strip_prefix("want file ") {
@@ -51,7 +56,7 @@ impl Command {
     }
 }
 
-/// What a command comes to: what it prints, its status, and ` f=` with the bytes of the file `f`, if it is there.
+/// What a command comes to: what it prints, its status, and ` f=` with the bytes of the file `f`, if it is there, and ` j=` with those of the journal `j`.
 pub(crate) fn outcome<R: Threads + Wait + Sync + AllocGlobal>(
     rt: &R,
     case: &str,
@@ -61,16 +66,19 @@ pub(crate) fn outcome<R: Threads + Wait + Sync + AllocGlobal>(
     let run = command.given.run(rt, command.faults)?;
     let mut told = told_lines(alloc, run.text.bytes(), run.status.number())?;
     if let Some(file) = run.file(alloc, "f")? {
-        put_file(alloc, &mut told, &file)?;
+        put_file(alloc, &mut told, "f=", &file)?;
+    }
+    if let Some(journal) = run.journal(alloc, "j")? {
+        put_file(alloc, &mut told, "j=", &journal)?;
     }
     Ok(told)
 }
 
-fn put_file(alloc: Global, told: &mut String, file: &Blob) -> Result<(), WantOfMemory> {
+fn put_file(alloc: Global, told: &mut String, name: &str, file: &Blob) -> Result<(), WantOfMemory> {
     if !told.is_empty() {
         told.push(' ')?;
     }
-    told.push_str("f=")?;
+    told.push_str(name)?;
     told.push_str(hex::encode(alloc, file.bytes())?.as_str())?;
     Ok(())
 }

@@ -4,14 +4,14 @@
 //!
 //! | Kind | A case | What it comes to |
 //! |---|---|---|
-//! | `commands` | `WORDS ; NAME=CONTENT ; NAME:HEX ; .. ; fail file N ; want output N` | what the command prints, and the file `f` |
+//! | `commands` | `WORDS ; NAME=CONTENT ; NAME:HEX ; .. ; fail file N ; want output N` | what the command prints, the file `f` and the journal `j` |
 //! | `inspects` | `NAME EVERY SCRIPT \| QUERIES \| PROGRAM` | what `inspect` prints of the log that `stamp` makes of the script |
 //! | `traces` | `NAME FROM TO SCRIPT \| PROGRAM` | what `trace` prints of such a log |
 //! | `views` | `NAME VIEW SCRIPT \| PROGRAM \| LINK \| LINK ..` | what `join` of this session as this view, with this script, does over a net that gives these links |
 //! | `reflectors` | `NAME N \| PROGRAM \| LINK \| LINK ..` | what `reflect` of this session to N connections does over such a net |
 //!
 //! The words of a command are divided by blanks. A content, a script and queries have their lines divided by ` / `. Call N of the files, or of the output,
-//! fails, or wants memory.
+//! fails, or wants memory; `fail store N` and `fail journal N` are of the stores, and of a journal that was opened.
 //!
 //! Behind what is printed stands the status in square brackets, if it is not 0.
 //!

@@ -1,7 +1,7 @@
 //! A run of `join` or `reflect` over files, a net and an output in memory.
 use crate::link::net_of;
 use crate::net_case::{NetCase, NetCommand};
-use crate::stores::no_stores;
+use crate::stores::stores_of;
 use case_lines::{CaseFault, WantingSink};
 use croquet::{Status, croquet};
 use std::alloc::Global;
@@ -35,7 +35,7 @@ pub(crate) fn run_case<R: Threads + Wait + Sync + AllocGlobal>(
         alloc,
         &words,
         &mut files,
-        &mut no_stores(alloc),
+        &mut stores_of(alloc, case.faults)?,
         &clock,
         net,
         &OpenGate,

@@ -1,11 +1,12 @@
 //! A run of the program over files and an output in memory.
 use crate::faults::Faults;
-use crate::stores::no_stores;
+use crate::stores::stores_of;
 use case_lines::{WantingFiles, WantingSink};
 use croquet::{Status, croquet};
 use std::alloc::Global;
 use std::sync::Wait;
 use std::thread::Threads;
+use store_io::MemStores;
 use tea_base::{Blob, Numbers, Text, WantOfMemory, Words};
 use tea_io::{Files, FixedClock, MemFiles, NamedBlob, NamedBlobs, NoNet, OpenGate};
 
@@ -23,6 +24,7 @@ pub(crate) struct Run {
     pub(crate) status: Status,
     pub(crate) text: Blob,
     files: MemFiles,
+    stores: MemStores,
 }
 
 impl Given {
@@ -77,13 +79,14 @@ impl Given {
             calls: 0,
             wanting: faults.wanting_file,
         };
+        let mut stores = stores_of(self.alloc, faults)?;
         let mut output = faults.output(self.alloc)?;
         let (_net, status) = croquet(
             rt,
             self.alloc,
             &self.words,
             &mut files,
-            &mut no_stores(self.alloc),
+            &mut stores,
             &FixedClock { at: 0 },
             NoNet::new(),
             &OpenGate,
@@ -95,6 +98,7 @@ impl Given {
             status,
             text: out.into_bytes(),
             files,
+            stores,
         })
     }
 }
@@ -103,6 +107,14 @@ impl Run {
     /// The bytes of a file afterwards, if it is there.
     pub(crate) fn file(&self, alloc: Global, name: &str) -> Result<Option<Blob>, WantOfMemory> {
         match self.files.get(&Text::copy(alloc, name)?) {
+            Some(bytes) => Ok(Some(bytes.clone()?)),
+            None => Ok(None),
+        }
+    }
+
+    /// The bytes of a journal afterwards, if it is there.
+    pub(crate) fn journal(&self, alloc: Global, name: &str) -> Result<Option<Blob>, WantOfMemory> {
+        match self.stores.get(&Text::copy(alloc, name)?) {
             Some(bytes) => Ok(Some(bytes.clone()?)),
             None => Ok(None),
         }

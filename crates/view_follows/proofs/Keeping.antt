@@ -1,20 +1,15 @@
 -- Each snapshot that is kept is honest, one after the other in the order of the runs and of the history of each.
-use Rattle.std.proofs.Common.{◌≡◌, ◌⊎◌, inl, inr, ℕ, zero, suc, ◌+◌, ◌<◌, ◌≤◌, List, [], ◌∷◌, ◌++◌, length, map, Option, Some, None, slice_get, refl, sym, ap, subst, ◌∙◌, arith, append_assoc, length-append}
+use Rattle.std.proofs.Common.{◌≡◌, ◌⊎◌, inl, inr, ℕ, zero, suc, true, ◌+◌, ◌<◌, ◌≤◌, List, [], ◌∷◌, ◌++◌, length, Option, Some, None, slice_get, refl, sym, ap, subst, ◌∙◌, arith, append_assoc, length-append}
 use Rattle.std.specs.List.{AllByRecursion, slice_index_or}
 use Rattle.std.proofs.lemmas.Bool.{cases_lt}
 use Rattle.std.proofs.lemmas.List.{append-nil}
-use Rattle.std.proofs.lemmas.Option.{none-some, same_Some}
-use Rattle.byte_fields.specs.Fields.{whole}
-use Rattle.byte_fields.proofs.Codecs.{whole_again}
+use Rattle.std.proofs.lemmas.Option.{same_Some}
 use Rattle.tea_base.specs.declared.entry.Entry.{Entry}
 use Rattle.tea_base.specs.declared.entry.SessionId.{SessionId}
 use Rattle.tea_base.specs.Legal.{IsLegal}
 use Rattle.tea_io.specs.declared.link.Heard.{Heard}
-use Rattle.wire_frames.specs.Frames.{IsServerFrame}
-use Rattle.wire_frames.specs.Reading.{server_at}
-use Rattle.wire_frames.specs.Spelling.{server_spelling}
-use Rattle.wire_frames.specs.declared.frame.ServerFrame.{ServerFrame}
-use Rattle.wire_frames.proofs.ServerCodec.{server_codec}
+use Rattle.wire_frames.specs.declared.frame.ClientFrame.TheVariants as client
+use Rattle.wire_frames.specs.declared.start.Base.{Base}
 use Rattle.model_solved.specs.Founding.{Founding, IsFounding}
 use Rattle.replica.specs.RealWorlds.{worlds}
 use Rattle.replica_plain.specs.Following.{IsHonestBase}
@@ -22,57 +17,35 @@ use Rattle.replica_plain.specs.PlainReplica.{new_replica}
 use Rattle.replica_plain.specs.Worlds.{AreWorlds, IsHonest}
 use Rattle.replica_plain.proofs.SyncSteps.{first_world_follows}
 use Rattle.reflector_core.specs.PlainSession.{PlainSession}
-use Rattle.reflector_core.specs.Play.{first_session}
 use Rattle.reflector_core.specs.declared.request.Request.{Request}
 use Rattle.reflector_core.specs.declared.request.Request.TheVariants.{Join, Send, Tick, Leave, Offer, Pull}
 use Rattle.reflector_core.proofs.GrowthLaws.{kept-offer, kept-others}
 use Rattle.session_lock.specs.declared.knowledge.Item.{Item}
 use Rattle.session_lock.specs.declared.knowledge.Item.TheVariants.{Did, Void, Unkept}
-use Rattle.session_lock.specs.History.{after_item, calls_of, play_from}
+use Rattle.session_lock.specs.History.{after_item, calls_of, has, play_from}
 use Rattle.session_lock.proofs.Histories.{play_snoc}
 use Rattle.connection.specs.Exchanges.{exchanges_in}
 use Rattle.connection.specs.Phases.{Opening, talk_walk}
-use Rattle.connection.specs.TalkServed.{IsTalkServed}
-use Rattle.connection.proofs.TalkLines.{talk_served}
-use Rattle.connection.proofs.Talking.{talk_grows}
+use Rattle.connection.specs.TalkServed.{frames_of}
 use Rattle.reflect_server.specs.Connections.{HasTalk, ServedConnection, callers_of}
 use Rattle.reflect_server.specs.Opening.{gives_later}
 use Rattle.run_steps.specs.Outside.{LinksTell}
 use Rattle.view_shell.specs.Viewers.{first_phase}
+use Rattle.view_follows.specs.AnyEnds.{BeginAndFollow, HasRun, IsLeaveOrMiss, WasKept, WasOffered}
 use Rattle.view_follows.specs.BothEnds.{IsLinkBetween}
 use Rattle.view_follows.specs.Links.{BeginsHonestly, IsServedBy, LinkTalk, links_in}
 use Rattle.view_follows.specs.Offers.{IsOfFollower}
-use Rattle.view_follows.specs.Sessions.{BeginInOrder, BeginsBefore, ComeTo, ComesTo, FarEnd, IsAmong, IsLinkTo, IsLinkOfView, IsReflectorRun, IsViewOf, ReflectorRun, SessionView, TakeUp, frames_heard}
+use Rattle.view_follows.specs.Sessions.{BeginInOrder, BeginsBefore, ComeTo, ComesTo, FarEnd, IsAmong, IsLinkTo, IsLinkOfView, IsViewOf, ReflectorRun, SessionView, frames_heard}
 use Rattle.view_follows.specs.ViewsReplay.{IsServedVisit}
-use Rattle.view_follows.proofs.LaterRuns.{ComesAfter}
-use Rattle.view_follows.proofs.Lists.{all_at, all_both, all_contains, all_so}
+use Rattle.view_follows.proofs.LaterRuns.{Lasts, all_talk, begins_from, served_still}
+use Rattle.view_follows.proofs.Lists.{all_at, all_back, all_both, all_contains, all_so}
 use Rattle.view_follows.proofs.Meeting.{links_meet}
-use Rattle.view_follows.proofs.Offering.{IsGoodExchange, IsGoodFrame, comes_good, talk_is_good}
+use Rattle.view_follows.proofs.Offering.{IsGoodExchange, IsGoodFrame, IsGoodOffer, comes_good, good_frames, talk_is_good}
 use Rattle.view_follows.proofs.Openings.{opens_honestly, talk_opens}
 use Rattle.view_follows.proofs.Places.{find_caller, is_earlier, item_holds, offer_is_called, same_front}
+use Rattle.view_follows.proofs.ServesOn.{spelled_alike}
 use Rattle.view_follows.proofs.Stands.{KnowsLog, RealWorlds}
 use Rattle.view_follows.proofs.Walking.{link_follows}
-
--- ---- frames that are spelled alike
-
-same_first : (x y : List ℕ) (xs ys : List (List ℕ)) → x ∷ xs ≡ y ∷ ys → x ≡ y
-same_first x y xs ys same = cc
-
-same_others : (x y : List ℕ) (xs ys : List (List ℕ)) → x ∷ xs ≡ y ∷ ys → xs ≡ ys
-same_others x y xs ys same = cc
-
-some_frame : (frame other : ServerFrame) → Some frame ≡ Some other → frame ≡ other
-some_frame frame other is = cc
-
-spelled_alike : (frames others : List ServerFrame) → AllByRecursion IsServerFrame frames → AllByRecursion IsServerFrame others → map server_spelling frames ≡ map server_spelling others → frames ≡ others
-spelled_alike [] [] fit suit is = refl
-spelled_alike [] (other ∷ others) fit suit is = absurd cc
-spelled_alike (frame ∷ frames) [] fit suit is = absurd cc
-spelled_alike (frame ∷ frames) (other ∷ others) fit suit is =
-    let first = same_first (server_spelling frame) (server_spelling other) (map server_spelling frames) (map server_spelling others) is in
-    let heads = some_frame frame other (sym (whole_again server_codec frame fit.0) ∙ ap (whole server_at) first ∙ whole_again server_codec other suit.0) in
-    let rest = spelled_alike frames others fit.1 suit.1 (same_others (server_spelling frame) (server_spelling other) (map server_spelling frames) (map server_spelling others) is) in
-    ap (λ (f : ServerFrame). f ∷ frames) heads ∙ ap (λ (fs : List ServerFrame). other ∷ fs) rest
 
 -- ---- the ends of a view's links
 
@@ -110,27 +83,8 @@ split_at runs (link ∷ links) (first ∷ ends) (suc k) end within is come known
       order = (all_contains (BeginsBefore runs first) ends (Some end) order.0 (k, below, is), rest.order);
     }
 
--- ---- where a run begins
-
--- a run of a lower number, with whose session this one began
-record TakesUpFrom {C L : Type 0} (runs : List (ReflectorRun C L)) (number : ℕ) (run : ReflectorRun C L) : Type 0 where
-  place : ℕ
-  before : ReflectorRun C L
-  earlier : place < number
-  at : slice_get runs place ≡ Some before
-  began : run.opening ≡ before.session
-
-module _ {C L : Type 0} where
-  takes_up : (opening : PlainSession) (runs : List (ReflectorRun C L)) (number : ℕ) (run : ReflectorRun C L) → TakeUp opening runs → slice_get runs number ≡ Some run → (run.opening ≡ opening) ⊎ TakesUpFrom runs number run
-  takes_up opening [] number run take_up at = absurd (none-some run at)
-  takes_up opening (first ∷ runs) zero run take_up at = inl (ap (λ (r : ReflectorRun C L). r.opening) (sym (same_Some first run at)) ∙ take_up.0)
-  takes_up opening (first ∷ runs) (suc number) run take_up at = elim (takes_up first.session runs number run take_up.1 at) [
-    | inl own ↦ inr (record { place = zero; before = first; earlier = omega arith; at = refl; began = own })
-    | inr from ↦ inr (record { place = suc from.place; before = from.before; earlier = omega (arith, from.earlier); at = from.at; began = from.began })
-  ]
-
 module _ {C L : Type 0} (gives : C → ℕ → Type 0) (id : SessionId) (links : LinksTell L) (founding : Founding) (runs : List (ReflectorRun C L)) (views : List (SessionView L)) (final : PlainSession)
-    (laws : AreWorlds (worlds founding id.0)) (legal : IsLegal final.log) (are : AllByRecursion (λ (run : ReflectorRun C L). IsReflectorRun gives id links run × ComesAfter run final) runs) (take_up : TakeUp first_session runs)
+    (laws : AreWorlds (worlds founding id.0)) (legal : IsLegal final.log) (are : AllByRecursion (λ (run : ReflectorRun C L). HasRun gives id links run × Lasts run final) runs) (follow : BeginAndFollow runs)
     (walked : AllByRecursion (IsViewOf founding id.0 runs) views) (all : (number : ℕ) (run : ReflectorRun C L) → slice_get runs number ≡ Some run → AllByRecursion (IsLinkOfView views number) run.connections) where
   abbrev m : RealWorlds
   m = worlds founding id.0
@@ -138,8 +92,11 @@ module _ {C L : Type 0} (gives : C → ℕ → Type 0) (id : SessionId) (links :
   abbrev log : List Entry
   log = final.log
 
-  abbrev TalksIn : ReflectorRun C L → ServedConnection L → Type 0
-  TalksIn run one = HasTalk (gives_later (gives run.clock) run.opening.horizon) id run.opening links run.history one
+  abbrev TalksOf : ReflectorRun C L → ServedConnection L → Type 0
+  TalksOf run one = HasTalk (gives_later (gives run.clock) run.opening.horizon) id run.opening links run.history one
+
+  abbrev Fact : ReflectorRun C L → Type 0
+  Fact run = HasRun gives id links run × Lasts run final
 
   -- what is kept behind a front of the run's history is honest
   abbrev KeptIn : ReflectorRun C L → Type 0
@@ -159,15 +116,11 @@ module _ {C L : Type 0} (gives : C → ℕ → Type 0) (id : SessionId) (links :
 
   -- ---- what the log serves
 
-  connection_serves : (run : ReflectorRun C L) (after : ComesAfter run final) (link : LinkTalk) (one : ServedConnection L) → TalksIn run one → calls_of (one.caller ∷ []) after.more ≡ []
-      → IsLinkBetween link one.heard one.sent → OpensIn run one.caller → IsServedBy m log link
-  connection_serves run after link one has none between opens =
+  connection_serves : (run : ReflectorRun C L) → Fact run → (link : LinkTalk) (one : ServedConnection L) → TalksOf run one → IsLinkBetween link one.heard one.sent → OpensIn run one.caller → IsServedBy m log link
+  connection_serves run fact link one has between opens =
       let talk = has.talk in
       let walk = talk_walk id (Opening 0) talk.events in
-      let gives_in = gives_later (gives run.clock) run.opening.horizon in
-      let longer = talk_grows gives_in id run.opening run.history after.more one.caller one.heard one.sent one.ended none talk in
-      let of_all = talk_served gives_in id run.opening (run.history ++ after.more) one.caller one.heard one.sent one.ended after.sound longer in
-      let served = subst (λ (s : PlainSession). IsTalkServed s.log one.heard one.sent) after.ends of_all in
+      let served = served_still gives id links final legal run fact.0 fact.1 one has in
       let same : served.frames ≡ walk.sent = spelled_alike served.frames walk.sent served.spelled talk.spelled (sym served.spelling ∙ talk.told) in
       let honest = opens_honestly m log run.opening run.history one.caller walk.asked walk.sent talk.asked (talk_opens id 0 talk.events) opens in
       links_meet m log link one.heard one.sent served (subst (BeginsHonestly m log) (sym same) honest) between
@@ -176,10 +129,9 @@ module _ {C L : Type 0} (gives : C → ℕ → Type 0) (id : SessionId) (links :
   end_serves link None comes known opens = record { given = []; frames = []; heard = sym comes; served = tt; honest = tt }
   end_serves link (Some end) comes known opens =
       let run = known.0 in
-      let fact = all_at (λ (run : ReflectorRun C L). IsReflectorRun gives id links run × ComesAfter run final) runs end.run run are known.1 in
-      let has = all_contains (TalksIn run) run.connections end.connection fact.0.talks.talks known.2 in
-      let none = all_contains (λ (one : ServedConnection L). calls_of (one.caller ∷ []) fact.1.more ≡ []) run.connections end.connection fact.1.others known.2 in
-      connection_serves run fact.1 link end.connection has none comes.between (opens run known.1)
+      let fact = all_at Fact runs end.run run are known.1 in
+      let has = all_contains (TalksOf run) run.connections end.connection (all_talk gives id links final legal run fact.0 fact.1) known.2 in
+      connection_serves run fact link end.connection has comes.between (opens run known.1)
 
   ends_serve : (of_view : List LinkTalk) (ends : List (Option (FarEnd L))) → ComeTo of_view ends → AllByRecursion (IsAmong runs) ends → AllByRecursion Opens ends → AllByRecursion (IsServedBy m log) of_view
   ends_serve [] [] come known open_so = tt
@@ -198,7 +150,7 @@ module _ {C L : Type 0} (gives : C → ℕ → Type 0) (id : SessionId) (links :
 
   -- ---- one run
 
-  module _ (number : ℕ) (run : ReflectorRun C L) (at : slice_get runs number ≡ Some run) (is_run : IsReflectorRun gives id links run) (after : ComesAfter run final) (earlier : KeptBefore number) (begins : IsHonestBase m log run.opening.kept) where
+  module _ (number : ℕ) (run : ReflectorRun C L) (at : slice_get runs number ≡ Some run) (fact : Fact run) (earlier : KeptBefore number) (begins : IsHonestBase m log run.opening.kept) where
     -- what is kept behind so many items, or fewer, is honest
     abbrev KeptUntil : ℕ → Type 0
     KeptUntil n = (front back : List Item) → front ++ back ≡ run.history → length front ≤ n → IsHonestBase m log (play_from run.opening front).kept
@@ -209,7 +161,7 @@ module _ {C L : Type 0} (gives : C → ℕ → Type 0) (id : SessionId) (links :
 
     -- the connection is one of the run, and of a view
     abbrev IsOfRun : ServedConnection L → Type 0
-    IsOfRun one = (TalksIn run one × (calls_of (one.caller ∷ []) after.more ≡ [])) × IsLinkOfView views number one
+    IsOfRun one = TalksOf run one × IsLinkOfView views number one
 
     abbrev its_end : ServedConnection L → FarEnd L
     its_end one = record { run = number; connection = one }
@@ -227,38 +179,42 @@ module _ {C L : Type 0} (gives : C → ℕ → Type 0) (id : SessionId) (links :
         (λ front back is none. own_opens n kept one.caller calls front back is (here.1 run at front back is none))
 
     -- what was heard on a connection of a view
-    heard_follows : (n : ℕ) → KeptUntil n → (one : ServedConnection L) (v : SessionView L) → TalksIn run one → calls_of (one.caller ∷ []) after.more ≡ [] → IsViewOf founding id.0 runs v → EndSplit runs (links_in v.steps) (its_end one) → CallsBy n one.caller
-        → AllByRecursion (IsGoodFrame Follower) (frames_heard one.heard)
-    heard_follows n kept one v has none its split calls =
+    heard_follows : (n : ℕ) → KeptUntil n → (one : ServedConnection L) → IsOfRun one → CallsBy n one.caller → AllByRecursion (IsGoodFrame Follower) (frames_heard one.heard)
+    heard_follows n kept one of_run calls =
+        let v = of_run.1.0 in
+        let end = of_run.1.2 in
+        let its = all_contains (IsViewOf founding id.0 runs) views v walked of_run.1.1 in
+        let split = split_at runs (links_in v.steps) v.ends end.0 (its_end one) end.1 end.2 its.links its.known its.order in
         let open_so = all_so (λ (end : Option (FarEnd L)). BeginsBefore runs end (Some (its_end one))) Opens (λ end before. earlier_opens n kept one end calls before) split.fronts split.order in
         let before = ends_serve split.before split.fronts split.come split.known open_so in
-        let served = connection_serves run after split.link one has none split.comes.between (own_opens n kept one.caller calls) in
+        let served = connection_serves run fact split.link one of_run.0 split.comes.between (own_opens n kept one.caller calls) in
         let sent = link_follows m laws log legal v.view (first_phase founding id.0 v.view v.address v.lines) v.steps v.last split.before split.link split.after (view_knows v) its.walks split.is before served in
         comes_good Follower (frames_heard one.heard) split.link.sent split.comes.sent sent
 
-    offers_follow : (one : ServedConnection L) → TalksIn run one → AllByRecursion (IsGoodFrame Follower) (frames_heard one.heard) → AllByRecursion (IsGoodExchange Follower) (exchanges_in run.opening run.history one.caller)
+    all_of_run : AllByRecursion IsOfRun run.connections
+    all_of_run = all_both (TalksOf run) (IsLinkOfView views number) run.connections (all_talk gives id links final legal run fact.0 fact.1) (all number run at)
+
+    offers_follow : (one : ServedConnection L) → TalksOf run one → AllByRecursion (IsGoodFrame Follower) (frames_heard one.heard) → AllByRecursion (IsGoodExchange Follower) (exchanges_in run.opening run.history one.caller)
     offers_follow one has heard =
         let talk = has.talk in
         subst (AllByRecursion (IsGoodExchange Follower)) (sym talk.asked) (talk_is_good Follower id talk.events (subst (λ (h : List Heard). AllByRecursion (IsGoodFrame Follower) (frames_heard h)) talk.said heard))
 
+    -- who offers is one of the connections
+    offers_by : (before behind : List Item) (caller view joined time : ℕ) (bytes : List ℕ) → before ++ Did caller (Offer view joined time bytes) ∷ behind ≡ run.history → has caller (callers_of run.connections) ≡ true
+    offers_by before behind caller view joined time bytes is = elim fact.0.did [
+      | inl talked ↦
+          offer_is_called (gives_later (gives run.clock) run.opening.horizon) run.opening talked.opener caller (callers_of run.connections) run.history before behind view joined time bytes talked.talks.leaves talked.talks.whole is
+      | inr left ↦ absurd (all_back IsLeaveOrMiss before (Did caller (Offer view joined time bytes) ∷ behind) (subst (AllByRecursion IsLeaveOrMiss) (sym is) left.leaves)).0
+    ]
+
     offer_is_honest : (n : ℕ) → KeptUntil n → (before behind : List Item) (caller view joined time : ℕ) (bytes : List ℕ) → before ++ Did caller (Offer view joined time bytes) ∷ behind ≡ run.history → length before ≤ n → IsHonest m log time bytes
     offer_is_honest n kept before behind caller view joined time bytes is few =
         let asked : Request = Offer view joined time bytes in
-        let gives_in = gives_later (gives run.clock) run.opening.horizon in
-        let among = offer_is_called gives_in run.opening is_run.opener caller (callers_of run.connections) run.history before behind view joined time bytes is_run.talks.leaves is_run.talks.whole is in
-        let talked = all_both (TalksIn run) (λ (one : ServedConnection L). calls_of (one.caller ∷ []) after.more ≡ []) run.connections is_run.talks.talks after.others in
-        let each = all_both (λ (one : ServedConnection L). TalksIn run one × (calls_of (one.caller ∷ []) after.more ≡ [])) (IsLinkOfView views number) run.connections talked (all number run at) in
-        let found = find_caller IsOfRun run.connections caller among each in
+        let found = find_caller IsOfRun run.connections caller (offers_by before behind caller view joined time bytes is) all_of_run in
         let one = found.0 in
-        let has = found.2.0.0 in
-        let v = found.2.1.0 in
-        let end = found.2.1.2 in
-        let its = all_contains (IsViewOf founding id.0 runs) views v walked found.2.1.1 in
-        let split = split_at runs (links_in v.steps) v.ends end.0 (its_end one) end.1 end.2 its.links its.known its.order in
         let own : before ++ Did one.caller asked ∷ behind ≡ run.history = subst (λ (c : ℕ). before ++ Did c asked ∷ behind ≡ run.history) found.1 is in
         let calls : CallsBy n one.caller = λ front back same none. let early = is_earlier one.caller asked front back before behind (same ∙ sym own) none in omega (arith, early, few) in
-        honest_follower time bytes
-        (item_holds (IsGoodExchange Follower) run.opening run.history before behind one.caller asked own (offers_follow one has (heard_follows n kept one v has found.2.0.1 its split calls)))
+        honest_follower time bytes (item_holds (IsGoodExchange Follower) run.opening run.history before behind one.caller asked own (offers_follow one found.2.0 (heard_follows n kept one found.2 calls)))
 
     -- ---- what is kept
 
@@ -303,34 +259,57 @@ module _ {C L : Type 0} (gives : C → ℕ → Type 0) (id : SessionId) (links :
         let long = sym (ap length is) ∙ length-append front back in
         kept_from [] run.history refl first_kept front back is (omega (arith, long))
 
+    -- ---- what is left to the next run
+
+    front_short : (front back : List Item) → front ++ back ≡ run.history → length front ≤ length run.history
+    front_short front back is = let long = sym (ap length is) ∙ length-append front back in omega (arith, long)
+
+    kept_whole : KeptUntil (length run.history)
+    kept_whole front back is few = run_kept front back is
+
+    left_is_honest : (kept : Option Base) → WasKept run kept ⊎ WasOffered run kept → IsHonestBase m log kept
+    left_is_honest kept (inl was) = subst (IsHonestBase m log) (sym was.at) (run_kept was.beginning was.rest was.whole)
+    left_is_honest kept (inr was) =
+        let one = was.one in
+        let of_run = all_contains IsOfRun run.connections one all_of_run was.among in
+        let heard = heard_follows (length run.history) kept_whole one of_run (λ front back is none. front_short front back is) in
+        let good = all_contains (IsGoodOffer Follower) (frames_of one.heard) (Some (client.Snap was.base.time was.base.bytes)) (good_frames Follower one.heard heard) was.offers in
+        subst (IsHonestBase m log) (sym was.is) (honest_follower was.base.time was.base.bytes (good was.base.time was.base.bytes refl))
+
   -- ---- all runs
 
-  began_honestly : (number : ℕ) → KeptBefore number → (run : ReflectorRun C L) → slice_get runs number ≡ Some run → IsHonestBase m log run.opening.kept
-  began_honestly number kept run at = elim (takes_up first_session runs number run take_up at) [
+  -- what was kept in it is honest, and so is what it may leave
+  abbrev GoesIn : ReflectorRun C L → Type 0
+  GoesIn run = KeptIn run × ((kept : Option Base) → WasKept run kept ⊎ WasOffered run kept → IsHonestBase m log kept)
+
+  abbrev GoesBefore : ℕ → Type 0
+  GoesBefore number = (place : ℕ) (run : ReflectorRun C L) → place < number → slice_get runs place ≡ Some run → GoesIn run
+
+  began_honestly : (number : ℕ) → GoesBefore number → (run : ReflectorRun C L) → slice_get runs number ≡ Some run → IsHonestBase m log run.opening.kept
+  began_honestly number goes run at = elim (begins_from runs number run follow at) [
     | inl new ↦ subst (λ (s : PlainSession). IsHonestBase m log s.kept) (sym new) tt
-    | inr from ↦
-        let fact = all_at (λ (run : ReflectorRun C L). IsReflectorRun gives id links run × ComesAfter run final) runs from.place from.before are from.at in
-        subst (λ (s : PlainSession). IsHonestBase m log s.kept) (sym (from.began ∙ fact.0.plays.play))
-        (kept from.place from.before from.earlier from.at from.before.history [] (append-nil from.before.history))
+    | inr from ↦ (goes from.place from.before from.earlier from.at).1 run.opening.kept from.left.kept
   ]
 
-  kept_in : (number : ℕ) → KeptBefore number → (run : ReflectorRun C L) → slice_get runs number ≡ Some run → KeptIn run
-  kept_in number kept run at =
-      let fact = all_at (λ (run : ReflectorRun C L). IsReflectorRun gives id links run × ComesAfter run final) runs number run are at in
-      run_kept number run at fact.0 fact.1 kept (began_honestly number kept run at)
+  goes_in : (number : ℕ) → GoesBefore number → (run : ReflectorRun C L) → slice_get runs number ≡ Some run → GoesIn run
+  goes_in number goes run at =
+      let fact = all_at Fact runs number run are at in
+      let kept : KeptBefore number = λ place other lower there. (goes place other lower there).0 in
+      let begins = began_honestly number goes run at in
+      (run_kept number run at fact kept begins, left_is_honest number run at fact kept begins)
 
-  kept_before : (number : ℕ) → KeptBefore number
-  kept_before zero = λ place run lower at. absurd (omega (arith, lower))
-  kept_before (suc number) = λ place run lower at.
+  goes_before : (number : ℕ) → GoesBefore number
+  goes_before zero = λ place run lower at. absurd (omega (arith, lower))
+  goes_before (suc number) = λ place run lower at.
       elim (cases_lt place number) [
-        | inl less ↦ kept_before number place run less at
+        | inl less ↦ goes_before number place run less at
         | inr other ↦
             let same : place ≡ number = omega (arith, lower, other) in
-            kept_in number (kept_before number) run (ap (slice_get runs) (sym same) ∙ at)
+            goes_in number (goes_before number) run (ap (slice_get runs) (sym same) ∙ at)
       ]
 
   pub kept_is_honest : (number : ℕ) (run : ReflectorRun C L) → slice_get runs number ≡ Some run → KeptIn run
-  kept_is_honest number run at = kept_in number (kept_before number) run at
+  kept_is_honest number run at = (goes_in number (goes_before number) run at).0
 
   -- ---- views
 

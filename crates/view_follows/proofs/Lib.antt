@@ -6,7 +6,11 @@ pub mod Walking
 pub mod Meeting
 pub mod Openings
 pub mod Places
+pub mod ServesOn
 pub mod LaterRuns
+pub mod Living
+pub mod Leaving
+pub mod Telling
 pub mod Keeping
 pub mod Numbers
 pub mod Heard

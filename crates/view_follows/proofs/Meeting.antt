@@ -16,13 +16,8 @@ use Rattle.connection.specs.TalkServed.{frames_of}
 use Rattle.connection.proofs.ServedFronts.{served_front}
 use Rattle.view_follows.specs.Links.{BeginsHonestly}
 use Rattle.view_follows.specs.BothEnds.{LinksMeet}
+use Rattle.view_follows.proofs.Lists.{same_first, same_others}
 use Rattle.view_follows.proofs.Stands.{RealWorlds}
-
-same_first : (x y : List ℕ) (xs ys : List (List ℕ)) → x ∷ xs ≡ y ∷ ys → x ≡ y
-same_first x y xs ys same = cc
-
-same_others : (x y : List ℕ) (xs ys : List (List ℕ)) → x ∷ xs ≡ y ∷ ys → xs ≡ ys
-same_others x y xs ys same = cc
 
 -- the frames whose spellings came
 record IsFrontOf (frames : List ServerFrame) (came : List (List ℕ)) : Type 0 where

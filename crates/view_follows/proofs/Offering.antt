@@ -3,6 +3,7 @@ use Rattle.std.proofs.Common.{◌≡◌, ℕ, ◌+◌, ◌==◌, Bool, true, fal
 use Rattle.std.specs.List.{AllByRecursion}
 use Rattle.byte_fields.specs.Fields.{whole}
 use Rattle.tea_base.specs.declared.entry.SessionId.{SessionId}
+use Rattle.tea_io.specs.declared.link.Heard.{Heard}
 use Rattle.tea_io.specs.declared.link.Heard.TheVariants as said
 use Rattle.tea_io.specs.Links.{most_quiets}
 use Rattle.wire_frames.specs.Reading.{client_at}
@@ -21,6 +22,7 @@ use Rattle.system_plain.specs.Steps.{answer_frames, joined_view}
 use Rattle.connection.specs.declared.ending.Ended.{Ended}
 use Rattle.connection.specs.declared.ending.Ended.TheVariants as ended
 use Rattle.connection.specs.Exchanges.{Exchange, Answered, Unanswered}
+use Rattle.connection.specs.TalkServed.{frames_of}
 use Rattle.connection.specs.Phases.{TalkPhase, Opening, Beginning, Joining, Ticking, Pulling, Hearing, Taking, Asking, Sending, Leaving, Over, TalkEvent, Hears, Reads, MakesRequest, MakesAt, Misses, Sends, Loses, FailsToSend, Wants, answered_by, end_in, entered_phase, greeted_phase, heard_in, opened_phase, read_phase, sending_phase, talk_step, talk_walk}
 use Rattle.byte_fields.proofs.Codecs.{whole_again}
 use Rattle.wire_frames.proofs.ClientCodec.{client_codec}
@@ -172,3 +174,17 @@ module _ (Good : ℕ → List ℕ → Type 0) where
   -- each Offer of a talk is good, where each SNAP is that was heard in it
   pub talk_is_good : (id : SessionId) (events : List TalkEvent) → AllByRecursion IsGoodFrame (frames_heard (heard_in events)) → AllByRecursion IsGoodExchange (talk_walk id (Opening 0) events).asked
   talk_is_good id events heard = walk_good id (Opening 0) events tt heard
+
+  -- ---- frames that were heard
+
+  abbrev pub IsGoodOffer : Option ClientFrame → Type 0
+  IsGoodOffer frame = (time : ℕ) (bytes : List ℕ) → frame ≡ Some (client.Snap time bytes) → Good time bytes
+
+  -- where the bytes are good that were heard, so are the frames
+  pub good_frames : (heard : List Heard) → AllByRecursion IsGoodFrame (frames_heard heard) → AllByRecursion IsGoodOffer (frames_of heard)
+  good_frames [] good = tt
+  good_frames (said.Frame bytes ∷ rest) good = (good.0, good_frames rest good.1)
+  good_frames (said.Quiet ∷ rest) good = good_frames rest good
+  good_frames (said.End ∷ rest) good = good_frames rest good
+  good_frames (said.Failed ∷ rest) good = good_frames rest good
+  good_frames (said.WantOfMemory ∷ rest) good = good_frames rest good

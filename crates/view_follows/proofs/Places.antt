@@ -15,7 +15,7 @@ use Rattle.connection.specs.Exchanges.{Exchange, Answered, exchanges_from, excha
 use Rattle.connection.proofs.Callers.{exchanges_both}
 use Rattle.reflect_server.specs.Connections.{ServedConnection, callers_of}
 use Rattle.reflect_server.specs.Opening.{AreLeavesOf, BeginsWithLeaves, IsLeaveOf}
-use Rattle.view_follows.proofs.Lists.{all_back}
+use Rattle.view_follows.proofs.Lists.{all_back, same_first, same_others}
 
 -- ---- who called
 
@@ -53,19 +53,13 @@ own_item caller asked front none =
     let first : Did caller asked ∷ calls_of (caller ∷ []) front ≡ [] = sym (ap (λ (b : Bool). if b then Did caller asked ∷ calls_of (caller ∷ []) front else calls_of (caller ∷ []) front) (has_own caller [])) ∙ none in
     absurd (cc (first))
 
-same_item : (x y : Item) (xs ys : List Item) → x ∷ xs ≡ y ∷ ys → x ≡ y
-same_item x y xs ys is = cc
-
-same_items : (x y : Item) (xs ys : List Item) → x ∷ xs ≡ y ∷ ys → xs ≡ ys
-same_items x y xs ys is = cc
-
 -- where a caller has made no call yet, none of its calls has been reached
 pub is_earlier : (caller : ℕ) (asked : Request) (front back before behind : List Item) → front ++ back ≡ before ++ Did caller asked ∷ behind → calls_of (caller ∷ []) front ≡ [] → length front ≤ length before
 is_earlier caller asked [] back before behind is none = omega (arith)
 is_earlier caller asked (x ∷ front) back [] behind is none =
-    absurd (own_item caller asked front (subst (λ (y : Item). calls_of (caller ∷ []) (y ∷ front) ≡ []) (same_item x (Did caller asked) (front ++ back) behind is) none))
+    absurd (own_item caller asked front (subst (λ (y : Item). calls_of (caller ∷ []) (y ∷ front) ≡ []) (same_first x (Did caller asked) (front ++ back) behind is) none))
 is_earlier caller asked (x ∷ front) back (y ∷ before) behind is none =
-    let rest = is_earlier caller asked front back before behind (same_items x y (front ++ back) (before ++ Did caller asked ∷ behind) is) (none_behind (has (caller_of x) (caller ∷ [])) x (calls_of (caller ∷ []) front) none) in
+    let rest = is_earlier caller asked front back before behind (same_others x y (front ++ back) (before ++ Did caller asked ∷ behind) is) (none_behind (has (caller_of x) (caller ∷ [])) x (calls_of (caller ∷ []) front) none) in
     omega (arith, rest)
 
 -- two beginnings of one list that are as long are the same
@@ -74,8 +68,8 @@ same_front [] back [] behind is long = refl
 same_front [] back (y ∷ other) behind is long = absurd (omega (arith, long))
 same_front (x ∷ front) back [] behind is long = absurd (omega (arith, long))
 same_front (x ∷ front) back (y ∷ other) behind is long =
-    let heads = same_item x y (front ++ back) (other ++ behind) is in
-    let rest = same_front front back other behind (same_items x y (front ++ back) (other ++ behind) is) (omega (arith, long)) in
+    let heads = same_first x y (front ++ back) (other ++ behind) is in
+    let rest = same_front front back other behind (same_others x y (front ++ back) (other ++ behind) is) (omega (arith, long)) in
     ap (λ (z : Item). z ∷ front) heads ∙ ap (λ (l : List Item). y ∷ l) rest
 
 -- ---- who offers
@@ -95,9 +89,9 @@ module _ (gives : ℕ → Type 0) (opener : ℕ) (view joined time : ℕ) (bytes
   opener_never_offers views [] rest before behind made others is = never_calls opener (Offer view joined time bytes) rest before behind is others
   opener_never_offers [] (item ∷ leaves) rest before behind made others is = absurd made
   opener_never_offers (one ∷ views) (item ∷ leaves) rest [] behind made others is =
-      subst (IsLeaveOf gives opener one) (same_item item offered (leaves ++ rest) behind is) made.0
+      subst (IsLeaveOf gives opener one) (same_first item offered (leaves ++ rest) behind is) made.0
   opener_never_offers (one ∷ views) (item ∷ leaves) rest (other ∷ before) behind made others is =
-      opener_never_offers views leaves rest before behind made.1 others (same_items item other (leaves ++ rest) (before ++ offered ∷ behind) is)
+      opener_never_offers views leaves rest before behind made.1 others (same_others item other (leaves ++ rest) (before ++ offered ∷ behind) is)
 
 -- who offers is none but one of the connections
 pub offer_is_called : (gives : ℕ → Type 0) (opening : PlainSession) (opener caller : ℕ) (callers : List ℕ) (history before behind : List Item) (view joined time : ℕ) (bytes : List ℕ) → BeginsWithLeaves gives opening opener history

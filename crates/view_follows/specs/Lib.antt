@@ -5,3 +5,5 @@ pub mod ViewsReplay
 pub mod Sessions
 pub mod SessionsReplay
 pub mod Answered
+pub mod AnyEnds
+pub mod Journals

@@ -1,12 +1,17 @@
 //! The last line of a view is the replay of the log.
-ghost use Rattle.run_steps.specs.Outside.{links_tell};
+ghost use Rattle.run_steps.specs.Outside.{links_tell, net_tells};
+ghost use Rattle.view_follows.specs.AnyEnds.{OfRunsOfViews, RunsLiveOn};
 ghost use Rattle.view_follows.specs.Answered.{AnsweredVisitsHaveNoFault, VisitsEndByRefusals, VisitsEndWithLinks};
 ghost use Rattle.view_follows.specs.BothEnds.{LinksMeet};
+ghost use Rattle.view_follows.specs.Journals.{AnswersTellOfRuns, JournalsLeave, KeptAnswersTellOfRuns, SafeBytesLeave};
 ghost use Rattle.view_follows.specs.SessionsReplay.{EndsViews, KeepHonest, OfViewRuns, ServesViews};
 ghost use Rattle.view_follows.specs.ViewsReplay.{ViewsReplay, VisitsEndInReplay, VisitsOfferFollowers};
 
+use journal_store::safe_bytes_are_read;
 use replica::{worlds_replay, worlds_stand};
-use tea_io::{Clock, Link};
+use session_journal::own_records_are_read_first;
+use store_io::Store;
+use tea_io::{Clock, Link, Net};
 
 /// A view whose links were served by one legal log, with honest bases, prints as its last line that of a replica that follows the log:
 /// its seq is the number of entries up to its time, and its digest that of the replay of the log to that time. So it is whatever its
@@ -51,6 +56,40 @@ pub fn views_of_many_runs<C: Clock, L: Link>()
     ensures served { OfViewRuns C.gives (links_tell L.coming L.heard L.sent L.counts) ServesViews }
     ensures done { OfViewRuns C.gives (links_tell L.coming L.heard L.sent L.counts) EndsViews }
 {
+    views_of_any_runs::<C, L>();
+}
+
+/// However the runs of a reflector on one session ended, well, by a kill, or with a journal that failed: where each went on from what the one
+/// before it had left, the log of the last run is legal, and goes on from that of each run. It serves each connection of each run, and each
+/// TICK that was sent is at most its horizon.
+pub fn runs_live_on<C: Clock, L: Link>()
+    ensures { RunsLiveOn C.gives (links_tell L.coming L.heard L.sent L.counts) }
+{}
+
+/// What [`views_of_many_runs`] says is so too where runs ended in any way, and each went on from what the one before it had left.
+pub fn views_of_any_runs<C: Clock, L: Link>()
+    ensures honest { OfRunsOfViews C.gives (links_tell L.coming L.heard L.sent L.counts) KeepHonest }
+    ensures served { OfRunsOfViews C.gives (links_tell L.coming L.heard L.sent L.counts) ServesViews }
+    ensures done { OfRunsOfViews C.gives (links_tell L.coming L.heard L.sent L.counts) EndsViews }
+{
     worlds_stand();
     views_replay();
 }
+
+/// What the journal of a run leaves, whatever call of its store had failed: any bytes that begin with the safe ones are read as a session that the run
+/// may leave, where each record that is read behind the safe ones is one that the run was writing and that nobody was told. The safe bytes alone are read as such a session.
+pub fn journals_leave<C: Clock, L: Link, S: Store>()
+    ensures left { JournalsLeave C L S.bytes S.safe }
+    ensures safe { SafeBytesLeave C L S.bytes S.safe }
+{
+    own_records_are_read_first();
+    safe_bytes_are_read();
+}
+
+/// Each answer of `reflect` tells of a run, however it ended, and so does each of one that keeps a journal.
+pub fn answers_tell_of_runs<C: Clock, N: Net, S: Store>()
+    ensures alone { AnswersTellOfRuns C.gives (net_tells N.coming N.over N.asked N.faults N.lent N.link_counts)
+        (links_tell N.Conn.coming N.Conn.heard N.Conn.sent N.Conn.counts) }
+    ensures kept { KeptAnswersTellOfRuns C.gives (net_tells N.coming N.over N.asked N.faults N.lent N.link_counts)
+        (links_tell N.Conn.coming N.Conn.heard N.Conn.sent N.Conn.counts) S.bytes S.safe S.faults }
+{}

@@ -3,4 +3,7 @@
 
 mod laws;
 
-pub use laws::{ends_are_caused, links_meet, views_of_many_runs, views_replay};
+pub use laws::{
+    answers_tell_of_runs, ends_are_caused, journals_leave, links_meet, runs_live_on,
+    views_of_any_runs, views_of_many_runs, views_replay,
+};

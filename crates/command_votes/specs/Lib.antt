@@ -1,0 +1,3 @@
+pub mod VoteRead
+pub mod VotesText
+pub mod VoteForm

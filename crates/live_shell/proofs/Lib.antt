@@ -1,0 +1,4 @@
+pub mod Turning
+pub mod Turns
+pub mod Sendings
+pub mod Visiting

@@ -1,0 +1,50 @@
+use Rattle.std.proofs.Common.{Option, Some, subst}
+use Rattle.run_steps.specs.Outside.{Well, links_tell, net_tells, output_tells}
+use Rattle.live_view.specs.declared.input.LiveInput.{LiveInput}
+use Rattle.live_view.specs.View.{live_state}
+use Rattle.live_shell.specs.LiveSteps.{AsksFeed, feed_tells, live_tells}
+use Rattle.live_shell.specs.Calls.{IsFed, fed_of}
+use Rattle.live_shell.proofs.Turns.{feed_stops, feed_turn, feed_turn_stops, idle_turn}
+use Rattle.live_shell.proofs.run.turn_feed.Goals as goal
+
+pub returns-in-Err-clause-turned : goal.returns-in-Err-clause-turned
+returns-in-Err-clause-turned g c =
+    let feed = feed_tells g.K.Feed.coming g.K.Feed.told g.K.Feed.faults in
+    let tells = live_tells feed (output_tells g.W.Sink.written g.W.Sink.faults g.W.Sink.wants) (net_tells g.N.Net.coming g.N.Net.over g.N.Net.asked g.N.Net.faults g.N.Net.lent g.N.Net.link_counts)
+    (links_tell g.N.Conn.Link.coming g.N.Conn.Link.heard g.N.Conn.Link.sent g.N.Conn.Link.counts) in
+    record {
+      turns = λ address net. feed_stops tells address (live_state address c.args.view.now) c.args.feed.now c.ask.new.feed c.args.out.now net (Some c.args.link.now) c.in-Err.fault c.read_end.result
+          c.in-Err.ensures.asked c.read_end.ensures.failed c.read_end.ensures.wanted;
+    }
+
+pub returns-in_default-clause-turned : goal.returns-in_default-clause-turned
+returns-in_default-clause-turned g c =
+    let feed = feed_tells g.K.Feed.coming g.K.Feed.told g.K.Feed.faults in
+    let tells = live_tells feed (output_tells g.W.Sink.written g.W.Sink.faults g.W.Sink.wants) (net_tells g.N.Net.coming g.N.Net.over g.N.Net.asked g.N.Net.faults g.N.Net.lent g.N.Net.link_counts)
+    (links_tell g.N.Conn.Link.coming g.N.Conn.Link.heard g.N.Conn.Link.sent g.N.Conn.Link.counts) in
+    record {
+      turns = λ address net. idle_turn tells address (live_state address c.args.view.now) c.args.feed.now c.ask.new.feed c.args.out.now net (Some c.args.link.now)
+          (subst (λ (t : Option LiveInput). AsksFeed feed Well (fed_of t) c.args.feed.now c.ask.new.feed) c.in_default.is c.in-Ok.ensures.asked);
+    }
+
+pub returns-in-Ok-answered-clause-turned : goal.returns-in-Ok-answered-clause-turned
+returns-in-Ok-answered-clause-turned g c =
+    let feed = feed_tells g.K.Feed.coming g.K.Feed.told g.K.Feed.faults in
+    let tells = live_tells feed (output_tells g.W.Sink.written g.W.Sink.faults g.W.Sink.wants) (net_tells g.N.Net.coming g.N.Net.over g.N.Net.asked g.N.Net.faults g.N.Net.lent g.N.Net.link_counts)
+    (links_tell g.N.Conn.Link.coming g.N.Conn.Link.heard g.N.Conn.Link.sent g.N.Conn.Link.counts) in
+    record {
+      turns = λ address net. feed_turn tells address (live_state address c.args.view.now) (live_state address c.tell-answered.new.view) c.in-Some.input c.args.feed.now c.ask.new.feed net c.args.out.now c.tell-answered.new.out
+          c.args.link.now c.tell-answered.new.link c.tell-answered.result c.in-Ok-answered.field-0 c.in-Ok-answered.is (subst IsFed c.in-Some.is c.in-Ok.ensures.told)
+          (subst (λ (t : Option LiveInput). AsksFeed feed Well (fed_of t) c.args.feed.now c.ask.new.feed) c.in-Some.is c.in-Ok.ensures.asked) (c.tell-answered.ensures.told address) (c.in-Ok-answered.ensures.state address);
+    }
+
+pub returns-in-Err-answered-clause-turned : goal.returns-in-Err-answered-clause-turned
+returns-in-Err-answered-clause-turned g c =
+    let feed = feed_tells g.K.Feed.coming g.K.Feed.told g.K.Feed.faults in
+    let tells = live_tells feed (output_tells g.W.Sink.written g.W.Sink.faults g.W.Sink.wants) (net_tells g.N.Net.coming g.N.Net.over g.N.Net.asked g.N.Net.faults g.N.Net.lent g.N.Net.link_counts)
+    (links_tell g.N.Conn.Link.coming g.N.Conn.Link.heard g.N.Conn.Link.sent g.N.Conn.Link.counts) in
+    record {
+      turns = λ address net. feed_turn_stops tells address (live_state address c.args.view.now) c.in-Some.input c.args.feed.now c.ask.new.feed net c.args.out.now c.tell-answered.new.out
+          c.args.link.now c.tell-answered.new.link c.in-Err-answered.end (subst IsFed c.in-Some.is c.in-Ok.ensures.told)
+          (subst (λ (t : Option LiveInput). AsksFeed feed Well (fed_of t) c.args.feed.now c.ask.new.feed) c.in-Some.is c.in-Ok.ensures.asked) (c.in-Err-answered.ensures.told address);
+    }

@@ -1,0 +1,4 @@
+pub mod VoteBook
+pub mod Tallies
+pub mod Counted
+pub mod Laws
