@@ -18,6 +18,7 @@ COMMANDS = {"stamp": (1, {"--from", "--log"}, set()), "check": (1, set(), set())
             "replay": (4, {"--persisted", "--from", "--snapshot", "--saved"}, set()),
             "inspect": (5, {"--persisted"}, set()),
             "trace": (5, {"--persisted"}, set()),
+            "votes": (1, set(), set()),
             "join": (5, {"--persisted"}, set()),
             "reflect": (3, {"--persisted", "--from", "--connections", "--journal", "--log"}, {"--connections"}),
             "drill": (3, {"--log", "--snapshots"}, {"--log", "--snapshots"})}
@@ -210,13 +211,18 @@ def read_persisted(options):
     return croquet.read_persisted(read_file(options["--persisted"], "persisted"))
 
 
+def read_entries(name):
+    """The entries of a log, and the id that it names, if it is a journal."""
+    log = read_file(name, "log")
+    named = id_in(log)
+    return named, read_or("log", croquet.read_log, log) if named is None else journal.read_journal(named, log).entries
+
+
 def read_recorded(plain, options):
     """The program, the log and the persisted value of a recorded session, read in this order."""
     source = read_file(plain[0], "program")
     program = croquet.read_program(source)
-    log = read_file(plain[2], "log")
-    named = id_in(log)
-    entries = read_or("log", croquet.read_log, log) if named is None else journal.read_journal(named, log).entries
+    named, entries = read_entries(plain[2])
     persisted = read_persisted(options)
     ident = croquet.session_id(plain[1].encode(), source, persisted)
     check_own(named, ident)
@@ -255,6 +261,11 @@ def trace(plain, options):
     check_name(plain[1])
     begin, end = (number(word, 0, croquet.TIME_LIMIT) for word in plain[3:])
     for line in croquet.traced(read_recorded(plain, options), begin, end):
+        say(line)
+
+
+def votes(plain, options):
+    for line in croquet.voted(read_entries(plain[0])[1]):
         say(line)
 
 

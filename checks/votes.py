@@ -1,22 +1,19 @@
 """Votes on the worlds of a session: which events are votes, and what they come to.
 
-What the votes of a drawn log come to follows from how it was drawn. Until the command `votes` is there, the cases are of the
-reference, and COUNTED_BY_VOTES says so. Then `votes` has to print the same lines of the same logs.
+What the votes of a drawn log come to follows from how it was drawn. `votes` and the reference have to print those lines.
 """
 import random
-import time
+import re
 from dataclasses import dataclass
 
 from case import Case, expect, expect_that
-from commands import each, reference_cases, stamp
+from commands import each, stamp
 from reference import croquet
 
-COUNTED_BY_VOTES = False
-
-COUNT, SEED = 200, 61
+COUNT, SEED = 200, 7
 VIEWS = [7, 8, 9, 4_294_967_295]
 MANY_VIEWS, MANY = 100, 100_000
-MOST_TIMES = 2.2
+MOST_TIMES, TRIES = 2.2, 12
 
 
 @dataclass
@@ -95,23 +92,18 @@ def check_votes(program, case, wanted):
     expect(wanted, run_votes(program, stamp(program, case).files["l"]))
 
 
-def of_reference(made):
-    expect(lines_of_votes(made.votes), croquet.voted(made.session.log))
-
-
-def of_program(program, made):
-    expect(" / ".join(lines_of_votes(made.votes)), run_votes(program, made.session.encoded()))
+def of_both(program, made):
+    lines = lines_of_votes(made.votes)
+    expect(lines, croquet.voted(made.session.log))
+    expect(" / ".join(lines), run_votes(program, made.session.encoded()))
 
 
 def drawn_case(seed):
-    if COUNTED_BY_VOTES:
-        return Case(f"the log drawn by {seed}", lambda program: of_program(program, drawn(seed)))
-    return Case(f"the log drawn by {seed}", lambda _: of_reference(drawn(seed)), needs_program=False)
+    return Case(f"the log drawn by {seed}", lambda program: of_both(program, drawn(seed)))
 
 
 def votes_cases():
-    told = each("votes", "votes", check_votes) if COUNTED_BY_VOTES else reference_cases("votes", "votes")
-    return told + [drawn_case(seed) for seed in range(COUNT)]
+    return each("votes", "votes", check_votes) + [drawn_case(seed) for seed in range(COUNT)]
 
 
 # ---------------------------------------------------------------- many votes
@@ -127,24 +119,26 @@ def many(count):
     return session.encoded()
 
 
-def seconds_of(program, content, count):
-    """How long the program takes for so many votes, at best."""
-    best = None
-    for _ in range(3):
-        begun = time.monotonic()
-        told = run_votes(program, content)
-        passed = time.monotonic() - begun
-        expect(f"votes {count}", told.rpartition(" / ")[2])
-        best = passed if best is None else min(best, passed)
-    return best
+# Runs the words after it five times, and prints how long the processor was at work on that. So it matters little what else runs.
+MEASURED = 'for run in 1 2 3 4 5; do "$@" > /dev/null || exit; done; times'
+SPENT = re.compile(r"(\d+)m([\d.]+)s")
+
+
+def seconds_of(program, count, content):
+    """How long the program takes for a log of so many votes."""
+    expect(f"votes {count}", run_votes(program, content).rpartition(" / ")[2])
+    measured = program.launched_by("/bin/sh", "-c", MEASURED, "sh")
+    return sum(60 * int(minutes) + float(seconds) for minutes, seconds in SPENT.findall(run_votes(measured, content)))
 
 
 def check_many(program):
-    """Twice as many votes take little more than twice as long."""
-    once, twice = (seconds_of(program, many(count), count) for count in (MANY, 2 * MANY))
-    expect_that(twice <= MOST_TIMES * once, f"at most {MOST_TIMES} times {once:.3f} seconds", f"{twice:.3f} seconds")
+    """Twice as many votes take little more than twice as long. Other work may disturb a measurement, so one of several is enough."""
+    less, more = many(MANY), many(2 * MANY)
+    for _ in range(TRIES):
+        once, twice = seconds_of(program, MANY, less), seconds_of(program, 2 * MANY, more)
+        if twice <= MOST_TIMES * once:
+            return
+    expect_that(False, f"at most {MOST_TIMES} times {once:.3f} seconds", f"{twice:.3f} seconds")
 
 
-PARTS = {"votes": votes_cases}
-if COUNTED_BY_VOTES:
-    PARTS["long-votes"] = lambda: [Case("twice as many votes", check_many)]
+PARTS = {"votes": votes_cases, "long-votes": lambda: [Case("twice as many votes", check_many)]}

@@ -10,6 +10,7 @@ use Rattle.command_outcome.specs.declared.outcome.Put.{Put}
 use Rattle.command_outcome.specs.Outcome.{optional_put, steps_of}
 use Rattle.command_reflect.specs.declared.keeping.GoingOn.{GoingOn}
 use Rattle.command_reflect.specs.declared.keeping.Keeping.{Keeping}
+use Rattle.command_reflect.specs.ReflectedSteps.{log_name}
 
 -- all bytes are 0: a system may leave such where a file was growing
 abbrev pub all_zero : List ℕ → Bool
@@ -39,4 +40,4 @@ kept_place going = record { state = plain_stored going.stored; check = going.che
 pub record GoesOnFrom (keeping : Keeping) (bytes : List ℕ) (going : GoingOn) : Type 0 where
   pub read : read_journal keeping.id.0 bytes ≡ Goes (kept_place going)
   pub good : going.good ≡ length bytes - length going.torn
-  pub steps : steps_of going.outcome.files going.outcome.text ≡ going_on_steps keeping.journal keeping.log (plain_stored going.stored) going.torn
+  pub steps : steps_of going.outcome.files going.outcome.text ≡ going_on_steps keeping.journal (log_name keeping.log) (plain_stored going.stored) going.torn

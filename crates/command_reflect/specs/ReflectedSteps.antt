@@ -1,13 +1,13 @@
 -- What is put and printed of a session that was reflected.
-use Rattle.std.specs.Prelude.{ℕ, ◌+◌, List, [], ◌∷◌, ◌++◌, length, codes, Option}
+use Rattle.std.specs.Prelude.{ℕ, ◌+◌, List, [], ◌∷◌, ◌++◌, length, codes, Option, Some, None}
 use Rattle.text_lines.specs.Lines.{spell_numbers}
 use Rattle.session_log.specs.Stored.{stored_spelling}
 use Rattle.reflector_core.specs.PlainSession.{PlainSession}
 use Rattle.reflector_core.specs.Stored.{stored_of}
 use Rattle.connection.specs.declared.ending.Ended.{Ended}
 use Rattle.connection.specs.declared.ending.Ended.TheVariants as ended
-use Rattle.run_steps.specs.Steps.{Step}
-use Rattle.command_outcome.specs.Outcome.{optional_put, steps_of}
+use Rattle.command_outcome.specs.declared.outcome.Put.{Put}
+use Rattle.command_reflect.specs.declared.reflection.LogPlace.{LogPlace}
 
 -- how a connection has ended, and the value that comes with it
 abbrev pub end_part : Ended → List ℕ
@@ -38,6 +38,15 @@ session_line session =
 abbrev pub reflected_text : List Ended → PlainSession → List ℕ
 reflected_text ends session = end_lines 0 ends ++ session_line session
 
--- a session that was reflected is told by how its connections ended, and it is put as it is stored, if there is a name for it
-abbrev pub reflected_steps : Option (List ℕ) → List Ended → PlainSession → List Step
-reflected_steps log ends session = steps_of (optional_put log (stored_spelling (stored_of session))) (reflected_text ends session)
+-- the bytes of a session as it is stored after its reflector
+abbrev pub reflected_bytes : PlainSession → List ℕ
+reflected_bytes session = stored_spelling (stored_of session)
+
+-- they are put under this name
+abbrev pub reflected_put : List ℕ → PlainSession → Put
+reflected_put name session = record { name = name; bytes = reflected_bytes session }
+
+-- the name of the file in which a session is put, if it is put
+abbrev pub log_name : Option LogPlace → Option (List ℕ)
+log_name None = None
+log_name (Some place) = Some place.name

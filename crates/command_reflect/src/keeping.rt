@@ -1,16 +1,18 @@
 //! A reflector that keeps a journal: what it is asked for, and what is put and printed of a journal before its session goes on.
 ghost use Rattle.std.specs.Prelude.{◌≡◌, ◌++◌, Err, IfOk, OnOk, string_bytes};
-ghost use Rattle.std.specs.Option.{option_copied};
+ghost use Rattle.std.specs.Option.{option_copied, option_map};
 ghost use Rattle.command_outcome.specs.Outcome.{optional_put, steps_of};
 ghost use Rattle.session_journal.specs.Journal.{NoJournal, OtherSession, read_journal};
-ghost use Rattle.session_log.specs.Stored.{IsStored, plain_stored, stored_spelling};
+ghost use Rattle.session_log.specs.Stored.{IsStored, lent_kept, plain_stored, stored_spelling};
 ghost use Rattle.session_journal.specs.Reading.{read_place};
 ghost use Rattle.session_journal.specs.declared.reading.JournalFault.TheVariants as JournalFault;
+ghost use Rattle.command_reflect.specs.ReflectedSteps.{log_name};
 ghost use Rattle.command_reflect.specs.KeptSteps.{GoesOnFrom, all_zero, going_on_steps, kept_place, torn_line, torn_name, torn_puts};
 
+use crate::reflection::LogPlace;
 use command_outcome::{Outcome, Put, Puts};
 use session_journal::{JournalFault, Read, read_journal, what_is_read_may_be_opened};
-use session_log::{Stored, encode_stored};
+use session_log::{Kept, LentKept, Stored, encode_stored};
 use std::alloc::Global;
 use tea_base::{Blob, SessionId, Text, WantOfMemory};
 use text_lines::spell_numbers;
@@ -30,8 +32,8 @@ pub struct Keeping {
     pub from: Option<Text>,
     /// What the journal is founded with, once that is known. Then there was none.
     pub opening: Option<Stored>,
-    /// Where the session is put in the end.
-    pub log: Option<Text>,
+    /// Where the session is put, before its reflector listens and in the end.
+    pub log: Option<LogPlace>,
 }
 
 /// A journal that was read, and goes on.
@@ -87,16 +89,34 @@ fn put_torn(
     files.push(Put { name, bytes })
 }
 
+/// What is kept, borrowed.
+fn lent_kept(kept: &Option<Kept>) -> Option<LentKept<'_>>
+    ensures { option_map lent_kept result ≡ kept.now }
+{
+    match kept {
+        None => None,
+        Some(kept) => Some(LentKept {
+            time: kept.time,
+            bytes: kept.bytes.bytes(),
+        }),
+    }
+}
+
 /// Adds the session to the files that are put, if there is a name for it.
-fn put_log(files: &mut Puts, log: Option<&Text>, stored: &Stored) -> Result<(), WantOfMemory>
+fn put_log(
+    alloc: Global,
+    files: &mut Puts,
+    log: Option<&LogPlace>,
+    stored: &Stored,
+) -> Result<(), WantOfMemory>
     requires { IsStored (plain_stored stored.now) }
-    ensures { OnOk result (files.new ≡ files.old ++ optional_put (option_copied log.entry) (stored_spelling (plain_stored stored.now))) }
+    ensures { OnOk result (files.new ≡ files.old ++ optional_put (log_name (option_copied log.entry)) (stored_spelling (plain_stored stored.now))) }
 {
     let Some(log) = log else {
         return Ok(());
     };
-    let name = log.try_clone()?;
-    let bytes = encode_stored(&stored.log, stored.horizon, stored.kept.as_ref())?;
+    let name = log.name.try_clone()?;
+    let bytes = encode_stored(alloc, &stored.log, stored.horizon, lent_kept(&stored.kept))?;
     files.push(Put { name, bytes })
 }
 
@@ -120,11 +140,11 @@ fn outcome_of(
     torn: &[u8],
 ) -> Result<Outcome, WantOfMemory>
     requires { IsStored (plain_stored stored.now) }
-    ensures { IfOk result (λ outcome. steps_of outcome.files outcome.text ≡ going_on_steps keeping.now.journal keeping.now.log (plain_stored stored.now) torn.now) }
+    ensures { IfOk result (λ outcome. steps_of outcome.files outcome.text ≡ going_on_steps keeping.now.journal (log_name keeping.now.log) (plain_stored stored.now) torn.now) }
 {
     let mut files = Puts::new(alloc);
     put_torn(alloc, &mut files, &keeping.journal, torn)?;
-    put_log(&mut files, keeping.log.as_ref(), stored)?;
+    put_log(alloc, &mut files, keeping.log.as_ref(), stored)?;
     let line = torn_line(alloc, torn)?;
     Ok(Outcome {
         files,
@@ -138,7 +158,7 @@ fn going_on(alloc: Global, keeping: &Keeping, read: Read<'_>) -> Result<GoingOn,
     ensures place { IfOk result (λ going. kept_place going ≡ read_place read.entry) }
     ensures good { IfOk result (λ going. going.good ≡ read.entry.good) }
     ensures steps { IfOk result (λ going. steps_of going.outcome.files going.outcome.text
-        ≡ going_on_steps keeping.now.journal keeping.now.log (plain_stored read.entry.stored) read.entry.torn.now) }
+        ≡ going_on_steps keeping.now.journal (log_name keeping.now.log) (plain_stored read.entry.stored) read.entry.torn.now) }
 {
     let Read {
         stored,

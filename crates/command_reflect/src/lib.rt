@@ -1,5 +1,5 @@
-//! What the command `reflect` asks for and gives: the reflection of a session, what a journal leads to before its session goes on, and behind
-//! the reflection the log and how its connections ended.
+//! What the command `reflect` asks for and gives: the reflection of a session, what a journal leads to before its session goes on, and after
+//! the reflection first the log, and then how its connections ended.
 #![tactic(auto)]
 
 mod keeping;
@@ -7,4 +7,4 @@ mod reflection;
 mod text;
 
 pub use keeping::{GoingOn, Keeping, read_kept};
-pub use reflection::{Reflection, reflected_outcome};
+pub use reflection::{LogPlace, Reflection, log_place, reflected_outcome, reflected_put};

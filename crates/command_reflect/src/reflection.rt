@@ -1,16 +1,26 @@
-//! The reflection of a session, and what is put and printed behind it.
-ghost use Rattle.std.specs.Prelude.{◌≡◌, IfOk};
-ghost use Rattle.session_log.specs.Stored.{stored_spelling};
-ghost use Rattle.reflector_core.specs.Stored.{stored_of};
-ghost use Rattle.command_outcome.specs.Outcome.{optional_put, steps_of};
-ghost use Rattle.command_reflect.specs.ReflectedSteps.{reflected_steps};
+//! The reflection of a session, and what is put after it.
+ghost use Rattle.std.specs.Prelude.{◌≡◌, [], ◌∷◌, IfOk};
+ghost use Rattle.run_steps.specs.Steps.{Prints};
+ghost use Rattle.command_outcome.specs.Outcome.{steps_of};
+ghost use Rattle.command_reflect.specs.ReflectedSteps.{log_name, reflected_put, reflected_text};
 
 use crate::text::reflected_text;
-use command_outcome::{Outcome, Puts, optional_put};
+use command_outcome::{Outcome, Put, Puts};
 use connection::Ended;
 use reflector_core::Session;
+use session_log::Room;
 use std::alloc::Global;
 use tea_base::{Blob, SessionId, Text, WantOfMemory};
+
+/// Where a session is put in the end, with the memory for its bytes.
+#[derive(Drop)]
+pub struct LogPlace {
+    /// The name of the file.
+    pub name: Text,
+    /// Memory for the largest session. It is taken before the reflector listens, so what the session comes to can be put whatever memory there
+    /// is then.
+    pub room: Room,
+}
 
 /// The reflection of a session.
 #[derive(Drop)]
@@ -24,33 +34,45 @@ pub struct Reflection {
     /// How many links it accepts, from 1 to 64.
     pub connections: u32,
     /// Where the session is put in the end.
-    pub log: Option<Text>,
+    pub log: Option<LogPlace>,
 }
 
-/// The session as it is stored, if there is a name for it.
-fn session_files(alloc: Global, log: Option<Text>, session: &Session) -> Result<Puts, WantOfMemory>
-    ensures { IfOk result (λ files. files ≡ optional_put log (stored_spelling (stored_of session.now.plain))) }
+/// The place of a log of this name, if there is one. It takes the memory for the largest session.
+pub fn log_place(alloc: Global, name: Option<Text>) -> Result<Option<LogPlace>, WantOfMemory>
+    ensures { IfOk result (λ place. log_name place ≡ name) }
 {
-    if log.is_none() {
-        return Ok(Puts::new(alloc));
+    match name {
+        None => Ok(None),
+        Some(name) => Ok(Some(LogPlace {
+            name,
+            room: Room::new(alloc)?,
+        })),
     }
-    optional_put(alloc, log, session.store()?)
 }
 
-/// What is put and printed of a session after its reflector: the session as it is stored, if there is a name for it, how its connections ended,
-/// and what it has come to.
+/// What is put of a session after its reflector: the session as it is stored. Its bytes are written in memory that was taken before, so
+/// this never fails.
+pub fn reflected_put(log: LogPlace, session: &Session) -> Put
+    ensures { result ≡ reflected_put log.name session.now.plain }
+{
+    let LogPlace { name, room } = log;
+    Put {
+        name,
+        bytes: session.store_in(room),
+    }
+}
+
+/// What is printed of a session after its reflector: how its connections ended, and what it has come to.
 pub fn reflected_outcome(
     alloc: Global,
-    log: Option<Text>,
     ends: &[Ended],
     session: &Session,
 ) -> Result<Outcome, WantOfMemory>
-    ensures { IfOk result (λ outcome. steps_of outcome.files outcome.text ≡ reflected_steps log ends.now session.now.plain) }
+    ensures { IfOk result (λ outcome. steps_of outcome.files outcome.text ≡ Prints (reflected_text ends.now session.now.plain) ∷ []) }
 {
     let text = reflected_text(alloc, ends, session)?;
-    let files = session_files(alloc, log, session)?;
     Ok(Outcome {
-        files,
+        files: Puts::new(alloc),
         text: Blob::from_vec(text.into_bytes()),
     })
 }

@@ -55,7 +55,7 @@ fn session_line(alloc: Global, session: &Session) -> Result<String, WantOfMemory
     )
 }
 
-/// The text of a session that was reflected: a line for each connection, and then its own.
+/// What is printed of a session after its reflector: a line for each connection, and then its own.
 pub fn reflected_text(
     alloc: Global,
     ends: &[Ended],

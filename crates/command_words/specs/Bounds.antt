@@ -9,7 +9,7 @@ use Rattle.command_words.specs.declared.words.JoinRequest.{JoinRequest}
 use Rattle.command_words.specs.declared.words.ReflectRequest.{ReflectRequest}
 use Rattle.command_words.specs.declared.words.DrillRequest.{DrillRequest}
 use Rattle.command_words.specs.declared.words.Command.{Command}
-use Rattle.command_words.specs.declared.words.Command.TheVariants.{Stamp, Check, Replay, Inspect, Trace, Join, Reflect, Drill}
+use Rattle.command_words.specs.declared.words.Command.TheVariants.{Stamp, Check, Replay, Inspect, Trace, Votes, Join, Reflect, Drill}
 use Rattle.command_words.specs.CommandWords.{most_name}
 
 -- the words ask for a command that uses a net: join or reflect
@@ -56,6 +56,7 @@ IsWithinBounds (Check program) = ⊤
 IsWithinBounds (Replay request) = IsBounded request
 IsWithinBounds (Inspect request) = IsBoundedInspect request
 IsWithinBounds (Trace request) = IsBoundedTrace request
+IsWithinBounds (Votes log) = ⊤
 IsWithinBounds (Join request) = IsBoundedJoin request
 IsWithinBounds (Reflect request) = IsBoundedReflect request
 IsWithinBounds (Drill request) = IsBoundedDrill request

@@ -10,7 +10,7 @@ use Rattle.command_words.specs.declared.words.JoinRequest.{JoinRequest}
 use Rattle.command_words.specs.declared.words.ReflectRequest.{ReflectRequest}
 use Rattle.command_words.specs.declared.words.DrillRequest.{DrillRequest}
 use Rattle.command_words.specs.declared.words.Command.{Command}
-use Rattle.command_words.specs.declared.words.Command.TheVariants.{Stamp, Check, Replay, Inspect, Trace, Join, Reflect, Drill}
+use Rattle.command_words.specs.declared.words.Command.TheVariants.{Stamp, Check, Replay, Inspect, Trace, Votes, Join, Reflect, Drill}
 use Rattle.command_words.specs.Parts.{Parts, all_parts, are_all_taken, behind_first, without_option, first_positional, value_of}
 
 -- ---- what one word may be
@@ -161,8 +161,12 @@ drill_row = (
       asks (Drill (record { seed = seed; views = views; events = events; log = log; snapshots = snapshots }))))))),
 )
 
+-- `votes LOG`
+abbrev pub votes_row : Row
+votes_row = (codes "votes", positional a_word (λ log. asks (Votes log)))
+
 abbrev pub rows : List Row
-rows = stamp_row ∷ check_row ∷ replay_row ∷ inspect_row ∷ trace_row ∷ join_row ∷ reflect_row ∷ drill_row ∷ []
+rows = stamp_row ∷ check_row ∷ replay_row ∷ inspect_row ∷ trace_row ∷ votes_row ∷ join_row ∷ reflect_row ∷ drill_row ∷ []
 
 -- what the row of this name makes of the parts
 abbrev pub read_by : List Row → LineWord → Reading

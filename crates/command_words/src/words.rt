@@ -3,7 +3,7 @@ ghost use Rattle.std.specs.Prelude.{◌≡◌, ◌≤◌, ◌<◌, IfOk, IfSome,
 ghost use Rattle.std.specs.Option.{option_and_then};
 ghost use Rattle.tea_base.specs.Limits.{time_limit};
 ghost use Rattle.command_words.specs.Parts.{behind_first, first_positional};
-ghost use Rattle.command_words.specs.CommandWords.{a_name, a_number, a_time, asks, check_row, command_of, drill_row, inspect_options, inspect_row, join_row, join_options, most_name, read_by, reflect_files, reflect_options, reflect_row, replay_options, replay_puts, replay_row, rows, stamp_row, reflect_ends, trace_options, trace_row};
+ghost use Rattle.command_words.specs.CommandWords.{a_name, a_number, a_time, asks, check_row, command_of, drill_row, inspect_options, inspect_row, join_row, join_options, most_name, read_by, reflect_files, reflect_options, reflect_row, replay_options, replay_puts, replay_row, rows, stamp_row, reflect_ends, trace_options, trace_row, votes_row};
 ghost use Rattle.command_words.specs.Bounds.{IsBounded, IsBoundedInspect, IsBoundedJoin, IsBoundedReflect, IsWithinBounds, IsBoundedTrace};
 
 use crate::parts::{Parts, is_word, read_parts};
@@ -37,6 +37,10 @@ pub enum Command {
     Inspect(InspectRequest),
     /// `trace PROGRAM NAME LOG FROM TO [--persisted JSON]`
     Trace(TraceRequest),
+    /// `votes LOG`
+    Votes {
+        log: Text,
+    },
     /// `join PROGRAM NAME ADDRESS VIEW SCRIPT [--persisted JSON]`
     Join(JoinRequest),
     /// `reflect PROGRAM NAME ADDRESS [--persisted JSON] [--from LOG] [--journal FILE] [--log FILE] --connections N`, with a journal or a
@@ -224,6 +228,15 @@ fn check(mut parts: Parts) -> Option<Command>
 {
     let program = parts.positional()?;
     ask(Command::Check { program }, &parts)
+}
+
+/// `votes LOG`
+fn votes(mut parts: Parts) -> Option<Command>
+    ensures read { result ≡ votes_row.1 parts }
+    ensures bounds { IfSome result IsWithinBounds }
+{
+    let log = parts.positional()?;
+    ask(Command::Votes { log }, &parts)
 }
 
 /// The last options of `replay`: `[--snapshot FILE] [--saved FILE]`
@@ -461,6 +474,8 @@ fn command_named(name: &Text, parts: Parts) -> Option<Command>
         inspect(parts)
     } else if is_word(name, "trace") {
         trace(parts)
+    } else if is_word(name, "votes") {
+        votes(parts)
     } else if is_word(name, "join") {
         join(parts)
     } else if is_word(name, "reflect") {

@@ -18,7 +18,7 @@ use Rattle.command_words.specs.declared.words.TraceRequest.{TraceRequest}
 use Rattle.command_words.specs.declared.words.JoinRequest.{JoinRequest}
 use Rattle.command_words.specs.declared.words.ReflectRequest.{ReflectRequest}
 use Rattle.command_words.specs.declared.words.Command.{Command}
-use Rattle.command_words.specs.declared.words.Command.TheVariants.{Stamp, Check, Replay, Inspect, Trace, Join, Reflect, Drill}
+use Rattle.command_words.specs.declared.words.Command.TheVariants.{Stamp, Check, Replay, Inspect, Trace, Votes, Join, Reflect, Drill}
 use Rattle.command_words.specs.Address.{is_address}
 use Rattle.command_words.specs.Bounds.{UsesNet}
 use Rattle.view_script.specs.PlainLine.{PlainLine}
@@ -30,7 +30,7 @@ use Rattle.model_tree.specs.Bounds.{most_program_bytes}
 use Rattle.persist_json.specs.JsonOf.{most_json}
 use Rattle.tea_base.specs.Limits.{most_snapshot}
 use Rattle.commands.specs.Work.{NamesNoJournal, RunsOn}
-use Rattle.commands.specs.Verdict.{ByDrill, ByGoingOn, ByKeeping, ByNetFault, ByReadFault, ByRefusal, ByReflecting, ByVisit, ByWant, ByWriteFault, Closing, Coming, Comes, Fine, Free, Only, OfFile, OfFounded, OfGiven, OfInspect, OfInspectedLog, OfJson, OfKeyframes, OfLog, OfOwn, OfPersisted, OfProgram, OfQueries, OfRecorded, OfRight, OfScript, OfSnapshot, OfTimeLine, OfTree, OfWords, Starts, Verdict, ask_file, at_once, count_verdict, fine, founded, inspect_verdict, keeps_few, stamp_verdict, most_queries, most_script, most_log, OfOpening, OfReflected, PlainSource, first_source, names_no_other, session_id_of, OfTrace, OfTraced, OfTracedLog, trace_verdict, OfJoin, OfJournal, OfReflect, OfServed, OfUnkept, OfView, OfViewScript, PlainKeeping, PlainReflection, PlainVisit, keeping_of, reflection_of, visit_to}
+use Rattle.commands.specs.Verdict.{ByDrill, ByGoingOn, ByKeeping, ByNetFault, ByReadFault, ByRefusal, ByReflecting, ByVisit, ByWant, ByWriteFault, Closing, Coming, Comes, Fine, Free, Only, OfFile, OfFounded, OfGiven, OfInspect, OfInspectedLog, OfJson, OfKeyframes, OfLog, OfOwn, OfPersisted, OfProgram, OfQueries, OfRecorded, OfRight, OfScript, OfSnapshot, OfTimeLine, OfTree, OfWords, Starts, Verdict, ask_file, at_once, count_verdict, fine, founded, inspect_verdict, keeps_few, stamp_verdict, most_queries, most_script, most_log, OfOpening, OfReflected, PlainSource, first_source, names_no_other, session_id_of, OfTrace, OfTraced, OfTracedLog, trace_verdict, votes_verdict, OfJoin, OfJournal, OfReflect, OfServed, OfUnkept, OfView, OfViewScript, PlainKeeping, PlainReflection, PlainVisit, keeping_of, reflection_of, visit_to}
 
 map_right : {A B C : Type 0} → A ⊎ B → (B → C) → A ⊎ C
 map_right (inl a) f = inl a
@@ -83,7 +83,7 @@ module _ (IsBad : Closing → Type 0) (not_fine : ¬ IsBad Fine) (not_refused : 
   opening_never None next each = each first_source
   opening_never (Some name) next each = log_file_never name next each
 
-  own_never : (source : PlainSource) (id : List ℕ) (next : Coming) → Never next → Never (OfOwn source id next)
+  own_never : (source : PlainSource) (id : List ℕ) (next : Coming) → Never next → Never (OfOwn source.named id next)
   own_never source id next never = right_never input.Journal (names_no_other source.named id) next never
 
   script_never : (from log : Option (List ℕ)) (requests : Option (List Request)) → Never (OfScript from log requests)
@@ -227,6 +227,8 @@ module _ (IsBad : Closing → Type 0) (not_fine : ¬ IsBad Fine) (not_refused : 
   words_never (Some (Trace request)) other =
       file_never input.Program (ask_file request.program most_program_bytes) (λ bytes. OfProgram (OfTrace request bytes) bytes)
       (λ bytes. program_never (OfTrace request bytes) bytes (trace_never request bytes))
+  words_never (Some (Votes log)) other =
+      log_file_never log (λ source. Only (votes_verdict source.stored.log)) (λ source. fine_never (votes_verdict source.stored.log).steps)
   words_never (Some (Join request)) well =
       file_never input.Program (ask_file request.program most_program_bytes) (λ bytes. OfProgram (OfJoin request bytes) bytes)
       (λ bytes. program_never (OfJoin request bytes) bytes (join_never well request bytes))
@@ -254,6 +256,7 @@ goes_on_never (Some (Check program)) other = tt
 goes_on_never (Some (Replay request)) other = tt
 goes_on_never (Some (Inspect request)) other = tt
 goes_on_never (Some (Trace request)) other = tt
+goes_on_never (Some (Votes log)) other = tt
 goes_on_never (Some (Join request)) other = absurd (other tt)
 goes_on_never (Some (Reflect request)) other = absurd (other tt)
 goes_on_never (Some (Drill request)) other = absurd (other tt)
@@ -276,6 +279,7 @@ keeps_none (Some (Check program)) none = tt
 keeps_none (Some (Replay request)) none = tt
 keeps_none (Some (Inspect request)) none = tt
 keeps_none (Some (Trace request)) none = tt
+keeps_none (Some (Votes log)) none = tt
 keeps_none (Some (Join request)) none = λ visit on. absurd on
 keeps_none (Some (Reflect request)) none = (λ reflection on. absurd on, inl none)
 keeps_none (Some (Drill request)) none = λ on. absurd on
@@ -315,6 +319,7 @@ never_on_net (Some (Check program)) other verdict comes on = never_goes_on (Some
 never_on_net (Some (Replay request)) other verdict comes on = never_goes_on (Some (Replay request)) (λ runs. absurd runs) verdict comes (on_net_goes_on verdict.closing on)
 never_on_net (Some (Inspect request)) other verdict comes on = never_goes_on (Some (Inspect request)) (λ runs. absurd runs) verdict comes (on_net_goes_on verdict.closing on)
 never_on_net (Some (Trace request)) other verdict comes on = never_goes_on (Some (Trace request)) (λ runs. absurd runs) verdict comes (on_net_goes_on verdict.closing on)
+never_on_net (Some (Votes log)) other verdict comes on = never_goes_on (Some (Votes log)) (λ runs. absurd runs) verdict comes (on_net_goes_on verdict.closing on)
 never_on_net (Some (Join request)) other verdict comes on = absurd (other tt)
 never_on_net (Some (Reflect request)) other verdict comes on = absurd (other tt)
 never_on_net (Some (Drill request)) other verdict (inl want) on = absurd (subst (λ (v : Verdict). IsOnNet v.closing) want on)

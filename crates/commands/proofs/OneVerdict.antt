@@ -31,7 +31,7 @@ use Rattle.command_words.specs.declared.words.TraceRequest.{TraceRequest}
 use Rattle.command_words.specs.declared.words.JoinRequest.{JoinRequest}
 use Rattle.command_words.specs.declared.words.ReflectRequest.{ReflectRequest}
 use Rattle.command_words.specs.declared.words.Command.{Command}
-use Rattle.command_words.specs.declared.words.Command.TheVariants.{Stamp, Check, Replay, Inspect, Trace, Join, Reflect, Drill}
+use Rattle.command_words.specs.declared.words.Command.TheVariants.{Stamp, Check, Replay, Inspect, Trace, Votes, Join, Reflect, Drill}
 use Rattle.command_outcome.specs.ProgramText.{syntax_line}
 use Rattle.command_stamp.specs.Script.{script_of}
 use Rattle.command_inspect.specs.declared.query.Query.{Query}
@@ -41,7 +41,7 @@ use Rattle.model_tree.specs.Bounds.{most_program_bytes}
 use Rattle.tea_base.specs.Limits.{most_snapshot}
 use Rattle.commands.proofs.LogLaws.{same_source}
 use Rattle.commands.specs.Laws.{AreAlike, AreDoneAlike, IsOneVerdict, IsFunction}
-use Rattle.commands.specs.Verdict.{Closing, ByDrill, ByKeeping, ByRefusal, ByReflecting, ByVisit, ByWant, Verdict, Coming, Free, OfFile, OfFounded, OfGiven, OfInspect, OfInspectedLog, OfJoin, OfJournal, OfJson, OfKeyframes, OfLog, OfOwn, OfPersisted, OfProgram, OfQueries, OfRecorded, OfReflect, OfReflected, OfRight, PlainSource, first_source, names_no_other, OfScript, OfSnapshot, OfTimeLine, OfTree, OfView, OfViewScript, OfWords, Only, Starts, before, ask_file, at_once, count_verdict, founded, inspect_verdict, keeps_few, reflection_of, resumed_verdict, stamp_verdict, visit_to, most_queries, most_script, most_log, OfOpening, OfServed, OfUnkept, keeping_of, session_id_of, OfTrace, OfTraced, OfTracedLog, trace_verdict}
+use Rattle.commands.specs.Verdict.{Closing, ByDrill, ByKeeping, ByRefusal, ByReflecting, ByVisit, ByWant, Verdict, Coming, Free, OfFile, OfFounded, OfGiven, OfInspect, OfInspectedLog, OfJoin, OfJournal, OfJson, OfKeyframes, OfLog, OfOwn, OfPersisted, OfProgram, OfQueries, OfRecorded, OfReflect, OfReflected, OfRight, PlainSource, first_source, names_no_other, OfScript, OfSnapshot, OfTimeLine, OfTree, OfView, OfViewScript, OfWords, Only, Starts, before, ask_file, at_once, count_verdict, founded, inspect_verdict, keeps_few, reflection_of, resumed_verdict, stamp_verdict, visit_to, most_queries, most_script, most_log, OfOpening, OfServed, OfUnkept, keeping_of, session_id_of, OfTrace, OfTraced, OfTracedLog, trace_verdict, votes_verdict}
 
 -- what `model_lang::one_reading` says
 abbrev pub IsOneReading : Type 0
@@ -118,7 +118,7 @@ one_opening : (from : Option (List ℕ)) (next : PlainSource → Coming) → ((s
 one_opening None next each = each first_source
 one_opening (Some name) next each = one_log_file name next each
 
-one_own : (source : PlainSource) (id : List ℕ) (next : Coming) → IsOneVerdict next → IsOneVerdict (OfOwn source id next)
+one_own : (source : PlainSource) (id : List ℕ) (next : Coming) → IsOneVerdict next → IsOneVerdict (OfOwn source.named id next)
 one_own source id next one = one_right input.Journal (names_no_other source.named id) next one
 
 one_script : (from log : Option (List ℕ)) (script : Option (List Request)) → IsOneVerdict (OfScript from log script)
@@ -318,6 +318,8 @@ one_words one (Some (Inspect request)) =
 one_words one (Some (Trace request)) =
     one_file input.Program (ask_file request.program most_program_bytes) (λ bytes. OfProgram (OfTrace request bytes) bytes)
     (λ bytes. one_program one (OfTrace request bytes) (one_trace request bytes) bytes)
+one_words one (Some (Votes log)) =
+    one_log_file log (λ source. Only (votes_verdict source.stored.log)) (λ source. one_only (votes_verdict source.stored.log))
 one_words one (Some (Join request)) =
     one_file input.Program (ask_file request.program most_program_bytes) (λ bytes. OfProgram (OfJoin request bytes) bytes)
     (λ bytes. one_program one (OfJoin request bytes) (one_join request bytes) bytes)

@@ -25,9 +25,10 @@ use Rattle.command_words.specs.declared.words.JoinRequest.{JoinRequest}
 use Rattle.command_words.specs.declared.words.ReflectRequest.{ReflectRequest}
 use Rattle.command_words.specs.declared.words.DrillRequest.{DrillRequest}
 use Rattle.command_words.specs.declared.words.Command.{Command}
-use Rattle.command_words.specs.declared.words.Command.TheVariants.{Stamp, Check, Replay, Inspect, Trace, Join, Reflect, Drill}
+use Rattle.command_words.specs.declared.words.Command.TheVariants.{Stamp, Check, Replay, Inspect, Trace, Votes, Join, Reflect, Drill}
 use Rattle.command_outcome.specs.ProgramText.{check_line, counts_line, syntax_line, too_large_line}
 use Rattle.command_stamp.specs.Script.{script_of}
+use Rattle.command_votes.specs.VotesText.{votes_text}
 use Rattle.command_inspect.specs.declared.query.Query.{Query}
 use Rattle.command_inspect.specs.InspectText.{inspect_text}
 use Rattle.command_inspect.specs.Queries.{queries_of}
@@ -38,7 +39,7 @@ use Rattle.model_tree.specs.Bounds.{most_program_bytes}
 use Rattle.persist_json.specs.JsonOf.{most_json}
 use Rattle.tea_base.specs.Limits.{most_snapshot}
 use Rattle.commands.specs.Laws.{AreGiven, IsOnlyWant, SomeVerdictComes}
-use Rattle.commands.specs.Verdict.{PlainKeeping, PlainVisit, Fine, ByDrill, ByKeeping, ByRefusal, ByReflecting, ByVisit, ByWant, Coming, OfCommand, OfFile, OfFounded, OfGiven, OfInspect, OfInspectedLog, OfJoin, OfJournal, OfJson, OfKeyframes, OfLog, OfOwn, OfPersisted, OfProgram, OfQueries, OfRecorded, OfReflect, OfReflected, OfRight, PlainSource, first_source, names_no_other, trace_verdict, OfScript, OfSnapshot, OfTimeLine, OfTree, OfView, OfViewScript, Only, Starts, ask_file, at_once, before, count_verdict, fine, founded, keeps_few, reflection_of, stamp_verdict, visit_to, most_queries, most_script, most_log, PlainReflection, OfOpening, OfServed, OfUnkept, keeping_of, session_id_of, OfTrace, OfTraced, OfTracedLog}
+use Rattle.commands.specs.Verdict.{PlainKeeping, PlainVisit, Fine, ByDrill, ByKeeping, ByRefusal, ByReflecting, ByVisit, ByWant, Coming, OfCommand, OfFile, OfFounded, OfGiven, OfInspect, OfInspectedLog, OfJoin, OfJournal, OfJson, OfKeyframes, OfLog, OfOwn, OfPersisted, OfProgram, OfQueries, OfRecorded, OfReflect, OfReflected, OfRight, PlainSource, first_source, names_no_other, trace_verdict, OfScript, OfSnapshot, OfTimeLine, OfTree, OfView, OfViewScript, Only, Starts, ask_file, at_once, before, count_verdict, fine, founded, keeps_few, reflection_of, stamp_verdict, visit_to, most_queries, most_script, most_log, PlainReflection, OfOpening, OfServed, OfUnkept, keeping_of, session_id_of, OfTrace, OfTraced, OfTracedLog, votes_verdict}
 
 abbrev pub Told : Type 0
 Told = Ask → Option (List ℕ)
@@ -99,7 +100,7 @@ opening_not_want : (told : Told) (from : Option (List ℕ)) (next : PlainSource 
 opening_not_want told None next each = each first_source
 opening_not_want told (Some name) next each = log_file_not_want told name next each
 
-own_not_want : (told : Told) (source : PlainSource) (id : List ℕ) (next : Coming) → ¬ IsOnlyWant told next → ¬ IsOnlyWant told (OfOwn source id next)
+own_not_want : (told : Told) (source : PlainSource) (id : List ℕ) (next : Coming) → ¬ IsOnlyWant told next → ¬ IsOnlyWant told (OfOwn source.named id next)
 own_not_want told source id next each = right_not_want told input.Journal (names_no_other source.named id) next each
 
 -- ---- stamp
@@ -269,6 +270,8 @@ command_not_want some told (Inspect request) =
 command_not_want some told (Trace request) =
     file_not_want told input.Program (ask_file request.program most_program_bytes) (λ bytes. OfProgram (OfTrace request bytes) bytes)
     (λ bytes. program_not_want some told (OfTrace request bytes) bytes (trace_not_want told request bytes))
+command_not_want some told (Votes log) =
+    log_file_not_want told log (λ source. Only (votes_verdict source.stored.log)) (λ source. fine_not_want told (Only (votes_verdict source.stored.log)) [] (votes_text source.stored.log) refl)
 command_not_want some told (Join request) =
     file_not_want told input.Program (ask_file request.program most_program_bytes) (λ bytes. OfProgram (OfJoin request bytes) bytes)
     (λ bytes. program_not_want some told (OfJoin request bytes) bytes (join_not_want told request bytes))

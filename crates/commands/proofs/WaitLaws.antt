@@ -1,7 +1,6 @@
 -- What a command that waits for a file comes to.
 use Rattle.std.proofs.Common.{◌≡◌, ◌<◌, ℕ, List, Some, None, inr, refl, arith, sym, subst}
 use Rattle.run_steps.specs.Steps.{Loads}
-use Rattle.command_outcome.specs.declared.outcome.Input.{Input}
 use Rattle.command_outcome.specs.declared.outcome.CommandRefusal.TheVariants as refusal
 use Rattle.commands.specs.declared.work.Next.{Next}
 use Rattle.commands.specs.declared.work.Waiting.{Waiting}
@@ -38,6 +37,7 @@ some_left (waiting.Inspect (inspect_wait.Queries wait)) = omega arith
 some_left (waiting.Trace (trace_wait.Program request)) = omega arith
 some_left (waiting.Trace (trace_wait.Log wait)) = omega arith
 some_left (waiting.Trace (trace_wait.Value wait)) = omega arith
+some_left (waiting.Votes log) = omega arith
 some_left (waiting.Join (join_wait.Program request)) = omega arith
 some_left (waiting.Join (join_wait.Script wait)) = omega arith
 some_left (waiting.Join (join_wait.Value wait)) = omega arith

@@ -1,5 +1,5 @@
 -- What comes of a journal: of one that is not there, and of the bytes of one.
-use Rattle.std.specs.Prelude.{◌≡◌, ℕ, List, Option, Some, None}
+use Rattle.std.specs.Prelude.{ℕ, List, Option, Some, None}
 use Rattle.session_log.specs.Stored.{PlainStored}
 use Rattle.session_journal.specs.Frames.{Place}
 use Rattle.session_journal.specs.State.{founded}
@@ -15,7 +15,7 @@ founded_with keeping stored = record keeping { from = None; opening = Some store
 
 -- it is founded with what a log holds, if that is of the session
 abbrev pub OfFoundingLog : PlainKeeping → PlainSource → Coming
-OfFoundingLog keeping source = OfOwn source keeping.id (Only (at_once (ByKeeping (founded_with keeping source.stored))))
+OfFoundingLog keeping source = OfOwn source.named keeping.id (Only (at_once (ByKeeping (founded_with keeping source.stored))))
 
 -- it is founded with what the log of a name holds, or with a first session
 abbrev pub OfFounding : Option (List ℕ) → PlainKeeping → Coming

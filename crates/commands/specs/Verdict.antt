@@ -24,7 +24,7 @@ use Rattle.snapshot_codec.specs.Answer.{IsSnapshot}
 use Rattle.snapshot_codec.specs.Spelling.{persisted_bytes, world_spelling}
 use Rattle.model_value.specs.Plain.{PlainValue, nil}
 use Rattle.persist_json.specs.JsonOf.{IsJsonOf, most_json}
-use Rattle.run_steps.specs.Steps.{Ask, Step, Loads}
+use Rattle.run_steps.specs.Steps.{Ask, Step, Loads, Puts, Prints}
 use Rattle.view_script.specs.PlainLine.{PlainLine}
 use Rattle.view_script.specs.ViewScript.{view_script_of}
 use Rattle.command_outcome.specs.declared.outcome.Input.{Input}
@@ -38,7 +38,7 @@ use Rattle.command_words.specs.declared.words.JoinRequest.{JoinRequest}
 use Rattle.command_words.specs.declared.words.ReflectRequest.{ReflectRequest}
 use Rattle.command_words.specs.declared.words.DrillRequest.{DrillRequest}
 use Rattle.command_words.specs.declared.words.Command.{Command}
-use Rattle.command_words.specs.declared.words.Command.TheVariants.{Stamp, Check, Replay, Inspect, Trace, Join, Reflect, Drill}
+use Rattle.command_words.specs.declared.words.Command.TheVariants.{Stamp, Check, Replay, Inspect, Trace, Votes, Join, Reflect, Drill}
 use Rattle.command_words.specs.Address.{is_address}
 use Rattle.command_stamp.specs.Script.{script_of}
 use Rattle.command_outcome.specs.Outcome.{optional_put, steps_of}
@@ -52,8 +52,9 @@ use Rattle.command_inspect.specs.declared.query.Query.{Query}
 use Rattle.command_inspect.specs.InspectText.{inspect_text}
 use Rattle.command_inspect.specs.Queries.{queries_of}
 use Rattle.command_trace.specs.TraceText.{trace_text}
+use Rattle.command_votes.specs.VotesText.{votes_text}
 use Rattle.command_outcome.specs.declared.outcome.Put.{Put}
-use Rattle.command_reflect.specs.ReflectedSteps.{reflected_steps}
+use Rattle.command_reflect.specs.ReflectedSteps.{reflected_bytes, reflected_text}
 use Rattle.command_drill.specs.DrilledSteps.{drilled_steps}
 
 -- the visit of a view to a session: what that is founded from, the session's id, the number of the view, the address of its reflector, and what it
@@ -207,8 +208,8 @@ names_no_other None id = true
 names_no_other (Some named) id = bytes_eq named id
 
 -- where the session's id is known, a journal of another session is refused
-abbrev pub OfOwn : PlainSource → List ℕ → Coming → Coming
-OfOwn source id next = OfRight input.Journal (names_no_other source.named id) next
+abbrev pub OfOwn : Option (List ℕ) → List ℕ → Coming → Coming
+OfOwn named id next = OfRight input.Journal (names_no_other named id) next
 
 -- ---- stamp
 
@@ -289,7 +290,7 @@ Starts (Some from) request founding id log = OfFile input.Snapshot (ask_file fro
 -- once the persisted value is known, the log has to be of the session, and the replay begins
 abbrev pub OfFounded : ReplayRequest → List ℕ → PlainSource → Founding → Coming
 OfFounded request text source founding =
-    let id = session_id_of request.name text founding.persisted in OfOwn source id (Starts request.from request founding id source.stored.log)
+    let id = session_id_of request.name text founding.persisted in OfOwn source.named id (Starts request.from request founding id source.stored.log)
 
 -- once the log was read, the persisted value is
 abbrev pub OfRecorded : ReplayRequest → List ℕ → ProgramTree → PlainSource → Coming
@@ -326,7 +327,7 @@ OfKeyframes every queries founding id log =
 -- once the persisted value is known, the log has to be of the session, and the worlds are kept
 abbrev pub OfTimeLine : InspectRequest → List ℕ → PlainSource → Founding → Coming
 OfTimeLine request text source founding =
-    let id = session_id_of request.name text founding.persisted in OfOwn source id (OfKeyframes request.every request.queries founding id source.stored.log)
+    let id = session_id_of request.name text founding.persisted in OfOwn source.named id (OfKeyframes request.every request.queries founding id source.stored.log)
 
 -- once the log was read, the persisted value is
 abbrev pub OfInspectedLog : InspectRequest → List ℕ → ProgramTree → PlainSource → Coming
@@ -345,7 +346,7 @@ trace_verdict founding id log from to = fine (steps_of [] (trace_text founding i
 -- once the persisted value is known, the log has to be of the session, and what ran is printed
 abbrev pub OfTraced : TraceRequest → List ℕ → PlainSource → Founding → Coming
 OfTraced request text source founding =
-    let id = session_id_of request.name text founding.persisted in OfOwn source id (Only (trace_verdict founding id source.stored.log request.from request.to))
+    let id = session_id_of request.name text founding.persisted in OfOwn source.named id (Only (trace_verdict founding id source.stored.log request.from request.to))
 
 -- once the log was read, the persisted value is
 abbrev pub OfTracedLog : TraceRequest → List ℕ → ProgramTree → PlainSource → Coming
@@ -354,6 +355,12 @@ OfTracedLog request text tree source = OfPersisted request.persisted (λ v. OfTr
 -- once the program was read, the log is
 abbrev pub OfTrace : TraceRequest → List ℕ → ProgramTree → Coming
 OfTrace request text tree = OfFile input.Log (ask_file request.log most_log) (OfLog (OfTracedLog request text tree))
+
+-- ---- votes
+
+-- what the votes of a log come to is printed
+abbrev pub votes_verdict : List Entry → Verdict
+votes_verdict log = fine (steps_of [] (votes_text log))
 
 -- ---- join
 
@@ -393,7 +400,7 @@ OfJournal (Some journal) without with_one = with_one journal
 
 -- what a log holds is reflected, if it is of the session
 abbrev pub OfReflected : ReflectRequest → List ℕ → PlainSource → Coming
-OfReflected request id source = OfOwn source id (Only (at_once (ByReflecting (reflection_of request id (session_of source.stored)))))
+OfReflected request id source = OfOwn source.named id (Only (at_once (ByReflecting (reflection_of request id (session_of source.stored)))))
 
 -- without a journal the session begins, and is reflected
 abbrev pub OfUnkept : ReflectRequest → List ℕ → Coming
@@ -408,14 +415,23 @@ abbrev pub OfReflect : ReflectRequest → List ℕ → Coming
 OfReflect request text =
     OfRight input.Address (is_address (encode_utf8_all request.address)) (OfPersisted request.persisted (λ v. OfServed request (session_id_of request.name text v)))
 
--- how a session is closed behind its reflector: a call was not kept, or the net has failed, or all went well
+-- how a run is closed after its reflector: a call was not kept, or the net has failed, or all went well
 abbrev pub reflected_closing : Bool → Bool → Closing
 reflected_closing unkept net_failed = if unkept then ByWriteFault else if net_failed then ByNetFault else Fine
 
--- what comes of a session behind its reflector
-abbrev pub reflected_verdict : Option (List ℕ) → List Ended → PlainSession → Bool → Bool → Verdict
-reflected_verdict log ends session unkept net_failed =
-    record { steps = reflected_steps log ends session; closing = reflected_closing unkept net_failed }
+-- the text of a session that was reflected is printed
+abbrev pub reflected_verdict : List Ended → PlainSession → Bool → Bool → Verdict
+reflected_verdict ends session unkept net_failed =
+    record { steps = Prints (reflected_text ends session) ∷ []; closing = reflected_closing unkept net_failed }
+
+-- a session is put as it is stored, if there is a name for it, and then this comes
+abbrev pub OfPut : Option (List ℕ) → PlainSession → Coming → Coming
+OfPut None session next = next
+OfPut (Some name) session next = Then (Puts name (reflected_bytes session)) next
+
+-- What comes of a session after its reflector. It is put first, and want of memory comes in place of no put. Then its text is printed, and only that may want memory.
+abbrev pub OfEnds : Option (List ℕ) → List Ended → PlainSession → Bool → Bool → Coming
+OfEnds log ends session unkept net_failed = OfPut log session (Free (Only (reflected_verdict ends session unkept net_failed)))
 
 -- ---- drill
 
@@ -435,6 +451,8 @@ OfCommand (Inspect request) =
     OfFile input.Program (ask_file request.program most_program_bytes) (λ bytes. OfProgram (OfInspect request bytes) bytes)
 OfCommand (Trace request) =
     OfFile input.Program (ask_file request.program most_program_bytes) (λ bytes. OfProgram (OfTrace request bytes) bytes)
+-- any journal may be counted, whichever session it is of
+OfCommand (Votes log) = OfFile input.Log (ask_file log most_log) (OfLog (λ source. Only (votes_verdict source.stored.log)))
 OfCommand (Join request) =
     OfFile input.Program (ask_file request.program most_program_bytes) (λ bytes. OfProgram (OfJoin request bytes) bytes)
 OfCommand (Reflect request) =

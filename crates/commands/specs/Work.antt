@@ -14,6 +14,7 @@ use Rattle.session_log.specs.Stored.{PlainStored, IsStored, plain_stored}
 use Rattle.session_log.specs.declared.stored.Stored.{Stored}
 use Rattle.command_reflect.specs.declared.reflection.Reflection.{Reflection}
 use Rattle.command_reflect.specs.declared.keeping.Keeping.{Keeping}
+use Rattle.command_reflect.specs.ReflectedSteps.{log_name}
 use Rattle.tea_base.specs.declared.entry.SessionId.{SessionId}
 use Rattle.commands.specs.declared.opening.Source.{Source}
 use Rattle.commands.specs.declared.visit.VisitRequest.{VisitRequest}
@@ -38,7 +39,7 @@ use Rattle.view_script.specs.PlainLine.{plain_lines}
 use Rattle.command_words.specs.Bounds.{AreConnections, IsBounded, IsBoundedDrill, IsBoundedInspect, IsBoundedJoin, IsBoundedReflect, IsBoundedTrace}
 use Rattle.command_outcome.specs.Outcome.{steps_of}
 use Rattle.commands.specs.Keeping.{OfFoundingLog}
-use Rattle.commands.specs.Verdict.{Verdict, PlainKeeping, PlainReflection, PlainVisit, ByDrill, ByKeeping, ByRefusal, ByReflecting, ByVisit, ByWant, Coming, Only, OfFile, OfFounded, OfInspect, OfJoin, OfJson, OfTimeLine, OfInspectedLog, OfProgram, OfQueries, OfLog, OfRecorded, OfReflect, OfReflected, OfScript, OfServed, OfSnapshot, OfTree, PlainSource, OfViewScript, ask_file, at_once, count_verdict, fine, founded, keeps_few, most_log, most_queries, most_script, session_id_of, stamp_verdict, visit_to, OfTrace, OfTraced, OfTracedLog}
+use Rattle.commands.specs.Verdict.{Verdict, PlainKeeping, PlainReflection, PlainVisit, ByDrill, ByKeeping, ByRefusal, ByReflecting, ByVisit, ByWant, Coming, Only, OfFile, OfFounded, OfInspect, OfJoin, OfJson, OfTimeLine, OfInspectedLog, OfProgram, OfQueries, OfLog, OfRecorded, OfReflect, OfReflected, OfScript, OfServed, OfSnapshot, OfTree, PlainSource, OfViewScript, ask_file, at_once, count_verdict, fine, founded, keeps_few, most_log, most_queries, most_script, session_id_of, stamp_verdict, visit_to, OfTrace, OfTraced, OfTracedLog, votes_verdict}
 
 -- ---- a command that waits for a file
 
@@ -58,6 +59,7 @@ input_of (waiting.Inspect (inspect_wait.Queries wait)) = input.Queries
 input_of (waiting.Trace (trace_wait.Program request)) = input.Program
 input_of (waiting.Trace (trace_wait.Log wait)) = input.Log
 input_of (waiting.Trace (trace_wait.Value wait)) = input.Persisted
+input_of (waiting.Votes log) = input.Log
 input_of (waiting.Join (join_wait.Program request)) = input.Program
 input_of (waiting.Join (join_wait.Script wait)) = input.Script
 input_of (waiting.Join (join_wait.Value wait)) = input.Persisted
@@ -82,6 +84,7 @@ file_of (waiting.Inspect (inspect_wait.Queries wait)) = wait.queries
 file_of (waiting.Trace (trace_wait.Program request)) = request.program
 file_of (waiting.Trace (trace_wait.Log wait)) = wait.request.log
 file_of (waiting.Trace (trace_wait.Value wait)) = wait.persisted
+file_of (waiting.Votes log) = log
 file_of (waiting.Join (join_wait.Program request)) = request.program
 file_of (waiting.Join (join_wait.Script wait)) = wait.request.script
 file_of (waiting.Join (join_wait.Value wait)) = wait.persisted
@@ -134,7 +137,7 @@ plain_keeping keeping = record {
   journal = keeping.journal;
   from = keeping.from;
   opening = plain_opening keeping.opening;
-  log = keeping.log;
+  log = log_name keeping.log;
 }
 
 -- what a journal is founded with is a stored session, if it is known
@@ -169,6 +172,7 @@ next_of (waiting.Trace (trace_wait.Log wait)) bytes = OfLog (OfTracedLog wait.re
 next_of (waiting.Trace (trace_wait.Value wait)) bytes =
     let read = wait.read in
     OfJson (λ v. OfTraced read.request read.text (plain_source read.source) (founded (checked_tree read.program) v)) bytes
+next_of (waiting.Votes log) bytes = OfLog (λ source. Only (votes_verdict source.stored.log)) bytes
 next_of (waiting.Join (join_wait.Program request)) bytes = OfProgram (OfJoin request bytes) bytes
 next_of (waiting.Join (join_wait.Script wait)) bytes = OfViewScript wait.request wait.text (checked_tree wait.program) (view_script_of bytes)
 next_of (waiting.Join (join_wait.Value wait)) bytes =
@@ -199,6 +203,7 @@ files_left (waiting.Inspect (inspect_wait.Queries wait)) = 1
 files_left (waiting.Trace (trace_wait.Program request)) = 3
 files_left (waiting.Trace (trace_wait.Log wait)) = 2
 files_left (waiting.Trace (trace_wait.Value wait)) = 1
+files_left (waiting.Votes log) = 1
 files_left (waiting.Join (join_wait.Program request)) = 3
 files_left (waiting.Join (join_wait.Script wait)) = 2
 files_left (waiting.Join (join_wait.Value wait)) = 1
@@ -222,6 +227,7 @@ IsBoundedWait (waiting.Inspect (inspect_wait.Queries wait)) = ⊤
 IsBoundedWait (waiting.Trace (trace_wait.Program request)) = IsBoundedTrace request
 IsBoundedWait (waiting.Trace (trace_wait.Log wait)) = IsBoundedTrace wait.request
 IsBoundedWait (waiting.Trace (trace_wait.Value wait)) = IsBoundedTrace wait.read.request
+IsBoundedWait (waiting.Votes log) = ⊤
 IsBoundedWait (waiting.Join (join_wait.Program request)) = IsBoundedJoin request
 IsBoundedWait (waiting.Join (join_wait.Script wait)) = IsBoundedJoin wait.request
 IsBoundedWait (waiting.Join (join_wait.Value wait)) = IsBoundedJoin wait.read.request
@@ -247,7 +253,7 @@ plain_reflection reflection = record {
   opening = reflection.opening.plain;
   address = reflection.address;
   connections = reflection.connections;
-  log = reflection.log;
+  log = log_name reflection.log;
 }
 
 -- a time line is that of a recorded session, keeps a world after each so many entries, and not too many worlds

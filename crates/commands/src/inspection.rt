@@ -5,9 +5,8 @@ ghost use Rattle.model_value.specs.View.{plain};
 ghost use Rattle.saved_value.specs.Saving.{CanBeSaved};
 ghost use Rattle.command_inspect.specs.Queries.{queries_of};
 ghost use Rattle.command_words.specs.Bounds.{IsBoundedInspect};
-ghost use Rattle.commands.specs.Verdict.{Free, OfInspect, OfInspectedLog, OfJson, OfKeyframes, OfLog, OfProgram, OfQueries, OfRight, OfTimeLine, Only, founded, inspect_verdict, names_no_other as names_own};
+ghost use Rattle.commands.specs.Verdict.{Free, OfInspect, OfInspectedLog, OfJson, OfKeyframes, OfLog, OfProgram, OfQueries, OfOwn, OfTimeLine, Only, founded, inspect_verdict};
 ghost use Rattle.commands.specs.Work.{IsBoundedNext, IsBoundedWait, Leads, MakesTimeLine, file_of, files_left, input_of, next_of, plain_named, plain_source, reads_left};
-ghost use Rattle.command_outcome.specs.declared.outcome.Input.TheVariants as input;
 ghost use Rattle.commands.specs.declared.work.Waiting.TheVariants as waiting;
 
 use crate::opening::{Source, names_no_other, read_log};
@@ -149,7 +148,7 @@ fn keep_own(
     queries: Text,
 ) -> Next
     requires { 1 ≤ every }
-    ensures leads { Leads result (Free (OfRight input.Journal (names_own (plain_named named) recording.id.0)
+    ensures leads { Leads result (Free (OfOwn (plain_named named) recording.id.0
         (OfKeyframes every queries (founding_of recording.program) recording.id.0 recording.log.entries))) }
     ensures bounded { IsBoundedNext result }
     ensures fewer { reads_left result < 2 }

@@ -5,7 +5,7 @@
 //! until it is refused, or gives what it puts and prints, or goes on as a view's run, a reflector's, or a drill.
 //!
 //! The words of commands stand in `command_words`, what comes of them in `command_outcome`, and what each of them gives in a crate of its own:
-//! `command_stamp`, `command_replay`, `command_inspect`, `command_trace`, `command_reflect` and `command_drill`.
+//! `command_stamp`, `command_replay`, `command_inspect`, `command_trace`, `command_votes`, `command_reflect` and `command_drill`.
 #![tactic(auto)]
 
 mod check;
@@ -17,6 +17,7 @@ mod reflection;
 mod stamp;
 mod tracing;
 mod visit;
+mod votes;
 mod work;
 
 pub use inspection::{InspectLogWait, InspectValueWait, InspectWait, QueriesWait, ReadInspection};

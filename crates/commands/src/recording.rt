@@ -10,10 +10,9 @@ ghost use Rattle.world_plain.specs.Valid.{Valid};
 ghost use Rattle.world_plain.specs.World.{world_record};
 ghost use Rattle.command_words.specs.Bounds.{IsBounded};
 ghost use Rattle.command_outcome.specs.Outcome.{optional_put, steps_of};
-ghost use Rattle.commands.specs.Verdict.{Free, OfFounded, OfJson, OfProgram, OfLog, OfRecorded, OfRight, OfSnapshot, OfTree, Only, Starts, fine, founded, names_no_other as names_own, resumed_verdict, world_verdict};
+ghost use Rattle.commands.specs.Verdict.{Free, OfFounded, OfJson, OfProgram, OfLog, OfRecorded, OfOwn, OfSnapshot, OfTree, Only, Starts, fine, founded, resumed_verdict, world_verdict};
 ghost use Rattle.command_replay.specs.Replays.{world_at};
 ghost use Rattle.commands.specs.Work.{IsBoundedNext, IsBoundedWait, Leads, file_of, files_left, input_of, next_of, plain_named, plain_source, reads_left};
-ghost use Rattle.command_outcome.specs.declared.outcome.Input.TheVariants as input;
 ghost use Rattle.commands.specs.declared.work.Waiting.TheVariants as waiting;
 
 use crate::opening::{Source, names_no_other, read_log};
@@ -180,7 +179,7 @@ fn start_own(
     named: Option<SessionId>,
 ) -> Next
     requires { IsBounded request }
-    ensures leads { Leads result (Free (OfRight input.Journal (names_own (plain_named named) recording.id.0)
+    ensures leads { Leads result (Free (OfOwn (plain_named named) recording.id.0
         (Starts request.from request (founding_of recording.program) recording.id.0 recording.log.entries))) }
     ensures bounded { IsBoundedNext result }
     ensures fewer { reads_left result < 2 }

@@ -13,7 +13,7 @@ ghost use Rattle.commands.specs.declared.work.Waiting.TheVariants as waiting;
 use crate::opening::{Source, names_no_other, read_log};
 use crate::work::{Next, Waiting};
 use command_outcome::{CommandRefusal, Input, ProgramFault, read_program};
-use command_reflect::{Keeping, Reflection};
+use command_reflect::{Keeping, Reflection, log_place};
 use command_words::{ReflectRequest, is_address};
 use model_value::Value;
 use persist_json::{JsonFault, from_json};
@@ -61,44 +61,50 @@ pub enum ReflectWait {
     Founding(FoundingWait),
 }
 
-/// The session that is to be reflected.
-fn reflect(request: ReflectRequest, id: SessionId, opening: Session) -> Next
+/// The session that is to be reflected. The memory for its log is taken here, before anything listens.
+fn reflect(alloc: Global, request: ReflectRequest, id: SessionId, opening: Session) -> Next
     requires words { IsBoundedReflect request }
-    ensures leads { Leads result (Only (at_once (ByReflecting (reflection_of request id.0 opening.plain)))) }
+    ensures leads { Leads result (Free (Only (at_once (ByReflecting (reflection_of request id.0 opening.plain))))) }
     ensures bounded { IsBoundedNext result }
     ensures fewer { reads_left result < 1 }
 {
-    Next::Reflects(Reflection {
-        id,
-        opening,
-        address: request.address,
-        connections: request.connections,
-        log: request.log,
-    })
+    match log_place(alloc, request.log) {
+        Ok(log) => Next::Reflects(Reflection {
+            id,
+            opening,
+            address: request.address,
+            connections: request.connections,
+            log,
+        }),
+        Err(WantOfMemory) => Next::WantOfMemory,
+    }
 }
 
-/// The session whose journal is to be opened.
-fn keep(request: ReflectRequest, id: SessionId, journal: Text) -> Next
+/// The session whose journal is to be opened. The memory for its log is taken here, before anything listens.
+fn keep(alloc: Global, request: ReflectRequest, id: SessionId, journal: Text) -> Next
     requires words { IsBoundedReflect request }
-    ensures leads { Leads result (Only (at_once (ByKeeping (keeping_of request id.0 journal)))) }
+    ensures leads { Leads result (Free (Only (at_once (ByKeeping (keeping_of request id.0 journal))))) }
     ensures bounded { IsBoundedNext result }
     ensures fewer { reads_left result < 1 }
 {
-    Next::Keeps(Keeping {
-        id,
-        address: request.address,
-        connections: request.connections,
-        journal,
-        from: request.from,
-        opening: None,
-        log: request.log,
-    })
+    match log_place(alloc, request.log) {
+        Ok(log) => Next::Keeps(Keeping {
+            id,
+            address: request.address,
+            connections: request.connections,
+            journal,
+            from: request.from,
+            opening: None,
+            log,
+        }),
+        Err(WantOfMemory) => Next::WantOfMemory,
+    }
 }
 
 /// What comes of a reflector without a journal: a first session begins, or the log of the one that goes on is read.
 fn begin_session(alloc: Global, mut request: ReflectRequest, id: SessionId) -> Next
     requires { IsBoundedReflect request }
-    ensures leads { Leads result (OfUnkept request id.0) }
+    ensures leads { Leads result (Free (OfUnkept request id.0)) }
     ensures bounded { IsBoundedNext result }
     ensures fewer { reads_left result < 2 }
 {
@@ -106,19 +112,19 @@ fn begin_session(alloc: Global, mut request: ReflectRequest, id: SessionId) -> N
         Some(from) => {
             Next::Reads(Waiting::Reflect(ReflectWait::Log(ReflectLogWait { from, request, id })))
         }
-        None => reflect(request, id, Session::new(alloc)),
+        None => reflect(alloc, request, id, Session::new(alloc)),
     }
 }
 
 /// What comes of a reflector that knows its session's id: its journal is opened, or the session begins.
 fn open(alloc: Global, mut request: ReflectRequest, id: SessionId) -> Next
     requires { IsBoundedReflect request }
-    ensures leads { Leads result (OfServed request id.0) }
+    ensures leads { Leads result (Free (OfServed request id.0)) }
     ensures bounded { IsBoundedNext result }
     ensures fewer { reads_left result < 2 }
 {
     match request.journal.take() {
-        Some(journal) => keep(request, id, journal),
+        Some(journal) => keep(alloc, request, id, journal),
         None => begin_session(alloc, request, id),
     }
 }
@@ -166,7 +172,7 @@ fn first_stored(alloc: Global) -> Stored
 fn found(alloc: Global, request: ReflectRequest, text: &Blob, persisted: &Value) -> Next
     requires words { IsBoundedReflect request }
     requires bounds { InBounds (plain persisted.now) }
-    ensures leads { Leads result (OfServed request (session_id_of request.name text.now (plain persisted.now))) }
+    ensures leads { Leads result (Free (OfServed request (session_id_of request.name text.now (plain persisted.now)))) }
     ensures bounded { IsBoundedNext result }
     ensures fewer { reads_left result < 2 }
 {
@@ -177,7 +183,7 @@ fn found(alloc: Global, request: ReflectRequest, text: &Blob, persisted: &Value)
 /// What comes of a reflector that has its program and its address: its persisted value is read, where it has one.
 fn begin(alloc: Global, mut request: ReflectRequest, text: Blob) -> Next
     requires { IsBoundedReflect request }
-    ensures leads { Leads result (OfPersisted request.persisted (λ v. OfServed request (session_id_of request.name text v))) }
+    ensures leads { Leads result (Free (OfPersisted request.persisted (λ v. OfServed request (session_id_of request.name text v)))) }
     ensures bounded { IsBoundedNext result }
     ensures fewer { reads_left result < 3 }
 {
@@ -194,7 +200,7 @@ fn begin(alloc: Global, mut request: ReflectRequest, text: Blob) -> Next
 /// What comes of a reflector that has its program: its address is checked.
 fn answer_address(alloc: Global, request: ReflectRequest, text: Blob) -> Result<Next, WantOfMemory>
     requires { IsBoundedReflect request }
-    ensures leads { IfOk result (λ step. Leads step (OfReflect request text)) }
+    ensures leads { IfOk result (λ step. Leads step (Free (OfReflect request text))) }
     ensures bounded { IfOk result IsBoundedNext }
     ensures fewer { IfOk result (λ step. reads_left step < 3) }
 {
@@ -262,7 +268,7 @@ fn reflect_log(alloc: Global, request: ReflectRequest, id: SessionId, source: So
         return Next::Refuses(CommandRefusal::Input(Input::Journal));
     }
     match Session::resume(alloc, source.stored) {
-        Ok(opening) => reflect(request, id, opening),
+        Ok(opening) => reflect(alloc, request, id, opening),
         Err(WantOfMemory) => Next::WantOfMemory,
     }
 }

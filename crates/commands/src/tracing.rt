@@ -6,9 +6,8 @@ ghost use Rattle.model_solved.specs.Founding.{checked_tree, founding_of};
 ghost use Rattle.model_value.specs.View.{plain};
 ghost use Rattle.saved_value.specs.Saving.{CanBeSaved};
 ghost use Rattle.command_words.specs.Bounds.{IsBoundedTrace};
-ghost use Rattle.commands.specs.Verdict.{Free, OfJson, OfLog, OfProgram, OfRight, OfTrace, OfTraced, OfTracedLog, Only, founded, names_no_other as names_own, trace_verdict};
+ghost use Rattle.commands.specs.Verdict.{Free, OfJson, OfLog, OfProgram, OfOwn, OfTrace, OfTraced, OfTracedLog, Only, founded, trace_verdict};
 ghost use Rattle.commands.specs.Work.{IsBoundedNext, IsBoundedWait, Leads, file_of, files_left, input_of, next_of, plain_named, plain_source, reads_left};
-ghost use Rattle.command_outcome.specs.declared.outcome.Input.TheVariants as input;
 ghost use Rattle.commands.specs.declared.work.Waiting.TheVariants as waiting;
 
 use crate::opening::{Source, names_no_other, read_log};
@@ -108,7 +107,7 @@ fn share_own(
     stretch: Stretch,
 ) -> Next
     requires { stretch.to < time_limit }
-    ensures leads { Leads result (Free (OfRight input.Journal (names_own (plain_named named) recording.id.0)
+    ensures leads { Leads result (Free (OfOwn (plain_named named) recording.id.0
         (Only (trace_verdict (founding_of recording.program) recording.id.0 recording.log.entries stretch.from stretch.to)))) }
     ensures bounded { IsBoundedNext result }
     ensures fewer { reads_left result < 1 }

@@ -15,6 +15,7 @@ use crate::reflection::ReflectWait;
 use crate::stamp::StampWait;
 use crate::tracing::TraceWait;
 use crate::visit::{JoinWait, VisitRequest};
+use crate::votes::votes;
 use command_outcome::{CommandRefusal, Input, Outcome};
 use command_reflect::{Keeping, Reflection};
 use command_words::{Command, DrillRequest};
@@ -32,6 +33,8 @@ pub enum Waiting {
     Replay(ReplayWait),
     Inspect(InspectWait),
     Trace(TraceWait),
+    /// A count of votes that has read nothing yet.
+    Votes { log: Text },
     Join(JoinWait),
     Reflect(ReflectWait),
 }
@@ -86,6 +89,7 @@ impl Next {
             Some(Command::Trace(request)) => {
                 Next::Reads(Waiting::Trace(TraceWait::Program(request)))
             }
+            Some(Command::Votes { log }) => Next::Reads(Waiting::Votes { log }),
             Some(Command::Join(request)) => Next::Reads(Waiting::Join(JoinWait::Program(request))),
             Some(Command::Reflect(request)) => {
                 Next::Reads(Waiting::Reflect(ReflectWait::Program(request)))
@@ -107,6 +111,7 @@ impl Waiting {
             Waiting::Replay(wait) => wait.name(),
             Waiting::Inspect(wait) => wait.name(),
             Waiting::Trace(wait) => wait.name(),
+            Waiting::Votes { log } => log,
             Waiting::Join(wait) => wait.name(),
             Waiting::Reflect(wait) => wait.name(),
         }
@@ -122,6 +127,7 @@ impl Waiting {
             Waiting::Replay(wait) => wait.input(),
             Waiting::Inspect(wait) => wait.input(),
             Waiting::Trace(wait) => wait.input(),
+            Waiting::Votes { .. } => Input::Log,
             Waiting::Join(wait) => wait.input(),
             Waiting::Reflect(wait) => wait.input(),
         }
@@ -158,6 +164,7 @@ impl Waiting {
             Waiting::Replay(wait) => wait.take(alloc, bytes),
             Waiting::Inspect(wait) => wait.take(alloc, bytes),
             Waiting::Trace(wait) => wait.take(alloc, bytes),
+            Waiting::Votes { log: _log } => votes(alloc, bytes.bytes()),
             Waiting::Join(wait) => wait.take(alloc, bytes),
             Waiting::Reflect(wait) => wait.take(alloc, bytes),
         }

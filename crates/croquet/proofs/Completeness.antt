@@ -5,7 +5,7 @@ use Rattle.tea_io.specs.Told.{Rose}
 use Rattle.run_steps.specs.Steps.{Step, Puts, Prints}
 use Rattle.run_steps.specs.Outside.{Acts, Cut, FilesTell, LinksTell, NetTells, Outside, OutputTells, WantedMemory, outside_tells}
 use Rattle.command_words.specs.declared.words.Command.{Command}
-use Rattle.command_words.specs.declared.words.Command.TheVariants.{Stamp, Check, Replay, Inspect, Trace, Join, Reflect, Drill}
+use Rattle.command_words.specs.declared.words.Command.TheVariants.{Stamp, Check, Replay, Inspect, Trace, Votes, Join, Reflect, Drill}
 use Rattle.command_words.specs.declared.words.DrillRequest.{DrillRequest}
 use Rattle.connection.specs.declared.ending.Ended.{Ended}
 use Rattle.session_log.specs.Stored.{stored_spelling}
@@ -17,14 +17,14 @@ use Rattle.reflect_server.specs.Reflects.{CountsFailure}
 use Rattle.reflect_server.specs.declared.reflection.Reflected.{Reflected}
 use Rattle.reflect_server.specs.declared.reflection.ServeFault.{ServeFault}
 use Rattle.reflect_server.specs.declared.reflection.ServeFault.TheVariants as serve_fault
-use Rattle.command_outcome.specs.Outcome.{optional_put}
-use Rattle.command_reflect.specs.ReflectedSteps.{reflected_steps, reflected_text}
+use Rattle.command_outcome.specs.Outcome.{optional_put, steps_of}
+use Rattle.command_reflect.specs.ReflectedSteps.{reflected_bytes, reflected_text}
 use Rattle.command_drill.specs.DrilledSteps.{drilled_line, drilled_steps, snapshot_puts}
 use Rattle.drill.specs.Drill.{drill_id}
 use Rattle.drill.specs.Ending.{root_total}
 use Rattle.drill.specs.declared.report.DrillReport.{DrillReport}
 use Rattle.commands.specs.Laws.{AreAlike, IsFunction, TellsPlace}
-use Rattle.commands.specs.Verdict.{ByDrill, ByReflecting, ByVisit, ByWant, Closing, Coming, Comes, Fine, Free, OfWords, Only, PlainReflection, PlainVisit, Verdict, fine, reflected_verdict}
+use Rattle.commands.specs.Verdict.{ByDrill, ByReflecting, ByVisit, ByWant, Closing, Coming, Comes, Fine, Free, OfEnds, OfWords, Only, PlainReflection, PlainVisit, Verdict, fine}
 use Rattle.commands.specs.Work.{NamesNoJournal}
 use Rattle.commands.proofs.NetLaws.{never_keeps}
 use Rattle.journal_store.specs.Stores.{StoresTell}
@@ -56,9 +56,22 @@ free_alike : (steps : List Step) (verdict : Verdict) → IsGiving steps → Free
 free_alike steps verdict gives (inl want) = subst (λ (v : Verdict). AreAlike steps Fine v.steps v.closing) (sym want) (want_alike steps)
 free_alike steps verdict gives (inr is) = subst (λ (v : Verdict). AreAlike steps Fine v.steps v.closing) (sym is) (same_alike steps gives)
 
--- what is put and printed of a session that was reflected, and of a drill
+-- what is put and printed of a session that was reflected
+abbrev reflected_steps : Option (List ℕ) → List Ended → PlainSession → List Step
+reflected_steps log ends session = steps_of (optional_put log (reflected_bytes session)) (reflected_text ends session)
+
 reflected_gives : (log : Option (List ℕ)) (ends : List Ended) (session : PlainSession) → IsGiving (reflected_steps log ends session)
-reflected_gives log ends session = giving (optional_put log (stored_spelling (stored_of session))) (reflected_text ends session)
+reflected_gives log ends session = giving (optional_put log (reflected_bytes session)) (reflected_text ends session)
+
+reflected_alike
+    : (log : Option (List ℕ)) (ends : List Ended) (session : PlainSession) (verdict : Verdict) → OfEnds log ends session false false verdict
+    → AreAlike (reflected_steps log ends session) Fine verdict.steps verdict.closing
+reflected_alike None ends session verdict comes = free_alike (Prints (reflected_text ends session) ∷ []) verdict tt comes
+reflected_alike (Some name) ends session verdict (rest, is, comes) =
+    let text : List Step = Prints (reflected_text ends session) ∷ [] in
+    subst (λ (v : Verdict). AreAlike (reflected_steps (Some name) ends session) Fine v.steps v.closing) (sym is) (refl, free_alike text rest tt comes)
+
+-- and of a drill
 
 drilled_gives : (request : DrillRequest) (session : PlainSession) (snapshots : List (List ℕ)) (total : ℤ) (agree : ℕ) → IsGiving (drilled_steps request session snapshots total agree)
 drilled_gives request session snapshots total agree =
@@ -132,12 +145,18 @@ module _ {F W N L : Type 0} (files : FilesTell F) (out : OutputTells W) (net : N
         (along EndsSaid (λ want. subst (λ (c : Closing). ClosesByVisit c) want closing) (λ place. subst (λ (c : Closing). ClosesByVisit c) place.1 closing)
         (closes_visit right.closing closing (no_link_failed calm)) (λ is. inl is) (λ step. refl) like none)
 
-  -- steps that put and print alone are done
+  -- steps that put and print alone are done, or memory runs out among them
+  done_alike
+      : (steps : List Step) (coming : Coming) (old new : Outside F W N L) (result : Status) (ran : RanBySteps (outside_tells files out net links) coming old new result) → IsGiving steps
+      → AreAlike steps Fine ran.course.verdict.steps ran.course.verdict.closing → NoneFailed files out net old new → IsDone result
+  done_alike steps coming old new result ran gives alike none =
+      done_along (fine steps) coming old new result ran tt (giving_are_right (files.held old.files) steps gives, alike) none
+
   done_giving
       : (steps : List Step) (coming : Coming) (old new : Outside F W N L) (result : Status) (ran : RanBySteps (outside_tells files out net links) coming old new result) → IsGiving steps → Free (Only (fine steps)) ran.course.verdict
       → NoneFailed files out net old new → IsDone result
   done_giving steps coming old new result ran gives comes none =
-      done_along (fine steps) coming old new result ran tt (giving_are_right (files.held old.files) steps gives, free_alike steps ran.course.verdict gives comes) none
+      done_alike steps coming old new result ran gives (free_alike steps ran.course.verdict gives comes) none
 
   -- ---- as the words ask
   module _ (function : IsFunction) (command : Option Command) (old new : Outside F W N L) (result : Status) (ran : RanBySteps (outside_tells files out net links) (Comes command) old new result) (none : NoneFailed files out net old new) where
@@ -170,12 +189,13 @@ module _ {F W N L : Type 0} (files : FilesTell F) (out : OutputTells W) (net : N
         (counts_on files out net links old ready served first (net_moves files out net links ready served served.net ready.link later is)) (counts_stay files out net links new new refl) none
 
     told
-        : (log : Option (List ℕ)) (ends : List Ended) (session : PlainSession) (failed : Bool) (coming : Coming) → ((v : Verdict) → coming v → Free (Only (reflected_verdict log ends session false failed)) v)
+        : (log : Option (List ℕ)) (ends : List Ended) (session : PlainSession) (failed : Bool) (coming : Coming) → ((v : Verdict) → coming v → OfEnds log ends session false failed v)
         → CountsFailure (net.faults ready.net) (net.faults served.net) failed → served ≡ record ready { net = served.net }
         → (ran : RanBySteps (outside_tells files out net links) coming served new result) → CountsStay files out net served new → IsDone result
     told log ends session true coming leads rose is ran last = absurd (net_is_fine last rose)
     told log ends session false coming leads later is ran last =
-        done_giving (reflected_steps log ends session) coming served new result ran (reflected_gives log ends session) (leads ran.course.verdict ran.course.comes) (none_behind later is)
+        done_alike (reflected_steps log ends session) coming served new result ran (reflected_gives log ends session)
+        (reflected_alike log ends session ran.course.verdict (leads ran.course.verdict ran.course.comes)) (none_behind later is)
 
     answered
         : (reflection : PlainReflection) (answer : Result Reflected ServeFault) → ServesNet gives (outside_tells files out net links) reflection answer ready served
@@ -234,6 +254,7 @@ module _ {F W N L : Type 0} (files : FilesTell F) (out : OutputTells W) (net : N
   names_none (Some (Replay request)) old right = tt
   names_none (Some (Inspect request)) old right = tt
   names_none (Some (Trace request)) old right = tt
+  names_none (Some (Votes log)) old right = tt
   names_none (Some (Join request)) old right = tt
   names_none (Some (Reflect request)) old right = right.0
   names_none (Some (Drill request)) old right = tt

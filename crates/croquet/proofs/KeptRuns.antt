@@ -1,8 +1,8 @@
 -- The run of a reflector that keeps a journal.
-use Rattle.std.proofs.Common.{◌≡◌, ◌⊎◌, inl, inr, ℕ, Bool, true, false, List, [], ◌∷◌, Option, Some, None, is_some, Result, Ok, Err, IfOk, refl, sym, ap, subst, ◌∙◌}
+use Rattle.std.proofs.Common.{◌≡◌, ◌⊎◌, inl, inr, ℕ, Bool, true, false, List, Option, Some, None, is_some, Result, Ok, Err, IfOk, refl, sym, ap, subst, ◌∙◌}
 use Rattle.std.specs.Prelude.{⊤}
 use Rattle.run_steps.specs.Steps.{Step}
-use Rattle.run_steps.specs.Outside.{Acts, FilesTell, LinksTell, NetTells, Outside, OutputTells, desk, desk_tells, outside, outside_tells}
+use Rattle.run_steps.specs.Outside.{FilesTell, LinksTell, NetTells, Outside, OutputTells, desk, desk_tells, outside, outside_tells}
 use Rattle.store_io.specs.declared.store.StoreFault.{StoreFault}
 use Rattle.store_io.specs.declared.store.StoreFault.TheVariants as store_fault
 use Rattle.store_io.specs.declared.stores.Opened.{Opened}
@@ -15,7 +15,7 @@ use Rattle.journal_store.specs.Opening.{OpensThen, opening_answer}
 use Rattle.journal_store.specs.Stores.{OpensFile, StoresTell, TakesStore}
 use Rattle.reflect_server.specs.declared.reflection.Opening.{Opening}
 use Rattle.reflector_core.specs.PlainSession.{PlainSession}
-use Rattle.session_journal.specs.Journal.{Found, NoJournal, OtherSession, Goes, read_journal}
+use Rattle.session_journal.specs.Journal.{Found, NoJournal, OtherSession, read_journal}
 use Rattle.session_journal.specs.declared.reading.JournalFault.{JournalFault}
 use Rattle.session_journal.specs.declared.reading.JournalFault.TheVariants as journal_fault
 use Rattle.session_keeper.specs.declared.keeper.JournalKeeper.{JournalKeeper}

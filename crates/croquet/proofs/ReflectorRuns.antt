@@ -1,6 +1,5 @@
 -- The run of a reflector, and what is told behind it.
-use Rattle.std.proofs.Common.{◌≡◌, inr, ℕ, Bool, true, false, List, [], ◌∷◌, Option, None, Result, Err, refl, sym, subst}
-use Rattle.std.proofs.lemmas.List.{append-nil}
+use Rattle.std.proofs.Common.{◌≡◌, inl, inr, ℕ, Bool, true, false, List, [], ◌∷◌, Option, Some, None, Result, Err, refl, subst}
 use Rattle.tea_io.specs.declared.net.NetCall.TheVariants.{Listen}
 use Rattle.connection.specs.declared.ending.Ended.{Ended}
 use Rattle.reflector_core.specs.PlainSession.{PlainSession}
@@ -11,16 +10,17 @@ use Rattle.reflect_server.specs.declared.reflection.ServeFault.{ServeFault}
 use Rattle.reflect_server.specs.declared.reflection.ServeFault.TheVariants.{ListenFault, WantOfMemory}
 use Rattle.reflect_server.specs.declared.reflection.KeptFault.{KeptFault}
 use Rattle.reflect_server.specs.declared.reflection.KeptFault.TheVariants as kept_fault
-use Rattle.run_steps.specs.Steps.{Step}
-use Rattle.run_steps.specs.Outside.{Acts, FilesTell, OutputTells, NetTells, LinksTell, desk, desk_tells, outside, outside_tells}
+use Rattle.run_steps.specs.Steps.{Step, Prints, Puts}
+use Rattle.run_steps.specs.Outside.{Acts, Came, Failed, WantedMemory, Well, FilesTell, OutputTells, PutsFile, NetTells, LinksTell, desk, desk_tells, outside, outside_tells}
 use Rattle.run_steps.proofs.Beside.{all_beside_net}
-use Rattle.command_reflect.specs.ReflectedSteps.{reflected_steps}
-use Rattle.commands.specs.Verdict.{ByNetFault, ByReflecting, ByWant, ByWriteFault, Coming, Free, Only, PlainReflection, reflected_closing, reflected_verdict}
+use Rattle.command_outcome.specs.declared.outcome.Put.{Put}
+use Rattle.command_reflect.specs.ReflectedSteps.{reflected_text}
+use Rattle.commands.specs.Verdict.{ByNetFault, ByReflecting, ByWant, ByWriteFault, Coming, Free, Only, PlainReflection, Then, at_once, before, reflected_closing, reflected_verdict}
 use Rattle.croquet.specs.declared.status.Status.{Status}
-use Rattle.croquet.specs.Calls.{fault_ending, kept_fault_ending, reflected_ending}
-use Rattle.croquet.specs.Run.{Concludes, Ending, on_net_fault, on_write_fault, OutOfMemory, OfKept, OfReflected, RanAsReflector, Reaches, TellsEnding}
+use Rattle.croquet.specs.Calls.{TellsUnput, fault_ending, kept_fault_ending, reflected_ending}
+use Rattle.croquet.specs.Run.{Concludes, Ending, on_net_fault, on_write_fault, OutOfMemory, OfKept, OfReflected, RanAsReflector, Reaches, TellsCut, TellsEnding}
 use Rattle.croquet.proofs.Acts.{DoesAll, does_so}
-use Rattle.croquet.proofs.Runs.{RanSo, ran_closed}
+use Rattle.croquet.proofs.Runs.{RanSo, later, ran_closed}
 use Rattle.croquet.proofs.VisitRuns.{ran_beside}
 
 concludes : (unkept net_failed : Bool) → Concludes (reflected_closing unkept net_failed) [] (reflected_ending unkept net_failed)
@@ -28,34 +28,79 @@ concludes true net_failed = (refl, refl)
 concludes false true = (refl, refl)
 concludes false false = (refl, refl)
 
--- what was done with the log of a session and its text, to the end of the run or to a cut
-module _ {F W : Type 0} (files : FilesTell F) (out : OutputTells W) (log : Option (List ℕ)) (ends : List Ended) (session : PlainSession) (unkept net_failed : Bool) (steps : List Step) (same : steps ≡ reflected_steps log ends session) (f f' : F) (w w' : W) (result : Status) where
-  ran_with : DoesAll files out steps (reflected_ending unkept net_failed) f w f' w' result → RanSo files out (Free (Only (reflected_verdict log ends session unkept net_failed))) f w f' w' result
+-- what was done with the text of a session, to the end of the run or to a cut
+module _ {F W : Type 0} (files : FilesTell F) (out : OutputTells W) (ends : List Ended) (session : PlainSession) (unkept net_failed : Bool) (steps : List Step) (same : steps ≡ Prints (reflected_text ends session) ∷ []) (f f' : F) (w w' : W) (result : Status) where
+  ran_with : DoesAll files out steps (reflected_ending unkept net_failed) f w f' w' result → RanSo files out (Free (Only (reflected_verdict ends session unkept net_failed))) f w f' w' result
   ran_with does = record {
-    steps = reflected_steps log ends session;
+    steps = Prints (reflected_text ends session) ∷ [];
     ending = reflected_ending unkept net_failed;
     course = record {
-      verdict = reflected_verdict log ends session unkept net_failed;
+      verdict = reflected_verdict ends session unkept net_failed;
       comes = inr refl;
       more = [];
       concludes = concludes unkept net_failed;
-      all = sym (append-nil (reflected_steps log ends session));
+      all = refl;
     };
     does = subst (λ (given : List Step). DoesAll files out given (reflected_ending unkept net_failed) f w f' w' result) same does;
   }
 
-  -- the log was put and the text printed, or this was cut
-  pub ran_cut : ((ending : Ending) → DoesAll files out steps ending f w f' w' result) → RanSo files out (Free (Only (reflected_verdict log ends session unkept net_failed))) f w f' w' result
+  -- the text was printed, or this was cut
+  pub ran_cut : ((ending : Ending) → DoesAll files out steps ending f w f' w' result) → RanSo files out (Free (Only (reflected_verdict ends session unkept net_failed))) f w f' w' result
   ran_cut does = ran_with (does (reflected_ending unkept net_failed))
 
--- they were done, and the end was told
-module _ {F W : Type 0} (files : FilesTell F) (out : OutputTells W) (log : Option (List ℕ)) (ends : List Ended) (session : PlainSession) (unkept net_failed : Bool) (steps : List Step) (same : steps ≡ reflected_steps log ends session) (f f' : F) (w next w' : W) (result : Status) where
+-- it was printed, and the end was told
+module _ {F W : Type 0} (files : FilesTell F) (out : OutputTells W) (ends : List Ended) (session : PlainSession) (unkept net_failed : Bool) (steps : List Step) (same : steps ≡ Prints (reflected_text ends session) ∷ []) (f f' : F) (w next w' : W) (result : Status) where
   pub ran_told
       : Acts (desk_tells files out) steps None (desk f w) (desk f' next) → TellsEnding out (reflected_ending unkept net_failed) next w' result
-      → RanSo files out (Free (Only (reflected_verdict log ends session unkept net_failed))) f w f' w' result
+      → RanSo files out (Free (Only (reflected_verdict ends session unkept net_failed))) f w f' w' result
   ran_told acts told =
-      ran_with files out log ends session unkept net_failed steps same f f' w w' result
+      ran_with files out ends session unkept net_failed steps same f f' w w' result
       (does_so files out steps None (reflected_ending unkept net_failed) f f' w next w' result acts told)
+
+-- a file was put, and the run goes on after it
+pub ran_put
+    : {F W : Type 0} (files : FilesTell F) (out : OutputTells W) (put : Put) (coming : Coming) (f mid f' : F) (w quiet w' : W) (result : Status)
+    → quiet ≡ w → PutsFile files Well put.name put.bytes f mid → RanSo files out coming mid quiet f' w' result → RanSo files out (Then (Puts put.name put.bytes) coming) f w f' w' result
+ran_put {W = W} files out put coming f mid f' w quiet w' result same well ran =
+    let on : RanSo files out coming mid w f' w' result = subst (λ (o : W). RanSo files out coming mid o f' w' result) same ran in
+    record {
+      steps = Puts put.name put.bytes ∷ on.steps;
+      ending = on.ending;
+      course = later (Puts put.name put.bytes) coming (Then (Puts put.name put.bytes) coming) on.steps on.ending (λ rest comes. (rest, refl, comes)) on.course;
+      does = record {
+        cut = on.does.cut;
+        done = on.does.done;
+        acts = inl (desk mid w, (well, refl), on.does.acts);
+        left = on.does.left;
+        goes_back = on.does.goes_back;
+        told = on.does.told;
+      };
+    }
+
+-- the run was cut at a put
+cut_at_put
+    : {F W : Type 0} (files : FilesTell F) (out : OutputTells W) (put : Put) (next : Coming) (came : Came) (f f' : F) (w w' : W) (result : Status)
+    → Acts (desk_tells files out) (Puts put.name put.bytes ∷ []) (Some (record { step = Puts put.name put.bytes; came = came })) (desk f w) (desk f' w)
+    → TellsCut out came (Puts put.name put.bytes) w w' result → RanSo files out (Then (Puts put.name put.bytes) (Free next)) f w f' w' result
+cut_at_put files out put next came f f' w w' result acts told = record {
+  steps = Puts put.name put.bytes ∷ [];
+  ending = OutOfMemory;
+  course = record {
+    verdict = before (Puts put.name put.bytes) (at_once ByWant);
+    comes = (at_once ByWant, refl, inl refl);
+    more = [];
+    concludes = (refl, refl);
+    all = refl;
+  };
+  does = does_so files out (Puts put.name put.bytes ∷ []) (Some (record { step = Puts put.name put.bytes; came = came })) OutOfMemory f f' w w w' result acts told;
+}
+
+-- a file was not put, and this was told
+pub ran_unput
+    : {F W : Type 0} (files : FilesTell F) (out : OutputTells W) (put : Put) (next : Coming) (f f' : F) (w w' : W) (result : Status)
+    → TellsUnput files out put f w f' w' result → RanSo files out (Then (Puts put.name put.bytes) (Free next)) f w f' w' result
+ran_unput files out put next f f' w w' result (inl (failed, told)) = cut_at_put files out put next Failed f f' w w' result (inr (inl ((failed, refl), refl))) told
+ran_unput files out put next f f' w w' result (inr (wanted, told)) = cut_at_put files out put next WantedMemory f f' w w' result (inr (inr ((wanted, refl), refl))) told
 
 -- the fault of one that has no session to tell of was told
 pub ran_failed

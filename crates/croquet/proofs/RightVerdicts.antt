@@ -30,6 +30,7 @@ use Rattle.command_inspect.specs.declared.query.Query.{Query}
 use Rattle.command_inspect.specs.InspectText.{inspect_text}
 use Rattle.command_inspect.specs.Queries.{queries_of}
 use Rattle.command_trace.specs.TraceText.{trace_text}
+use Rattle.command_votes.specs.VotesText.{votes_text}
 use Rattle.command_words.specs.Address.{is_address}
 use Rattle.command_words.specs.declared.words.ReplayRequest.{ReplayRequest}
 use Rattle.command_words.specs.declared.words.InspectRequest.{InspectRequest}
@@ -37,10 +38,10 @@ use Rattle.command_words.specs.declared.words.TraceRequest.{TraceRequest}
 use Rattle.command_words.specs.declared.words.JoinRequest.{JoinRequest}
 use Rattle.command_words.specs.declared.words.ReflectRequest.{ReflectRequest}
 use Rattle.command_words.specs.declared.words.Command.{Command}
-use Rattle.command_words.specs.declared.words.Command.TheVariants.{Stamp, Check, Replay, Inspect, Trace, Join, Reflect, Drill}
+use Rattle.command_words.specs.declared.words.Command.TheVariants.{Stamp, Check, Replay, Inspect, Trace, Votes, Join, Reflect, Drill}
 use Rattle.model_tree.specs.Bounds.{most_program_bytes}
 use Rattle.tea_base.specs.Limits.{most_snapshot}
-use Rattle.commands.specs.Verdict.{ByDrill, ByKeeping, ByReflecting, ByVisit, Closing, Coming, Fine, OfFile, OfInspectedLog, OfInspect, OfJoin, OfJournal, OfKeyframes, OfOpening, OfProgram, OfQueries, OfReflect, OfRight, OfScript, OfServed, OfSnapshot, OfLog, OfOwn, OfReflected, IsLog, PlainReflection, PlainSource, first_source, names_no_other, trace_verdict, OfTimeLine, OfTrace, OfTraced, OfTracedLog, OfTree, OfUnkept, OfView, OfViewScript, OfWords, Only, Starts, Verdict, OfFounded, OfJson, OfPersisted, OfRecorded, ask_file, at_once, before, count_verdict, fine, founded, inspect_verdict, keeping_of, keeps_few, most_queries, most_script, reflection_of, session_id_of, stamp_verdict, visit_to, world_puts, most_log}
+use Rattle.commands.specs.Verdict.{ByDrill, ByKeeping, ByReflecting, ByVisit, Closing, Coming, Fine, OfFile, OfInspectedLog, OfInspect, OfJoin, OfJournal, OfKeyframes, OfOpening, OfProgram, OfQueries, OfReflect, OfRight, OfScript, OfServed, OfSnapshot, OfLog, OfOwn, OfReflected, IsLog, PlainReflection, PlainSource, first_source, names_no_other, trace_verdict, OfTimeLine, OfTrace, OfTraced, OfTracedLog, OfTree, OfUnkept, OfView, OfViewScript, OfWords, Only, Starts, Verdict, OfFounded, OfJson, OfPersisted, OfRecorded, ask_file, at_once, before, count_verdict, fine, founded, inspect_verdict, keeping_of, keeps_few, most_queries, most_script, reflection_of, session_id_of, stamp_verdict, visit_to, votes_verdict, world_puts, most_log}
 use Rattle.commands.proofs.Agreement.{late_verdict}
 use Rattle.croquet.specs.Complete.{HasRightInput, HoldsFile, HoldsInspection, HoldsOpening, HoldsPersisted, HoldsProgram, HoldsRecording, HoldsStart, HoldsTrace, IsJsonText, IsAny, IsLogText, IsOwn, IsQueriesText, IsScriptText, IsSnapshotUntil, IsProgramText, IsViewScriptText, NamesAddress, persisted_in}
 use Rattle.croquet.proofs.RightSteps.{AreRight, GivesHeld, IsGiving, giving_are_right}
@@ -108,7 +109,7 @@ module _ (held : List ℕ → Content) where
   right_right : (Closes : Closing → Type 0) (at : Input) (is : Bool) (next : Coming) → is ≡ true → ComesRight held Closes next → ComesRight held Closes (OfRight at is next)
   right_right Closes at is next so right = subst (λ (b : Bool). ComesRight held Closes (OfRight at b next)) (sym so) right
 
-  own_right : (Closes : Closing → Type 0) (source : PlainSource) (id : List ℕ) (next : Coming) → IsOwn id source → ComesRight held Closes next → ComesRight held Closes (OfOwn source id next)
+  own_right : (Closes : Closing → Type 0) (source : PlainSource) (id : List ℕ) (next : Coming) → IsOwn id source → ComesRight held Closes next → ComesRight held Closes (OfOwn source.named id next)
   own_right Closes source id next own right = right_right Closes input.Journal (names_no_other source.named id) next own right
 
 -- ---- what the files hold
@@ -263,6 +264,8 @@ module _ {F : Type 0} (files : FilesTell F) (old : F) where
   words_right (Some (Replay request)) right = recording_right request right
   words_right (Some (Inspect request)) right = inspection_right request right
   words_right (Some (Trace request)) right = trace_right request right
+  words_right (Some (Votes log)) right =
+      log_read ClosesWell IsAny log (λ source. Only (votes_verdict source.stored.log)) right (fine_right (files.held old) [] (votes_text right.right.0.stored.log) (Only (votes_verdict right.right.0.stored.log)) refl)
   words_right (Some (Reflect request)) right = reflect_right request right.0 right.1 right.2 right.3 right.4
   words_right (Some (Drill request)) right = closed_right (files.held old) ClosesWell (ByDrill request) (OfWords (Some (Drill request))) tt refl
   words_right (Some (Join request)) right = join_right request right.0 right.1 right.2 right.3

@@ -25,7 +25,7 @@ abbrev pub TurnsSo : {F W : Type 0} → FilesTell F → OutputTells W → Turn �
 TurnsSo files out came coming f w f' w' = Turns (desk_tells files out) came coming (desk f w) (desk f' w')
 
 -- what comes behind a step that leads to it
-later : (step : Step) (coming other : Coming) (steps : List Step) (ending : Ending) → ((rest : Verdict) → coming rest → other (before step rest)) → Course coming steps ending → Course other (step ∷ steps) ending
+pub later : (step : Step) (coming other : Coming) (steps : List Step) (ending : Ending) → ((rest : Verdict) → coming rest → other (before step rest)) → Course coming steps ending → Course other (step ∷ steps) ending
 later step coming other steps ending leads course = record {
   verdict = before step course.verdict;
   comes = leads course.verdict course.comes;

@@ -22,7 +22,7 @@ use Rattle.command_words.specs.declared.words.ReplayRequest.{ReplayRequest}
 use Rattle.command_words.specs.declared.words.InspectRequest.{InspectRequest}
 use Rattle.command_words.specs.declared.words.TraceRequest.{TraceRequest}
 use Rattle.command_words.specs.declared.words.Command.{Command}
-use Rattle.command_words.specs.declared.words.Command.TheVariants.{Stamp, Check, Replay, Inspect, Trace, Join, Reflect, Drill}
+use Rattle.command_words.specs.declared.words.Command.TheVariants.{Stamp, Check, Replay, Inspect, Trace, Votes, Join, Reflect, Drill}
 use Rattle.command_stamp.specs.Script.{script_of}
 use Rattle.time_line.specs.Keyframes.{most_frames}
 use Rattle.command_inspect.specs.declared.query.Query.{Query}
@@ -131,6 +131,7 @@ HasRightInput files old (Some (Check program)) = HoldsProgram files old program
 HasRightInput files old (Some (Replay request)) = HoldsRecording files old request
 HasRightInput files old (Some (Inspect request)) = HoldsInspection files old request
 HasRightInput files old (Some (Trace request)) = HoldsTrace files old request
+HasRightInput files old (Some (Votes log)) = HoldsFile files old log most_log (IsLogText IsAny)
 HasRightInput files old (Some (Join request)) =
     HoldsProgram files old request.program × NamesAddress request.address × HoldsFile files old request.script most_script IsViewScriptText × HoldsPersisted files old request.persisted
 -- of one that names a journal nothing is said

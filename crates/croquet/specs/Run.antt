@@ -45,7 +45,7 @@ use Rattle.command_outcome.specs.declared.outcome.CommandRefusal.{CommandRefusal
 use Rattle.command_outcome.specs.declared.outcome.CommandRefusal.TheVariants as refusal
 use Rattle.command_words.specs.declared.words.DrillRequest.{DrillRequest}
 use Rattle.commands.specs.Keeping.{OfAbsent, OfBytes, no_journal}
-use Rattle.commands.specs.Verdict.{Closing, Fine, ByRefusal, ByWant, ByReadFault, ByWriteFault, ByNetFault, ByVisit, ByReflecting, ByKeeping, ByGoingOn, ByDrill, Verdict, PlainKeeping, PlainReflection, PlainVisit, Coming, Free, Only, at_once, reflected_verdict}
+use Rattle.commands.specs.Verdict.{Closing, Fine, ByRefusal, ByWant, ByReadFault, ByWriteFault, ByNetFault, ByVisit, ByReflecting, ByKeeping, ByGoingOn, ByDrill, Verdict, PlainKeeping, PlainReflection, PlainVisit, Coming, OfEnds, Only, at_once}
 use Rattle.croquet.specs.Drills.{OfDrilled, drill_size}
 use Rattle.croquet.specs.declared.status.Status.{Status}
 use Rattle.croquet.specs.declared.status.Status.TheVariants as status
@@ -221,9 +221,9 @@ ServesNet gives tells reflection answer old new =
     OnPart tells.net (λ net. OnPart tells.links (λ links. Reflects (gives_later gives reflection.opening.horizon) (record { 0 = reflection.id }) reflection.opening net links (Listen reflection.address ∷ []) reflection.connections old.net new.net answer))
     × (new ≡ record old { net = new.net })
 
--- what comes of a reflector's answer: its session is put as it is stored, if there is a name for it, and its text is printed, also where the net failed
+-- what comes of a reflector's answer: its session is put as it is stored, if there is a name for it, and then its text is printed, also where the net failed
 abbrev pub OfReflected : Option (List ℕ) → Result Reflected ServeFault → Coming
-OfReflected log (Ok reflected) = Free (Only (reflected_verdict log reflected.ends reflected.session.plain false reflected.net_failed))
+OfReflected log (Ok reflected) = OfEnds log reflected.ends reflected.session.plain false reflected.net_failed
 OfReflected log (Err serve_fault.ListenFault) = Only (at_once ByNetFault)
 OfReflected log (Err serve_fault.WantOfMemory) = Only (at_once ByWant)
 
@@ -255,7 +255,7 @@ OfUngone store_fault.WantOfMemory = Only (at_once ByWant)
 
 -- what comes of the answer of a reflector whose session was kept, or was not kept to its end
 abbrev pub OfKept : Option (List ℕ) → Bool → Result Reflected KeptFault → Coming
-OfKept log unkept (Ok reflected) = Free (Only (reflected_verdict log reflected.ends reflected.session.plain unkept reflected.net_failed))
+OfKept log unkept (Ok reflected) = OfEnds log reflected.ends reflected.session.plain unkept reflected.net_failed
 OfKept log unkept (Err kept_fault.ListenFault) = Only (at_once ByNetFault)
 OfKept log unkept (Err kept_fault.WantOfMemory) = Only (at_once ByWant)
 OfKept log unkept (Err kept_fault.Unkept) = Only (at_once ByWriteFault)

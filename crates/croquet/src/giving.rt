@@ -12,7 +12,11 @@ use run_steps::{CallFault, print_text, put_file};
 use tea_io::{Files, Sink};
 
 /// Puts a file, or tells why it was not put.
-fn put_or_tell<F: Files, W: Sink>(put: &Put, files: &mut F, out: &mut W) -> Result<(), Status>
+pub(crate) fn put_or_tell<F: Files, W: Sink>(
+    put: &Put,
+    files: &mut F,
+    out: &mut W,
+) -> Result<(), Status>
     ensures put { OnOk result (PutsFile (files_tell F.held F.asked F.faults F.wants) Well put.now.name put.now.bytes files.old files.new) }
     ensures quiet { OnOk result (out.new ≡ out.old) }
     ensures told { IfErr result (TellsUnput (files_tell F.held F.asked F.faults F.wants) (output_tells W.written W.faults W.wants)

@@ -1,16 +1,17 @@
-//! What a reflector's run tells behind its reflector.
+//! What a reflector's run puts and tells after its reflector.
 ghost use Rattle.run_steps.specs.Outside.{desk, desk_tells, files_tell, output_tells};
-ghost use Rattle.commands.specs.Verdict.{Free, Only, reflected_verdict};
+ghost use Rattle.run_steps.specs.Steps.{Puts};
+ghost use Rattle.command_reflect.specs.ReflectedSteps.{log_name, reflected_bytes};
+ghost use Rattle.commands.specs.Verdict.{Free, OfEnds, Only, Then, reflected_verdict};
 ghost use Rattle.croquet.specs.Calls.{fault_ending, kept_fault_ending, reflected_ending};
 ghost use Rattle.croquet.specs.Run.{OfKept, OfReflected, RanBySteps, TellsEnding};
 
-use crate::giving::give;
+use crate::giving::{give, put_or_tell};
 use crate::status::Status;
 use crate::telling::{tell, tell_want_of_memory};
-use command_reflect::reflected_outcome;
+use command_reflect::{LogPlace, reflected_outcome, reflected_put};
 use reflect_server::{KeptFault, Reflected, ServeFault};
 use std::alloc::Global;
-use tea_base::Text;
 use tea_io::{Files, Sink};
 
 /// Tells whether a call was not kept, and else whether the net has failed, behind all that was done.
@@ -26,26 +27,63 @@ fn tell_end<W: Sink>(out: &mut W, unkept: bool, net_failed: bool) -> Status
     }
 }
 
-/// Puts a session that was reflected, if there is a name for it, and prints how its connections ended.
-fn give_reflected<F: Files, W: Sink>(
+/// Prints how the connections of a session ended that was reflected, and tells how the run ends.
+fn give_ends<F: Files, W: Sink>(
     alloc: Global,
-    log: Option<Text>,
     unkept: bool,
     reflected: &Reflected,
     files: &mut F,
     out: &mut W,
 ) -> Status
     ensures { RanBySteps (desk_tells (files_tell F.held F.asked F.faults F.wants) (output_tells W.written W.faults W.wants))
-        (Free (Only (reflected_verdict log reflected.now.ends reflected.now.session.plain unkept reflected.now.net_failed)))
+        (Free (Only (reflected_verdict reflected.now.ends reflected.now.session.plain unkept reflected.now.net_failed)))
         (desk files.old out.old) (desk files.new out.new) result }
 {
-    let Ok(outcome) = reflected_outcome(alloc, log, reflected.ends.as_slice(), &reflected.session)
-    else {
+    let Ok(outcome) = reflected_outcome(alloc, reflected.ends.as_slice(), &reflected.session) else {
         return tell_want_of_memory(out);
     };
     match give(&outcome, files, out) {
         Ok(()) => tell_end(out, unkept, reflected.net_failed),
         Err(status) => status,
+    }
+}
+
+/// Puts a session that was reflected, in the memory that was taken before it began. Only then its text is made.
+fn put_reflected<F: Files, W: Sink>(
+    alloc: Global,
+    place: LogPlace,
+    unkept: bool,
+    reflected: &Reflected,
+    files: &mut F,
+    out: &mut W,
+) -> Status
+    ensures { RanBySteps (desk_tells (files_tell F.held F.asked F.faults F.wants) (output_tells W.written W.faults W.wants))
+        (Then (Puts place.name (reflected_bytes reflected.now.session.plain)) (Free (Only (reflected_verdict reflected.now.ends reflected.now.session.plain unkept reflected.now.net_failed))))
+        (desk files.old out.old) (desk files.new out.new) result }
+{
+    let put = reflected_put(place, &reflected.session);
+    match put_or_tell(&put, files, out) {
+        Ok(()) => give_ends(alloc, unkept, reflected, files, out),
+        Err(status) => status,
+    }
+}
+
+/// Puts a session that was reflected, if there is a name for it, and then prints how its connections ended.
+fn give_reflected<F: Files, W: Sink>(
+    alloc: Global,
+    log: Option<LogPlace>,
+    unkept: bool,
+    reflected: &Reflected,
+    files: &mut F,
+    out: &mut W,
+) -> Status
+    ensures { RanBySteps (desk_tells (files_tell F.held F.asked F.faults F.wants) (output_tells W.written W.faults W.wants))
+        (OfEnds (log_name log) reflected.now.ends reflected.now.session.plain unkept reflected.now.net_failed)
+        (desk files.old out.old) (desk files.new out.new) result }
+{
+    match log {
+        None => give_ends(alloc, unkept, reflected, files, out),
+        Some(place) => put_reflected(alloc, place, unkept, reflected, files, out),
     }
 }
 
@@ -62,13 +100,13 @@ fn tell_fault<W: Sink>(fault: ServeFault, out: &mut W) -> Status
 /// Tells what has come of a reflector: its session, or its fault.
 pub(crate) fn tell_reflected<F: Files, W: Sink>(
     alloc: Global,
-    log: Option<Text>,
+    log: Option<LogPlace>,
     answer: Result<Reflected, ServeFault>,
     files: &mut F,
     out: &mut W,
 ) -> Status
     ensures { RanBySteps (desk_tells (files_tell F.held F.asked F.faults F.wants) (output_tells W.written W.faults W.wants))
-        (OfReflected log answer) (desk files.old out.old) (desk files.new out.new) result }
+        (OfReflected (log_name log) answer) (desk files.old out.old) (desk files.new out.new) result }
 {
     match answer {
         Ok(reflected) => give_reflected(alloc, log, false, &reflected, files, out),
@@ -90,14 +128,14 @@ fn tell_kept_fault<W: Sink>(fault: KeptFault, out: &mut W) -> Status
 /// Tells what has come of a reflector whose session has a keeper: its session, or its fault. `unkept` says that a call was not kept.
 pub(crate) fn tell_kept<F: Files, W: Sink>(
     alloc: Global,
-    log: Option<Text>,
+    log: Option<LogPlace>,
     unkept: bool,
     answer: Result<Reflected, KeptFault>,
     files: &mut F,
     out: &mut W,
 ) -> Status
     ensures { RanBySteps (desk_tells (files_tell F.held F.asked F.faults F.wants) (output_tells W.written W.faults W.wants))
-        (OfKept log unkept answer) (desk files.old out.old) (desk files.new out.new) result }
+        (OfKept (log_name log) unkept answer) (desk files.old out.old) (desk files.new out.new) result }
 {
     match answer {
         Ok(reflected) => give_reflected(alloc, log, unkept, &reflected, files, out),

@@ -9,4 +9,4 @@ mod writing;
 pub use laws::spelling_is_read;
 pub use lent::LentWhat;
 pub use reading::what_at;
-pub use writing::{put_event, put_what};
+pub use writing::put_what;

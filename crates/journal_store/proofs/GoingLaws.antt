@@ -1,6 +1,5 @@
 -- A session that goes on from its journal is covered by what its keeper holds.
-use Rattle.std.proofs.Common.{◌≡◌, inl, ℕ, ◌≤◌, max, List, Option, refl, sym, ap, subst, arith}
-use Rattle.tea_base.specs.Limits.{end_of_time}
+use Rattle.std.proofs.Common.{◌≡◌, inl, ℕ, List, Option, refl, sym, arith}
 use Rattle.reflector_core.specs.PlainSession.{PlainSession, IsSoundSession}
 use Rattle.reflector_core.specs.Keeping.{Covers, IsCovered}
 use Rattle.reflector_core.specs.Stored.{session_of}

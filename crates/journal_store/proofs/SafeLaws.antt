@@ -1,5 +1,5 @@
 -- The safe bytes of a store that keeps a session are read as it.
-use Rattle.std.proofs.Common.{◌≡◌, ℕ, ◌+◌, ◌<◌, ◌≤◌, List, [], ◌∷◌, ◌++◌, length, take, map, Option, Some, None, refl, sym, ap, subst, ◌∙◌, append_assoc, append-nil, arith}
+use Rattle.std.proofs.Common.{◌≡◌, ℕ, ◌+◌, ◌<◌, ◌≤◌, List, [], ◌∷◌, ◌++◌, length, take, map, Option, Some, refl, sym, ap, subst, ◌∙◌, append_assoc, append-nil, arith}
 use Rattle.std.proofs.lemmas.List.{length-append, take_at}
 use Rattle.reflector_core.specs.PlainSession.{PlainSession}
 use Rattle.reflector_core.specs.Keeping.{Covers}
@@ -13,7 +13,7 @@ use Rattle.session_journal.specs.Keeper.{KeeperState, Keeps, keeper_state}
 use Rattle.session_journal.proofs.JournalLaws.{spelled_both}
 use Rattle.session_keeper.specs.Keeping.{IsJournalOf}
 use Rattle.session_keeper.specs.declared.keeper.JournalKeeper.{JournalKeeper}
-use Rattle.journal_store.specs.Safe.{IsSafelyKept, ReadsAs, ReadsAtLeast}
+use Rattle.journal_store.specs.Safe.{IsSafelyKept, ReadsAs}
 
 abbrev pub FrontsRead : Type 0
 FrontsRead = (id : List ℕ) (changes : List Change) (n : ℕ) → GoesOn founded changes → ReadsWhole id changes n

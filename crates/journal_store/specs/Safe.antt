@@ -3,7 +3,6 @@ use Rattle.std.specs.Prelude.{◌≡◌, ℕ, ◌≤◌, List, [], take, Option,
 use Rattle.reflector_core.specs.PlainSession.{PlainSession}
 use Rattle.session_log.specs.Stored.{PlainStored}
 use Rattle.session_journal.specs.Journal.{Goes, read_journal}
-use Rattle.session_keeper.specs.Keeping.{IsJournalOf}
 use Rattle.session_keeper.specs.declared.keeper.JournalKeeper.{JournalKeeper}
 
 -- bytes are read as the journal of this session, and whole

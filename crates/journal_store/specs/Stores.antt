@@ -1,5 +1,5 @@
 -- What stores tell, and what the calls of a run do to them.
-use Rattle.std.specs.Prelude.{◌≡◌, ◌≢◌, ◌⊎◌, ℕ, ⊤, List, Option, Result, Ok, Err, OnOk, OnErr, IfOk}
+use Rattle.std.specs.Prelude.{◌≡◌, ◌≢◌, ◌⊎◌, ℕ, ⊤, List, Option, Result, OnOk, OnErr, IfOk}
 use Rattle.tea_io.specs.Files.{Content, Holds}
 use Rattle.store_io.specs.declared.store.StoreFault.{StoreFault}
 use Rattle.store_io.specs.declared.stores.Opened.{Opened}

@@ -1,7 +1,6 @@
 -- What a journal is founded with is read as the session that it was made from.
-use Rattle.std.proofs.Common.{◌≡◌, ℕ, zero, suc, ◌+◌, ◌-◌, ◌^◌, ◌<◌, ◌≤◌, max, Bool, true, false, cond, nat_lt, nat_le, ◌&&◌, List, [], ◌∷◌, ◌++◌, length, map, take, Option, Some, None, Result, Ok, Err, OnOk, slice_get, refl, sym, ap, subst, ◌∙◌, append_assoc, append-nil, arith}
+use Rattle.std.proofs.Common.{◌≡◌, ℕ, zero, suc, ◌+◌, ◌-◌, ◌<◌, ◌≤◌, max, Bool, true, false, cond, nat_lt, nat_le, ◌&&◌, List, [], ◌∷◌, ◌++◌, length, map, take, Option, Some, None, Result, Ok, Err, OnOk, slice_get, refl, sym, ap, subst, ◌∙◌, append_assoc, append-nil, arith}
 use Rattle.std.proofs.lemmas.Bool.Decides.{nat_tests}
-use Rattle.std.proofs.lemmas.List.{length-append}
 use Rattle.std.proofs.lemmas.List.Sums.{length-filter, count_by-le-length}
 use Rattle.tea_base.specs.declared.entry.Entry.{Entry}
 use Rattle.tea_base.specs.declared.entry.What.{What}
@@ -12,7 +11,7 @@ use Rattle.tea_base.specs.Readings.{here_count, last_time, payload_len, is_event
 use Rattle.tea_base.proofs.LogLaws.{last_time-push, here_count-push}
 use Rattle.entry_fields.specs.Spelling.{FitsWhat, IsTypedWhat}
 use Rattle.byte_fields.specs.Fields.{FitsBlob}
-use Rattle.session_log.specs.LogState.{next_entry, with_next}
+use Rattle.session_log.specs.LogState.{next_entry}
 use Rattle.session_log.specs.Legality.{may_follow}
 use Rattle.session_log.specs.declared.stored.Kept.{Kept}
 use Rattle.session_log.specs.Stored.{PlainStored, plain_of, IsStored, MayBeKept}
@@ -24,7 +23,7 @@ use Rattle.session_journal.specs.Changes.{IsTypedChange, change_spelling}
 use Rattle.session_journal.specs.Frames.{Place, frame_at, frames_spelling, last_check, read_on}
 use Rattle.session_journal.specs.Heads.{payload_of}
 use Rattle.session_journal.specs.State.{after_change, journal_after, has_room, may_add, may_come, GoesOn, body_step, founded}
-use Rattle.session_journal.specs.Journal.{header, first_check, record_check, records_spelling, journal_spelling, journal_check, read_records}
+use Rattle.session_journal.specs.Journal.{first_check, record_check, records_spelling, journal_check, read_records}
 use Rattle.session_journal.specs.Founding.{Adds, FoundsSession, came_of, founding_changes, kept_after, reached_after}
 use Rattle.session_journal.proofs.FrameLaws.{own_first, as_long, stays, step_ends}
 use Rattle.session_journal.proofs.HeadLaws.{body_len}

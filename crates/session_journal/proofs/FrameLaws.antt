@@ -1,9 +1,9 @@
 -- What is spelled is read, whatever follows; a front reads as what is whole in it; and what is read is spelled.
-use Rattle.std.proofs.Common.{◌≡◌, ℕ, zero, suc, ◌+◌, ◌-◌, ◌<◌, ◌≤◌, Bool, true, false, cond, ltb, List, [], ◌∷◌, ◌++◌, length, get_or, take, drop, Option, Some, None, refl, sym, ap, subst, ◌∙◌, append_assoc, append-nil, length-take, arith, inl, inr}
+use Rattle.std.proofs.Common.{◌≡◌, ℕ, zero, suc, ◌+◌, ◌-◌, ◌<◌, ◌≤◌, List, [], ◌∷◌, ◌++◌, length, get_or, take, Option, Some, None, refl, sym, ap, subst, ◌∙◌, append_assoc, append-nil, length-take, arith, inl, inr}
 use Rattle.std.specs.Int.{w32}
 use Rattle.std.proofs.lemmas.Bool.{cases_lt}
 use Rattle.std.proofs.lemmas.List.{length-append, get_or-append-add}
-use Rattle.byte_fields.specs.Fields.{◌>>=◌, blob, blob_at, bytes_at, number_at, headed_at, tested_at, marked_at, nothing_at}
+use Rattle.byte_fields.specs.Fields.{◌>>=◌, blob, blob_at, bytes_at, number_at, tested_at, marked_at, nothing_at}
 use Rattle.byte_fields.proofs.Codecs.{Codec, IsBytes, said_codec, headed_codec, tested_codec, marked_codec, nothing_codec, blob_codec, some_is}
 use Rattle.session_journal.specs.Frames.{Check, Step, Place, frame_spelling, frames_spelling, last_check, has_bytes, FitsBody, frame_at, next_place, found_or, read_on, IsTaken, IsTorn}
 use Rattle.session_journal.proofs.Growing.{Grows, bind_some, short_none, headed_grow, tested_grow, marked_grow, nothing_grow, number_grow, bytes_grow}

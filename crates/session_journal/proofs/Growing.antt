@@ -1,10 +1,10 @@
 -- Readers that read from more bytes what they read from a front of them, and so nothing from a front that is too short.
-use Rattle.std.proofs.Common.{◌≡◌, ℕ, ◌+◌, ◌-◌, ◌<◌, ◌≤◌, Bool, true, false, cond, ltb, List, [], ◌∷◌, ◌++◌, length, take, drop, Option, Some, None, refl, sym, ap, subst, ◌∙◌, arith}
+use Rattle.std.proofs.Common.{◌≡◌, ℕ, ◌+◌, ◌-◌, ◌<◌, ◌≤◌, Bool, true, false, cond, ltb, List, ◌++◌, length, take, drop, Option, Some, None, refl, sym, ap, subst, ◌∙◌, arith}
 use Rattle.std.specs.Int.{Width, byte_len, from_be_bytes}
 use Rattle.std.specs.Str.{bytes_eq}
 use Rattle.std.proofs.lemmas.Bool.{ltb-false, le-ltb}
-use Rattle.std.proofs.lemmas.List.{take-append-drop, take-append-le, drop-append-le, length-append, length-take, length-drop}
-use Rattle.byte_fields.specs.Fields.{Decoder, ◌>>=◌, bytes_at, number_at, blob_at, headed_at, made_at, tested_at, mark_at, marked_at, nothing_at}
+use Rattle.std.proofs.lemmas.List.{take-append-drop, take-append-le, drop-append-le, length-append, length-drop}
+use Rattle.byte_fields.specs.Fields.{Decoder, ◌>>=◌, bytes_at, number_at, headed_at, made_at, tested_at, mark_at, marked_at, nothing_at}
 use Rattle.byte_fields.proofs.Codecs.{Codec, some_is}
 
 abbrev pub Grows : {A : Type 0} → Decoder A → Type 0

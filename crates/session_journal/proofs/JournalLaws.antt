@@ -1,7 +1,7 @@
 -- The laws of frames, for journals.
-use Rattle.std.proofs.Common.{◌≡◌, ℕ, zero, suc, ◌+◌, ◌-◌, ◌^◌, ◌<◌, ◌≤◌, Bool, true, false, cond, ltb, leb, List, [], ◌∷◌, ◌++◌, length, get_or, take, drop, map, Option, Some, None, refl, sym, ap, subst, ◌∙◌, append_assoc, append-nil, length-take, arith, inl, inr}
+use Rattle.std.proofs.Common.{◌≡◌, ℕ, zero, suc, ◌+◌, ◌-◌, ◌^◌, ◌<◌, ◌≤◌, Bool, true, false, cond, ltb, List, [], ◌∷◌, ◌++◌, length, get_or, take, drop, map, Option, Some, None, refl, sym, ap, subst, ◌∙◌, append_assoc, append-nil, length-take, arith, inl, inr}
 use Rattle.std.specs.Prelude.{codes}
-use Rattle.std.specs.Int.{w32, w64, to_be_bytes}
+use Rattle.std.specs.Int.{w32, to_be_bytes}
 use Rattle.std.specs.Str.{bytes_eq}
 use Rattle.std.proofs.lemmas.Bool.{cases_lt, le-ltb}
 use Rattle.std.proofs.lemmas.List.{length-append, take-append-drop, take_at, drop_at, get_or-take, get_or_past}
@@ -9,17 +9,15 @@ use Rattle.std.proofs.lemmas.Bool.Decides.{nat_tests}
 use Rattle.std.proofs.lemmas.Slice.Eq.{bytes_eq-Decides}
 use Rattle.tea_base.specs.declared.entry.What.{What}
 use Rattle.tea_base.specs.declared.entry.What.TheVariants.{Join, Exit, Event}
-use Rattle.byte_fields.specs.Fields.{◌>>=◌, blob, bytes_at, mark_at, whole, FitsBlob}
+use Rattle.byte_fields.specs.Fields.{blob, bytes_at, mark_at, whole, FitsBlob}
 use Rattle.byte_fields.proofs.Codecs.{IsBytes, whole_again, whole_takes, some_is}
-use Rattle.session_log.specs.LogState.{next_entry}
-use Rattle.session_log.specs.Legality.{may_follow}
 use Rattle.session_journal.specs.declared.change.Change.{Change}
 use Rattle.session_journal.specs.declared.change.Change.TheVariants.{Came, Reached, Kept}
-use Rattle.session_journal.specs.Changes.{change_kind, change_fields, change_spelling, IsTypedChange, change_at}
-use Rattle.session_journal.specs.Frames.{Check, Place, frame_spelling, frames_spelling, last_check, has_bytes, FitsBody, read_on, IsTaken, IsTorn}
+use Rattle.session_journal.specs.Changes.{change_spelling, IsTypedChange, change_at}
+use Rattle.session_journal.specs.Frames.{Check, Place, frame_spelling, frames_spelling, last_check, FitsBody, read_on, IsTaken, IsTorn}
 use Rattle.session_log.specs.Stored.{PlainStored}
 use Rattle.session_journal.specs.State.{after_change, journal_after, may_come, GoesOn, body_step, founded}
-use Rattle.session_journal.specs.Journal.{header, first_check, record_check, records_spelling, journal_spelling, journal_check, Found, NoJournal, OtherSession, Goes, header_at, read_records, found_after, read_journal, AreBytes, ReadsWhole, ReadsFirst, IsReadFrom}
+use Rattle.session_journal.specs.Journal.{header, first_check, record_check, records_spelling, OtherSession, Goes, header_at, read_records, found_after, read_journal, AreBytes, ReadsWhole, ReadsFirst, IsReadFrom}
 use Rattle.session_journal.proofs.Growing.{bind_some, refused_some, passed_some}
 use Rattle.session_journal.proofs.FrameLaws.{own_first, as_long, ReadsFront, fronts, IsRead, is_read, IsBytes-after}
 use Rattle.session_journal.proofs.ChangeCodec.{change_codec}

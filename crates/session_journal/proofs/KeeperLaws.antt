@@ -1,6 +1,5 @@
 -- What a call of the store leaves of what it keeps.
-use Rattle.std.proofs.Common.{◌≡◌, ℕ, ◌+◌, ◌-◌, ◌<◌, ◌≤◌, Bool, true, false, List, [], ◌∷◌, ◌++◌, length, take, drop, map, Option, Some, None, Result, Ok, Err, OnOk, refl, sym, ap, subst, ◌∙◌, append_assoc, append-nil, arith}
-use Rattle.std.specs.Option.{option_map}
+use Rattle.std.proofs.Common.{◌≡◌, ℕ, ◌+◌, ◌-◌, ◌≤◌, Bool, true, false, List, [], ◌∷◌, ◌++◌, length, take, drop, Option, Some, None, Result, Ok, Err, OnOk, refl, sym, ap, subst, ◌∙◌, append_assoc, append-nil, arith}
 use Rattle.std.proofs.lemmas.List.{take_at, take-append-drop, length-append}
 use Rattle.tea_io.specs.Told.{with_more}
 use Rattle.tea_io.specs.Sink.{GrowsWithin}
@@ -10,7 +9,7 @@ use Rattle.session_log.specs.Stored.{PlainStored, IsStored}
 use Rattle.session_journal.specs.declared.change.Change.{Change}
 use Rattle.session_journal.specs.declared.change.Change.TheVariants.{Came, Reached, Kept}
 use Rattle.session_journal.specs.Changes.{change_spelling, IsTypedChange}
-use Rattle.session_journal.specs.Frames.{Place, last_check, frames_spelling}
+use Rattle.session_journal.specs.Frames.{Place}
 use Rattle.session_journal.specs.State.{after_change, horizon_after, journal_after, may_come, GoesOn, founded}
 use Rattle.session_journal.specs.Journal.{header, first_check, record_check, records_spelling, journal_spelling, journal_check, AreBytes, read_journal, Goes}
 use Rattle.session_journal.specs.Keeper.{AreSafe, KeeperState, Keeps, first_keeper, lease, GoesOnFrom}

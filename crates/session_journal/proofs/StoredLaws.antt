@@ -1,8 +1,8 @@
 -- After changes that may come a session is one that can be stored, and so opened again.
-use Rattle.std.proofs.Common.{◌≡◌, ℕ, ◌+◌, ◌^◌, ◌<◌, ◌≤◌, max, Bool, true, false, ◌&&◌, List, [], ◌∷◌, ◌++◌, length, Option, Some, None, refl, sym, ap, ◌∙◌, subst, arith}
+use Rattle.std.proofs.Common.{◌≡◌, ℕ, ◌+◌, ◌^◌, ◌<◌, ◌≤◌, max, Bool, true, false, ◌&&◌, List, [], ◌∷◌, length, Option, Some, None, refl, arith}
 use Rattle.std.proofs.lemmas.Bool.Decides.{nat_tests}
 use Rattle.tea_base.specs.declared.entry.What.{What}
-use Rattle.tea_base.specs.Legal.{IsLegal, MayFollow}
+use Rattle.tea_base.specs.Legal.{MayFollow}
 use Rattle.tea_base.specs.Limits.{time_limit, most_snapshot}
 use Rattle.tea_base.specs.Readings.{here_count, last_time}
 use Rattle.tea_base.proofs.LogLaws.{last_time-push, IsLegal-push}

@@ -1,9 +1,9 @@
 -- The body of a record. All numbers are big-endian.
-use Rattle.std.specs.Prelude.{ℕ, ◌^◌, ◌<◌, List, [], ◌∷◌, ◌++◌, ◌==◌, Option, if◌then◌else◌}
+use Rattle.std.specs.Prelude.{ℕ, ◌^◌, ◌<◌, List, ◌∷◌, ◌++◌, ◌==◌, if◌then◌else◌}
 use Rattle.std.specs.Int.{to_be_bytes, w32, w64}
 use Rattle.entry_fields.specs.Spelling.{what_spelling, FitsWhat, IsTypedWhat}
 use Rattle.entry_fields.specs.Reading.{what_at}
-use Rattle.byte_fields.specs.Fields.{Decoder, byte_at, number_at, blob, blob_at, paired_at, headed_at, made_at, never_at, whole, FitsBlob}
+use Rattle.byte_fields.specs.Fields.{Decoder, byte_at, number_at, blob, blob_at, paired_at, headed_at, made_at, never_at, FitsBlob}
 use Rattle.session_journal.specs.declared.change.Change.{Change}
 use Rattle.session_journal.specs.declared.change.Change.TheVariants.{Came, Reached, Kept}
 

@@ -1,10 +1,9 @@
 -- The journal that a session is founded with, from nothing or from what is stored.
 use Rattle.std.specs.Prelude.{◌≡◌, ℕ, List, [], ◌∷◌, ◌++◌, map, nat_lt, Option, Some, None, if◌then◌else◌}
 use Rattle.tea_base.specs.declared.entry.Entry.{Entry}
-use Rattle.tea_base.specs.Legal.{IsLegal}
 use Rattle.tea_base.specs.Readings.{last_time}
 use Rattle.session_log.specs.declared.stored.Kept.{Kept}
-use Rattle.session_log.specs.Stored.{PlainStored, IsStored}
+use Rattle.session_log.specs.Stored.{PlainStored}
 use Rattle.session_journal.specs.declared.change.Change.{Change}
 use Rattle.session_journal.specs.declared.change.Change.TheVariants as change
 use Rattle.session_journal.specs.declared.founding.Draft.{Draft}

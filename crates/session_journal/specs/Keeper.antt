@@ -1,5 +1,5 @@
 -- What the store of a journal holds.
-use Rattle.std.specs.Prelude.{◌≡◌, ℕ, ◌+◌, ◌≤◌, max, min, nat_le, Bool, true, false, ⊤, List, [], ◌++◌, length, Option, Some, None, if◌then◌else◌}
+use Rattle.std.specs.Prelude.{◌≡◌, ℕ, ◌+◌, max, min, nat_le, Bool, false, ⊤, List, [], ◌++◌, length, Option, Some, None, if◌then◌else◌}
 use Rattle.tea_io.specs.Told.{with_more}
 use Rattle.tea_base.specs.Limits.{end_of_time}
 use Rattle.store_io.specs.Store.{IsAllSafe}

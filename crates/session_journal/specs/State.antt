@@ -1,5 +1,5 @@
 -- What a journal leaves for a session that goes on.
-use Rattle.std.specs.Prelude.{◌≡◌, ℕ, ◌+◌, max, Bool, true, ◌&&◌, nat_lt, nat_le, List, [], ◌∷◌, length, Option, Some, None, if◌then◌else◌}
+use Rattle.std.specs.Prelude.{◌≡◌, ℕ, ◌+◌, max, Bool, true, ◌&&◌, nat_lt, nat_le, List, [], ◌∷◌, length, Some, None, if◌then◌else◌}
 use Rattle.tea_base.specs.Limits.{time_limit, most_snapshot}
 use Rattle.tea_base.specs.Readings.{here_count}
 use Rattle.byte_fields.specs.Fields.{◌>>=◌, whole}

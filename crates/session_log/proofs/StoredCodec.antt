@@ -13,7 +13,7 @@ use Rattle.tea_base.specs.Readings.{here_count, last_time}
 use Rattle.byte_fields.specs.Fields.{FitsBlob, blob, blob_at, list_of, number_at, paired_at, made_at, whole}
 use Rattle.byte_fields.proofs.Codecs.{Codec, wide64, number_codec, byte_codec, bytes_codec, blob_codec, paired_codec, headed_codec, made_codec, tested_codec, said_codec, never_codec, chosen_codec, bare_codec, tagged_codec, not_tag, whole_again}
 use Rattle.session_log.specs.Spelling.{log_entry_spelling, log_spelling}
-use Rattle.session_log.specs.Stored.{PlainStored, plain_of, MayBeKept, IsStored, is_log_alone, kept_spelling, stored_spelling}
+use Rattle.session_log.specs.Stored.{PlainStored, plain_of, MayBeKept, IsStored, is_log_alone, kept_spelling, full_spelling, stored_spelling}
 use Rattle.session_log.specs.StoredReading.{kept_of_mark, kept_at, may_be_kept, may_be_stored, alone, alone_at, told_at, stored_of_mark, stored_at}
 use Rattle.session_log.specs.declared.stored.Kept.{Kept}
 use Rattle.session_log.proofs.LogCodec.{entries_codec}
@@ -239,9 +239,9 @@ pub spelled_alone : (s : PlainStored) → is_log_alone s ≡ true → stored_spe
 unfolding stored_spelling
 spelled_alone s e = ap (λ (b : Bool). spelled_if b s) e
 
-pub spelled_told : (s : PlainStored) → is_log_alone s ≡ false → stored_spelling s ≡ codes "TEALOG02" ++ (to_be_bytes w64 s.horizon ++ (kept_spelling s.kept ++ list_of log_entry_spelling s.log))
+pub spelled_full : (s : PlainStored) → is_log_alone s ≡ false → stored_spelling s ≡ full_spelling s
 unfolding stored_spelling
-spelled_told s e = ap (λ (b : Bool). spelled_if b s) e
+spelled_full s e = ap (λ (b : Bool). spelled_if b s) e
 
 -- ---- one spelling
 

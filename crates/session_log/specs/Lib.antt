@@ -8,4 +8,5 @@ pub mod Reading
 pub mod Tally
 pub mod Kinds
 pub mod Stored
+pub mod Room
 pub mod StoredReading

@@ -8,7 +8,12 @@ use Rattle.tea_base.specs.Limits.{time_limit, most_snapshot}
 use Rattle.tea_base.specs.Readings.{here_count, last_time}
 use Rattle.session_log.specs.Spelling.{log_entry_spelling, log_spelling}
 use Rattle.session_log.specs.declared.stored.Kept.{Kept}
+use Rattle.session_log.specs.declared.stored.LentKept.{LentKept}
 use Rattle.session_log.specs.declared.stored.Stored.{Stored}
+
+-- what is kept, whose bytes are borrowed
+abbrev pub lent_kept : LentKept → Kept
+lent_kept kept = record { time = kept.time; bytes = kept.bytes.now }
 
 -- a log, the horizon of its times, and what is kept
 pub record PlainStored : Type 0 where
@@ -47,8 +52,10 @@ unfoldable pub kept_spelling : Option Kept → List ℕ
 kept_spelling None = 0 ∷ []
 kept_spelling (Some kept) = 1 ∷ (to_be_bytes w64 kept.time ++ blob kept.bytes)
 
--- where the log tells all it is the log's; else a mark, the horizon, what is kept, how many entries there are, and the entries
+-- a mark, the horizon, what is kept, how many entries there are, and the entries
+abbrev pub full_spelling : PlainStored → List ℕ
+full_spelling s = codes "TEALOG02" ++ (to_be_bytes w64 s.horizon ++ (kept_spelling s.kept ++ list_of log_entry_spelling s.log))
+
+-- where the log tells all it is the log's
 unfoldable pub stored_spelling : PlainStored → List ℕ
-stored_spelling s =
-    if is_log_alone s then log_spelling s.log
-    else codes "TEALOG02" ++ (to_be_bytes w64 s.horizon ++ (kept_spelling s.kept ++ list_of log_entry_spelling s.log))
+stored_spelling s = if is_log_alone s then log_spelling s.log else full_spelling s

@@ -6,18 +6,19 @@ ghost use Rattle.tea_base.specs.Limits.{most_entries, most_bytes};
 ghost use Rattle.session_log.specs.LogState.{next_entry, with_next, HasPayloadAt};
 ghost use Rattle.session_log.specs.Heads.{what_of, IsPresence};
 ghost use Rattle.session_log.specs.Kinds.{entry_kind};
-ghost use Rattle.session_log.specs.Spelling.{log_entry_spelling, log_spelling};
+ghost use Rattle.session_log.specs.Room.{Fills};
+ghost use Rattle.session_log.specs.Spelling.{log_entry_spelling};
 ghost use Rattle.byte_fields.specs.Fields.{list_of};
 
+use crate::filling::Filling;
 use crate::heads::{Head, HeadKind, count_until, last_number_in, last_time_in, push_head};
 use crate::kinds::{EntryKind, kind_of_head};
 use crate::payloads::{copy_what, is_stored, store_event};
 use crate::spelling::write_entries;
-use byte_fields::Writer;
 use event_region::Region;
 use std::alloc::Global;
 use std::marker::Model;
-use tea_base::{Blob, Entry, WantOfMemory, What};
+use tea_base::{Entry, WantOfMemory, What};
 
 /// Why an entry was not given.
 #[derive(Clone, Copy, Debug, PartialEq, Eq)]
@@ -248,27 +249,10 @@ impl Log {
 }
 
 /// Writes how many entries a log has, and each entry but for its seq.
-pub fn write_log(out: &mut Writer, log: &Log) -> Result<(), WantOfMemory>
-    ensures { OnOk result (out.new ≡ out.old ++ list_of log_entry_spelling log.now.entries) }
+pub fn write_log(out: &mut Filling, log: &Log)
+    requires { length (list_of log_entry_spelling log.now.entries) ≤ out.old.spare }
+    ensures { Fills out.old out.new (list_of log_entry_spelling log.now.entries) }
 {
-    out.put_count(log.heads.len())?;
-    write_entries(out, &log.payloads, &log.heads)
-}
-
-/// A writer that has written nothing, of the log's memory.
-pub fn writer_of(log: &Log) -> Writer
-    ensures { result ≡ [] }
-{
-    Writer::new(*log.heads.allocator())
-}
-
-/// The bytes of a log, in memory of their own: `TEALOG01`, how many entries it has, and each entry
-/// but for its seq. The caller keeps the log. Fails for want of memory alone.
-pub fn encode(log: &Log) -> Result<Blob, WantOfMemory>
-    ensures { IfOk result (λ bytes. bytes ≡ log_spelling log.now.entries) }
-{
-    let mut out = writer_of(log);
-    out.put_bytes(b"TEALOG01")?;
-    write_log(&mut out, log)?;
-    Ok(out.done())
+    out.put_u32(log.len());
+    write_entries(out, &log.payloads, &log.heads);
 }

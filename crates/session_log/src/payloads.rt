@@ -1,13 +1,15 @@
 //! The payload bytes of all entries of a log, one after the other.
-ghost use Rattle.std.specs.Prelude.{◌≡◌, ◌↔◌, ◌+◌, ◌≤◌, ◌++◌, length, IfOk, OnOk, IsTrue};
+ghost use Rattle.std.specs.Prelude.{◌≡◌, ◌↔◌, ◌+◌, ◌≤◌, ◌++◌, length, IfOk, IsTrue};
+ghost use Rattle.tea_base.specs.declared.entry.What.TheVariants.{Event};
 ghost use Rattle.tea_base.specs.Limits.{most_payload};
 ghost use Rattle.tea_base.specs.Readings.{IsEventOf};
+ghost use Rattle.byte_fields.specs.Fields.{FitsBlob};
 ghost use Rattle.entry_fields.specs.Spelling.{what_spelling};
 ghost use Rattle.session_log.specs.Heads.{what_of, IsKindWithin};
+ghost use Rattle.session_log.specs.Room.{Fills};
 
+use crate::filling::Filling;
 use crate::heads::HeadKind;
-use byte_fields::Writer;
-use entry_fields::{LentWhat, put_event, put_what};
 use event_region::Region;
 use std::alloc::Global;
 use tea_base::{Blob, WantOfMemory, What};
@@ -51,17 +53,31 @@ pub fn copy_what(alloc: Global, payloads: &Region, kind: HeadKind) -> Result<Wha
     }
 }
 
+/// Writes an Event whose payload is in two pieces.
+fn put_event(out: &mut Filling, number: u32, first: &[u8], second: &[u8])
+    requires fits { FitsBlob (first.now ++ second.now) }
+    requires room { length (what_spelling (Event number (first.now ++ second.now))) ≤ out.old.spare }
+    ensures { Fills out.old out.new (what_spelling (Event number (first.now ++ second.now))) }
+{
+    out.put_u8(3);
+    out.put_u32(number);
+    out.put_u32((first.len() + second.len()) as u32);
+    out.put_bytes(first);
+    out.put_bytes(second);
+}
+
 /// Writes what was stored.
-pub fn put_stored(out: &mut Writer, payloads: &Region, kind: HeadKind) -> Result<(), WantOfMemory>
-    requires { IsKindWithin (length payloads.now.bytes) kind }
-    ensures { OnOk result (out.new ≡ out.old ++ what_spelling (what_of payloads.now.bytes kind)) }
+pub fn put_stored(out: &mut Filling, payloads: &Region, kind: HeadKind)
+    requires within { IsKindWithin (length payloads.now.bytes) kind }
+    requires room { length (what_spelling (what_of payloads.now.bytes kind)) ≤ out.old.spare }
+    ensures { Fills out.old out.new (what_spelling (what_of payloads.now.bytes kind)) }
 {
     match kind {
-        HeadKind::Join => put_what(out, LentWhat::Join),
-        HeadKind::Exit => put_what(out, LentWhat::Exit),
+        HeadKind::Join => out.put_u8(1),
+        HeadKind::Exit => out.put_u8(2),
         HeadKind::Event { number, place } => {
             let (first, second) = payloads.pieces(place);
-            put_event(out, number, first, second)
+            put_event(out, number, first, second);
         }
     }
 }

@@ -1,16 +1,15 @@
 //! A session as it is stored, so that it can go on.
-ghost use Rattle.std.specs.Option.{IfSome, option_copied};
-ghost use Rattle.std.specs.Prelude.{◌≡◌, ◌≢◌, ◌++◌, ◌≤◌, ◌&&◌, not, length, IfOk, OnOk, Err, Some};
-ghost use Rattle.tea_base.specs.Limits.{most_snapshot};
+ghost use Rattle.std.specs.Option.{option_map};
+ghost use Rattle.std.specs.Prelude.{◌≡◌, ◌≢◌, ◌&&◌, not, IfOk, Err};
 ghost use Rattle.byte_fields.specs.Fields.{Decodes, whole};
 ghost use Rattle.session_log.specs.Tally.{TellsLog};
-ghost use Rattle.session_log.specs.Stored.{PlainStored, plain_of, plain_stored, IsStored, is_log_alone, kept_spelling, stored_spelling};
+ghost use Rattle.session_log.specs.Stored.{PlainStored, lent_kept, plain_of, plain_stored, IsStored, is_log_alone, stored_spelling};
 ghost use Rattle.session_log.specs.StoredReading.{may_be_kept, may_be_stored, kept_of_mark, kept_at, alone_at, told_at, stored_of_mark, stored_at};
 
-use crate::log::{Log, encode, write_log, writer_of};
+use crate::log::Log;
 use crate::reading::{LogFault, entries_at};
 use crate::tally::Tally;
-use byte_fields::{Writer, blob_at, bytes_at, u8_at, u64_at};
+use byte_fields::{blob_at, bytes_at, u8_at, u64_at};
 use std::alloc::Global;
 use tea_base::{Blob, MOST_SNAPSHOT, TIME_LIMIT, WantOfMemory};
 
@@ -36,59 +35,37 @@ pub struct Stored {
     pub kept: Option<Kept>,
 }
 
+/// The same, its bytes borrowed.
+#[derive(Clone, Copy, Debug)]
+pub struct LentKept<'a> {
+    /// Its TeaTime, in microseconds.
+    pub time: u64,
+    /// Its spelling.
+    pub bytes: &'a [u8],
+}
+
+/// What is kept, borrowed.
+fn lent(kept: &Option<Kept>) -> Option<LentKept<'_>>
+    ensures { option_map lent_kept result ≡ kept.now }
+{
+    match kept {
+        None => None,
+        Some(kept) => Some(LentKept {
+            time: kept.time,
+            bytes: kept.bytes.bytes(),
+        }),
+    }
+}
+
 /// Whether the log tells all that is stored.
-fn is_log_alone(log: &Log, horizon: u64, kept: Option<&Kept>) -> bool
+pub fn is_log_alone(log: &Log, horizon: u64, kept: Option<LentKept<'_>>) -> bool
     ensures { result ≡ is_log_alone
-        (plain_of log.now.entries horizon (option_copied kept.entry)) }
+        (plain_of log.now.entries horizon (option_map lent_kept kept.entry)) }
 {
     match kept {
         None => horizon == log.last_time(),
         Some(_) => false,
     }
-}
-
-/// Writes what is kept.
-fn put_held(out: &mut Writer, kept: &Kept) -> Result<(), WantOfMemory>
-    requires { length kept.now.bytes ≤ most_snapshot }
-    ensures { OnOk result (out.new ≡ out.old ++ kept_spelling (Some kept.now)) }
-{
-    out.put_u8(1)?;
-    out.put_u64(kept.time)?;
-    out.put_blob(kept.bytes.bytes())?;
-    Ok(())
-}
-
-/// Writes what is kept, or that nothing is.
-fn put_kept(out: &mut Writer, kept: Option<&Kept>) -> Result<(), WantOfMemory>
-    requires { IfSome kept (λ k. length k.now.bytes ≤ most_snapshot) }
-    ensures { OnOk result (out.new ≡ out.old ++ kept_spelling (option_copied kept.entry)) }
-{
-    match kept {
-        None => out.put_u8(0),
-        Some(kept) => put_held(out, kept),
-    }
-}
-
-/// The bytes of a stored session, in memory of their own. It asks for one that keeps the bounds of
-/// [`Stored`]. Where the horizon is the time of the last entry, or 0 of an empty log, and nothing is
-/// kept, the bytes are `TEALOG01` and the entries. Else they are `TEALOG02`, the horizon in eight
-/// bytes, a byte 0 where nothing is kept and else 1 with the time in eight bytes, the length in four
-/// and the bytes, and then the entries. The entries are how many there are, in four bytes, and each
-/// but for its seq. Fails for want of memory alone.
-pub fn encode_stored(log: &Log, horizon: u64, kept: Option<&Kept>) -> Result<Blob, WantOfMemory>
-    requires { IsStored (plain_of log.now.entries horizon (option_copied kept)) }
-    ensures { IfOk result (λ bytes. bytes ≡
-        stored_spelling (plain_of log.now.entries horizon (option_copied kept.entry))) }
-{
-    if is_log_alone(log, horizon, kept) {
-        return encode(log);
-    }
-    let mut out = writer_of(log);
-    out.put_bytes(b"TEALOG02")?;
-    out.put_u64(horizon)?;
-    put_kept(&mut out, kept)?;
-    write_log(&mut out, log)?;
-    Ok(out.done())
 }
 
 /// What is kept, in memory of its own.
@@ -175,7 +152,7 @@ fn tells_more(stored: &Stored, tally: &Tally) -> bool
     requires { TellsLog tally.now stored.now.log.entries }
     ensures { result ≡ (not (is_log_alone (plain_stored stored.now)) && may_be_stored (plain_stored stored.now)) }
 {
-    !is_log_alone(&stored.log, stored.horizon, stored.kept.as_ref()) && may_be_stored(stored, tally)
+    !is_log_alone(&stored.log, stored.horizon, lent(&stored.kept)) && may_be_stored(stored, tally)
 }
 
 /// What a mark says to read.

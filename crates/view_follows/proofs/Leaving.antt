@@ -1,9 +1,10 @@
 -- What a journal leaves of a run, and the runs of which answers tell.
-use Rattle.std.proofs.Common.{◌≡◌, ◌⊎◌, inl, inr, ℕ, ◌<◌, ◌≤◌, Bool, true, ◌&&◌, nat_lt, List, [], ◌∷◌, ◌++◌, take, drop, Option, Some, sym, ap, subst, ◌∙◌, arith, append_assoc, append-nil}
+use Rattle.std.proofs.Common.{◌≡◌, ◌⊎◌, inl, inr, ℕ, ◌<◌, ◌≤◌, Bool, true, ◌&&◌, nat_lt, List, [], ◌∷◌, ◌++◌, map, take, drop, Option, Some, sym, ap, subst, ◌∙◌, arith, append_assoc, append-nil}
 use Rattle.std.proofs.lemmas.Bool.Decides.{nat_tests}
 use Rattle.std.proofs.lemmas.List.{take-append-drop, take_at}
 use Rattle.std.specs.List.{AllByRecursion}
 use Rattle.tea_base.specs.declared.entry.Entry.{Entry}
+use Rattle.tea_base.specs.declared.entry.SessionId.{SessionId}
 use Rattle.store_io.specs.Store.{MayBeTorn}
 use Rattle.session_log.specs.LogState.{next_entry}
 use Rattle.session_log.specs.Stored.{IsStored, PlainStored}
@@ -13,7 +14,8 @@ use Rattle.reflector_core.specs.Stored.{session_of, stored_of}
 use Rattle.reflector_core.proofs.StoredLaws.{sound_session, stored_again, stored_session}
 use Rattle.session_journal.specs.declared.change.Change.{Change}
 use Rattle.session_journal.specs.declared.change.Change.TheVariants.{Came, Kept, Reached}
-use Rattle.session_journal.specs.Journal.{AreBytes, ReadsFirst, journal_check, journal_spelling, read_journal}
+use Rattle.session_journal.specs.Journal.{AreBytes, Goes, ReadsFirst, journal_check, journal_spelling, read_journal}
+use Rattle.session_journal.specs.Frames.{Place}
 use Rattle.session_journal.specs.Keeper.{KeeperState, Keeps, keeper_state}
 use Rattle.session_journal.specs.State.{GoesOn, after_change, founded, has_room, journal_after}
 use Rattle.session_journal.proofs.FrameLaws.{IsBytes-after}
@@ -22,8 +24,9 @@ use Rattle.session_journal.proofs.StoredLaws.{stored_after}
 use Rattle.session_keeper.specs.declared.keeper.JournalKeeper.{JournalKeeper}
 use Rattle.session_lock.specs.History.{play_from}
 use Rattle.journal_store.specs.Safe.{ReadsAs}
-use Rattle.view_follows.specs.AnyEnds.{MayLeave, WasKept, WasOffered}
-use Rattle.view_follows.specs.Journals.{IsHeldBy, IsLeft, IsUntold, JournalsLeave, SafeBytesLeave, SafeIsLeft}
+use Rattle.run_steps.specs.Outside.{LinksTell}
+use Rattle.view_follows.specs.AnyEnds.{AreRuns, BeginAndFollow, FollowOn, HasRun, MayLeave, WasKept, WasOffered}
+use Rattle.view_follows.specs.Journals.{BeginOnJournals, BeginsOn, IsHeldBy, IsLeft, IsUntold, JournalRun, JournalRunsFollow, JournalsLeave, KeepOneJournal, LeavesJournal, SafeBytesLeave, SafeIsLeft}
 use Rattle.view_follows.specs.Sessions.{ReflectorRun}
 
 abbrev pub RecordsFirst : Type 0
@@ -142,3 +145,35 @@ journals_leave told safe first run keeper bytes left held tells fits torn = any_
 
 pub safe_bytes_leave : {C L S : Type 0} (told : S → Option (List ℕ)) (safe : S → ℕ) → SafeRead → SafeBytesLeave C L told safe
 safe_bytes_leave told safe read run keeper bytes held tells = safe_left told safe run keeper bytes held tells read
+
+-- ---- runs on one journal
+
+module _ {C L S : Type 0} (gives : C → ℕ → Type 0) (links : LinksTell L) (told : S → Option (List ℕ)) (safe : S → ℕ) (first : RecordsFirst) (id : SessionId) where
+  same_goes : (one other : Place PlainStored) → Goes one ≡ Goes other → one ≡ other
+  same_goes one other is = cc
+
+  may_follow : (one : JournalRun C L S) (next : ReflectorRun C L) → LeavesJournal told safe id one → BeginsOn id one.found next → MayLeave one.run next.opening
+  may_follow one next leaves begins =
+      let named : one.keeper.id.0 ≡ id.0 = ap (λ (i : SessionId). i.0) leaves.of_session in
+      let left = subst (λ (i : List ℕ). IsLeft i (take (safe one.keeper.journal.store) leaves.bytes) one.found one.run) named
+      (any_left told safe one.run one.keeper leaves.bytes leaves.held leaves.tells first one.found leaves.are leaves.begins) in
+      let same = same_goes left.place begins.0 (sym left.read ∙ begins.1) in
+      subst (MayLeave one.run) (ap (λ (p : Place PlainStored). session_of p.state) same ∙ sym begins.2) (left.leaves (leaves.untold left.own left.more left.place.rest left.safe_are left.left_are))
+
+  follow_journals : (one : JournalRun C L S) (rest : List (JournalRun C L S)) → BeginOnJournals told safe id one rest → FollowOn one.run (map (λ (r : JournalRun C L S). r.run) rest)
+  follow_journals one [] begin = tt
+  follow_journals one (next ∷ rest) begin = (may_follow one next.run begin.0 begin.1, follow_journals next rest begin.2)
+
+  begin_journals : (runs : List (JournalRun C L S)) → KeepOneJournal told safe id runs → BeginAndFollow (map (λ (r : JournalRun C L S). r.run) runs)
+  begin_journals [] keep = tt
+  begin_journals (one ∷ rest) keep = (keep.0, follow_journals one rest keep.1)
+
+  each_ran : (runs : List (JournalRun C L S)) → AllByRecursion (λ (one : JournalRun C L S). HasRun gives id links one.run) runs → AllByRecursion (HasRun gives id links) (map (λ (r : JournalRun C L S). r.run) runs)
+  each_ran [] ran = tt
+  each_ran (one ∷ rest) ran = (ran.0, each_ran rest ran.1)
+
+  pub journal_runs : (runs : List (JournalRun C L S)) → AllByRecursion (λ (one : JournalRun C L S). HasRun gives id links one.run) runs → KeepOneJournal told safe id runs → AreRuns gives id links (map (λ (r : JournalRun C L S). r.run) runs)
+  journal_runs runs ran keep = record { each_ran = each_ran runs ran; follow = begin_journals runs keep }
+
+pub journal_runs_follow : {C L S : Type 0} (gives : C → ℕ → Type 0) (links : LinksTell L) (told : S → Option (List ℕ)) (safe : S → ℕ) → RecordsFirst → JournalRunsFollow gives links told safe
+journal_runs_follow gives links told safe first id runs ran keep = journal_runs gives links told safe first id runs ran keep

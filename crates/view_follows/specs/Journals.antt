@@ -1,11 +1,12 @@
 -- What the journal of a run leaves to the next one, and of which runs the answers of `reflect` tell.
-use Rattle.std.specs.Prelude.{◌≡◌, ℕ, ◌<◌, List, ◌++◌, take, Option, Some, Result, IfOk}
+use Rattle.std.specs.Prelude.{◌≡◌, ℕ, ◌<◌, List, [], ◌∷◌, ◌++◌, map, take, Option, Some, Result, IfOk}
 use Rattle.std.specs.List.{AllByRecursion}
 use Rattle.tea_base.specs.declared.entry.SessionId.{SessionId}
 use Rattle.tea_io.specs.declared.net.NetCall.{NetCall}
 use Rattle.store_io.specs.Store.{MayBeTorn}
 use Rattle.session_log.specs.Stored.{PlainStored}
 use Rattle.reflector_core.specs.PlainSession.{PlainSession}
+use Rattle.reflector_core.specs.Play.{first_session}
 use Rattle.reflector_core.specs.Stored.{session_of}
 use Rattle.session_journal.specs.declared.change.Change.{Change}
 use Rattle.session_journal.specs.declared.change.Change.TheVariants.{Came, Kept, Reached}
@@ -22,7 +23,7 @@ use Rattle.reflect_server.specs.Keeping.{KeeperTells, keeper_tells, no_keeper}
 use Rattle.reflect_server.specs.Opening.{gives_later}
 use Rattle.reflect_server.specs.Reflects.{Reflects, ReflectsKept, ReturnsLinks, with_kept_fault}
 use Rattle.run_steps.specs.Outside.{LinksTell, NetTells}
-use Rattle.view_follows.specs.AnyEnds.{HasRun, MayLeave, WasOffered}
+use Rattle.view_follows.specs.AnyEnds.{AreRuns, HasRun, MayLeave, WasOffered}
 use Rattle.view_follows.specs.Sessions.{ReflectorRun}
 
 -- ---- what is left
@@ -65,6 +66,46 @@ pub record SafeIsLeft {C L : Type 0} (id safe : List ℕ) (run : ReflectorRun C 
 abbrev pub SafeBytesLeave : (C L : Type 0) {S : Type 0} → (S → Option (List ℕ)) → (S → ℕ) → Type 0
 SafeBytesLeave C L {S = S} told safe =
     (run : ReflectorRun C L) (keeper : JournalKeeper S) (bytes : List ℕ) → IsHeldBy told safe keeper run → told keeper.journal.store ≡ Some bytes → SafeIsLeft keeper.id.0 (take (safe keeper.journal.store) bytes) run
+
+-- ---- runs on one journal
+
+-- a run that kept a journal: the keeper that it left, and the bytes that were found of the journal when the next run began
+pub record JournalRun (C L S : Type 0) : Type 0 where
+  pub run : ReflectorRun C L
+  pub keeper : JournalKeeper S
+  pub found : List ℕ
+
+-- The journal of this session held what the run came to. The bytes that were found begin with those that were safe, and each record that they have
+-- behind these is untold.
+pub record LeavesJournal {C L S : Type 0} (told : S → Option (List ℕ)) (safe : S → ℕ) (id : SessionId) (one : JournalRun C L S) : Type 0 where
+  pub of_session : one.keeper.id ≡ id
+  pub held : IsHeldBy told safe one.keeper one.run
+  pub bytes : List ℕ
+  pub tells : told one.keeper.journal.store ≡ Some bytes
+  pub are : AreBytes one.found
+  pub begins : MayBeTorn (Some bytes) (safe one.keeper.journal.store) one.found
+  pub untold
+      : (own more : List Change) (torn : List ℕ) → take (safe one.keeper.journal.store) bytes ≡ journal_spelling id.0 own → one.found ≡ journal_spelling id.0 (own ++ more) ++ torn
+      → AllByRecursion (IsUntold one.run) more
+
+-- a run begins with the session that is read from these bytes
+abbrev pub BeginsOn : {C L : Type 0} → SessionId → List ℕ → ReflectorRun C L → Type 0
+BeginsOn id found run = (place : Place PlainStored) × (read_journal id.0 found ≡ Goes place) × (run.opening ≡ session_of place.state)
+
+-- so does each, on what was found of the one before it
+abbrev pub BeginOnJournals : {C L S : Type 0} → (S → Option (List ℕ)) → (S → ℕ) → SessionId → JournalRun C L S → List (JournalRun C L S) → Type 0
+BeginOnJournals told safe id one [] = Unit {0}
+BeginOnJournals told safe id one (next ∷ rest) = LeavesJournal told safe id one × BeginsOn id one.found next.run × BeginOnJournals told safe id next rest
+
+-- and the first one with a new session
+abbrev pub KeepOneJournal : {C L S : Type 0} → (S → Option (List ℕ)) → (S → ℕ) → SessionId → List (JournalRun C L S) → Type 0
+KeepOneJournal told safe id [] = Unit {0}
+KeepOneJournal told safe id (one ∷ rest) = (one.run.opening ≡ first_session) × BeginOnJournals told safe id one rest
+
+-- such runs are runs of one session, each of which begins with what the one before it may have left
+abbrev pub JournalRunsFollow : {C L S : Type 0} → (C → ℕ → Type 0) → LinksTell L → (S → Option (List ℕ)) → (S → ℕ) → Type 0
+JournalRunsFollow {C = C} {L = L} {S = S} gives links told safe =
+    (id : SessionId) (runs : List (JournalRun C L S)) → AllByRecursion (λ one. HasRun gives id links one.run) runs → KeepOneJournal told safe id runs → AreRuns gives id links (map (λ one. one.run) runs)
 
 -- ---- what is answered
 

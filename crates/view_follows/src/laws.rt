@@ -3,7 +3,7 @@ ghost use Rattle.run_steps.specs.Outside.{links_tell, net_tells};
 ghost use Rattle.view_follows.specs.AnyEnds.{OfRunsOfViews, RunsLiveOn};
 ghost use Rattle.view_follows.specs.Answered.{AnsweredVisitsHaveNoFault, VisitsEndByRefusals, VisitsEndWithLinks};
 ghost use Rattle.view_follows.specs.BothEnds.{LinksMeet};
-ghost use Rattle.view_follows.specs.Journals.{AnswersTellOfRuns, JournalsLeave, KeptAnswersTellOfRuns, SafeBytesLeave};
+ghost use Rattle.view_follows.specs.Journals.{AnswersTellOfRuns, JournalRunsFollow, JournalsLeave, KeptAnswersTellOfRuns, SafeBytesLeave};
 ghost use Rattle.view_follows.specs.SessionsReplay.{EndsViews, KeepHonest, OfViewRuns, ServesViews};
 ghost use Rattle.view_follows.specs.ViewsReplay.{ViewsReplay, VisitsEndInReplay, VisitsOfferFollowers};
 
@@ -78,9 +78,11 @@ pub fn views_of_any_runs<C: Clock, L: Link>()
 
 /// What the journal of a run leaves, whatever call of its store had failed: any bytes that begin with the safe ones are read as a session that the run
 /// may leave, where each record that is read behind the safe ones is one that the run was writing and that nobody was told. The safe bytes alone are read as such a session.
+/// So runs that began each on what was found of the journal of the one before are runs of one session.
 pub fn journals_leave<C: Clock, L: Link, S: Store>()
     ensures left { JournalsLeave C L S.bytes S.safe }
     ensures safe { SafeBytesLeave C L S.bytes S.safe }
+    ensures follow { JournalRunsFollow C.gives (links_tell L.coming L.heard L.sent L.counts) S.bytes S.safe }
 {
     own_records_are_read_first();
     safe_bytes_are_read();

@@ -4,13 +4,13 @@ ghost use Rattle.tea_base.specs.declared.entry.Entry.{Entry};
 ghost use Rattle.tea_base.specs.Readings.{current};
 ghost use Rattle.reflector_core.specs.PlainSession.{IsSoundSession};
 ghost use Rattle.resend_table.specs.Noted.{HasNoted};
-ghost use Rattle.session_log.specs.Stored.{plain_stored, IsStored, stored_spelling};
+ghost use Rattle.session_log.specs.Stored.{lent_kept, plain_stored, IsStored, stored_spelling};
 ghost use Rattle.reflector_core.specs.Stored.{base_of, kept_of, session_of, stored_of, IsNextHere};
 ghost use Rattle.reflector_core.specs.NextHere.{is_before, lesser_here, noted_kind};
 
 use crate::session::Session;
 use resend_table::{Kind, Resend};
-use session_log::{EntryKind, Kept, Log, Stored, encode_stored};
+use session_log::{EntryKind, Kept, LentKept, Log, Room, Stored, encode_stored};
 use std::alloc::Global;
 use tea_base::{Blob, WantOfMemory};
 use wire_frames::Base;
@@ -52,8 +52,14 @@ impl Session {
     pub fn store(&self) -> Result<Blob, WantOfMemory>
         ensures { IfOk result (λ bytes. bytes ≡ stored_spelling (stored_of self.now.plain)) }
     {
-        let kept = kept_of(self.kept.clone()?);
-        encode_stored(&self.log, self.horizon, kept.as_ref())
+        encode_stored(self.alloc, &self.log, self.horizon, lent_kept(&self.kept))
+    }
+
+    /// The same bytes in memory that was taken before. Takes no other, so this never fails.
+    pub fn store_in(&self, room: Room) -> Blob
+        ensures { result ≡ stored_spelling (stored_of self.now.plain) }
+    {
+        room.spell(&self.log, self.horizon, lent_kept(&self.kept))
     }
 
     /// The least view above that number that is here, with the seq of its Join; None exactly where
@@ -115,12 +121,15 @@ fn base_of(kept: Option<Kept>) -> Option<Base>
 }
 
 /// What is kept, as it is stored.
-fn kept_of(base: Option<Base>) -> Option<Kept>
-    ensures { result ≡ kept_of base }
+fn lent_kept(base: &Option<Base>) -> Option<LentKept<'_>>
+    ensures { option_map lent_kept result ≡ kept_of base.now }
 {
     match base {
         None => None,
-        Some(Base { time, bytes }) => Some(Kept { time, bytes }),
+        Some(base) => Some(LentKept {
+            time: base.time,
+            bytes: base.bytes.bytes(),
+        }),
     }
 }
 

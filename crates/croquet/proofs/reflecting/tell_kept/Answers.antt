@@ -1,3 +1,4 @@
+use Rattle.command_reflect.specs.ReflectedSteps.{log_name}
 use Rattle.croquet.proofs.ReflectorRuns.{ran_unkept}
 use Rattle.croquet.proofs.reflecting.tell_kept.Goals as goal
 
@@ -6,4 +7,4 @@ returns-in-Ok g c = rw c.in-Ok.is c.give_reflected.ensures
 
 pub returns-in-Err : goal.returns-in-Err
 returns-in-Err g c =
-    rw c.in-Err.is (ran_unkept _ _ c.args.log c.args.unkept c.in-Err.fault c.args.files.now c.args.out.now c.tell_kept_fault.new.out c.tell_kept_fault.result c.tell_kept_fault.ensures)
+    rw c.in-Err.is (ran_unkept _ _ (log_name c.args.log) c.args.unkept c.in-Err.fault c.args.files.now c.args.out.now c.tell_kept_fault.new.out c.tell_kept_fault.result c.tell_kept_fault.ensures)

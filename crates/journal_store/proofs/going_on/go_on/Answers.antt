@@ -1,7 +1,4 @@
-use Rattle.std.proofs.Common.{◌≡◌}
-use Rattle.session_log.specs.Stored.{plain_stored}
 use Rattle.session_journal.specs.Reading.{read_place}
-use Rattle.journal_store.proofs.GoingLaws.{covered_by}
 use Rattle.journal_store.proofs.going_on.go_on.Goals as goal
 
 pub resume-requires : goal.resume-requires

@@ -1,4 +1,4 @@
-use Rattle.std.proofs.Common.{◌≡◌, ◌+◌, ◌-◌, Some, slice_get, arith}
+use Rattle.std.proofs.Common.{◌≡◌, ◌+◌, ◌-◌, arith}
 use Rattle.session_journal.proofs.FoundingLaws.{adds_next, fits_at}
 use Rattle.session_journal.proofs.founding.add_entries.Goals as goal
 

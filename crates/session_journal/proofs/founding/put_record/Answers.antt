@@ -1,10 +1,7 @@
-use Rattle.std.proofs.Common.{◌≡◌, ◌++◌, List, ℕ, ap, sym, ◌∙◌, append_assoc}
+use Rattle.std.proofs.Common.{◌++◌, List, ℕ, ap, ◌∙◌}
 use Rattle.std.proofs.lemmas.List.{take_rest}
-use Rattle.session_journal.specs.declared.change.Change.{Change}
-use Rattle.byte_fields.specs.Fields.{blob}
-use Rattle.session_journal.specs.Changes.{change_spelling}
 use Rattle.session_journal.specs.Journal.{record_check}
-use Rattle.session_journal.proofs.HeadLaws.{body_is, record_is}
+use Rattle.session_journal.proofs.HeadLaws.{body_is}
 use Rattle.session_journal.proofs.founding.put_record.Goals as goal
 
 pub returns-clause-check : goal.returns-clause-check

@@ -1,4 +1,4 @@
-use Rattle.std.proofs.Common.{◌≡◌, ◌-◌, ◌+◌, List, ℕ, length, Ok, true, false, sym, subst, ap, ◌∙◌}
+use Rattle.std.proofs.Common.{◌≡◌, ◌-◌, ◌+◌, length, Ok, sym, subst, ap, ◌∙◌}
 use Rattle.session_log.specs.Stored.{PlainStored, plain_stored}
 use Rattle.session_journal.specs.Lent.{lent_change}
 use Rattle.session_journal.specs.Frames.{Place, read_on}

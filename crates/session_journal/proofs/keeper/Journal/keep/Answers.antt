@@ -1,7 +1,5 @@
-use Rattle.std.proofs.Common.{◌≡◌, ◌+◌, ◌++◌, ◌∙◌, List, ℕ, length, ap, sym, arith}
-use Rattle.byte_fields.specs.Fields.{blob}
+use Rattle.std.proofs.Common.{◌++◌, ◌∙◌, List, ℕ, ap, arith}
 use Rattle.session_journal.specs.Lent.{lent_change}
-use Rattle.session_journal.specs.Changes.{change_spelling}
 use Rattle.session_journal.specs.Heads.{head_bytes}
 use Rattle.session_journal.proofs.HeadLaws.{record_long}
 use Rattle.session_journal.proofs.keeper.Journal.keep.Goals as goal

@@ -1,4 +1,3 @@
-use Rattle.std.proofs.Common.{◌∙◌}
 use Rattle.session_journal.proofs.KeeperLaws.{lease_reaches}
 use Rattle.session_journal.proofs.keeper.Journal.reach.Goals as goal
 
