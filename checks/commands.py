@@ -166,11 +166,14 @@ def check_trace(program, case, wanted):
 # ---------------------------------------------------------------- spoiled snapshots
 
 COUNTING = b"class Root{field n;init(o,p){if(p==nil){this.n=0;}else{this.n=at(p,0);}persist([this.n+1]);}}"
+EMPTY = b"class Root{init(o){}}"
+# It holds a number, a text and a list, and has subscriptions and messages with arguments.
+FULL = (b"class Root{field a;field b;init(o){this.a=[7,\"ab\",nil];this.b=create(B,this.a);subscribe(\"s\",\"e\",\"m\");subscribe(\"s\",\"f\",\"m\");"
+        b"this.future(5).m([1,true]);this.b.future(2).n(\"c\",2,this);}m(v){}}class B{field k;init(o){this.k=o;beKnown(\"b\");}n(x,y,z){}}")
 
 
-def counted_world():
-    """A world that has saved a value."""
-    return croquet.World.first(croquet.read_program(COUNTING), croquet.session_id(b"n", COUNTING))
+def first_world(source):
+    return croquet.World.first(croquet.read_program(source), croquet.session_id(b"n", source))
 
 
 def fronts(content):
@@ -185,9 +188,20 @@ def turned(content):
             for place in range(8 * len(content))]
 
 
-def taken_up(snapshot):
+def set_bytes(content):
+    """The bytes with each of the first sixteen set to the least and the greatest, with and without a sign."""
+    return [(f"byte {place} set to {value}", content[:place] + bytes([value]) + content[place + 1:])
+            for place in range(min(16, len(content))) for value in (0, 127, 128, 255)]
+
+
+def greatest(content):
+    """The bytes with four in a row that are a number as great as can be, at each place."""
+    return [(f"four bytes from {place} on as great as can be", content[:place] + b"\xff" * 4 + content[place + 4:]) for place in range(len(content) - 3)]
+
+
+def taken_up(source, snapshot):
     """What a replay from these bytes to time 0 prints, and the files that it writes."""
-    world = counted_world()
+    world = first_world(source)
     try:
         world = croquet.read_snapshot(world.program, world.id, snapshot)
     except croquet.Bad:
@@ -198,24 +212,25 @@ def taken_up(snapshot):
     return croquet.world_line(world), {"f": snapshot, "g": croquet.to_json(world.saved)}
 
 
-def check_spoiled(program, snapshot):
-    files = {"p": COUNTING, "l": croquet.Session().encoded(), "s": snapshot}
+def check_spoiled(program, source, snapshot):
+    files = {"p": source, "l": croquet.Session().encoded(), "s": snapshot}
     run = program.run(["replay", "p", "n", "l", "0", "--from", "s", "--snapshot", "f", "--saved", "g"], files)
-    expect(taken_up(snapshot), (run.told(), run.files))
+    expect(taken_up(source, snapshot), (run.told(), run.files))
 
 
 def spoiled_cases():
-    """Each front of the snapshot of a world that has saved a value, and each bit of it and of the one without that value."""
-    world = counted_world()
+    """Each front of snapshots, and each bit of them turned; and numbers that are as great as can be, in a snapshot with all that a world may hold."""
+    world = first_world(COUNTING)
     saving = world.snapshot()
     world.persist(None)
-    empty = world.snapshot()
-    kinds = {"a saved value": fronts(saving) + turned(saving), "no saved value": turned(empty)}
+    bare, full = first_world(EMPTY).snapshot(), first_world(FULL).snapshot()
+    kinds = {"a saved value": (COUNTING, fronts(saving) + turned(saving)), "no saved value": (COUNTING, turned(world.snapshot())),
+             "a world with nothing": (EMPTY, fronts(bare) + turned(bare)), "a world with all": (FULL, greatest(full) + set_bytes(full))}
 
-    def case_of(kind, how, snapshot):
-        return Case(f"{kind}, {how}", lambda program: check_spoiled(program, snapshot))
+    def case_of(kind, source, how, snapshot):
+        return Case(f"{kind}, {how}", lambda program: check_spoiled(program, source, snapshot))
 
-    return [case_of(kind, *pair) for kind, pairs in kinds.items() for pair in pairs]
+    return [case_of(kind, source, *pair) for kind, (source, pairs) in kinds.items() for pair in pairs]
 
 
 # ---------------------------------------------------------------- commands

@@ -29,9 +29,11 @@ class Host:
         self.listener.bind(("127.0.0.1", 0))
         self.listener.listen()
         self.listener.settimeout(Wire.patience)
-        address = f"localhost:{self.listener.getsockname()[1]}"
-        self.run = program.start(["join", "p", "a", address, "7", "s"], {"p": EMPTY, "s": script})
+        self.run = self.start(program, f"localhost:{self.listener.getsockname()[1]}", script)
         self.wires = []
+
+    def start(self, program, address, script):
+        return program.start(["join", "p", "a", address, "7", "s"], {"p": EMPTY, "s": script})
 
     def meet(self):
         """The next connection."""

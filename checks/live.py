@@ -134,6 +134,49 @@ def views_are_of_a_session_with_their_value(program):
     expect(b"[11,8]", saved.files.get("f"))
 
 
+VOTERS, VOTED = (7, 8, 10, 11), (6, 11, 17)
+VOTING = b"".join(b"vote %d\n" % at for at in VOTED) + b"settle\n"
+VOTES = ["at 6 votes 4 agreed", "at 11 votes 5 diverged 12 16", "at 17 votes 4 agreed", "votes 13"]
+
+
+def digest_after(entries, at):
+    """The digest of the world directly after an entry, by the reference."""
+    world = croquet.World.first(croquet.read_program(SOURCE), croquet.session_id(b"a", SOURCE))
+    for entry in entries[:at]:
+        world.external(entry)
+    return croquet.hashlib.sha256(world.snapshot()).hexdigest()
+
+
+def have_voted(entries, run, view):
+    """A view printed its three votes, and the log has them, each with the digest of the reference's world."""
+    told = " / ".join(f"voted {at} {number}" for number, at in enumerate(VOTED, start=1))
+    expect_that(run.told().startswith(f"{told} / settled 3 / view {view} "), told, run.told())
+    votes = [croquet.vote_payload(at, digest_after(entries, at)) for at in VOTED]
+    expect(votes, [entry.payload for entry in entries if (entry.kind, entry.view) == ("event", view)])
+
+
+def views_vote_on_their_worlds(program):
+    """Four views vote on three entries, and agree. A client by hand votes otherwise on one of them, and its vote is named."""
+    with reflecting(program, 5, SOURCE) as reflector:
+        client = reflector.view(9)
+        client.until_entry(1)
+        runs = [start_join(program, reflector, view, VOTING) for view in VOTERS]
+        client.until_entry(5)
+        for at in VOTED:
+            expect(at, client.done(croquet.payload("s", "add", at))[0])
+            client.until_entry(at + len(VOTERS))
+            if at == 11:
+                expect(16, client.done(croquet.vote_payload(at, "0" * 64))[0])
+        ends = [run.end() for run in runs]
+        leave_all(client)
+        run = reflector.end()
+    entries = served_log(run, [client])
+    for view, end in zip(VOTERS, ends):
+        have_voted(entries, end, view)
+    expect(" / ".join(VOTES), program.run(["votes", "l"], {"l": run.files["f"]}).told())
+
+
 CHECKS = [views_come_to_the_worlds_of_the_replay, a_reflector_that_is_killed_ends_its_views,
-          an_address_that_is_taken_is_a_fault, views_are_of_a_session_with_their_value]
+          an_address_that_is_taken_is_a_fault, views_are_of_a_session_with_their_value,
+          views_vote_on_their_worlds]
 PARTS = {"live": lambda: [Case(check.__name__.replace("_", " "), check) for check in CHECKS]}

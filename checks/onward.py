@@ -2,7 +2,7 @@
 import struct
 
 from case import Case, expect, expect_that
-from commands import each, fronts, turned
+from commands import each, fronts, greatest, set_bytes, turned
 from reference import croquet, read_stored
 from sessions import named_cases
 
@@ -53,7 +53,9 @@ def check_onward(program, case, wanted):
 
 # ---------------------------------------------------------------- spoiled sessions
 
-KEEPING = b"join 7 0\nsend 7 1 1 0 68\noffer 7 1 2 73\nleave 7 1 20\ntick 300\n"
+# The script of each session that is spoiled.
+SPOILED = {"a session that keeps a snapshot": b"join 7 0\nsend 7 1 1 0 68\noffer 7 1 2 73\nleave 7 1 20\ntick 300\n",
+           "a log alone": b"join 7 0\nsend 7 1 1 0 6869\n"}
 
 
 def read_session(source):
@@ -75,13 +77,12 @@ def check_spoiled(program, stored):
 
 
 def spoiled_cases():
-    """Each front of a stored session that keeps a snapshot, and it with each bit turned."""
-    stored = stored_session(KEEPING)
+    """Each front of a stored session, it with each bit turned, with a byte of its head set, and with a number that is as great as can be."""
+    def case_of(kind, how, content):
+        return Case(f"{kind}, {how}", lambda program: check_spoiled(program, content))
 
-    def case_of(how, content):
-        return Case(f"a session that keeps a snapshot, {how}", lambda program: check_spoiled(program, content))
-
-    return [case_of(*pair) for pair in fronts(stored) + turned(stored)]
+    stored = {kind: stored_session(script) for kind, script in SPOILED.items()}
+    return [case_of(kind, *pair) for kind, content in stored.items() for pair in fronts(content) + turned(content) + set_bytes(content) + greatest(content)]
 
 
 # ---------------------------------------------------------------- files that go on

@@ -20,6 +20,7 @@ class Run:
     status: int
     text: bytes
     files: dict  # those that the run made or changed
+    errors: bytes  # what it wrote on the standard error
 
     def told(self):
         """The lines, divided by ` / `, and the status in square brackets if it is not 0."""
@@ -67,13 +68,14 @@ class Program:
         shutil.copyfile(source, self.path)
         os.chmod(self.path, 0o755)
 
-    def start(self, words, files=None, errors=b""):
-        """Starts a run with these words, and with these files in its folder. It has to write these errors."""
-        return Started(self, words, files or {}, errors)
+    def start(self, words, files=None, errors=b"", is_quiet=True, stdin=subprocess.DEVNULL):
+        """Starts a run with these words, and with these files in its folder. It has to write these errors, or any if they are None.
+        One that is not quiet says its hints too."""
+        return Started(self, words, files or {}, errors, is_quiet, stdin)
 
-    def run(self, words, files=None, errors=b""):
+    def run(self, words, files=None, errors=b"", is_quiet=True):
         """Runs to the end."""
-        return self.start(words, files, errors).end()
+        return self.start(words, files, errors, is_quiet).end()
 
     def launched_by(self, *launcher):
         """The same program, run by these words."""
@@ -85,16 +87,17 @@ class Program:
 class Started:
     """A run that goes on."""
 
-    def __init__(self, program, words, files, errors):
+    def __init__(self, program, words, files, errors, is_quiet, stdin):
         self.given, self.errors, self.patience = files, errors, program.patience
         self.folder = os.path.join(program.folder, str(next(NUMBERS)))
         os.mkdir(self.folder)
         for name, content in files.items():
             with open(os.path.join(self.folder, name), "wb") as file:
                 file.write(content)
+        quiet = {"CROQUET_QUIET": "1"} if is_quiet else {}
         self.process = subprocess.Popen(
-            [*program.launcher, program.path, *words], cwd=self.folder, env={"PATH": os.environ.get("PATH", "")},
-            stdin=subprocess.DEVNULL, stdout=subprocess.PIPE, stderr=subprocess.PIPE)
+            [*program.launcher, program.path, *words], cwd=self.folder, env={"PATH": os.environ.get("PATH", ""), **quiet},
+            stdin=stdin, stdout=subprocess.PIPE, stderr=subprocess.PIPE)
 
     def kill(self):
         """Ends it, whatever it has written on the standard error."""
@@ -114,7 +117,7 @@ class Started:
             shutil.rmtree(self.folder, ignore_errors=True)
         if self.errors not in (None, errors):
             raise Wrong(f"{self.errors!r} on the standard error", errors.decode("utf-8", "replace"))
-        return Run(self.process.returncode, text, left)
+        return Run(self.process.returncode, text, left, errors)
 
     def left(self):
         """The files that were not given so."""

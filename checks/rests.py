@@ -1,4 +1,4 @@
-"""Views drawn by chance that stop at an entry, with a base and a cut or without: the last line of each is that of the replay."""
+"""Views drawn by chance that stop at an entry, with a base and a cut or without: the last line of each is that of the replay, and each world that one shows is."""
 import random
 import re
 
@@ -7,6 +7,7 @@ from reference import croquet, outcomes
 from views import check_view
 
 COUNT, SEED = 300, 52
+SHOWN = re.compile(r"time (\d+) objects .*")
 LAST = re.compile(r"view 8 time (\d+) seq (\d+) digest ([0-9a-f]{64})(?= [>;]|$)")
 # A world in which messages are due at the time of the entry that they follow from, and others at times of their own.
 PROGRAM = """class Root{{field n;init(o){{this.n=0;subscribe("s","e","e");{first}}}
@@ -89,6 +90,11 @@ def stop_from(source, entries, joined):
     return source.choice(later).time
 
 
+def shown(source):
+    """The world is shown there, or not."""
+    return source.choice(["", " / show", " / show / show"])
+
+
 def drawn_view(source):
     """A case of a view, the program and the log."""
     program = drawn_program(source)
@@ -97,7 +103,7 @@ def drawn_view(source):
     watched = 'watch "m" "p" queued / watch "m" "t" queued / '
     if len(joins) == 1:
         links = [served_frames(source, entries, joins[0], from_, base)]
-        script = f"{watched}wait {stop_from(source, entries, joins[0])}"
+        script = f"{watched}wait {stop_from(source, entries, joins[0])}{shown(source)}"
     else:
         told = entries[:joins[1] - 1]
         first = served_frames(source, told, joins[0], from_, base)
@@ -105,7 +111,8 @@ def drawn_view(source):
         reached = next(time for time, _ in first if time >= pause)
         seen = sum(entry.time <= reached for entry in entries)
         links = [first, served_frames(source, entries, joins[1], seen)]
-        script = f"{watched}wait {pause} / cut / wait {stop_from(source, entries, joins[1])}"
+        script = (f"{watched}wait {pause}{shown(source)} / cut{shown(source)} / "
+                  f"wait {stop_from(source, entries, joins[1])}{shown(source)}")
     spelled = " | ".join(" ".join(frame.hex() for _, frame in link) for link in links)
     return f"a 8 {script} | {program.decode()} | {spelled}", program, entries
 
@@ -118,8 +125,22 @@ def replayed(program, entries, time):
     return croquet.replayed(first_world(program), entries, time)
 
 
+def full_text(world):
+    return [croquet.world_line(world), *croquet.full_lines(world)]
+
+
+def check_shown(told, program, entries):
+    """Each world that is shown is the replay's to its time, in full."""
+    lines = told.partition(" > ")[0].split(" / ")
+    for place, line in enumerate(lines):
+        if match := SHOWN.fullmatch(line):
+            wanted = full_text(replayed(program, entries, int(match[1])))
+            expect(wanted, lines[place:place + len(wanted)])
+
+
 def check_rest(case, told, program, entries):
     """The reference's last line is the replay's, with the number of entries up to its time."""
+    check_shown(told, program, entries)
     match = LAST.search(told)
     expect_that(match is not None, "the last line of a view", told)
     time = int(match[1])

@@ -7,6 +7,7 @@ from commands import reference_cases
 from reference import croquet, expanded, log_text
 from reflector import (ALIVE, LAST_LINE, LEAVE, EMPTY, expect_entries, expect_words, leave_all,
                        reflecting, send_frame, served_log, snap_frame)
+from views import frame_of
 from websocket import BINARY, CLOSE_NORMAL, frame
 
 
@@ -298,7 +299,7 @@ def wanted_session(wanted):
 
 
 def frames_of(part):
-    return [] if part == "-" else [bytes.fromhex(word) for word in part.split(" ")]
+    return [] if part == "-" else [frame_of(word) for word in part.split(" ")]
 
 
 def opening_of(parts):

@@ -4,8 +4,10 @@ Wrong programs are this one with one thing changed, so that it can be seen what 
 """
 import errno
 import os
+import select
 import sys
 import threading
+import time
 
 import stand_in_journals as journals
 import stand_in_links as links
@@ -52,13 +54,14 @@ def read_words(words):
     count, allowed, needed = COMMANDS[words[0]]
     plain, options, rest = [], {}, iter(words[1:])
     for word in rest:
-        if word.startswith("-"):
+        if word.startswith("-") and word != "-":
             value = next(rest, "-")
             usage(word in allowed and word not in options and not value.startswith("-"))
             options[word] = value
         else:
             plain.append(word)
     usage(len(plain) == count and needed <= set(options))
+    usage("-" not in plain or words[0] == "join" and plain.index("-") == 4)
     return words[0], plain, options
 
 
@@ -347,15 +350,41 @@ class OneLink:
             raise croquet.Failed() from None
 
 
+class InputFeed:
+    """The lines of the standard input."""
+
+    def __init__(self):
+        self.held, self.ended = b"", False
+
+    def next(self):
+        if b"\n" not in self.held and not self.ended and select.select([0], [], [], 0)[0]:
+            try:
+                content = os.read(0, 65_536)
+            except OSError:
+                raise croquet.Ended("read-fault", 4) from None
+            self.held, self.ended = self.held + content, content == b""
+        if b"\n" in self.held:
+            line, _, self.held = self.held.partition(b"\n")
+            return line.removesuffix(b"\r")
+        if not self.ended:
+            return croquet.NOTHING
+        line, self.held = self.held, b""
+        return line.removesuffix(b"\r") if line else croquet.CLOSED
+
+
 def join(plain, options):
     name, view = check_name(plain[1]), number(plain[3], 1, 2**32)
     source = read_file(plain[0], "program")
     program = croquet.read_program(source)
     croquet.check_address(plain[2])
-    script = croquet.read_view_script(read_file(plain[4], "script"))
+    script = None if plain[4] == "-" else croquet.read_view_script(read_file(plain[4], "script"))
     persisted = read_persisted(options)
     replica = croquet.Replica(program, croquet.session_id(name, source, persisted), view, persisted)
-    croquet.ViewRun(replica, Net(links.socket_address(plain[2])), Output).run(script)
+    net = Net(links.socket_address(plain[2]))
+    if script is None:
+        croquet.LiveRun(replica, net, Output, InputFeed(), pause=lambda: time.sleep(1)).run_live()
+    else:
+        croquet.ViewRun(replica, net, Output).run(script)
 
 
 # ---------------------------------------------------------------- a reflector

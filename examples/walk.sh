@@ -1,5 +1,5 @@
 #!/usr/bin/env bash
-# Runs the commands that README.md, docs/TUTORIAL.md and examples/README.md show, and compares what is printed. Run it by hand, in any folder, while
+# Runs the commands that README.md, docs/TUTORIAL.md, docs/PIPES.md and examples/README.md show, and compares what is printed. Run it by hand, in any folder, while
 # nothing else listens on the ports 8080 and 8090. It ends with 1 at the first block that prints something else, or in which a command fails.
 #
 # A ```sh block that calls ./croquet, or a script, is run. The ```text block after it is what its commands print. Where there is none, they print
@@ -98,4 +98,5 @@ walk() {
 
 walk README.md
 walk docs/TUTORIAL.md
+if command -v node >/dev/null; then walk docs/PIPES.md; else echo "walk: docs/PIPES.md is left out, since there is no node"; fi
 walk examples/README.md

@@ -8,9 +8,9 @@ is proved of it.
     python3 croquet_reference.py KIND FILE
 
 prints each line of FILE with what it comes to. The kinds are evaluate, run,
-canonical, decode, payload, data (language) and scripts, logs, stored, onward,
-programs, worlds, saved, snapshots, resumed, inspects, traces, votes, reflectors,
-views (commands).
+canonical, decode, payload, data (language), client, server (frames) and scripts,
+logs, stored, onward, programs, worlds, saved, snapshots, resumed, inspects, traces,
+votes, reflectors, views (commands).
 """
 import hashlib
 import heapq
@@ -2636,7 +2636,10 @@ def read_view_line(line):
     if name == "mark":
         need(len(words) == 1)
         return (name, words[0])
-    need(name in ("settle", "snap", "cut", "quit") and not words)
+    if name == "vote":
+        need(len(words) == 1 and decimal(words[0], 2**32) >= 1)
+        return (name, int(words[0]))
+    need(name in ("settle", "snap", "cut", "quit", "show") and not words)
     return (name,)
 
 
@@ -2649,7 +2652,7 @@ def read_view_script(source):
         lines = source.decode("utf-8").split("\n")
         ended = [line.removesuffix("\r") for line in lines[:-1]] + lines[-1:]
         read = [read_view_line(line) for line in ended if line and not line.startswith("#")]
-        need(sum(line[0] == "publish" for line in read) <= MOST_PUBLISHED)
+        need(sum(line[0] in ("publish", "vote") for line in read) <= MOST_PUBLISHED)
     except (Bad, UnicodeDecodeError):
         raise Ended("input script", 3) from None
     return read
@@ -3034,6 +3037,9 @@ class ViewRun:
         return (f"view {self.replica.view} time {world.time} seq {self.replica.seen} "
                 f"digest {hashlib.sha256(world.snapshot()).hexdigest()}")
 
+    def tell(self, line):
+        self.out.write(line)
+
     def update(self):
         """Prints what models published, of the topics that are watched."""
         watched = [event for event in self.replica.take_out() if event[1:3] in self.topics]
@@ -3041,8 +3047,7 @@ class ViewRun:
         for place, (time, scope, event, v) in enumerate(watched):
             topic = scope, event
             if self.topics[topic] == "queued" or last[topic] == place:
-                self.out.write(f"event {time} {value_text(scope)} {value_text(event)} "
-                               f"{value_text(v)}")
+                self.tell(f"event {time} {value_text(scope)} {value_text(event)} {value_text(v)}")
 
     def do_publish(self, scope, event, v):
         self.replica.publish(scope, event, v)
@@ -3085,6 +3090,231 @@ class ViewRun:
 
     def do_mark(self, word):
         return f"mark {word}"
+
+    def do_show(self):
+        """Its world in full, once nothing is due any more at the world's own time."""
+        self.rest()
+        world = self.replica.world
+        return "\n".join([world_line(world), *full_lines(world)])
+
+    def do_vote(self, at):
+        """The digest of the world directly after an entry, as an event."""
+        if self.replica.seen >= at:
+            return f"vote-missed {self.replica.seen}"
+        while self.replica.seen < at:
+            self.receive()
+        digest = hashlib.sha256(self.replica.world.snapshot()).hexdigest()
+        self.replica.publish("#vote", "digest", List([at, digest]))
+        self.send_unsent()
+        return f"voted {at} {len(self.replica.payloads)}"
+
+
+# ---------------------------------------------------------------- a view whose lines come to its run
+
+MOST_LINE = 65_536
+LINES_IN_A_ROW = 64
+NOTHING, CLOSED = object(), object()
+
+
+class Feed(Calls):
+    """Lines in memory. The calls of these numbers fail, or tell nothing."""
+
+    def __init__(self, lines, failing, idle):
+        super().__init__(failing)
+        self.lines, self.idle = list(lines), set(idle)
+
+    def next(self):
+        try:
+            self.call()
+        except Failed:
+            raise Ended("read-fault", 4) from None
+        if self.made in self.idle:
+            return NOTHING
+        return self.lines.pop(0) if self.lines else CLOSED
+
+
+class LinkGone(Exception):
+    """A link that ended, failed or was quiet too often, and in whose place another one is made."""
+
+
+class LiveRun(ViewRun):
+    """The feed is asked until it tells nothing, or for 64 lines; then the link is heard once; and so on."""
+
+    def __init__(self, replica, net, out, feed, pause=lambda: None):
+        super().__init__(replica, net, out)
+        self.feed, self.pause, self.waiting, self.closed = feed, pause, [], False
+        self.count = self.holds = self.in_a_row = 0
+        self.ready = []  # what is printed next, in one piece
+        self.own_join = None  # the seq of its own Join, until that entry was taken
+
+    # -- what comes
+
+    def tell(self, line):
+        self.ready.append(line)
+
+    def print(self):
+        """What is ready; and that its own Join was taken, while it hears its link."""
+        ready, self.ready = self.ready, []
+        if ready:
+            self.out.write("\n".join(ready))
+        if self.link is not None and self.own_join is not None and self.own_join <= self.replica.seen:
+            self.own_join = None
+            self.out.write("here")
+
+    def line_came(self, source):
+        """A line, which is done after those that came before."""
+        if self.closed:
+            return
+        self.count += 1
+        words = source.split(b" ")
+        try:
+            need(len(source) <= MOST_LINE)
+            if words[0] == b"hold" and len(words) == 2:
+                self.holds = decimal(words[1].decode("utf-8"), 2**32)
+                return
+            more = read_view_script(source)
+            publishing = sum(line[0] == "publish" for line in self.waiting + more)
+            need(len(self.replica.payloads) + publishing <= MOST_PUBLISHED)
+        except (Bad, Ended, UnicodeDecodeError):
+            self.tell(f"bad-line {self.count}")
+            return
+        self.waiting += more
+
+    def turn(self):
+        """What the link says, or None where the feed was asked."""
+        self.print()
+        if self.in_a_row == LINES_IN_A_ROW:
+            self.in_a_row = 0
+            return self.link.recv()
+        line = self.feed.next()
+        if line is NOTHING or line is CLOSED:
+            self.in_a_row = LINES_IN_A_ROW
+            self.closed = self.closed or line is CLOSED
+        else:
+            self.in_a_row += 1
+            self.line_came(line)
+        return None
+
+    def hear(self):
+        """The name and the fields of what the link says, if it is a frame; None as well where the feed was asked."""
+        try:
+            heard = self.turn()
+            if heard is None:
+                return None
+            self.receives += 1
+            self.quiets = self.quiets + 1 if heard is QUIET else 0
+            if heard is LINK_END or self.quiets == MOST_QUIET:
+                if self.holds > 0:
+                    raise LinkGone()
+                raise Ended("ended", 9)
+        except Failed:
+            if self.holds > 0:
+                raise LinkGone() from None
+            raise
+        frame = None if heard is QUIET else self.take(heard)
+        if self.receives == RECEIVES_TO_ALIVE:
+            self.send(ALIVE)
+        return frame
+
+    receive = hear
+
+    def take(self, heard):
+        frame = super().take(heard)
+        if frame[0] == "sync":
+            self.own_join = frame[1][0]
+        return frame
+
+    # -- its links
+
+    def connect(self, wanted):
+        """Joins over a new link, once there is one."""
+        self.drop()
+        self.print()
+        self.own_join = None
+        while self.link is None:
+            try:
+                self.link = self.net.connect()
+            except Failed:
+                if self.holds == 0:
+                    raise
+                self.let_go()
+        self.quiets = self.receives = self.in_a_row = 0
+        self.send(self.replica.join(wanted))
+
+    def join(self, how):
+        """Joins over as many links as it takes, and sends what is not acknowledged again."""
+        while True:
+            try:
+                self.connect(how)
+                joined, from_ = self.synced()
+                break
+            except BadBase:
+                how = "whole"
+            except LinkGone:
+                self.let_go()
+        if how == "resume":
+            self.send_unsent()
+            self.done(f"rejoined {joined} {from_}")
+
+    def let_go(self):
+        """One link fewer is made again, some time later."""
+        self.holds -= 1
+        self.pause()
+
+    def join_again(self):
+        self.let_go()
+        self.join("resume")
+
+    # -- its run
+
+    def run_live(self):
+        try:
+            self.join("fresh")
+            while not self.go_on():
+                pass
+            self.print()
+        except Failed:
+            raise Ended("net-fault", 6) from None
+        finally:
+            self.drop()
+
+    def go_on(self):
+        """Does the next line, or hears the link at rest. Whether the view has left."""
+        if not self.waiting and not self.closed:
+            try:
+                self.hear()
+                self.update()
+            except LinkGone:
+                self.join_again()
+            return False
+        line = self.waiting.pop(0) if self.waiting else ("quit",)
+        if line[0] == "quit":
+            self.rest()
+            self.send(LEAVE)
+            self.tell(self.last_line())
+            self.own_join = None
+            return True
+        self.work(line)
+        return False
+
+    def work(self, line):
+        """A line. Where its link is lost it is done anew, a wait for the same time."""
+        if line[0] == "wait_for":
+            line = ("wait", min(self.replica.world.time + line[1], TIME_LIMIT - 1))
+        try:
+            self.done(getattr(self, f"do_{line[0]}")(*line[1:]))
+        except LinkGone:
+            if line[0] in ("wait", "settle", "snap"):
+                self.waiting.insert(0, line)
+            self.join_again()
+
+    def done(self, own):
+        self.update()
+        if own is not None:
+            self.tell(own)
+
+    def do_cut(self):
+        self.join("resume")
 
 
 # ---------------------------------------------------------------- the command join
@@ -3129,7 +3359,7 @@ class Joining:
         """The file of this place among those that are read."""
         if place in self.failing_files:
             raise Ended("read-fault", 4)
-        return [self.source, self.script, self.json][place - 1]
+        return [self.source, self.json if self.script is None else self.script, self.json][place - 1]
 
     def run(self):
         check_join_words(self.name, self.address, self.view)
@@ -3138,8 +3368,19 @@ class Joining:
         check_address(self.address)
         script = read_view_script(self.read(2))
         persisted = None if self.json is None else read_persisted(self.read(3))
-        replica = Replica(program, session_id(self.name, source, persisted), int(self.view), persisted)
-        ViewRun(replica, self.net, self.out).run(script)
+        ViewRun(self.replica(program, source, persisted), self.net, self.out).run(script)
+
+    def replica(self, program, source, persisted):
+        return Replica(program, session_id(self.name, source, persisted), int(self.view), persisted)
+
+    def run_live(self, feed):
+        """The same where the lines come to the run."""
+        check_join_words(self.name, self.address, self.view)
+        source = self.read(1)
+        program = read_program(source)
+        check_address(self.address)
+        persisted = None if self.json is None else read_persisted(self.read(2))
+        LiveRun(self.replica(program, source, persisted), self.net, self.out, feed).run_live()
 
 
 def told(out, ended):
@@ -3422,14 +3663,60 @@ def reflectors_case(case):
     return " > ".join([" / ".join(lines), *told]) + f" ; {len(links)} back of {len(links)} asked"
 
 
+def client_case(case):
+    """The frame of a view that the bytes spell, in words."""
+    tag, fields = read_client(hex_case(case))
+    if tag == 1:
+        ident, view, want, time = fields
+        return f"join {ident.hex()} view {view} " + ["fresh", "whole", f"after {time}"][want]
+    words = {2: lambda: f"send {fields[0]} {fields[1].hex()}", 3: lambda: f"snap {fields[0]} {fields[1].hex()}",
+             4: lambda: "leave", 5: lambda: "alive"}
+    return words[tag]()
+
+
+def server_case(case):
+    """The same of a frame of a reflector."""
+    name, fields = read_server(hex_case(case))
+    if name == "recv":
+        entry, = fields
+        event = f" {entry.number} {entry.payload.hex()}" if entry.kind == "event" else ""
+        return f"recv {entry.seq} time {entry.time} view {entry.view} {entry.kind}{event}"
+    if name == "sync":
+        joined, last, from_, base = fields
+        return f"sync joined {joined} last {last} from {from_}" + ("" if base is None else f" base {base[0]} {base[1].hex()}")
+    words = {"done": "done {} seq {} time {}", "refused": "refused about {} code {} kept {} more {}", "tick": "tick {}", "snapped": "snapped {}", "alive": "alive"}
+    return words[name].format(*fields)
+
+
 def views_case(case):
     joining = read_joining(case)
+    return joined_case(joining, joining.run)
+
+
+def lives_case(case):
+    """The same where the lines come by a feed; `fail feed N`, `idle N` and `idle N-M` are of its calls."""
+    parts, failing, idle = [], [], []
+    for part in case.split(b" | "):
+        if part.startswith(b"fail feed "):
+            failing.append(int(part.removeprefix(b"fail feed ")))
+        elif part.startswith(b"idle "):
+            idle += numbers_in(part.removeprefix(b"idle ").decode())
+        else:
+            parts.append(part)
+    joining = read_joining(b" | ".join(parts))
+    lines = joining.script.split(b"\n") if joining.script else []
+    joining.script = None
+    return joined_case(joining, lambda: joining.run_live(Feed(lines, failing, idle)))
+
+
+def joined_case(joining, run):
     net = joining.net
     try:
-        joining.run()
+        run()
         outcome = " / ".join(joining.out.lines)
     except Ended as ended:
         outcome = told(joining.out, ended)
+    outcome = outcome.replace("\n", " / ")
     for link in net.over:
         sent = [frame.hex() for frame in link.sent]
         outcome += " > " + " ".join([*sent, f"heard {link.heard}"])
@@ -3441,7 +3728,8 @@ KINDS = {"evaluate": evaluate_case, "run": run_case, "canonical": canonical_case
          "logs": logs_case, "stored": stored_case, "onward": onward_case,
          "programs": programs_case, "worlds": worlds_case, "saved": saved_case,
          "snapshots": snapshots_case, "resumed": resumed_case, "inspects": inspects_case,
-         "traces": traces_case, "votes": votes_case, "reflectors": reflectors_case, "views": views_case}
+         "traces": traces_case, "votes": votes_case, "reflectors": reflectors_case, "views": views_case,
+         "lives": lives_case, "client": client_case, "server": server_case}
 WITH_STATUS = {"scripts", "logs", "onward", "programs", "worlds", "saved", "snapshots", "resumed",
                "inspects", "traces", "votes"}
 

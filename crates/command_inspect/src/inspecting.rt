@@ -4,32 +4,21 @@ ghost use Rattle.model_solved.specs.Founding.{founding_of};
 ghost use Rattle.model_tree.specs.TreeView.{program_tree};
 ghost use Rattle.snapshot_codec.specs.Conditions.{IsValid};
 ghost use Rattle.world_plain.specs.World.{world_record};
-ghost use Rattle.command_replay.specs.WorldText.{world_line};
 ghost use Rattle.command_inspect.specs.Queries.{IsTimed, AreTimed};
 ghost use Rattle.command_inspect.specs.InspectText.{world_text, query_text, inspect_text};
 
 use crate::queries::Queries;
 use crate::query::Query;
-use command_replay::{plain_of, world_line};
+use command_replay::plain_of;
 use message_queue::Steps;
 use model_tree::Class;
-use snapshot_codec::{digest, snapshot};
 use std::alloc::Global;
 use std::marker::Brand;
 use std::sync::ledger::{Blank, Ledger};
 use tea_base::WantOfMemory;
 use time_line::TimeLine;
-use world_lines::world_lines;
+use world_lines::{full_text, line_of};
 use world_plain::PlainWorld;
-
-/// The line of a world, with the digest of its snapshot.
-fn line_of(alloc: Global, world: &PlainWorld) -> Result<String, WantOfMemory>
-    requires { IsValid (world_record world.now) }
-    ensures { IfOk result (λ line. string_bytes line ≡ world_line (world_record world.now)) }
-{
-    let snapshot = snapshot(alloc, world)?;
-    world_line(alloc, world, &digest(snapshot.bytes()))
-}
 
 /// What a query prints of the world of its time.
 fn world_text(
@@ -41,13 +30,9 @@ fn world_text(
     requires { IsValid (world_record world.now) }
     ensures { IfOk result (λ text. string_bytes text ≡ world_text (program_tree classes.now) query (world_record world.now)) }
 {
-    let mut text = line_of(alloc, world)?;
     match query {
-        Query::At { .. } => Ok(text),
-        Query::Full { .. } => {
-            text.push_str(world_lines(alloc, classes, world)?.as_str())?;
-            Ok(text)
-        }
+        Query::At { .. } => line_of(alloc, world),
+        Query::Full { .. } => full_text(alloc, classes, world),
     }
 }
 

@@ -1,2 +1,1 @@
-pub mod WorldText
 pub mod Replays

@@ -10,7 +10,7 @@ use Rattle.world.specs.Worlds.{Scene, first_scene as first_world, replay, replay
 use Rattle.snapshot_codec.specs.Spelling.{world_spelling}
 use Rattle.command_replay.specs.declared.recording.Recording.{Recording}
 use Rattle.command_replay.specs.declared.world_run.Told.{Told}
-use Rattle.command_replay.specs.WorldText.{world_line}
+use Rattle.world_lines.specs.WorldText.{world_line}
 
 -- the world at a time: by the whole log, or from a world that is taken up
 abbrev pub world_at : Recording → ℕ → Option WorldRecord → WorldRecord

@@ -3,8 +3,6 @@
 
 mod recording;
 mod world_run;
-mod world_text;
 
 pub use recording::Recording;
 pub use world_run::{Told, plain_of, tell_replay};
-pub use world_text::world_line;

@@ -12,7 +12,6 @@ ghost use Rattle.world.specs.Worlds.{advance as advanced, entries_behind, extern
 ghost use Rattle.command_replay.specs.Replays.{Opens, TellsWorld, world_at};
 
 use crate::recording::Recording;
-use crate::world_text::world_line;
 use model_solved::Checked;
 use persist_json::to_json;
 use session_log::{GetRefusal, Log};
@@ -21,6 +20,7 @@ use std::alloc::Global;
 use std::sync::Arc;
 use tea_base::{Blob, Entry, SessionId, WantOfMemory};
 use world::{World, WorldFault};
+use world_lines::world_line;
 use world_plain::PlainWorld;
 
 /// What is told of a world: its line, its snapshot, and the JSON of its saved value.

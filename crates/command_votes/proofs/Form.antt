@@ -24,7 +24,8 @@ use Rattle.model_value.proofs.PayloadCodec.{payload_codec, is_payload}
 use Rattle.vote_book.specs.VoteBook.{Ballot, ballot}
 use Rattle.command_votes.specs.declared.reading.Named.{Named}
 use Rattle.command_votes.specs.VoteRead.{digest_of, if_spelled, entry_before, if_named, named_by_pair, named_by_items, named_by, is_of_votes, named_by_event, named_in, vote_in, vote_of}
-use Rattle.command_votes.specs.VoteForm.{vote_payload, IsEventWith, HasBytes, IsVote}
+use Rattle.command_votes.specs.VoteForm.{IsEventWith, HasBytes, IsVote}
+use Rattle.vote_event.specs.VotePayload.{vote_payload}
 
 first_of_both : (a b : Bool) → (a && b) ≡ true → a ≡ true
 first_of_both true b is = refl

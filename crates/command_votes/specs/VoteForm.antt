@@ -1,21 +1,12 @@
 -- The one form of a vote.
-use Rattle.std.specs.Prelude.{ℕ, pos, ◌≡◌, ◌<◌, ◌≤◌, List, length, codes}
-use Rattle.hex.specs.Hex.{encode_lower, IsBytes}
+use Rattle.std.specs.Prelude.{ℕ, ◌≡◌, ◌<◌, ◌≤◌, List, length}
+use Rattle.hex.specs.Hex.{IsBytes}
 use Rattle.tea_base.specs.declared.entry.Entry.{Entry}
 use Rattle.tea_base.specs.declared.entry.What.{What}
 use Rattle.tea_base.specs.declared.entry.What.TheVariants.{Join, Exit, Event}
-use Rattle.model_value.specs.Payload.{PlainPayload, payload_spelling}
-use Rattle.model_value.specs.Plain.{int, text, list, no_items, item}
+use Rattle.model_value.specs.Payload.{payload_spelling}
 use Rattle.vote_book.specs.VoteBook.{Ballot}
-
--- its payload: the scope `#vote`, the event `digest`, and a list of the entry's number and the digest's hexadecimal
--- digits in lower case
-abbrev pub vote_payload : ℕ → List ℕ → PlainPayload
-vote_payload at digest = record {
-  scope = codes "#vote";
-  event = codes "digest";
-  value = list (item (int (pos at)) (item (text (encode_lower digest)) no_items));
-}
+use Rattle.vote_event.specs.VotePayload.{vote_payload}
 
 -- an Event with this payload
 abbrev pub IsEventWith : List ℕ → What → Type 0

@@ -6,15 +6,17 @@ use Rattle.command_words.specs.declared.words.ReplayRequest.{ReplayRequest}
 use Rattle.command_words.specs.declared.words.InspectRequest.{InspectRequest}
 use Rattle.command_words.specs.declared.words.TraceRequest.{TraceRequest}
 use Rattle.command_words.specs.declared.words.JoinRequest.{JoinRequest}
+use Rattle.command_words.specs.declared.words.LiveRequest.{LiveRequest}
 use Rattle.command_words.specs.declared.words.ReflectRequest.{ReflectRequest}
 use Rattle.command_words.specs.declared.words.DrillRequest.{DrillRequest}
 use Rattle.command_words.specs.declared.words.Command.{Command}
-use Rattle.command_words.specs.declared.words.Command.TheVariants.{Stamp, Check, Replay, Inspect, Trace, Votes, Join, Reflect, Drill}
+use Rattle.command_words.specs.declared.words.Command.TheVariants.{Stamp, Check, Replay, Inspect, Trace, Votes, Join, Live, Reflect, Drill}
 use Rattle.command_words.specs.CommandWords.{most_name}
 
 -- the words ask for a command that uses a net: join or reflect
 abbrev pub UsesNet : Option Command → Type 0
 UsesNet (Some (Join request)) = ⊤
+UsesNet (Some (Live request)) = ⊤
 UsesNet (Some (Reflect request)) = ⊤
 UsesNet command = ⊥
 
@@ -33,6 +35,10 @@ IsBoundedTrace request = (length (encode_utf8_all request.name) ≤ most_name) �
 -- a join has a name of at most so many bytes too, and a view from 1
 abbrev pub IsBoundedJoin : JoinRequest → Type 0
 IsBoundedJoin request = (length (encode_utf8_all request.name) ≤ most_name) × (1 ≤ request.view)
+
+-- and so has one whose lines come to the run
+abbrev pub IsBoundedLive : LiveRequest → Type 0
+IsBoundedLive request = (length (encode_utf8_all request.name) ≤ most_name) × (1 ≤ request.view)
 
 -- from 1 to the most links
 abbrev pub AreConnections : ℕ → Type 0
@@ -58,5 +64,6 @@ IsWithinBounds (Inspect request) = IsBoundedInspect request
 IsWithinBounds (Trace request) = IsBoundedTrace request
 IsWithinBounds (Votes log) = ⊤
 IsWithinBounds (Join request) = IsBoundedJoin request
+IsWithinBounds (Live request) = IsBoundedLive request
 IsWithinBounds (Reflect request) = IsBoundedReflect request
 IsWithinBounds (Drill request) = IsBoundedDrill request

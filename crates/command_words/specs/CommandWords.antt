@@ -7,11 +7,12 @@ use Rattle.command_words.specs.declared.words.ReplayRequest.{ReplayRequest}
 use Rattle.command_words.specs.declared.words.InspectRequest.{InspectRequest}
 use Rattle.command_words.specs.declared.words.TraceRequest.{TraceRequest}
 use Rattle.command_words.specs.declared.words.JoinRequest.{JoinRequest}
+use Rattle.command_words.specs.declared.words.LiveRequest.{LiveRequest}
 use Rattle.command_words.specs.declared.words.ReflectRequest.{ReflectRequest}
 use Rattle.command_words.specs.declared.words.DrillRequest.{DrillRequest}
 use Rattle.command_words.specs.declared.words.Command.{Command}
-use Rattle.command_words.specs.declared.words.Command.TheVariants.{Stamp, Check, Replay, Inspect, Trace, Votes, Join, Reflect, Drill}
-use Rattle.command_words.specs.Parts.{Parts, all_parts, are_all_taken, behind_first, without_option, first_positional, value_of}
+use Rattle.command_words.specs.declared.words.Command.TheVariants.{Stamp, Check, Replay, Inspect, Trace, Votes, Join, Live, Reflect, Drill}
+use Rattle.command_words.specs.Parts.{Parts, all_parts, are_all_taken, behind_first, without_option, first_positional, has_dash, value_of}
 
 -- ---- what one word may be
 
@@ -116,12 +117,25 @@ trace_row = (
 abbrev pub join_options : JoinRequest → Reading
 join_options request = free (codes "--persisted") (λ persisted. asks (Join (record request { persisted = persisted })))
 
--- `join PROGRAM NAME ADDRESS VIEW SCRIPT`, and its option
+-- the same where `-` alone stands in SCRIPT's place
+abbrev pub live_options : LiveRequest → Reading
+live_options request = free (codes "--persisted") (λ persisted. asks (Live (record request { persisted = persisted })))
+
+-- `-` alone, or a word
+abbrev pub dash_or : Reading → Reading → Reading
+dash_or dashed other parts = if has_dash parts then dashed (behind_first parts) else other parts
+
+-- SCRIPT, or `-` for lines that come to the run, and the option
+abbrev pub join_ends : LineWord → LineWord → LineWord → ℕ → Reading
+join_ends program name address view =
+    dash_or (live_options (record { program = program; name = name; address = address; view = view; persisted = None })) (positional a_word (λ script.
+    join_options (record { program = program; name = name; address = address; view = view; script = script; persisted = None })))
+
+-- `join PROGRAM NAME ADDRESS VIEW`, and what it does
 abbrev pub join_row : Row
 join_row = (
   codes "join",
-  positional a_word (λ program. positional a_name (λ name. positional a_word (λ address. positional (a_number 1 4294967295) (λ view. positional a_word (λ script.
-      join_options (record { program = program; name = name; address = address; view = view; script = script; persisted = None })))))),
+  positional a_word (λ program. positional a_name (λ name. positional a_word (λ address. positional (a_number 1 4294967295) (λ view. join_ends program name address view)))),
 )
 
 -- a journal or a log is named, or both are

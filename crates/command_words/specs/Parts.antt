@@ -1,5 +1,5 @@
 -- The words after the name of a command: its positionals in order, and its settings. A word is seen as its characters.
-use Rattle.std.specs.Prelude.{Bool, false, ◌==◌, ◌&&◌, ◌||◌, if◌then◌else◌, length, drop, slice_get, List, [], ◌∷◌, ◌++◌, Option, Some, None}
+use Rattle.std.specs.Prelude.{Bool, false, ◌==◌, ◌&&◌, ◌||◌, if◌then◌else◌, length, drop, slice_get, codes, List, [], ◌∷◌, ◌++◌, Option, Some, None, option_and_then}
 use Rattle.std.specs.Str.{bytes_eq}
 use Rattle.text_lines.specs.Lines.{LineWord, is_empty}
 use Rattle.command_words.specs.declared.parts.Setting.{Setting}
@@ -12,6 +12,14 @@ pub record Parts : Type 0 where
 abbrev pub is_option : LineWord → Bool
 is_option [] = false
 is_option (first ∷ rest) = first == 45
+
+-- the word is `-` alone
+abbrev pub is_dash : LineWord → Bool
+is_dash word = bytes_eq word (codes "-")
+
+-- the word is an option: it begins with `-`, and is not `-` alone
+abbrev pub opens_option : LineWord → Bool
+opens_option word = if is_dash word then false else is_option word
 
 -- these positionals and settings, and then those
 abbrev pub with_parts : Parts → Option Parts → Option Parts
@@ -27,13 +35,13 @@ one_positional word = record { positionals = word ∷ []; settings = [] }
 abbrev pub one_setting : LineWord → LineWord → Parts
 one_setting option value = record { positionals = []; settings = record { option = option; value = value } ∷ [] }
 
--- the parts of these words, after an option that waits for its value, or none that does: a word that begins with `-` is
--- an option, the word after it, which does not, is its value, the others are the positionals in order, and none is empty
+-- the parts of these words, after an option that waits for its value, or none that does: a word that begins with `-`, and is not `-` alone, is
+-- an option, the word after it, which does not begin with `-`, is its value, the others are the positionals in order, and none is empty
 abbrev pub parts_after_option : Option LineWord → List LineWord → Option Parts
 parts_after_option None [] = Some no_parts
 parts_after_option None (word ∷ words) =
     if is_empty word then None
-    else if is_option word then parts_after_option (Some word) words
+    else if opens_option word then parts_after_option (Some word) words
     else with_parts (one_positional word) (parts_after_option None words)
 parts_after_option (Some option) [] = None
 parts_after_option (Some option) (word ∷ words) =
@@ -59,9 +67,13 @@ abbrev pub without : LineWord → List Setting → List Setting
 without option [] = []
 without option (found ∷ settings) = if sets_option option found then settings else found ∷ without option settings
 
--- the first positional, and the parts without it
+-- a word, but for `-` alone
+abbrev pub but_dash : LineWord → Option LineWord
+but_dash word = if is_dash word then None else Some word
+
+-- the first positional, which is not `-` alone, and the parts without it
 abbrev pub first_positional : Parts → Option LineWord
-first_positional parts = slice_get parts.positionals 0
+first_positional parts = option_and_then but_dash (slice_get parts.positionals 0)
 
 abbrev pub behind_first : Parts → Parts
 behind_first parts = record parts { positionals = drop 1 parts.positionals }
@@ -72,6 +84,14 @@ value_of option parts = setting_value option parts.settings
 
 abbrev pub without_option : LineWord → Parts → Parts
 without_option option parts = record parts { settings = without option parts.settings }
+
+abbrev pub is_dash_alone : Option LineWord → Bool
+is_dash_alone None = false
+is_dash_alone (Some word) = is_dash word
+
+-- the first positional is `-` alone
+abbrev pub has_dash : Parts → Bool
+has_dash parts = is_dash_alone (slice_get parts.positionals 0)
 
 -- none is left
 abbrev pub are_all_taken : Parts → Bool

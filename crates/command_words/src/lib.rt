@@ -8,6 +8,6 @@ mod words;
 
 pub use address::is_address;
 pub use words::{
-    Command, DrillRequest, InspectRequest, JoinRequest, ReflectRequest, ReplayRequest,
+    Command, DrillRequest, InspectRequest, JoinRequest, LiveRequest, ReflectRequest, ReplayRequest,
     TraceRequest, read_command,
 };

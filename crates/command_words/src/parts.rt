@@ -3,7 +3,7 @@ ghost use Rattle.std.specs.Prelude.{◌≡◌, ◌∷◌, true, None, IfOk, IfSo
 ghost use Rattle.std.specs.List.{list_all};
 ghost use Rattle.std.specs.Str.{bytes_eq};
 ghost use Rattle.text_lines.specs.Lines.{is_empty};
-ghost use Rattle.command_words.specs.Parts.{all_parts, is_option, setting_value, without};
+ghost use Rattle.command_words.specs.Parts.{all_parts, but_dash, is_dash, is_option, opens_option, setting_value, without};
 ghost use Rattle.command_words.specs.PartsRead.{IsFirstOf, HasNone};
 
 use std::alloc::Global;
@@ -35,7 +35,7 @@ impl Model for Parts {
 
 impl Parts {
     ghost use Rattle.std.specs.Prelude.{[], ◌++◌, OnOk};
-    ghost use Rattle.command_words.specs.Parts.{are_all_taken, behind_first, first_positional, no_parts, value_of, without_option};
+    ghost use Rattle.command_words.specs.Parts.{are_all_taken, behind_first, first_positional, has_dash, no_parts, value_of, without_option};
 
     /// No words. Takes no memory.
     fn new(alloc: Global) -> Parts
@@ -63,12 +63,29 @@ impl Parts {
         Ok(())
     }
 
-    /// Takes out the first positional.
+    /// Takes out the first positional. A `-` alone is none.
     pub fn positional(&mut self) -> Option<Text>
         ensures value { result ≡ first_positional self.old }
         ensures rest { self.new ≡ behind_first self.old }
     {
-        self.positionals.pop_front()
+        but_dash(self.positionals.pop_front()?)
+    }
+
+    /// Whether the first positional is `-` alone.
+    pub fn has_dash(&self) -> bool
+        ensures { result ≡ has_dash self.now }
+    {
+        match self.positionals.front() {
+            Some(word) => is_dash(word),
+            None => false,
+        }
+    }
+
+    /// Takes out the first positional, whatever it is.
+    pub fn pass(&mut self)
+        ensures { self.new ≡ behind_first self.old }
+    {
+        let _ = self.positionals.pop_front();
     }
 
     /// Takes out the first setting of an option.
@@ -101,6 +118,7 @@ impl Reader {
     ghost use Rattle.command_words.specs.PartsRead.{read_on};
 
     /// Reads one word more, or says that it breaks the rules.
+    #[tactic(auto, using(crate::proofs::PartsLaws::reads_setting, crate::proofs::PartsLaws::reads_positional))]
     fn take(&mut self, word: &Text) -> Result<bool, WantOfMemory>
         ensures { IfOk result (λ follows. MatchBool follows
             ((rest : List LineWord) → read_on self.new.parts self.new.awaiting rest ≡ read_on self.old.parts self.old.awaiting (word.now ∷ rest))
@@ -109,10 +127,11 @@ impl Reader {
         if is_empty(word) {
             return Ok(false);
         }
-        let is_option = is_option(word);
+        let begins_so = is_option(word);
+        let opens_option = opens_option(word);
         let word = word.clone()?;
         match self.awaiting.take() {
-            Some(_) if is_option => return Ok(false),
+            Some(_) if begins_so => return Ok(false),
             Some(option) => {
                 let setting = Setting {
                     option,
@@ -120,7 +139,7 @@ impl Reader {
                 };
                 self.parts.add_setting(setting)?;
             }
-            None if is_option => self.awaiting = Some(word),
+            None if opens_option => self.awaiting = Some(word),
             None => self.parts.add_positional(word)?,
         }
         Ok(true)
@@ -148,6 +167,27 @@ fn begins_with_dash(bytes: &[u8]) -> bool
         [] => false,
         [first, ..] => *first == b'-',
     }
+}
+
+/// Whether a word is `-` alone.
+fn is_dash(word: &Text) -> bool
+    ensures { result ≡ is_dash word.now }
+{
+    is_word(word, "-")
+}
+
+/// Whether a word is an option: it begins with `-`, and is not `-` alone.
+fn opens_option(word: &Text) -> bool
+    ensures { result ≡ opens_option word.now }
+{
+    !is_dash(word) && is_option(word)
+}
+
+/// The word, unless it is `-` alone.
+fn but_dash(word: Text) -> Option<Text>
+    ensures { result ≡ but_dash word }
+{
+    if is_dash(&word) { None } else { Some(word) }
 }
 
 /// Whether a word is this one of ASCII.

@@ -3,8 +3,8 @@ ghost use Rattle.std.specs.Prelude.{◌≡◌, ◌≤◌, ◌<◌, IfOk, IfSome,
 ghost use Rattle.std.specs.Option.{option_and_then};
 ghost use Rattle.tea_base.specs.Limits.{time_limit};
 ghost use Rattle.command_words.specs.Parts.{behind_first, first_positional};
-ghost use Rattle.command_words.specs.CommandWords.{a_name, a_number, a_time, asks, check_row, command_of, drill_row, inspect_options, inspect_row, join_row, join_options, most_name, read_by, reflect_files, reflect_options, reflect_row, replay_options, replay_puts, replay_row, rows, stamp_row, reflect_ends, trace_options, trace_row, votes_row};
-ghost use Rattle.command_words.specs.Bounds.{IsBounded, IsBoundedInspect, IsBoundedJoin, IsBoundedReflect, IsWithinBounds, IsBoundedTrace};
+ghost use Rattle.command_words.specs.CommandWords.{a_name, a_number, a_time, asks, check_row, command_of, drill_row, inspect_options, inspect_row, join_row, join_ends, join_options, live_options, most_name, read_by, reflect_files, reflect_options, reflect_row, replay_options, replay_puts, replay_row, rows, stamp_row, reflect_ends, trace_options, trace_row, votes_row};
+ghost use Rattle.command_words.specs.Bounds.{IsBounded, IsBoundedInspect, IsBoundedJoin, IsBoundedLive, IsBoundedReflect, IsWithinBounds, IsBoundedTrace};
 
 use crate::parts::{Parts, is_word, read_parts};
 use run_steps::{MOST_CONNECTIONS, MOST_DRILL_EVENTS, MOST_DRILL_VIEWS};
@@ -43,6 +43,8 @@ pub enum Command {
     },
     /// `join PROGRAM NAME ADDRESS VIEW SCRIPT [--persisted JSON]`
     Join(JoinRequest),
+    /// `join PROGRAM NAME ADDRESS VIEW - [--persisted JSON]`
+    Live(LiveRequest),
     /// `reflect PROGRAM NAME ADDRESS [--persisted JSON] [--from LOG] [--journal FILE] [--log FILE] --connections N`, with a journal or a
     /// log at least
     Reflect(ReflectRequest),
@@ -109,6 +111,19 @@ pub struct JoinRequest {
     /// The number of the view, from 1.
     pub view: u32,
     pub script: Text,
+    /// The JSON of the persisted value.
+    pub persisted: Option<Text>,
+}
+
+/// What a view is asked for whose lines come to its run.
+#[derive(Drop)]
+pub struct LiveRequest {
+    pub program: Text,
+    /// The name of the session, of at most 255 bytes.
+    pub name: Text,
+    pub address: Text,
+    /// The number of the view, from 1.
+    pub view: u32,
     /// The JSON of the persisted value.
     pub persisted: Option<Text>,
 }
@@ -362,15 +377,40 @@ fn join_options(mut parts: Parts, mut request: JoinRequest) -> Option<Command>
     ask(Command::Join(request), &parts)
 }
 
-/// `join PROGRAM NAME ADDRESS VIEW SCRIPT`, and its option
-fn join(mut parts: Parts) -> Option<Command>
-    ensures read { result ≡ join_row.1 parts }
+/// The option of `join` where `-` alone stands in the script's place: `[--persisted JSON]`
+fn live_options(mut parts: Parts, mut request: LiveRequest) -> Option<Command>
+    requires { IsBoundedLive request }
+    ensures read { result ≡ live_options request parts }
     ensures bounds { IfSome result IsWithinBounds }
 {
-    let program = parts.positional()?;
-    let name = next_name(&mut parts)?;
-    let address = parts.positional()?;
-    let view = next_number(&mut parts, 1, u32::MAX)?;
+    request.persisted = parts.option("--persisted");
+    ask(Command::Live(request), &parts)
+}
+
+/// What `join` does: `SCRIPT`, or `-` for lines that come to the run, and its option
+fn join_ends(
+    mut parts: Parts,
+    program: Text,
+    name: Text,
+    address: Text,
+    view: u32,
+) -> Option<Command>
+    requires named { length (encode_utf8_all name) ≤ most_name }
+    requires numbered { 1 ≤ view }
+    ensures read { result ≡ join_ends program name address view parts }
+    ensures bounds { IfSome result IsWithinBounds }
+{
+    if parts.has_dash() {
+        parts.pass();
+        let request = LiveRequest {
+            program,
+            name,
+            address,
+            view,
+            persisted: None,
+        };
+        return live_options(parts, request);
+    }
     let script = parts.positional()?;
     let request = JoinRequest {
         program,
@@ -381,6 +421,18 @@ fn join(mut parts: Parts) -> Option<Command>
         persisted: None,
     };
     join_options(parts, request)
+}
+
+/// `join PROGRAM NAME ADDRESS VIEW`, and what it does
+fn join(mut parts: Parts) -> Option<Command>
+    ensures read { result ≡ join_row.1 parts }
+    ensures bounds { IfSome result IsWithinBounds }
+{
+    let program = parts.positional()?;
+    let name = next_name(&mut parts)?;
+    let address = parts.positional()?;
+    let view = next_number(&mut parts, 1, u32::MAX)?;
+    join_ends(parts, program, name, address, view)
 }
 
 /// What `reflect` writes: `[--journal FILE] [--log FILE]`, one of them at least

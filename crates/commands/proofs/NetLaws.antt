@@ -16,9 +16,10 @@ use Rattle.command_words.specs.declared.words.ReplayRequest.{ReplayRequest}
 use Rattle.command_words.specs.declared.words.InspectRequest.{InspectRequest}
 use Rattle.command_words.specs.declared.words.TraceRequest.{TraceRequest}
 use Rattle.command_words.specs.declared.words.JoinRequest.{JoinRequest}
+use Rattle.command_words.specs.declared.words.LiveRequest.{LiveRequest}
 use Rattle.command_words.specs.declared.words.ReflectRequest.{ReflectRequest}
 use Rattle.command_words.specs.declared.words.Command.{Command}
-use Rattle.command_words.specs.declared.words.Command.TheVariants.{Stamp, Check, Replay, Inspect, Trace, Votes, Join, Reflect, Drill}
+use Rattle.command_words.specs.declared.words.Command.TheVariants.{Stamp, Check, Replay, Inspect, Trace, Votes, Join, Live, Reflect, Drill}
 use Rattle.command_words.specs.Address.{is_address}
 use Rattle.command_words.specs.Bounds.{UsesNet}
 use Rattle.view_script.specs.PlainLine.{PlainLine}
@@ -29,8 +30,8 @@ use Rattle.command_inspect.specs.Queries.{queries_of}
 use Rattle.model_tree.specs.Bounds.{most_program_bytes}
 use Rattle.persist_json.specs.JsonOf.{most_json}
 use Rattle.tea_base.specs.Limits.{most_snapshot}
-use Rattle.commands.specs.Work.{NamesNoJournal, RunsOn}
-use Rattle.commands.specs.Verdict.{ByDrill, ByGoingOn, ByKeeping, ByNetFault, ByReadFault, ByRefusal, ByReflecting, ByVisit, ByWant, ByWriteFault, Closing, Coming, Comes, Fine, Free, Only, OfFile, OfFounded, OfGiven, OfInspect, OfInspectedLog, OfJson, OfKeyframes, OfLog, OfOwn, OfPersisted, OfProgram, OfQueries, OfRecorded, OfRight, OfScript, OfSnapshot, OfTimeLine, OfTree, OfWords, Starts, Verdict, ask_file, at_once, count_verdict, fine, founded, inspect_verdict, keeps_few, stamp_verdict, most_queries, most_script, most_log, OfOpening, OfReflected, PlainSource, first_source, names_no_other, session_id_of, OfTrace, OfTraced, OfTracedLog, trace_verdict, votes_verdict, OfJoin, OfJournal, OfReflect, OfServed, OfUnkept, OfView, OfViewScript, PlainKeeping, PlainReflection, PlainVisit, keeping_of, reflection_of, visit_to}
+use Rattle.commands.specs.Work.{AsksNoLive, NamesNoJournal, RunsOn}
+use Rattle.commands.specs.Verdict.{ByDrill, ByGoingOn, ByKeeping, ByLive, ByNetFault, ByReadFault, ByRefusal, ByReflecting, ByVisit, ByWant, ByWriteFault, Closing, Coming, Comes, Fine, Free, Only, OfFile, OfFounded, OfGiven, OfInspect, OfInspectedLog, OfJson, OfKeyframes, OfLog, OfOwn, OfPersisted, OfProgram, OfQueries, OfRecorded, OfRight, OfScript, OfSnapshot, OfTimeLine, OfTree, OfWords, Starts, Verdict, ask_file, at_once, count_verdict, fine, founded, inspect_verdict, keeps_few, stamp_verdict, most_queries, most_script, most_log, OfOpening, OfReflected, PlainSource, first_source, names_no_other, session_id_of, OfTrace, OfTraced, OfTracedLog, trace_verdict, votes_verdict, OfJoin, OfJournal, OfLive, OfLiveBegun, OfReflect, OfServed, OfUnkept, OfView, OfViewScript, PlainKeeping, PlainLive, PlainReflection, PlainVisit, keeping_of, live_of, reflection_of, visit_to}
 
 map_right : {A B C : Type 0} → A ⊎ B → (B → C) → A ⊎ C
 map_right (inl a) f = inl a
@@ -177,6 +178,14 @@ module _ (IsBad : Closing → Type 0) (not_fine : ¬ IsBad Fine) (not_refused : 
       (file_never input.Script (ask_file request.script most_script) (λ bytes. OfViewScript request text tree (view_script_of bytes))
       (λ bytes. view_script_never not_visit request text tree (view_script_of bytes)))
 
+  -- ---- join, where the lines come to the run
+
+  live_never : ((live : PlainLive) → ¬ IsBad (ByLive live)) → (request : LiveRequest) (text : List ℕ) (tree : ProgramTree) → Never (OfLive request text tree)
+  live_never not_live request text tree =
+      right_never input.Address (is_address (encode_utf8_all request.address)) (OfLiveBegun request text tree)
+      (persisted_never request.persisted (λ v. Only (at_once (ByLive (live_of request text (founded tree v)))))
+      (λ v. only_never (at_once (ByLive (live_of request text (founded tree v)))) (not_live (live_of request text (founded tree v)))))
+
   -- ---- reflect
 
   journal_never : (journal : Option (List ℕ)) (without : Coming) (with_one : List ℕ → Coming) → Never without → (journal ≡ None) ⊎ ((name : List ℕ) → Never (with_one name)) → Never (OfJournal journal without with_one)
@@ -206,6 +215,7 @@ module _ (IsBad : Closing → Type 0) (not_fine : ¬ IsBad Fine) (not_refused : 
   -- what has to be so of a command that goes on
   abbrev pub GoesOnWell : Option Command → Type 0
   GoesOnWell (Some (Join request)) = (visit : PlainVisit) → ¬ IsBad (ByVisit visit)
+  GoesOnWell (Some (Live request)) = (live : PlainLive) → ¬ IsBad (ByLive live)
   GoesOnWell (Some (Reflect request)) =
       ((reflection : PlainReflection) → ¬ IsBad (ByReflecting reflection)) × ((request.journal ≡ None) ⊎ ((keeping : PlainKeeping) → ¬ IsBad (ByKeeping keeping)))
   GoesOnWell (Some (Drill request)) = ¬ IsBad (ByDrill request)
@@ -232,6 +242,9 @@ module _ (IsBad : Closing → Type 0) (not_fine : ¬ IsBad Fine) (not_refused : 
   words_never (Some (Join request)) well =
       file_never input.Program (ask_file request.program most_program_bytes) (λ bytes. OfProgram (OfJoin request bytes) bytes)
       (λ bytes. program_never (OfJoin request bytes) bytes (join_never well request bytes))
+  words_never (Some (Live request)) well =
+      file_never input.Program (ask_file request.program most_program_bytes) (λ bytes. OfProgram (OfLive request bytes) bytes)
+      (λ bytes. program_never (OfLive request bytes) bytes (live_never well request bytes))
   words_never (Some (Reflect request)) well =
       file_never input.Program (ask_file request.program most_program_bytes) (λ bytes. OfProgram (λ tree. OfReflect request bytes) bytes)
       (λ bytes. program_never (λ tree. OfReflect request bytes) bytes (λ tree. reflect_never well.0 request well.1 bytes))
@@ -243,6 +256,7 @@ module _ (IsBad : Closing → Type 0) (not_fine : ¬ IsBad Fine) (not_refused : 
 -- the run goes on
 abbrev pub IsGoingOn : Closing → Type 0
 IsGoingOn (ByVisit visit) = ⊤
+IsGoingOn (ByLive live) = ⊤
 IsGoingOn (ByReflecting reflection) = ⊤
 IsGoingOn (ByKeeping keeping) = ⊤
 IsGoingOn (ByGoingOn keeping place) = ⊤
@@ -258,6 +272,7 @@ goes_on_never (Some (Inspect request)) other = tt
 goes_on_never (Some (Trace request)) other = tt
 goes_on_never (Some (Votes log)) other = tt
 goes_on_never (Some (Join request)) other = absurd (other tt)
+goes_on_never (Some (Live request)) other = absurd (other tt)
 goes_on_never (Some (Reflect request)) other = absurd (other tt)
 goes_on_never (Some (Drill request)) other = absurd (other tt)
 
@@ -281,6 +296,7 @@ keeps_none (Some (Inspect request)) none = tt
 keeps_none (Some (Trace request)) none = tt
 keeps_none (Some (Votes log)) none = tt
 keeps_none (Some (Join request)) none = λ visit on. absurd on
+keeps_none (Some (Live request)) none = λ live on. absurd on
 keeps_none (Some (Reflect request)) none = (λ reflection on. absurd on, inl none)
 keeps_none (Some (Drill request)) none = λ on. absurd on
 
@@ -288,11 +304,36 @@ keeps_none (Some (Drill request)) none = λ on. absurd on
 pub never_keeps : (command : Option Command) → NamesNoJournal command → (verdict : Verdict) → Comes command verdict → ¬ IsKeeping verdict.closing
 never_keeps command none = never IsKeeping (λ on. absurd on) (λ why on. absurd on) (λ on. absurd on) command (keeps_none command none)
 
+-- ---- with lines that come to the run
+
+-- the run goes on as a live view's
+abbrev pub IsLiving : Closing → Type 0
+IsLiving (ByLive live) = ⊤
+IsLiving closing = ⊥
+
+lives_not : (command : Option Command) → AsksNoLive command → GoesOnWell IsLiving (λ on. absurd on) (λ why on. absurd on) (λ on. absurd on) command
+lives_not None none = tt
+lives_not (Some (Stamp script from log)) none = tt
+lives_not (Some (Check program)) none = tt
+lives_not (Some (Replay request)) none = tt
+lives_not (Some (Inspect request)) none = tt
+lives_not (Some (Trace request)) none = tt
+lives_not (Some (Votes log)) none = tt
+lives_not (Some (Join request)) none = λ visit on. absurd on
+lives_not (Some (Live request)) none = absurd none
+lives_not (Some (Reflect request)) none = (λ reflection on. absurd on, inr (λ keeping on. absurd on))
+lives_not (Some (Drill request)) none = λ on. absurd on
+
+-- no other words lead to one
+pub never_lives : (command : Option Command) → AsksNoLive command → (verdict : Verdict) → Comes command verdict → ¬ IsLiving verdict.closing
+never_lives command none = never IsLiving (λ on. absurd on) (λ why on. absurd on) (λ on. absurd on) command (lives_not command none)
+
 -- ---- on a net
 
 -- the run goes on with a net
 abbrev pub IsOnNet : Closing → Type 0
 IsOnNet (ByVisit visit) = ⊤
+IsOnNet (ByLive live) = ⊤
 IsOnNet (ByReflecting reflection) = ⊤
 IsOnNet (ByKeeping keeping) = ⊤
 IsOnNet (ByGoingOn keeping place) = ⊤
@@ -300,6 +341,7 @@ IsOnNet closing = ⊥
 
 on_net_goes_on : (closing : Closing) → IsOnNet closing → IsGoingOn closing
 on_net_goes_on (ByVisit visit) on = tt
+on_net_goes_on (ByLive live) on = tt
 on_net_goes_on (ByReflecting reflection) on = tt
 on_net_goes_on (ByKeeping keeping) on = tt
 on_net_goes_on (ByGoingOn keeping place) on = tt
@@ -321,6 +363,7 @@ never_on_net (Some (Inspect request)) other verdict comes on = never_goes_on (So
 never_on_net (Some (Trace request)) other verdict comes on = never_goes_on (Some (Trace request)) (λ runs. absurd runs) verdict comes (on_net_goes_on verdict.closing on)
 never_on_net (Some (Votes log)) other verdict comes on = never_goes_on (Some (Votes log)) (λ runs. absurd runs) verdict comes (on_net_goes_on verdict.closing on)
 never_on_net (Some (Join request)) other verdict comes on = absurd (other tt)
+never_on_net (Some (Live request)) other verdict comes on = absurd (other tt)
 never_on_net (Some (Reflect request)) other verdict comes on = absurd (other tt)
 never_on_net (Some (Drill request)) other verdict (inl want) on = absurd (subst (λ (v : Verdict). IsOnNet v.closing) want on)
 never_on_net (Some (Drill request)) other verdict (inr is) on = absurd (subst (λ (v : Verdict). IsOnNet v.closing) is on)

@@ -29,9 +29,10 @@ use Rattle.command_words.specs.declared.words.ReplayRequest.{ReplayRequest}
 use Rattle.command_words.specs.declared.words.InspectRequest.{InspectRequest}
 use Rattle.command_words.specs.declared.words.TraceRequest.{TraceRequest}
 use Rattle.command_words.specs.declared.words.JoinRequest.{JoinRequest}
+use Rattle.command_words.specs.declared.words.LiveRequest.{LiveRequest}
 use Rattle.command_words.specs.declared.words.ReflectRequest.{ReflectRequest}
 use Rattle.command_words.specs.declared.words.Command.{Command}
-use Rattle.command_words.specs.declared.words.Command.TheVariants.{Stamp, Check, Replay, Inspect, Trace, Votes, Join, Reflect, Drill}
+use Rattle.command_words.specs.declared.words.Command.TheVariants.{Stamp, Check, Replay, Inspect, Trace, Votes, Join, Live, Reflect, Drill}
 use Rattle.command_outcome.specs.ProgramText.{syntax_line}
 use Rattle.command_stamp.specs.Script.{script_of}
 use Rattle.command_inspect.specs.declared.query.Query.{Query}
@@ -41,7 +42,7 @@ use Rattle.model_tree.specs.Bounds.{most_program_bytes}
 use Rattle.tea_base.specs.Limits.{most_snapshot}
 use Rattle.commands.proofs.LogLaws.{same_source}
 use Rattle.commands.specs.Laws.{AreAlike, AreDoneAlike, IsOneVerdict, IsFunction}
-use Rattle.commands.specs.Verdict.{Closing, ByDrill, ByKeeping, ByRefusal, ByReflecting, ByVisit, ByWant, Verdict, Coming, Free, OfFile, OfFounded, OfGiven, OfInspect, OfInspectedLog, OfJoin, OfJournal, OfJson, OfKeyframes, OfLog, OfOwn, OfPersisted, OfProgram, OfQueries, OfRecorded, OfReflect, OfReflected, OfRight, PlainSource, first_source, names_no_other, OfScript, OfSnapshot, OfTimeLine, OfTree, OfView, OfViewScript, OfWords, Only, Starts, before, ask_file, at_once, count_verdict, founded, inspect_verdict, keeps_few, reflection_of, resumed_verdict, stamp_verdict, visit_to, most_queries, most_script, most_log, OfOpening, OfServed, OfUnkept, keeping_of, session_id_of, OfTrace, OfTraced, OfTracedLog, trace_verdict, votes_verdict}
+use Rattle.commands.specs.Verdict.{Closing, ByDrill, ByKeeping, ByLive, ByRefusal, ByReflecting, ByVisit, ByWant, Verdict, Coming, Free, OfFile, OfFounded, OfGiven, OfInspect, OfInspectedLog, OfJoin, OfJournal, OfJson, OfKeyframes, OfLive, OfLiveBegun, OfLog, OfOwn, OfPersisted, OfProgram, OfQueries, OfRecorded, OfReflect, OfReflected, OfRight, PlainSource, first_source, names_no_other, OfScript, OfSnapshot, OfTimeLine, OfTree, OfView, OfViewScript, OfWords, Only, Starts, before, ask_file, at_once, count_verdict, founded, inspect_verdict, keeps_few, live_of, reflection_of, resumed_verdict, stamp_verdict, visit_to, most_queries, most_script, most_log, OfOpening, OfServed, OfUnkept, keeping_of, session_id_of, OfTrace, OfTraced, OfTracedLog, trace_verdict, votes_verdict}
 
 -- what `model_lang::one_reading` says
 abbrev pub IsOneReading : Type 0
@@ -276,6 +277,13 @@ one_view request text tree =
 one_join : (request : JoinRequest) (text : List ℕ) (tree : ProgramTree) → IsOneVerdict (OfJoin request text tree)
 one_join request text tree = one_right input.Address (is_address (encode_utf8_all request.address)) (OfView request text tree) (one_view request text tree)
 
+-- ---- join, where the lines come to the run
+
+one_live : (request : LiveRequest) (text : List ℕ) (tree : ProgramTree) → IsOneVerdict (OfLive request text tree)
+one_live request text tree =
+    one_right input.Address (is_address (encode_utf8_all request.address)) (OfLiveBegun request text tree)
+    (one_persisted request.persisted (λ v. Only (at_once (ByLive (live_of request text (founded tree v))))) (λ v. one_only (at_once (ByLive (live_of request text (founded tree v))))))
+
 -- ---- reflect
 
 one_reflected : (request : ReflectRequest) (id : List ℕ) (source : PlainSource) → IsOneVerdict (OfReflected request id source)
@@ -323,6 +331,9 @@ one_words one (Some (Votes log)) =
 one_words one (Some (Join request)) =
     one_file input.Program (ask_file request.program most_program_bytes) (λ bytes. OfProgram (OfJoin request bytes) bytes)
     (λ bytes. one_program one (OfJoin request bytes) (one_join request bytes) bytes)
+one_words one (Some (Live request)) =
+    one_file input.Program (ask_file request.program most_program_bytes) (λ bytes. OfProgram (OfLive request bytes) bytes)
+    (λ bytes. one_program one (OfLive request bytes) (one_live request bytes) bytes)
 one_words one (Some (Reflect request)) =
     one_file input.Program (ask_file request.program most_program_bytes) (λ bytes. OfProgram (λ tree. OfReflect request bytes) bytes)
     (λ bytes. one_program one (λ tree. OfReflect request bytes) (λ tree. one_reflect request bytes) bytes)

@@ -22,10 +22,11 @@ use Rattle.command_words.specs.declared.words.ReplayRequest.{ReplayRequest}
 use Rattle.command_words.specs.declared.words.InspectRequest.{InspectRequest}
 use Rattle.command_words.specs.declared.words.TraceRequest.{TraceRequest}
 use Rattle.command_words.specs.declared.words.JoinRequest.{JoinRequest}
+use Rattle.command_words.specs.declared.words.LiveRequest.{LiveRequest}
 use Rattle.command_words.specs.declared.words.ReflectRequest.{ReflectRequest}
 use Rattle.command_words.specs.declared.words.DrillRequest.{DrillRequest}
 use Rattle.command_words.specs.declared.words.Command.{Command}
-use Rattle.command_words.specs.declared.words.Command.TheVariants.{Stamp, Check, Replay, Inspect, Trace, Votes, Join, Reflect, Drill}
+use Rattle.command_words.specs.declared.words.Command.TheVariants.{Stamp, Check, Replay, Inspect, Trace, Votes, Join, Live, Reflect, Drill}
 use Rattle.command_outcome.specs.ProgramText.{check_line, counts_line, syntax_line, too_large_line}
 use Rattle.command_stamp.specs.Script.{script_of}
 use Rattle.command_votes.specs.VotesText.{votes_text}
@@ -39,7 +40,7 @@ use Rattle.model_tree.specs.Bounds.{most_program_bytes}
 use Rattle.persist_json.specs.JsonOf.{most_json}
 use Rattle.tea_base.specs.Limits.{most_snapshot}
 use Rattle.commands.specs.Laws.{AreGiven, IsOnlyWant, SomeVerdictComes}
-use Rattle.commands.specs.Verdict.{PlainKeeping, PlainVisit, Fine, ByDrill, ByKeeping, ByRefusal, ByReflecting, ByVisit, ByWant, Coming, OfCommand, OfFile, OfFounded, OfGiven, OfInspect, OfInspectedLog, OfJoin, OfJournal, OfJson, OfKeyframes, OfLog, OfOwn, OfPersisted, OfProgram, OfQueries, OfRecorded, OfReflect, OfReflected, OfRight, PlainSource, first_source, names_no_other, trace_verdict, OfScript, OfSnapshot, OfTimeLine, OfTree, OfView, OfViewScript, Only, Starts, ask_file, at_once, before, count_verdict, fine, founded, keeps_few, reflection_of, stamp_verdict, visit_to, most_queries, most_script, most_log, PlainReflection, OfOpening, OfServed, OfUnkept, keeping_of, session_id_of, OfTrace, OfTraced, OfTracedLog, votes_verdict}
+use Rattle.commands.specs.Verdict.{PlainKeeping, PlainLive, PlainVisit, Fine, ByDrill, ByKeeping, ByLive, ByRefusal, ByReflecting, ByVisit, ByWant, Coming, OfCommand, OfFile, OfFounded, OfGiven, OfInspect, OfInspectedLog, OfJoin, OfJournal, OfJson, OfKeyframes, OfLive, OfLiveBegun, OfLog, OfOwn, OfPersisted, OfProgram, OfQueries, OfRecorded, OfReflect, OfReflected, OfRight, PlainSource, first_source, names_no_other, trace_verdict, OfScript, OfSnapshot, OfTimeLine, OfTree, OfView, OfViewScript, Only, Starts, ask_file, at_once, before, count_verdict, fine, founded, keeps_few, live_of, reflection_of, stamp_verdict, visit_to, most_queries, most_script, most_log, PlainReflection, OfOpening, OfServed, OfUnkept, keeping_of, session_id_of, OfTrace, OfTraced, OfTracedLog, votes_verdict}
 
 abbrev pub Told : Type 0
 Told = Ask → Option (List ℕ)
@@ -48,12 +49,15 @@ Told = Ask → Option (List ℕ)
 abbrev pub IsSomeReading : Type 0
 IsSomeReading = (text : List ℕ) → ¬ ((reading : Reading) → ¬ IsReading text reading)
 
--- a refusal is no want of memory, a visit is none, a reflection is none, a keeping is none, a drill is none, and a text that was printed is none
+-- a refusal is no want of memory, a visit is none, a live view's run is none, a reflection is none, a keeping is none, a drill is none, and a text that was printed is none
 refused_not_want : (told : Told) (coming : Coming) (why : CommandRefusal) → coming (at_once (ByRefusal why)) → ¬ IsOnlyWant told coming
 refused_not_want told coming why comes only = let want : ByRefusal why ≡ ByWant = only (at_once (ByRefusal why)) comes tt in absurd cc
 
 visit_not_want : (told : Told) (coming : Coming) (visit : PlainVisit) → coming (at_once (ByVisit visit)) → ¬ IsOnlyWant told coming
 visit_not_want told coming visit comes only = let want : ByVisit visit ≡ ByWant = only (at_once (ByVisit visit)) comes tt in absurd cc
+
+live_view_not_want : (told : Told) (coming : Coming) (live : PlainLive) → coming (at_once (ByLive live)) → ¬ IsOnlyWant told coming
+live_view_not_want told coming live comes only = let want : ByLive live ≡ ByWant = only (at_once (ByLive live)) comes tt in absurd cc
 
 keeping_not_want : (told : Told) (coming : Coming) (keeping : PlainKeeping) → coming (at_once (ByKeeping keeping)) → ¬ IsOnlyWant told coming
 keeping_not_want told coming keeping comes only = let want : ByKeeping keeping ≡ ByWant = only (at_once (ByKeeping keeping)) comes tt in absurd cc
@@ -228,6 +232,14 @@ join_not_want told request text tree =
     (file_not_want told input.Script (ask_file request.script most_script) (λ bytes. OfViewScript request text tree (view_script_of bytes))
     (λ bytes. view_script_not_want told request text tree (view_script_of bytes)))
 
+-- ---- join, where the lines come to the run
+
+live_not_want : (told : Told) (request : LiveRequest) (text : List ℕ) (tree : ProgramTree) → ¬ IsOnlyWant told (OfLive request text tree)
+live_not_want told request text tree =
+    let lives : PlainValue → Coming = λ v. Only (at_once (ByLive (live_of request text (founded tree v)))) in
+    right_not_want told input.Address (is_address (encode_utf8_all request.address)) (OfLiveBegun request text tree)
+    (persisted_not_want told request.persisted lives (λ v. live_view_not_want told (lives v) (live_of request text (founded tree v)) refl))
+
 -- ---- reflect
 
 reflected_not_want : (told : Told) (request : ReflectRequest) (id : List ℕ) (source : PlainSource) → ¬ IsOnlyWant told (OfReflected request id source)
@@ -275,6 +287,9 @@ command_not_want some told (Votes log) =
 command_not_want some told (Join request) =
     file_not_want told input.Program (ask_file request.program most_program_bytes) (λ bytes. OfProgram (OfJoin request bytes) bytes)
     (λ bytes. program_not_want some told (OfJoin request bytes) bytes (join_not_want told request bytes))
+command_not_want some told (Live request) =
+    file_not_want told input.Program (ask_file request.program most_program_bytes) (λ bytes. OfProgram (OfLive request bytes) bytes)
+    (λ bytes. program_not_want some told (OfLive request bytes) bytes (live_not_want told request bytes))
 command_not_want some told (Reflect request) =
     file_not_want told input.Program (ask_file request.program most_program_bytes) (λ bytes. OfProgram (λ tree. OfReflect request bytes) bytes)
     (λ bytes. program_not_want some told (λ tree. OfReflect request bytes) bytes (λ tree. reflect_not_want told request bytes))

@@ -10,6 +10,7 @@ use Rattle.commands.specs.declared.recording.ReplayWait.TheVariants as replay_wa
 use Rattle.commands.specs.declared.inspection.InspectWait.TheVariants as inspect_wait
 use Rattle.commands.specs.declared.tracing.TraceWait.TheVariants as trace_wait
 use Rattle.commands.specs.declared.visit.JoinWait.TheVariants as join_wait
+use Rattle.commands.specs.declared.live.LiveWait.TheVariants as live_wait
 use Rattle.commands.specs.declared.reflection.ReflectWait.TheVariants as reflect_wait
 use Rattle.commands.specs.Verdict.{ByRefusal, Free, Verdict, before, at_once}
 use Rattle.commands.specs.Work.{ComesNext, Leads, Remains, ask_of, files_left, input_of, next_of}
@@ -41,6 +42,8 @@ some_left (waiting.Votes log) = omega arith
 some_left (waiting.Join (join_wait.Program request)) = omega arith
 some_left (waiting.Join (join_wait.Script wait)) = omega arith
 some_left (waiting.Join (join_wait.Value wait)) = omega arith
+some_left (waiting.Live (live_wait.Program request)) = omega arith
+some_left (waiting.Live (live_wait.Value wait)) = omega arith
 some_left (waiting.Reflect (reflect_wait.Program request)) = omega arith
 some_left (waiting.Reflect (reflect_wait.Value wait)) = omega arith
 some_left (waiting.Reflect (reflect_wait.Log wait)) = omega arith

@@ -35,10 +35,11 @@ use Rattle.command_words.specs.declared.words.ReplayRequest.{ReplayRequest}
 use Rattle.command_words.specs.declared.words.InspectRequest.{InspectRequest}
 use Rattle.command_words.specs.declared.words.TraceRequest.{TraceRequest}
 use Rattle.command_words.specs.declared.words.JoinRequest.{JoinRequest}
+use Rattle.command_words.specs.declared.words.LiveRequest.{LiveRequest}
 use Rattle.command_words.specs.declared.words.ReflectRequest.{ReflectRequest}
 use Rattle.command_words.specs.declared.words.DrillRequest.{DrillRequest}
 use Rattle.command_words.specs.declared.words.Command.{Command}
-use Rattle.command_words.specs.declared.words.Command.TheVariants.{Stamp, Check, Replay, Inspect, Trace, Votes, Join, Reflect, Drill}
+use Rattle.command_words.specs.declared.words.Command.TheVariants.{Stamp, Check, Replay, Inspect, Trace, Votes, Join, Live, Reflect, Drill}
 use Rattle.command_words.specs.Address.{is_address}
 use Rattle.command_stamp.specs.Script.{script_of}
 use Rattle.command_outcome.specs.Outcome.{optional_put, steps_of}
@@ -46,7 +47,7 @@ use Rattle.command_outcome.specs.ProgramEnd.{IsFaultless, IsRefused}
 use Rattle.command_outcome.specs.ProgramText.{counts_line}
 use Rattle.command_stamp.specs.ReplyText.{text_of}
 use Rattle.command_replay.specs.Replays.{json_of}
-use Rattle.command_replay.specs.WorldText.{world_line}
+use Rattle.world_lines.specs.WorldText.{world_line}
 use Rattle.time_line.specs.Keyframes.{most_frames}
 use Rattle.command_inspect.specs.declared.query.Query.{Query}
 use Rattle.command_inspect.specs.InspectText.{inspect_text}
@@ -65,6 +66,14 @@ pub record PlainVisit : Type 0 where
   pub view : ℕ
   pub address : List ℕ
   pub lines : List PlainLine
+
+-- what a view whose lines come to its run takes part in: what the session is founded from, its id, the number of the view, and the address of the
+-- reflector
+pub record PlainLive : Type 0 where
+  pub founding : Founding
+  pub id : List ℕ
+  pub view : ℕ
+  pub address : List ℕ
 
 -- what a reflector serves: the session's id, the session that goes on, the address, how many links it accepts, and where it puts the session, if
 -- there is a name for that
@@ -102,6 +111,8 @@ pub data Closing : Type 0 where
   ByNetFault : Closing
   -- the run goes on as this view's
   ByVisit : PlainVisit → Closing
+  -- the run goes on as that of this live view
+  ByLive : PlainLive → Closing
   -- the run goes on as a reflector's, which serves this
   ByReflecting : PlainReflection → Closing
   -- its journal is to be opened, and founded before that, if it is known with what
@@ -381,6 +392,20 @@ OfView request text tree = OfFile input.Script (ask_file request.script most_scr
 abbrev pub OfJoin : JoinRequest → List ℕ → ProgramTree → Coming
 OfJoin request text tree = OfRight input.Address (is_address (encode_utf8_all request.address)) (OfView request text tree)
 
+-- ---- join, where the lines come to the run
+
+abbrev pub live_of : LiveRequest → List ℕ → Founding → PlainLive
+live_of request text founding =
+    record { founding = founding; id = session_id_of request.name text founding.persisted; view = request.view; address = request.address }
+
+-- the persisted value is read, and then the view takes part
+abbrev pub OfLiveBegun : LiveRequest → List ℕ → ProgramTree → Coming
+OfLiveBegun request text tree = OfPersisted request.persisted (λ v. Only (at_once (ByLive (live_of request text (founded tree v)))))
+
+-- once the program was read, the address is checked
+abbrev pub OfLive : LiveRequest → List ℕ → ProgramTree → Coming
+OfLive request text tree = OfRight input.Address (is_address (encode_utf8_all request.address)) (OfLiveBegun request text tree)
+
 -- ---- reflect
 
 -- a reflector of the session of this id, which goes on from this one
@@ -455,6 +480,8 @@ OfCommand (Trace request) =
 OfCommand (Votes log) = OfFile input.Log (ask_file log most_log) (OfLog (λ source. Only (votes_verdict source.stored.log)))
 OfCommand (Join request) =
     OfFile input.Program (ask_file request.program most_program_bytes) (λ bytes. OfProgram (OfJoin request bytes) bytes)
+OfCommand (Live request) =
+    OfFile input.Program (ask_file request.program most_program_bytes) (λ bytes. OfProgram (OfLive request bytes) bytes)
 OfCommand (Reflect request) =
     OfFile input.Program (ask_file request.program most_program_bytes) (λ bytes. OfProgram (λ tree. OfReflect request bytes) bytes)
 -- a drill reads no file

@@ -8,7 +8,7 @@ use Rattle.run_steps.specs.Steps.{Ask}
 use Rattle.command_outcome.specs.declared.outcome.Input.{Input}
 use Rattle.command_outcome.specs.declared.outcome.Input.TheVariants as input
 use Rattle.command_words.specs.declared.words.Command.{Command}
-use Rattle.command_words.specs.declared.words.Command.TheVariants.{Join, Reflect, Drill}
+use Rattle.command_words.specs.declared.words.Command.TheVariants.{Join, Live, Reflect, Drill}
 use Rattle.reflector_core.specs.Stored.{session_of}
 use Rattle.session_log.specs.Stored.{PlainStored, IsStored, plain_stored}
 use Rattle.session_log.specs.declared.stored.Stored.{Stored}
@@ -17,6 +17,7 @@ use Rattle.command_reflect.specs.declared.keeping.Keeping.{Keeping}
 use Rattle.command_reflect.specs.ReflectedSteps.{log_name}
 use Rattle.tea_base.specs.declared.entry.SessionId.{SessionId}
 use Rattle.commands.specs.declared.opening.Source.{Source}
+use Rattle.commands.specs.declared.live.LiveStart.{LiveStart}
 use Rattle.commands.specs.declared.visit.VisitRequest.{VisitRequest}
 use Rattle.commands.specs.declared.work.Waiting.{Waiting}
 use Rattle.commands.specs.declared.work.Waiting.TheVariants as waiting
@@ -25,6 +26,7 @@ use Rattle.commands.specs.declared.recording.ReplayWait.TheVariants as replay_wa
 use Rattle.commands.specs.declared.inspection.InspectWait.TheVariants as inspect_wait
 use Rattle.commands.specs.declared.tracing.TraceWait.TheVariants as trace_wait
 use Rattle.commands.specs.declared.visit.JoinWait.TheVariants as join_wait
+use Rattle.commands.specs.declared.live.LiveWait.TheVariants as live_wait
 use Rattle.commands.specs.declared.reflection.ReflectWait.TheVariants as reflect_wait
 use Rattle.command_stamp.specs.Script.{script_of}
 use Rattle.command_inspect.specs.Queries.{queries_of}
@@ -36,10 +38,10 @@ use Rattle.view_script.specs.ViewScript.{view_script_of}
 use Rattle.commands.specs.declared.work.Next.{Next}
 use Rattle.commands.specs.declared.work.Next.TheVariants as next
 use Rattle.view_script.specs.PlainLine.{plain_lines}
-use Rattle.command_words.specs.Bounds.{AreConnections, IsBounded, IsBoundedDrill, IsBoundedInspect, IsBoundedJoin, IsBoundedReflect, IsBoundedTrace}
+use Rattle.command_words.specs.Bounds.{AreConnections, IsBounded, IsBoundedDrill, IsBoundedInspect, IsBoundedJoin, IsBoundedLive, IsBoundedReflect, IsBoundedTrace}
 use Rattle.command_outcome.specs.Outcome.{steps_of}
 use Rattle.commands.specs.Keeping.{OfFoundingLog}
-use Rattle.commands.specs.Verdict.{Verdict, PlainKeeping, PlainReflection, PlainVisit, ByDrill, ByKeeping, ByRefusal, ByReflecting, ByVisit, ByWant, Coming, Only, OfFile, OfFounded, OfInspect, OfJoin, OfJson, OfTimeLine, OfInspectedLog, OfProgram, OfQueries, OfLog, OfRecorded, OfReflect, OfReflected, OfScript, OfServed, OfSnapshot, OfTree, PlainSource, OfViewScript, ask_file, at_once, count_verdict, fine, founded, keeps_few, most_log, most_queries, most_script, session_id_of, stamp_verdict, visit_to, OfTrace, OfTraced, OfTracedLog, votes_verdict}
+use Rattle.commands.specs.Verdict.{Verdict, PlainKeeping, PlainLive, PlainReflection, PlainVisit, ByDrill, ByKeeping, ByLive, ByRefusal, ByReflecting, ByVisit, ByWant, Coming, Only, OfFile, OfFounded, OfInspect, OfJoin, OfJson, OfLive, OfTimeLine, OfInspectedLog, OfProgram, OfQueries, OfLog, OfRecorded, OfReflect, OfReflected, OfScript, OfServed, OfSnapshot, OfTree, PlainSource, OfViewScript, ask_file, at_once, count_verdict, fine, founded, keeps_few, live_of, most_log, most_queries, most_script, session_id_of, stamp_verdict, visit_to, OfTrace, OfTraced, OfTracedLog, votes_verdict}
 
 -- ---- a command that waits for a file
 
@@ -63,6 +65,8 @@ input_of (waiting.Votes log) = input.Log
 input_of (waiting.Join (join_wait.Program request)) = input.Program
 input_of (waiting.Join (join_wait.Script wait)) = input.Script
 input_of (waiting.Join (join_wait.Value wait)) = input.Persisted
+input_of (waiting.Live (live_wait.Program request)) = input.Program
+input_of (waiting.Live (live_wait.Value wait)) = input.Persisted
 input_of (waiting.Reflect (reflect_wait.Program request)) = input.Program
 input_of (waiting.Reflect (reflect_wait.Value wait)) = input.Persisted
 input_of (waiting.Reflect (reflect_wait.Log wait)) = input.Log
@@ -88,6 +92,8 @@ file_of (waiting.Votes log) = log
 file_of (waiting.Join (join_wait.Program request)) = request.program
 file_of (waiting.Join (join_wait.Script wait)) = wait.request.script
 file_of (waiting.Join (join_wait.Value wait)) = wait.persisted
+file_of (waiting.Live (live_wait.Program request)) = request.program
+file_of (waiting.Live (live_wait.Value wait)) = wait.persisted
 file_of (waiting.Reflect (reflect_wait.Program request)) = request.program
 file_of (waiting.Reflect (reflect_wait.Value wait)) = wait.persisted
 file_of (waiting.Reflect (reflect_wait.Log wait)) = wait.from
@@ -178,6 +184,9 @@ next_of (waiting.Join (join_wait.Script wait)) bytes = OfViewScript wait.request
 next_of (waiting.Join (join_wait.Value wait)) bytes =
     let read = wait.read in
     OfJson (λ v. Only (at_once (ByVisit (visit_to read.request read.text (plain_lines wait.script) (founded (checked_tree read.program) v))))) bytes
+next_of (waiting.Live (live_wait.Program request)) bytes = OfProgram (OfLive request bytes) bytes
+next_of (waiting.Live (live_wait.Value wait)) bytes =
+    let read = wait.read in OfJson (λ v. Only (at_once (ByLive (live_of read.request read.text (founded (checked_tree read.program) v))))) bytes
 next_of (waiting.Reflect (reflect_wait.Program request)) bytes = OfProgram (λ tree. OfReflect request bytes) bytes
 next_of (waiting.Reflect (reflect_wait.Value wait)) bytes = OfJson (λ v. OfServed wait.request (session_id_of wait.request.name wait.text v)) bytes
 next_of (waiting.Reflect (reflect_wait.Log wait)) bytes = OfLog (OfReflected wait.request wait.id.0) bytes
@@ -207,6 +216,8 @@ files_left (waiting.Votes log) = 1
 files_left (waiting.Join (join_wait.Program request)) = 3
 files_left (waiting.Join (join_wait.Script wait)) = 2
 files_left (waiting.Join (join_wait.Value wait)) = 1
+files_left (waiting.Live (live_wait.Program request)) = 2
+files_left (waiting.Live (live_wait.Value wait)) = 1
 files_left (waiting.Reflect (reflect_wait.Program request)) = 3
 files_left (waiting.Reflect (reflect_wait.Value wait)) = 2
 files_left (waiting.Reflect (reflect_wait.Log wait)) = 1
@@ -231,6 +242,8 @@ IsBoundedWait (waiting.Votes log) = ⊤
 IsBoundedWait (waiting.Join (join_wait.Program request)) = IsBoundedJoin request
 IsBoundedWait (waiting.Join (join_wait.Script wait)) = IsBoundedJoin wait.request
 IsBoundedWait (waiting.Join (join_wait.Value wait)) = IsBoundedJoin wait.read.request
+IsBoundedWait (waiting.Live (live_wait.Program request)) = IsBoundedLive request
+IsBoundedWait (waiting.Live (live_wait.Value wait)) = IsBoundedLive wait.read.request
 IsBoundedWait (waiting.Reflect (reflect_wait.Program request)) = IsBoundedReflect request
 IsBoundedWait (waiting.Reflect (reflect_wait.Value wait)) = IsBoundedReflect wait.request
 IsBoundedWait (waiting.Reflect (reflect_wait.Log wait)) = IsBoundedReflect wait.request
@@ -245,6 +258,10 @@ visit_of request = record {
   address = request.address;
   lines = plain_lines request.script;
 }
+
+-- what a live view is asked to take part in
+abbrev pub plain_live : LiveStart → PlainLive
+plain_live start = record { founding = founding_of start.program; id = start.id.0; view = start.view; address = start.address }
 
 -- the reflection that is asked for
 abbrev pub plain_reflection : Reflection → PlainReflection
@@ -273,6 +290,7 @@ ComesNext (next.Reads wait) = Remains wait
 ComesNext (next.Refuses refusal) = Only (at_once (ByRefusal refusal))
 ComesNext (next.Gives outcome) = Only (fine (steps_of outcome.files outcome.text))
 ComesNext (next.Visits request) = Only (at_once (ByVisit (visit_of request)))
+ComesNext (next.Lives start) = Only (at_once (ByLive (plain_live start)))
 ComesNext (next.Reflects reflection) = Only (at_once (ByReflecting (plain_reflection reflection)))
 ComesNext (next.Keeps keeping) = Only (at_once (ByKeeping (plain_keeping keeping)))
 ComesNext (next.Drills request) = Only (at_once (ByDrill request))
@@ -281,6 +299,7 @@ ComesNext next.WantOfMemory = Only (at_once ByWant)
 abbrev pub IsBoundedNext : Next → Type 0
 IsBoundedNext (next.Reads wait) = IsBoundedWait wait
 IsBoundedNext (next.Visits request) = 1 ≤ request.view
+IsBoundedNext (next.Lives start) = 1 ≤ start.view
 IsBoundedNext (next.Reflects reflection) = AreConnections reflection.connections
 IsBoundedNext (next.Keeps keeping) = IsBoundedKeeping keeping
 IsBoundedNext (next.Drills request) = IsBoundedDrill request
@@ -299,9 +318,15 @@ abbrev pub NamesNoJournal : Option Command → Type 0
 NamesNoJournal (Some (Reflect request)) = request.journal ≡ None
 NamesNoJournal command = ⊤
 
+-- the words ask for no view whose lines come to its run
+abbrev pub AsksNoLive : Option Command → Type 0
+AsksNoLive (Some (Live request)) = ⊥
+AsksNoLive command = ⊤
+
 -- the words ask for a command that goes on as the run of a view or of a reflector, or as a drill, and may wait then
 abbrev pub RunsOn : Option Command → Type 0
 RunsOn (Some (Join request)) = ⊤
+RunsOn (Some (Live request)) = ⊤
 RunsOn (Some (Reflect request)) = ⊤
 RunsOn (Some (Drill request)) = ⊤
 RunsOn command = ⊥

@@ -2,7 +2,7 @@
 //! refusal. No file and no output is touched here.
 //!
 //! [`Next::of_command`] begins the work of a command that was read, and [`Waiting::hand`] goes on with the bytes of each file that it waits for,
-//! until it is refused, or gives what it puts and prints, or goes on as a view's run, a reflector's, or a drill.
+//! until it is refused, or gives what it puts and prints, or goes on as a view's run, a live view's, a reflector's, or a drill.
 //!
 //! The words of commands stand in `command_words`, what comes of them in `command_outcome`, and what each of them gives in a crate of its own:
 //! `command_stamp`, `command_replay`, `command_inspect`, `command_trace`, `command_votes`, `command_reflect` and `command_drill`.
@@ -11,6 +11,7 @@
 mod check;
 mod inspection;
 mod laws;
+mod live;
 mod opening;
 mod recording;
 mod reflection;
@@ -22,6 +23,7 @@ mod work;
 
 pub use inspection::{InspectLogWait, InspectValueWait, InspectWait, QueriesWait, ReadInspection};
 pub use laws::{logs_tell_their_events, one_verdict, snapshots_agree, some_verdict};
+pub use live::{LiveRead, LiveStart, LiveValueWait, LiveWait};
 pub use recording::{LogWait, ReadReplay, ReplayValueWait, ReplayWait, SnapshotWait};
 pub use reflection::{FoundingWait, ReflectLogWait, ReflectValueWait, ReflectWait, found_journal};
 pub use stamp::{StampLogWait, StampWait};

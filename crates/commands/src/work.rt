@@ -10,6 +10,7 @@ ghost use Rattle.commands.specs.declared.work.Next.TheVariants as next;
 
 use crate::check::check;
 use crate::inspection::InspectWait;
+use crate::live::{LiveStart, LiveWait};
 use crate::recording::ReplayWait;
 use crate::reflection::ReflectWait;
 use crate::stamp::StampWait;
@@ -36,6 +37,7 @@ pub enum Waiting {
     /// A count of votes that has read nothing yet.
     Votes { log: Text },
     Join(JoinWait),
+    Live(LiveWait),
     Reflect(ReflectWait),
 }
 
@@ -50,6 +52,8 @@ pub enum Next {
     Gives(Outcome),
     /// It goes on as a view's run.
     Visits(VisitRequest),
+    /// It goes on as a live view's run.
+    Lives(LiveStart),
     /// It goes on as a reflector's run.
     Reflects(Reflection),
     /// Its journal is to be opened.
@@ -91,6 +95,7 @@ impl Next {
             }
             Some(Command::Votes { log }) => Next::Reads(Waiting::Votes { log }),
             Some(Command::Join(request)) => Next::Reads(Waiting::Join(JoinWait::Program(request))),
+            Some(Command::Live(request)) => Next::Reads(Waiting::Live(LiveWait::Program(request))),
             Some(Command::Reflect(request)) => {
                 Next::Reads(Waiting::Reflect(ReflectWait::Program(request)))
             }
@@ -113,6 +118,7 @@ impl Waiting {
             Waiting::Trace(wait) => wait.name(),
             Waiting::Votes { log } => log,
             Waiting::Join(wait) => wait.name(),
+            Waiting::Live(wait) => wait.name(),
             Waiting::Reflect(wait) => wait.name(),
         }
     }
@@ -129,6 +135,7 @@ impl Waiting {
             Waiting::Trace(wait) => wait.input(),
             Waiting::Votes { .. } => Input::Log,
             Waiting::Join(wait) => wait.input(),
+            Waiting::Live(wait) => wait.input(),
             Waiting::Reflect(wait) => wait.input(),
         }
     }
@@ -166,6 +173,7 @@ impl Waiting {
             Waiting::Trace(wait) => wait.take(alloc, bytes),
             Waiting::Votes { log: _log } => votes(alloc, bytes.bytes()),
             Waiting::Join(wait) => wait.take(alloc, bytes),
+            Waiting::Live(wait) => wait.take(alloc, bytes),
             Waiting::Reflect(wait) => wait.take(alloc, bytes),
         }
     }

@@ -5,7 +5,7 @@ use Rattle.tea_io.specs.Told.{Rose}
 use Rattle.run_steps.specs.Steps.{Step, Puts, Prints}
 use Rattle.run_steps.specs.Outside.{Acts, Cut, FilesTell, LinksTell, NetTells, Outside, OutputTells, WantedMemory, outside_tells}
 use Rattle.command_words.specs.declared.words.Command.{Command}
-use Rattle.command_words.specs.declared.words.Command.TheVariants.{Stamp, Check, Replay, Inspect, Trace, Votes, Join, Reflect, Drill}
+use Rattle.command_words.specs.declared.words.Command.TheVariants.{Stamp, Check, Replay, Inspect, Trace, Votes, Join, Live, Reflect, Drill}
 use Rattle.command_words.specs.declared.words.DrillRequest.{DrillRequest}
 use Rattle.connection.specs.declared.ending.Ended.{Ended}
 use Rattle.session_log.specs.Stored.{stored_spelling}
@@ -25,9 +25,10 @@ use Rattle.drill.specs.Ending.{root_total}
 use Rattle.drill.specs.declared.report.DrillReport.{DrillReport}
 use Rattle.commands.specs.Laws.{AreAlike, IsFunction, TellsPlace}
 use Rattle.commands.specs.Verdict.{ByDrill, ByReflecting, ByVisit, ByWant, Closing, Coming, Comes, Fine, Free, OfEnds, OfWords, Only, PlainReflection, PlainVisit, Verdict, fine}
-use Rattle.commands.specs.Work.{NamesNoJournal}
-use Rattle.commands.proofs.NetLaws.{never_keeps}
+use Rattle.commands.specs.Work.{AsksNoLive, NamesNoJournal}
+use Rattle.commands.proofs.NetLaws.{never_keeps, never_lives}
 use Rattle.journal_store.specs.Stores.{StoresTell}
+use Rattle.live_shell.specs.LiveSteps.{FeedTells}
 use Rattle.croquet.specs.declared.status.Status.{Status}
 use Rattle.croquet.specs.Complete.{HasRightInput, IsByPeer, IsComplete, IsDone, IsDueOf, NoLinkFailed, NoneFailed}
 use Rattle.croquet.specs.Drills.{OfDrilled}
@@ -256,19 +257,36 @@ module _ {F W N L : Type 0} (files : FilesTell F) (out : OutputTells W) (net : N
   names_none (Some (Trace request)) old right = tt
   names_none (Some (Votes log)) old right = tt
   names_none (Some (Join request)) old right = tt
+  names_none (Some (Live request)) old right = tt
   names_none (Some (Reflect request)) old right = right.0
   names_none (Some (Drill request)) old right = tt
 
+  -- and asks for no view whose lines come to its run
+  lives_none : (command : Option Command) (old : F) → HasRightInput files old command → AsksNoLive command
+  lives_none None old right = absurd right
+  lives_none (Some (Stamp script from log)) old right = tt
+  lives_none (Some (Check program)) old right = tt
+  lives_none (Some (Replay request)) old right = tt
+  lives_none (Some (Inspect request)) old right = tt
+  lives_none (Some (Trace request)) old right = tt
+  lives_none (Some (Votes log)) old right = tt
+  lives_none (Some (Join request)) old right = tt
+  lives_none (Some (Live request)) old right = absurd right
+  lives_none (Some (Reflect request)) old right = tt
+  lives_none (Some (Drill request)) old right = tt
+
   due_of_all
-      : {T S : Type 0} (stores : StoresTell T S) → IsFunction → (gives : ℕ → Type 0) (command : Option Command) (old new : Outside F W N L) (s t : T) (result : Status)
-      → Ran gives (outside_tells files out net links) stores (Comes command) old new s t result
+      : {T S K : Type 0} (stores : StoresTell T S) (feed : FeedTells K) → IsFunction → (gives : ℕ → Type 0) (command : Option Command) (old new : Outside F W N L) (s t : T) (k k' : K) (result : Status)
+      → Ran gives (outside_tells files out net links) stores feed (Comes command) old new s t k k' result
       → HasRightInput files old.files command → NoneFailed files out net old new → NoLinkFailed net command old.net new.net → IsDueOf command result
-  due_of_all stores function gives command old new s t result (inl ran) right none fine = comes_due function gives command old new result ran.0 right none fine
-  due_of_all stores function gives command old new s t result (inr ran) right none fine =
-      absurd (never_keeps command (names_none command old.files right) _ ran.reaches.comes tt)
+  due_of_all stores feed function gives command old new s t k k' result (inl ran) right none fine = comes_due function gives command old new result ran.0 right none fine
+  due_of_all stores feed function gives command old new s t k k' result (inr (inl ran)) right none fine =
+      absurd (never_keeps command (names_none command old.files right) _ ran.0.reaches.comes tt)
+  due_of_all stores feed function gives command old new s t k k' result (inr (inr ran)) right none fine =
+      absurd (never_lives command (lives_none command old.files right) _ ran.0.reaches.comes tt)
 
   pub is_complete
-      : {T S : Type 0} (stores : StoresTell T S) → IsFunction → AnsweredVisitsHaveNoFault → VisitsEndWithLinks → VisitsEndByRefusals → (gives : ℕ → Type 0) (command : Option Command) (old new : Outside F W N L) (s t : T) (result : Status)
-      → Ran gives (outside_tells files out net links) stores (Comes command) old new s t result → IsComplete files out net links command old new result
-  is_complete stores function peer ended refused gives command old new s t result ran =
-      record { due = due_of_all stores function gives command old new s t result ran; caused = is_caused peer ended refused files out net links (Comes command) old new result }
+      : {T S K : Type 0} (stores : StoresTell T S) (feed : FeedTells K) → IsFunction → AnsweredVisitsHaveNoFault → VisitsEndWithLinks → VisitsEndByRefusals → (gives : ℕ → Type 0) (command : Option Command) (old new : Outside F W N L) (s t : T) (k k' : K) (result : Status)
+      → Ran gives (outside_tells files out net links) stores feed (Comes command) old new s t k k' result → IsComplete files out net links command old new result
+  is_complete stores feed function peer ended refused gives command old new s t k k' result ran =
+      record { due = due_of_all stores feed function gives command old new s t k k' result ran; caused = is_caused peer ended refused files out net links (Comes command) old new result }

@@ -29,7 +29,7 @@ use Rattle.command_reflect.specs.declared.keeping.GoingOn.{GoingOn}
 use Rattle.command_reflect.specs.declared.keeping.Keeping.{Keeping}
 use Rattle.command_reflect.specs.KeptSteps.{GoesOnFrom, kept_place}
 use Rattle.commands.specs.Keeping.{OfAbsent, OfBytes, OfFound, OfFounding, OfFoundingLog, founded_with, no_journal}
-use Rattle.commands.specs.Verdict.{ByDrill, ByGoingOn, ByKeeping, ByReadFault, ByReflecting, ByRefusal, ByVisit, ByWant, ByWriteFault, Closing, Coming, Free, OfGiven, OfLog, OfRight, names_no_other, Only, PlainKeeping, Verdict, at_once}
+use Rattle.commands.specs.Verdict.{ByDrill, ByGoingOn, ByKeeping, ByLive, ByReadFault, ByReflecting, ByRefusal, ByVisit, ByWant, ByWriteFault, Closing, Coming, Free, OfGiven, OfLog, OfRight, names_no_other, Only, PlainKeeping, Verdict, at_once}
 use Rattle.commands.specs.Work.{IsBoundedKeeping, plain_keeping, plain_opening}
 use Rattle.croquet.specs.declared.keeping.Stopped.{Stopped}
 use Rattle.croquet.specs.declared.keeping.There.{There}
@@ -241,6 +241,7 @@ module _ {F W : Type 0} (files : FilesTell F) (out : OutputTells W) (first : Kee
 abbrev IsKeptClosing : Closing → Type 0
 IsKeptClosing (ByKeeping keeping) = is_some keeping.opening ≡ true
 IsKeptClosing (ByVisit visit) = ⊥
+IsKeptClosing (ByLive live) = ⊥
 IsKeptClosing (ByReflecting reflection) = ⊥
 IsKeptClosing (ByDrill request) = ⊥
 IsKeptClosing closing = ⊤
@@ -276,6 +277,7 @@ pub founding_turns
 founding_turns files out coming keeping (turn.Over result) f f' w w' leads turns = tt
 founding_turns files out coming keeping (turn.Keeps next) f f' w w' leads turns = tt
 founding_turns files out coming keeping (turn.Visits request) f f' w w' leads reached = absurd (founding_kept keeping.from keeping _ (leads _ reached.comes))
+founding_turns files out coming keeping (turn.Lives start) f f' w w' leads reached = absurd (founding_kept keeping.from keeping _ (leads _ reached.comes))
 founding_turns files out coming keeping (turn.Reflects reflection) f f' w w' leads reached = absurd (founding_kept keeping.from keeping _ (leads _ reached.comes))
 founding_turns files out coming keeping (turn.Drills request) f f' w w' leads reached = absurd (founding_kept keeping.from keeping _ (leads _ reached.comes))
 

@@ -2,6 +2,7 @@ pub mod Acts
 pub mod Overs
 pub mod Runs
 pub mod VisitRuns
+pub mod LiveRuns
 pub mod ReflectorRuns
 pub mod DrillRuns
 pub mod Counts

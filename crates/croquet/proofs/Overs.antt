@@ -13,6 +13,7 @@ module _ {F W N L : Type 0} (tells : OutsideTells F W N L) (command : Option Com
   pub over_by : (t : Turn) → ¬ RunsOn command → Turns tells t (Comes command) old new → IsOver t
   over_by (turn.Over status) other turns = tt
   over_by (turn.Visits request) other turns = absurd (never_goes_on command other _ turns.comes tt)
+  over_by (turn.Lives start) other turns = absurd (never_goes_on command other _ turns.comes tt)
   over_by (turn.Reflects reflection) other turns = absurd (never_goes_on command other _ turns.comes tt)
   over_by (turn.Keeps keeping) other turns = absurd (never_goes_on command other _ turns.comes tt)
   over_by (turn.Drills request) other turns = absurd (never_goes_on command other _ turns.comes tt)

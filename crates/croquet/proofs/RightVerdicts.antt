@@ -25,7 +25,7 @@ use Rattle.command_outcome.specs.ProgramEnd.{IsFaultless}
 use Rattle.command_outcome.specs.ProgramText.{counts_line}
 use Rattle.command_stamp.specs.ReplyText.{text_of}
 use Rattle.command_stamp.specs.Script.{script_of}
-use Rattle.command_replay.specs.WorldText.{world_line}
+use Rattle.world_lines.specs.WorldText.{world_line}
 use Rattle.command_inspect.specs.declared.query.Query.{Query}
 use Rattle.command_inspect.specs.InspectText.{inspect_text}
 use Rattle.command_inspect.specs.Queries.{queries_of}
@@ -38,7 +38,7 @@ use Rattle.command_words.specs.declared.words.TraceRequest.{TraceRequest}
 use Rattle.command_words.specs.declared.words.JoinRequest.{JoinRequest}
 use Rattle.command_words.specs.declared.words.ReflectRequest.{ReflectRequest}
 use Rattle.command_words.specs.declared.words.Command.{Command}
-use Rattle.command_words.specs.declared.words.Command.TheVariants.{Stamp, Check, Replay, Inspect, Trace, Votes, Join, Reflect, Drill}
+use Rattle.command_words.specs.declared.words.Command.TheVariants.{Stamp, Check, Replay, Inspect, Trace, Votes, Join, Live, Reflect, Drill}
 use Rattle.model_tree.specs.Bounds.{most_program_bytes}
 use Rattle.tea_base.specs.Limits.{most_snapshot}
 use Rattle.commands.specs.Verdict.{ByDrill, ByKeeping, ByReflecting, ByVisit, Closing, Coming, Fine, OfFile, OfInspectedLog, OfInspect, OfJoin, OfJournal, OfKeyframes, OfOpening, OfProgram, OfQueries, OfReflect, OfRight, OfScript, OfServed, OfSnapshot, OfLog, OfOwn, OfReflected, IsLog, PlainReflection, PlainSource, first_source, names_no_other, trace_verdict, OfTimeLine, OfTrace, OfTraced, OfTracedLog, OfTree, OfUnkept, OfView, OfViewScript, OfWords, Only, Starts, Verdict, OfFounded, OfJson, OfPersisted, OfRecorded, ask_file, at_once, before, count_verdict, fine, founded, inspect_verdict, keeping_of, keeps_few, most_queries, most_script, reflection_of, session_id_of, stamp_verdict, visit_to, votes_verdict, world_puts, most_log}
@@ -268,4 +268,5 @@ module _ {F : Type 0} (files : FilesTell F) (old : F) where
       log_read ClosesWell IsAny log (λ source. Only (votes_verdict source.stored.log)) right (fine_right (files.held old) [] (votes_text right.right.0.stored.log) (Only (votes_verdict right.right.0.stored.log)) refl)
   words_right (Some (Reflect request)) right = reflect_right request right.0 right.1 right.2 right.3 right.4
   words_right (Some (Drill request)) right = closed_right (files.held old) ClosesWell (ByDrill request) (OfWords (Some (Drill request))) tt refl
+  words_right (Some (Live request)) never = absurd never
   words_right (Some (Join request)) right = join_right request right.0 right.1 right.2 right.3

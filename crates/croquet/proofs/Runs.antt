@@ -66,6 +66,7 @@ turns_on files out wait given next (turn.Over result) f mid f' w w' read leads r
   };
 }
 turns_on files out wait given next (turn.Visits request) f mid f' w w' read leads reached = reaches_on files out wait given next _ f mid f' w w' read leads reached
+turns_on files out wait given next (turn.Lives start) f mid f' w w' read leads reached = reaches_on files out wait given next _ f mid f' w w' read leads reached
 turns_on files out wait given next (turn.Reflects reflection) f mid f' w w' read leads reached = reaches_on files out wait given next _ f mid f' w w' read leads reached
 turns_on files out wait given next (turn.Keeps keeping) f mid f' w w' read leads reached = reaches_on files out wait given next _ f mid f' w w' read leads reached
 turns_on files out wait given next (turn.Drills request) f mid f' w w' read leads reached = reaches_on files out wait given next _ f mid f' w w' read leads reached
@@ -179,6 +180,7 @@ pub turns_freely
 turns_freely files out coming other (turn.Over result) f f' w w' leads ran =
     ran_leading files out coming (Free other) f f' w w' result (λ verdict comes. inr (leads verdict comes)) ran
 turns_freely files out coming other (turn.Visits request) f f' w w' leads reached = record { steps = reached.steps; comes = inr (leads _ reached.comes); acts = reached.acts }
+turns_freely files out coming other (turn.Lives start) f f' w w' leads reached = record { steps = reached.steps; comes = inr (leads _ reached.comes); acts = reached.acts }
 turns_freely files out coming other (turn.Reflects reflection) f f' w w' leads reached = record { steps = reached.steps; comes = inr (leads _ reached.comes); acts = reached.acts }
 turns_freely files out coming other (turn.Keeps keeping) f f' w w' leads reached = record { steps = reached.steps; comes = inr (leads _ reached.comes); acts = reached.acts }
 turns_freely files out coming other (turn.Drills request) f f' w w' leads reached = record { steps = reached.steps; comes = inr (leads _ reached.comes); acts = reached.acts }

@@ -15,12 +15,12 @@ use Rattle.replica_plain.specs.declared.fault.ReplicaFault.{ReplicaFault}
 use Rattle.replica_plain.specs.declared.fault.ReplicaFault.TheVariants as fault
 use Rattle.replica_plain.specs.Taking.{taken}
 use Rattle.replica_plain.specs.Calls.{unsent}
-use Rattle.view_script.specs.PlainLine.{PlainLine, Publish, Watch, Wait, WaitFor, Settle, Snap, Cut, Quit, Mark}
+use Rattle.view_script.specs.PlainLine.{PlainLine, Publish, Watch, Wait, WaitFor, Settle, Snap, Cut, Quit, Mark, Vote, Show}
 use Rattle.run_steps.specs.Steps.{Step, Prints, Connects, Returns, Hears, Sends}
 use Rattle.view_shell.specs.declared.ending.ViewEnd.{ViewEnd}
 use Rattle.view_shell.specs.declared.ending.ViewEnd.TheVariants as view_end
-use Rattle.view_shell.specs.ViewText.{rejoined_line, snap_refused_line, snapped_line, time_line}
-use Rattle.view_shell.specs.Phases.{Aim, Begins, Connecting, Hearing, Leaves, Leaving, Moves, Over, Phase, Printing, PrintingLast, Receives, Receiving, Returning, Sending, Task, TellsText, ToCatchUp, ToJoin, ToReach, ToSettle, ToSnap, Viewer, Walks, after_frame, after_giving, after_publish, after_sync, alive, bad_base, begin_task, finish, go_on, has_caught_up, heard_frame, heard_quiet, leave_session, phase_behind_frame, quiet, reads, receive, run, send_all, settle_on, with_lines, with_taken, time_after}
+use Rattle.view_shell.specs.ViewText.{rejoined_line, snap_refused_line, snapped_line, reached_time_line}
+use Rattle.view_shell.specs.Phases.{Aim, Begins, Connecting, Hearing, Leaves, Leaving, Moves, Over, Phase, Printing, PrintingLast, Receives, Receiving, Returning, Sending, Task, TellsText, ToCatchUp, ToJoin, ToReach, ToSee, ToSettle, ToSnap, Viewer, Walks, after_frame, after_giving, after_publish, after_sync, alive, bad_base, begin_task, finish, go_on, has_caught_up, heard_frame, heard_quiet, leave_session, phase_behind_frame, quiet, reads, receive, run, send_all, settle_on, show_world, with_lines, with_taken, time_after, after_entry, after_vote, vote_by}
 use Rattle.view_shell.specs.ViewRun.{EndsBy}
 use Rattle.commands.specs.Verdict.{PlainVisit}
 use Rattle.croquet.specs.Run.{Ending, Visits}
@@ -40,11 +40,12 @@ settle_said v [] = tt
 settle_said v (payload ∷ rest) = tt
 
 receive_said : (v : Viewer) (aim : Aim) → IsSaid (receive v aim)
-receive_said v (ToReach time) = either_said (nat_le time v.replica.world.time) (finish v (time_line v.replica.world.time)) (Receiving v (ToReach time)) tt tt
+receive_said v (ToReach time) = either_said (nat_le time v.replica.world.time) (finish v (reached_time_line v.replica.world.time)) (Receiving v (ToReach time)) tt tt
 receive_said v ToSettle = settle_said v v.replica.outbox
 receive_said v ToCatchUp = either_said (has_caught_up v.replica) (finish v []) (Receiving v ToCatchUp) tt tt
 receive_said v (ToJoin how) = tt
 receive_said v ToSnap = tt
+receive_said v (ToSee at) = tt
 
 begin_said : (v : Viewer) (task : Task) → IsSaid (begin_task v task)
 begin_said v (Receives aim) = receive_said v aim
@@ -60,6 +61,14 @@ leave_said : (v : Viewer) → IsSaid (leave_session v)
 unfolding leave_session
 leave_said v = tt
 
+vote_said : (has : Bool) (v : Viewer) (at : ℕ) → IsSaid (vote_by has v at)
+vote_said true v at = tt
+vote_said false v at = tt
+
+show_said : (v : Viewer) → IsSaid (show_world v)
+unfolding show_world
+show_said v = tt
+
 run_said : (v : Viewer) (lines : List PlainLine) → IsSaid (run v lines)
 run_said v [] = leave_said v
 run_said v (Publish scope event value ∷ rest) =
@@ -73,6 +82,8 @@ run_said v (Snap ∷ rest) = tt
 run_said v (Cut ∷ rest) = tt
 run_said v (Quit ∷ rest) = leave_said (with_lines v rest)
 run_said v (Mark word ∷ rest) = tt
+run_said v (Vote at ∷ rest) = vote_said (nat_le at v.replica.seen) (with_lines v rest) at
+run_said v (Show ∷ rest) = show_said (with_lines v rest)
 
 go_on_said : (v : Viewer) (frames : List ClientFrame) (task : Task) → IsSaid (go_on v frames task)
 go_on_said v frames task = send_said v (alive v ++ frames) task
@@ -81,6 +92,10 @@ sync_said : (v : Viewer) (how : How) (joined from : ℕ) → IsSaid (after_sync 
 sync_said v Fresh joined from = go_on_said v [] Begins
 sync_said v Whole joined from = go_on_said v [] Begins
 sync_said v Resume joined from = go_on_said (after_giving v) (unsent v.replica) (TellsText (rejoined_line joined from))
+
+entry_said : (has : Bool) (v : Viewer) (at : ℕ) → IsSaid (after_entry has v at)
+entry_said true v at = let w = after_vote v at in go_on_said (after_giving w) (unsent w.replica) (TellsText _)
+entry_said false v at = go_on_said v [] (Receives (ToSee at))
 
 frame_said : (v : Viewer) (aim : Aim) (frame : ServerFrame) → IsSaid (after_frame v aim frame)
 frame_said v (ToJoin how) (server.Sync joined last from base) = sync_said v how joined from
@@ -91,6 +106,7 @@ frame_said v ToSnap frame = go_on_said v [] (Receives ToSnap)
 frame_said v (ToReach time) frame = go_on_said v [] (Receives (ToReach time))
 frame_said v ToSettle frame = go_on_said v [] (Receives ToSettle)
 frame_said v ToCatchUp frame = go_on_said v [] (Receives ToCatchUp)
+frame_said v (ToSee at) frame = entry_said (nat_le at v.replica.seen) v at
 
 base_said : (v : Viewer) (aim : Aim) → IsSaid (bad_base v aim)
 base_said v (ToJoin Fresh) = tt
@@ -100,6 +116,7 @@ base_said v (ToReach time) = tt
 base_said v ToSettle = tt
 base_said v ToCatchUp = tt
 base_said v ToSnap = tt
+base_said v (ToSee at) = tt
 
 behind_said : (v : Viewer) (aim : Aim) (frame : ServerFrame) (found : Option ReplicaFault) → IsSaid (phase_behind_frame v aim frame found)
 behind_said v aim frame None = frame_said v aim frame

@@ -12,6 +12,11 @@ use Rattle.reflect_server.specs.declared.reflection.KeptFault.{KeptFault}
 use Rattle.reflect_server.specs.declared.reflection.KeptFault.TheVariants as kept_fault
 use Rattle.view_shell.specs.declared.ending.ViewEnd.{ViewEnd}
 use Rattle.view_shell.specs.declared.ending.ViewEnd.TheVariants as view_end
+use Rattle.live_view.specs.Script.{first_state}
+use Rattle.live_shell.specs.LiveRun.{LiveRan}
+use Rattle.live_shell.specs.LiveSteps.{LiveTells, live_outside}
+use Rattle.live_shell.specs.declared.ending.LiveEnd.{LiveEnd}
+use Rattle.live_shell.specs.declared.ending.LiveEnd.TheVariants as live_end
 use Rattle.store_io.specs.declared.store.StoreFault.{StoreFault}
 use Rattle.store_io.specs.declared.store.StoreFault.TheVariants as store_fault
 use Rattle.session_journal.specs.declared.reading.JournalFault.{JournalFault}
@@ -23,13 +28,13 @@ use Rattle.command_outcome.specs.declared.outcome.Input.TheVariants as input
 use Rattle.command_outcome.specs.declared.outcome.CommandRefusal.TheVariants as refusal
 use Rattle.command_words.specs.declared.words.DrillRequest.{DrillRequest}
 use Rattle.command_words.specs.Bounds.{AreConnections, IsBoundedDrill}
-use Rattle.commands.specs.Verdict.{ByDrill, ByKeeping, ByReflecting, ByVisit, ByWant, Coming, Free, Only, PlainVisit, at_once, drilled_verdict}
-use Rattle.commands.specs.Work.{IsBoundedKeeping, plain_keeping, plain_reflection, visit_of}
+use Rattle.commands.specs.Verdict.{ByDrill, ByKeeping, ByLive, ByReflecting, ByVisit, ByWant, Coming, Free, Only, PlainLive, PlainVisit, at_once, drilled_verdict}
+use Rattle.commands.specs.Work.{IsBoundedKeeping, plain_keeping, plain_live, plain_reflection, visit_of}
 use Rattle.croquet.specs.declared.status.Status.{Status}
 use Rattle.croquet.specs.declared.status.Status.TheVariants as status
 use Rattle.croquet.specs.declared.top.Turn.{Turn}
 use Rattle.croquet.specs.declared.top.Turn.TheVariants as turn
-use Rattle.croquet.specs.Run.{Does, Ending, on_net_fault, on_read_fault, on_write_fault, refusal_ending, view_ending, OutOfMemory, Silent, RanBySteps, Reaches, Tells, TellsEnding, TellsMemory, Visits}
+use Rattle.croquet.specs.Run.{Does, Ending, on_net_fault, on_read_fault, on_write_fault, refusal_ending, live_ending, view_ending, OutOfMemory, Silent, RanBySteps, Reaches, Tells, TellsEnding, TellsMemory, Visits}
 
 -- a file was not put, and this was told
 abbrev pub TellsUnput : {F W : Type 0} → FilesTell F → OutputTells W → Put → F → W → F → W → Status → Type 0
@@ -42,6 +47,11 @@ abbrev pub TellsViewEnd : {W : Type 0} → OutputTells W → ViewEnd → W → W
 TellsViewEnd out (view_end.Refused code kept) old new result =
     TellsEnding out (view_ending (view_end.Refused code kept)) old new result ⊎ TellsMemory out old new result
 TellsViewEnd out end old new result = TellsEnding out (view_ending end) old new result
+
+-- the same of a live view's run
+abbrev pub TellsLiveEnd : {W : Type 0} → OutputTells W → LiveEnd → W → W → Status → Type 0
+TellsLiveEnd out (live_end.View end) old new result = TellsViewEnd out end old new result
+TellsLiveEnd out live_end.ReadFault old new result = TellsEnding out on_read_fault old new result
 
 -- steps are all done; or they are cut, and this is told, whatever was to come behind them
 abbrev pub Completes : {F W N L : Type 0} → OutsideTells F W N L → List Step → Result ⊤ Status → Outside F W N L → Outside F W N L → Type 0
@@ -96,10 +106,11 @@ OfReport request (Ok report) =
     Free (Only (drilled_verdict request report.session.plain (map snapshot_of report.replicas) report.total report.agree))
 OfReport request (Err wanting) = Only (at_once ByWant)
 
--- a command is over, or its run goes on as a view's, a reflector's, that of one whose journal is to be opened, or a drill
+-- a command is over, or its run goes on as a view's, a live view's, a reflector's, that of one whose journal is to be opened, or a drill
 abbrev pub Turns : {F W N L : Type 0} → OutsideTells F W N L → Turn → Coming → Outside F W N L → Outside F W N L → Type 0
 Turns tells (turn.Over result) coming old new = RanBySteps tells coming old new result
 Turns tells (turn.Visits request) coming old new = Reaches tells coming (ByVisit (visit_of request)) old new
+Turns tells (turn.Lives start) coming old new = Reaches tells coming (ByLive (plain_live start)) old new
 Turns tells (turn.Reflects reflection) coming old new = Reaches tells coming (ByReflecting (plain_reflection reflection)) old new
 Turns tells (turn.Keeps keeping) coming old new = Reaches tells coming (ByKeeping (plain_keeping keeping)) old new
 Turns tells (turn.Drills request) coming old new = Reaches tells coming (ByDrill request) old new
@@ -122,3 +133,10 @@ pub record VisitRan {F W N L : Type 0} (tells : OutsideTells F W N L) (visit : P
   pub ending : Ending
   pub visits : Visits visit steps ending
   pub does : Does tells steps ending old new result
+
+-- a live view's run is done, and its end told
+pub record LiveViewRan {K W N L : Type 0} (tells : LiveTells K W N L) (live : PlainLive) (k k' : K) (w w' : W) (n n' : N) (result : Status) : Type 0 where
+  pub end : LiveEnd
+  pub said : W
+  pub ran : LiveRan tells live.address (first_state live.founding live.id live.view live.address) end (live_outside k w n None) (live_outside k' said n' None)
+  pub told : TellsEnding tells.out (live_ending end) said w' result

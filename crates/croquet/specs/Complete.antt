@@ -22,7 +22,7 @@ use Rattle.command_words.specs.declared.words.ReplayRequest.{ReplayRequest}
 use Rattle.command_words.specs.declared.words.InspectRequest.{InspectRequest}
 use Rattle.command_words.specs.declared.words.TraceRequest.{TraceRequest}
 use Rattle.command_words.specs.declared.words.Command.{Command}
-use Rattle.command_words.specs.declared.words.Command.TheVariants.{Stamp, Check, Replay, Inspect, Trace, Votes, Join, Reflect, Drill}
+use Rattle.command_words.specs.declared.words.Command.TheVariants.{Stamp, Check, Replay, Inspect, Trace, Votes, Join, Live, Reflect, Drill}
 use Rattle.command_stamp.specs.Script.{script_of}
 use Rattle.time_line.specs.Keyframes.{most_frames}
 use Rattle.command_inspect.specs.declared.query.Query.{Query}
@@ -134,6 +134,8 @@ HasRightInput files old (Some (Trace request)) = HoldsTrace files old request
 HasRightInput files old (Some (Votes log)) = HoldsFile files old log most_log (IsLogText IsAny)
 HasRightInput files old (Some (Join request)) =
     HoldsProgram files old request.program × NamesAddress request.address × HoldsFile files old request.script most_script IsViewScriptText × HoldsPersisted files old request.persisted
+-- of a view whose lines come to its run nothing is said
+HasRightInput files old (Some (Live request)) = ⊥
 -- of one that names a journal nothing is said
 HasRightInput files old (Some (Reflect request)) =
     (request.journal ≡ None) × (program : HoldsProgram files old request.program) × NamesAddress request.address × (persisted : HoldsPersisted files old request.persisted)

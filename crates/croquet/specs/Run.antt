@@ -34,6 +34,11 @@ use Rattle.reflect_server.specs.declared.reflection.Reflected.{Reflected}
 use Rattle.reflect_server.specs.declared.reflection.ServeFault.{ServeFault}
 use Rattle.reflect_server.specs.declared.reflection.ServeFault.TheVariants as serve_fault
 use Rattle.tea_base.specs.declared.want.WantOfMemory.{WantOfMemory}
+use Rattle.live_view.specs.Script.{first_state}
+use Rattle.live_shell.specs.LiveRun.{LiveRan}
+use Rattle.live_shell.specs.LiveSteps.{FeedTells, live_outside, live_tells}
+use Rattle.live_shell.specs.declared.ending.LiveEnd.{LiveEnd}
+use Rattle.live_shell.specs.declared.ending.LiveEnd.TheVariants as live_end
 use Rattle.view_shell.specs.declared.ending.ViewEnd.{ViewEnd}
 use Rattle.view_shell.specs.declared.ending.ViewEnd.TheVariants as view_end
 use Rattle.view_shell.specs.Phases.{Phase, Walks}
@@ -45,7 +50,7 @@ use Rattle.command_outcome.specs.declared.outcome.CommandRefusal.{CommandRefusal
 use Rattle.command_outcome.specs.declared.outcome.CommandRefusal.TheVariants as refusal
 use Rattle.command_words.specs.declared.words.DrillRequest.{DrillRequest}
 use Rattle.commands.specs.Keeping.{OfAbsent, OfBytes, no_journal}
-use Rattle.commands.specs.Verdict.{Closing, Fine, ByRefusal, ByWant, ByReadFault, ByWriteFault, ByNetFault, ByVisit, ByReflecting, ByKeeping, ByGoingOn, ByDrill, Verdict, PlainKeeping, PlainReflection, PlainVisit, Coming, OfEnds, Only, at_once}
+use Rattle.commands.specs.Verdict.{Closing, Fine, ByRefusal, ByWant, ByReadFault, ByWriteFault, ByNetFault, ByVisit, ByLive, ByReflecting, ByKeeping, ByGoingOn, ByDrill, Verdict, PlainKeeping, PlainLive, PlainReflection, PlainVisit, Coming, OfEnds, Only, at_once}
 use Rattle.croquet.specs.Drills.{OfDrilled, drill_size}
 use Rattle.croquet.specs.declared.status.Status.{Status}
 use Rattle.croquet.specs.declared.status.Status.TheVariants as status
@@ -105,6 +110,11 @@ view_ending view_end.Peer = Says (codes "peer\n") status.Peer
 view_ending view_end.WriteFault = Silent status.WriteFault
 view_ending view_end.WantOfMemory = OutOfMemory
 
+-- it went on as a live view's run, which ends so: as its view, or its lines were not read
+abbrev pub live_ending : LiveEnd → Ending
+live_ending (live_end.View end) = view_ending end
+live_ending live_end.ReadFault = on_read_fault
+
 -- a step has failed; an output that failed takes no line
 abbrev pub failed_ending : Step → Ending
 failed_ending (Loads ask given) = on_read_fault
@@ -132,7 +142,9 @@ Concludes ByReadFault steps ending = (steps ≡ []) × (ending ≡ on_read_fault
 Concludes ByWriteFault steps ending = (steps ≡ []) × (ending ≡ on_write_fault)
 Concludes ByNetFault steps ending = (steps ≡ []) × (ending ≡ on_net_fault)
 Concludes (ByVisit visit) steps ending = Visits visit steps ending
--- No run by steps alone ends so: a reflector serves many links at once. `RanAsReflector` says how it does.
+-- No run by steps alone ends so: its lines come from a feed. `RanAsLive` says how it does.
+Concludes (ByLive live) steps ending = ⊥
+-- Nor so: a reflector serves many links at once. `RanAsReflector` says how it does.
 Concludes (ByReflecting reflection) steps ending = ⊥
 -- Nor so: what comes next depends on what the stores tell. `RanAsKeeper` says how.
 Concludes (ByKeeping keeping) steps ending = ⊥
@@ -372,14 +384,37 @@ pub record RanAsDrill (gives : ℕ → Type 0) {F W N L : Type 0} (tells : Outsi
   pub drilled : IfOk answer (HasDrilled gives (drill_size request))
   pub behind : RanBySteps tells (OfDrilled gives request answer) ready new result
 
+-- ---- a live view's run
+
+-- A live view has asked the feed of its lines and its links in some order, has sent and printed what it makes of what they told, and ends so. Each
+-- link went back, and the files stay as they are.
+abbrev pub TakesPart
+    : {K F W N L : Type 0} → OutsideTells F W N L → FeedTells K → PlainLive → LiveEnd → Outside F W N L → Outside F W N L → K → K → Type 0
+TakesPart tells feed live end old new k k' =
+    OnPart tells.net (λ net. OnPart tells.links (λ links. LiveRan (live_tells feed tells.out net links) live.address (first_state live.founding live.id live.view live.address) end
+    (live_outside k old.out old.net old.link) (live_outside k' new.out new.net new.link)))
+    × (new ≡ record old { out = new.out; net = new.net; link = new.link })
+
+-- a command has done its steps, a live view has run, and its end was told
+pub record RanAsLive {K F W N L : Type 0} (tells : OutsideTells F W N L) (feed : FeedTells K) (coming : Coming) (old new : Outside F W N L) (k k' : K) (result : Status) : Type 0 where
+  pub live : PlainLive
+  pub ready : Outside F W N L
+  pub reaches : Reaches tells coming (ByLive live) old ready
+  pub end : LiveEnd
+  pub lived : Outside F W N L
+  pub lives : TakesPart tells feed live end ready lived k k'
+  pub told : OnlyTells (TellsEnding tells.out (live_ending end)) lived new result
+
 -- ---- every run
 
--- a command has run without stores: by steps, as a reflector, or as a drill
+-- a command has run without stores and without lines that come to it: by steps, as a reflector, or as a drill
 abbrev pub RanAlone : (ℕ → Type 0) → {F W N L : Type 0} → OutsideTells F W N L → Coming → Outside F W N L → Outside F W N L → Status → Type 0
 RanAlone gives tells coming old new result =
     RanBySteps tells coming old new result ⊎ (RanAsReflector gives tells coming old new result ⊎ RanAsDrill gives tells coming old new result)
 
--- a command has run: so, and the stores are as they were; or as a reflector that keeps a journal
-abbrev pub Ran : (ℕ → Type 0) → {F W N L T S : Type 0} → OutsideTells F W N L → StoresTell T S → Coming → Outside F W N L → Outside F W N L → T → T → Status → Type 0
-Ran gives tells stores coming old new s t result =
-    (RanAlone gives tells coming old new result × (t ≡ s)) ⊎ RanAsKeeper gives tells stores coming old new s t result
+-- a command has run: so, and the stores and the feed of lines are as they were; or as a reflector that keeps a journal; or as a live view
+abbrev pub Ran
+    : (ℕ → Type 0) → {F W N L T S K : Type 0} → OutsideTells F W N L → StoresTell T S → FeedTells K → Coming → Outside F W N L → Outside F W N L → T → T → K → K → Status → Type 0
+Ran gives tells stores feed coming old new s t k k' result =
+    (RanAlone gives tells coming old new result × (t ≡ s) × (k' ≡ k))
+    ⊎ ((RanAsKeeper gives tells stores coming old new s t result × (k' ≡ k)) ⊎ (RanAsLive tells feed coming old new k k' result × (t ≡ s)))

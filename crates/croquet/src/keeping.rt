@@ -116,6 +116,7 @@ fn kept_turn(turn: Turn) -> Result<Keeping, Status>
         Turn::Over(status) => Err(status),
         Turn::Keeps(keeping) => Ok(keeping),
         Turn::Visits(_) => unreachable!(),
+        Turn::Lives(_) => unreachable!(),
         Turn::Reflects(_) => unreachable!(),
         Turn::Drills(_) => unreachable!(),
     }

@@ -11,16 +11,19 @@ ghost use Rattle.view_follows.specs.AnyEnds.{OfRunsOfViews, RunsLiveOn};
 ghost use Rattle.view_follows.specs.Journals.{JournalsLeave};
 ghost use Rattle.view_follows.specs.SessionsReplay.{EndsViews, OfViewRuns};
 ghost use Rattle.view_follows.specs.ViewsReplay.{VisitsEndInReplay};
+ghost use Rattle.view_shell.specs.Agreeing.{HasWorldOfLog, HaveOneDigest, VotesWithWorldOfLog};
 ghost use Rattle.view_shell.specs.OneRun.{IsOneRun};
 ghost use Rattle.croquet.specs.Calls.{IsBoundedTurn, IsOver, Turns};
 ghost use Rattle.croquet.specs.Complete.{IsComplete};
 ghost use Rattle.croquet.specs.Run.{Ran, StoresKeepPlays};
 ghost use Rattle.journal_store.specs.Stores.{stores_tell};
+ghost use Rattle.live_shell.specs.LiveSteps.{feed_tells};
 
 use crate::drilling::tell_drilled;
 use crate::giving::finish;
 use crate::keeping::prepare;
 use crate::kept::{serve_kept, stores_keep_plays};
+use crate::living::run_live_view;
 use crate::reflecting::tell_reflected;
 use crate::status::Status;
 use crate::telling::{tell, tell_refusal, tell_want_of_memory};
@@ -28,9 +31,11 @@ use crate::visiting::run_visit;
 use command_reflect::{Keeping, Reflection};
 use command_words::{DrillRequest, read_command};
 use commands::{
-    Next, VisitRequest, Waiting, logs_tell_their_events, one_verdict, snapshots_agree, some_verdict,
+    LiveStart, Next, VisitRequest, Waiting, logs_tell_their_events, one_verdict, snapshots_agree,
+    some_verdict,
 };
 use drill::{Size, drill};
+use live_shell::Feed;
 use reflect_server::{Server, reflect};
 use run_steps::{CallFault, read_file};
 use std::alloc::Global;
@@ -43,15 +48,17 @@ use view_follows::{
     ends_are_caused, journals_leave, runs_live_on, views_of_any_runs, views_of_many_runs,
     views_replay,
 };
-use view_shell::one_run;
+use view_shell::{one_run, votes_agree};
 
-/// A command is over, or the run goes on as a view's, a reflector's, or a drill.
+/// A command is over, or the run goes on as a view's, a live view's, a reflector's, or a drill.
 #[derive(Drop)]
 pub enum Turn {
     /// The command is over, with this status.
     Over(Status),
     /// The run goes on as a view's.
     Visits(VisitRequest),
+    /// The run goes on as a live view's.
+    Lives(LiveStart),
     /// The run goes on as a reflector's.
     Reflects(Reflection),
     /// The run goes on as that of a reflector whose journal is to be opened.
@@ -94,6 +101,7 @@ pub(crate) fn go_on<F: Files, W: Sink>(
         Next::Refuses(refusal) => Turn::Over(tell_refusal(out, &refusal)),
         Next::Gives(outcome) => Turn::Over(finish(&outcome, files, out)),
         Next::Visits(request) => Turn::Visits(request),
+        Next::Lives(start) => Turn::Lives(start),
         Next::Reflects(reflection) => Turn::Reflects(reflection),
         Next::Keeps(keeping) => Turn::Keeps(keeping),
         Next::Drills(request) => Turn::Drills(request),
@@ -101,8 +109,8 @@ pub(crate) fn go_on<F: Files, W: Sink>(
     }
 }
 
-/// Runs what the words ask for up to its end, or up to a view's run, a reflector's, or a drill. [`croquet`] begins so. It waits for nobody, so it
-/// returns: `stamp`, `check`, `replay`, `inspect` and `trace` are over then, and so are words that are refused.
+/// Runs what the words ask for up to its end, or up to a view's run, a live view's, a reflector's, or a drill. [`croquet`] begins so. It waits for nobody, so it
+/// returns: `stamp`, `check`, `replay`, `inspect`, `trace` and `votes` are over then, and so are words that are refused.
 pub fn begin<F: Files, W: Sink>(alloc: Global, words: &Words, files: &mut F, out: &mut W) -> Turn
     ensures turns { Turns (desk_tells (files_tell F.held F.asked F.faults F.wants) (output_tells W.written W.faults W.wants))
         result (Comes (command_of words.now)) (desk files.old out.old) (desk files.new out.new) }
@@ -116,9 +124,9 @@ pub fn begin<F: Files, W: Sink>(alloc: Global, words: &Words, files: &mut F, out
 }
 
 /// Runs what the words ask for over these files, these stores and this net, and writes its text, or the line of its one fault, to `out`. It gives
-/// the net back. This is all that the program does once it has its words.
+/// the net back. A live view does the lines of `feed`, which no other command asks. This is all that the program does once it has its words.
 ///
-/// All commands but `join`, `reflect` and `drill` wait for nobody, so they return. The run of `join` ends when its script does, or its
+/// All commands but `join`, `reflect` and `drill` wait for nobody, so they return. The run of `join` ends when its script or its feed does, or its
 /// net; that of `reflect` when it has accepted all its links, and all of them have ended; that of `drill` when its views have ended.
 pub fn croquet<
     R: Threads + Wait + Sync,
@@ -129,12 +137,14 @@ pub fn croquet<
     G: Gate + Sync,
     S: Stores<Store = J>,
     J: Store + Send + Drop,
+    K: Feed,
 >(
     rt: &R,
     alloc: Global,
     words: &Words,
     files: &mut F,
     stores: &mut S,
+    feed: &mut K,
     clock: &C,
     mut net: N,
     gate: &G,
@@ -144,11 +154,13 @@ pub fn croquet<
     // the place where the run was cut, and then the last line. Behind the steps of `reflect` its reflector serves the net, and more
     // steps and an end come of what it answers. One that keeps a journal opens its store before that, and founds it where it is not there; what
     // the store safely holds covers the session that was served, whatever call of it has failed. Of `drill` the session is put, and of each view the snapshot of the log's replay.
+    // A live view asks its feed and its links in some order; what it sends and prints is `live_step` over what they told, up to a cut, and then
+    // the line of the fault, and each of its links goes back. No other command asks the feed.
     ensures ran { Ran (C.gives clock.now) (outside_tells (files_tell F.held F.asked F.faults F.wants) (output_tells W.written W.faults W.wants)
         (net_tells N.coming N.over N.asked N.faults N.lent N.link_counts)
         (links_tell N.Conn.coming N.Conn.heard N.Conn.sent N.Conn.counts))
-        (stores_tell S.held S.faults J.bytes J.safe J.faults)
-        (Comes (command_of words.now)) (outside files.old out.old net None) (outside files.new out.new result.0 None) stores.old stores.new result.1 }
+        (stores_tell S.held S.faults J.bytes J.safe J.faults) (feed_tells K.coming K.told K.faults)
+        (Comes (command_of words.now)) (outside files.old out.old net None) (outside files.new out.new result.0 None) stores.old stores.new feed.old feed.new result.1 }
     // Where the files tell what they hold, the inputs of a command are right and no call has failed, it is done, unless memory runs out. Of
     // `join` its links have a say too: none, where they went on, refused nothing but a snapshot, and were answered by one legal log, with honest
     // bases and with counts of this view's events alone.
@@ -180,6 +192,12 @@ pub fn croquet<
     // The log that a script leaves has the events of the log that it began with, and then each event that was answered Stamped, once and in
     // order.
     ensures events { LogsTellTheirEvents }
+    // A replica that follows a legal log, and takes its next entry without want of memory, has the world to which the entries up to that one
+    // lead from the first world. So two such replicas have one digest there. A view that listens for the entry votes directly after it, with
+    // that digest.
+    ensures world { HasWorldOfLog }
+    ensures votes { HaveOneDigest }
+    ensures vote { VotesWithWorldOfLog }
     // No command but `join` and `reflect` has a net.
     ensures net { ¬ UsesNet (command_of words.now) → result.0 ≡ net }
     // Where the snapshot of a replay is of a world that follows the log, the same comes of it as without it.
@@ -188,6 +206,7 @@ pub fn croquet<
     stores_keep_plays::<S, J>();
     one_verdict();
     one_run();
+    votes_agree();
     ends_are_caused();
     views_replay();
     views_of_many_runs::<C, N::Conn>();
@@ -201,6 +220,10 @@ pub fn croquet<
         Turn::Over(status) => (net, status),
         Turn::Visits(request) => {
             let status = run_visit(rt, alloc, request, &mut net, out);
+            (net, status)
+        }
+        Turn::Lives(start) => {
+            let status = run_live_view(rt, alloc, start, &mut net, feed, out);
             (net, status)
         }
         Turn::Reflects(reflection) => {

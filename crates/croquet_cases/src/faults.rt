@@ -4,7 +4,7 @@ use std::alloc::Global;
 use tea_base::{Numbers, WantOfMemory};
 use tea_io::MemSink;
 
-/// Which call of the net, of the files, of the stores, of the journal that was opened and of the output fails, and which wants memory, counted from 1; 0 is none.
+/// Which call of the net, of the files, of the stores, of the journal that was opened, of the output and of the feed fails, and which wants memory, counted from 1; 0 is none.
 #[derive(Clone, Copy)]
 pub(crate) struct Faults {
     pub(crate) failing_net: u32,
@@ -12,6 +12,7 @@ pub(crate) struct Faults {
     pub(crate) failing_store: u32,
     pub(crate) failing_journal: u32,
     pub(crate) failing_output: u32,
+    pub(crate) failing_feed: u32,
     pub(crate) wanting_file: u32,
     pub(crate) wanting_output: u32,
 }
@@ -23,6 +24,7 @@ pub(crate) const NONE: Faults = Faults {
     failing_store: 0,
     failing_journal: 0,
     failing_output: 0,
+    failing_feed: 0,
     wanting_file: 0,
     wanting_output: 0,
 };

@@ -15,6 +15,7 @@ pub(crate) enum CommandCases {
     Inspects,
     Traces,
     Views,
+    Lives,
     Reflectors,
 }
 
@@ -26,6 +27,7 @@ impl CommandCases {
             "inspects" => Some(CommandCases::Inspects),
             "traces" => Some(CommandCases::Traces),
             "views" => Some(CommandCases::Views),
+            "lives" => Some(CommandCases::Lives),
             "reflectors" => Some(CommandCases::Reflectors),
             _ => None,
         }
@@ -44,6 +46,7 @@ pub(crate) fn outcome<R: Threads + Wait + Sync + AllocGlobal>(
         CommandCases::Inspects => moments::outcome(rt, case),
         CommandCases::Traces => stretch::outcome(rt, case),
         CommandCases::Views => tell_net_case(rt, NetCommand::Join, case),
+        CommandCases::Lives => tell_net_case(rt, NetCommand::Live, case),
         CommandCases::Reflectors => tell_net_case(rt, NetCommand::Reflect, case),
     }
 }

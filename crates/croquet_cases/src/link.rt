@@ -2,7 +2,7 @@
 ghost use Rattle.std.specs.Prelude.{IfOk};
 ghost use Rattle.tea_io.specs.MemNet.{HasNoCounts};
 
-use crate::words::number_of;
+use crate::words::add_numbers;
 use case_lines::CaseFault;
 use std::alloc::Global;
 use tea_base::{Blob, Numbers};
@@ -27,15 +27,6 @@ struct LinkReading {
     failing: Numbers,
     quiet: Numbers,
     next: Word,
-}
-
-/// Adds the number of `N`, or those of `N-M`.
-fn add_numbers(numbers: &mut Numbers, word: &str) -> Result<(), CaseFault> {
-    let (first, last) = word.split_once('-').unwrap_or((word, word));
-    for number in number_of(first)?..=number_of(last)? {
-        numbers.push(number)?;
-    }
-    Ok(())
 }
 
 impl LinkReading {

@@ -8,6 +8,7 @@
 //! | `inspects` | `NAME EVERY SCRIPT \| QUERIES \| PROGRAM` | what `inspect` prints of the log that `stamp` makes of the script |
 //! | `traces` | `NAME FROM TO SCRIPT \| PROGRAM` | what `trace` prints of such a log |
 //! | `views` | `NAME VIEW SCRIPT \| PROGRAM \| LINK \| LINK ..` | what `join` of this session as this view, with this script, does over a net that gives these links |
+//! | `lives` | `NAME VIEW LINES \| PROGRAM \| LINK \| LINK ..` | what `join` with `-` does so, where these lines come from its feed |
 //! | `reflectors` | `NAME N \| PROGRAM \| LINK \| LINK ..` | what `reflect` of this session to N connections does over such a net |
 //!
 //! The words of a command are divided by blanks. A content, a script and queries have their lines divided by ` / `. Call N of the files, or of the output,
@@ -15,7 +16,7 @@
 //!
 //! Behind what is printed stands the status in square brackets, if it is not 0.
 //!
-//! In `views` and `reflectors` the lines of a script are divided by ` / `, and `-` is a script without a line. The net gives its links
+//! In `views`, `lives` and `reflectors` the lines are divided by ` / `, and `-` is no line. The net gives its links
 //! one after the other, and the clock stays at 0. Behind the program stand, in any order:
 //!
 //! | Part | What it is |
@@ -25,6 +26,10 @@
 //! | `address X` | the address, in place of `localhost:8080` |
 //! | `fail net N`, `fail file N`, `fail output N` | the net's call N fails, or the files' or the output's |
 //! | `want output N` | call N of the output wants memory |
+//! | `idle N`, `idle N-M` | call N of the feed tells nothing, or calls N to M do; there may be several such parts |
+//! | `fail feed N` | call N of the feed fails |
+//!
+//! The feed is asked until it tells nothing or the end, and after 64 lines; then the link is heard once, and so on.
 //!
 //! Behind the status stands ` f=` and a reflector's log, if it was written; then for each link that was given back, in order, ` > `,
 //! the frames that were sent on it, and how many receives were made on it; then how many links were given back, and how many were
@@ -33,6 +38,7 @@
 
 mod command;
 mod faults;
+mod feed;
 mod kind;
 mod link;
 mod moments;

@@ -1,8 +1,9 @@
 //! A case of `join` or `reflect`, and its parts.
 use crate::faults::{Faults, NONE};
-use crate::words::number_of;
+use crate::words::{add_numbers, number_of};
 use case_lines::{CaseFault, lines_of};
 use std::alloc::Global;
+use tea_base::Numbers;
 
 /// What stands between two parts.
 const BETWEEN: &str = " | ";
@@ -11,6 +12,8 @@ const BETWEEN: &str = " | ";
 #[derive(Clone, Copy)]
 pub(crate) enum NetCommand {
     Join,
+    /// `join` whose lines come to its run.
+    Live,
     Reflect,
 }
 
@@ -24,6 +27,10 @@ pub(crate) struct NetCase<'a> {
     pub(crate) number: &'a str,
     pub(crate) program: &'a str,
     pub(crate) script: Vec<u8>,
+    /// The lines of the script, divided by ` / `.
+    pub(crate) lines: &'a str,
+    /// Which calls of the feed tell nothing.
+    pub(crate) idle: Numbers,
     pub(crate) links: Vec<&'a str>,
     pub(crate) faults: Faults,
 }
@@ -54,7 +61,7 @@ impl<'a> NetCase<'a> {
     ) -> Result<NetCase<'a>, CaseFault> {
         let (name, rest) = head.split_once(' ').ok_or(CaseFault::NoCase)?;
         let (number, script) = match command {
-            NetCommand::Join => rest.split_once(' ').ok_or(CaseFault::NoCase)?,
+            NetCommand::Join | NetCommand::Live => rest.split_once(' ').ok_or(CaseFault::NoCase)?,
             NetCommand::Reflect => (rest, "-"),
         };
         let script = if script == "-" { "" } else { script };
@@ -65,6 +72,8 @@ impl<'a> NetCase<'a> {
             number,
             program,
             script: lines_of(alloc, script.as_bytes())?,
+            lines: script,
+            idle: Numbers::new(alloc),
             links: Vec::new(alloc),
             faults: NONE,
         })
@@ -82,6 +91,10 @@ impl<'a> NetCase<'a> {
             self.faults.failing_output = number_of(digits)?;
         } else if let Some(digits) = part.strip_prefix("want output ") {
             self.faults.wanting_output = number_of(digits)?;
+        } else if let Some(digits) = part.strip_prefix("fail feed ") {
+            self.faults.failing_feed = number_of(digits)?;
+        } else if let Some(digits) = part.strip_prefix("idle ") {
+            add_numbers(&mut self.idle, digits)?;
         } else {
             self.links.push(part)?;
         }

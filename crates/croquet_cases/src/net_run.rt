@@ -1,4 +1,5 @@
 //! A run of `join` or `reflect` over files, a net and an output in memory.
+use crate::feed::feed_of;
 use crate::link::net_of;
 use crate::net_case::{NetCase, NetCommand};
 use crate::stores::stores_of;
@@ -36,6 +37,7 @@ pub(crate) fn run_case<R: Threads + Wait + Sync + AllocGlobal>(
         &words,
         &mut files,
         &mut stores_of(alloc, case.faults)?,
+        &mut feed_of(alloc, case)?,
         &clock,
         net,
         &OpenGate,
@@ -55,6 +57,10 @@ fn words_of(alloc: Global, case: &NetCase) -> Result<Words, WantOfMemory> {
         NetCommand::Join => copy_words(
             alloc,
             &["join", "p", case.name, case.address, case.number, "s"],
+        ),
+        NetCommand::Live => copy_words(
+            alloc,
+            &["join", "p", case.name, case.address, case.number, "-"],
         ),
         NetCommand::Reflect => copy_words(
             alloc,

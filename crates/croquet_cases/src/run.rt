@@ -1,5 +1,6 @@
 //! A run of the program over files and an output in memory.
 use crate::faults::Faults;
+use crate::feed::no_feed;
 use crate::stores::stores_of;
 use case_lines::{WantingFiles, WantingSink};
 use croquet::{Status, croquet};
@@ -87,6 +88,7 @@ impl Given {
             &self.words,
             &mut files,
             &mut stores,
+            &mut no_feed(self.alloc),
             &FixedClock { at: 0 },
             NoNet::new(),
             &OpenGate,

@@ -66,7 +66,7 @@ fn asked_for_links<'a>(case: &NetCase, calls: &'a [NetCall]) -> &'a [NetCall] {
 /// Whether a call asks for one of the command's links.
 fn asks_for_link(case: &NetCase, call: &NetCall) -> bool {
     match case.command {
-        NetCommand::Join => is_connect(call, case.address),
+        NetCommand::Join | NetCommand::Live => is_connect(call, case.address),
         NetCommand::Reflect => matches!(call, NetCall::Accept),
     }
 }
@@ -74,7 +74,7 @@ fn asks_for_link(case: &NetCase, call: &NetCall) -> bool {
 /// Whether a call is that by which the command's reflector listens.
 fn is_listen(case: &NetCase, call: &NetCall) -> bool {
     match case.command {
-        NetCommand::Join => false,
+        NetCommand::Join | NetCommand::Live => false,
         NetCommand::Reflect => match call {
             NetCall::Listen(at) => at.as_str() == case.address,
             _ => false,

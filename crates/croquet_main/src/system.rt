@@ -6,6 +6,7 @@ ghost use Rattle.croquet_main.specs.System.{IsCounted, IsWithin};
 
 use crate::served::Served;
 use file_store::put_over;
+use hints::FileFailure;
 use std::env::{Env, FillError};
 use std::fs::{self, File, OpenFile};
 use std::io::{self, ErrorKind, Read, Write};
@@ -59,6 +60,7 @@ pub struct SystemFiles<'a, R> {
     rt: &'a R,
     served: &'a Served,
     counts: FileCounts,
+    failure: Option<FileFailure>,
 }
 
 /// How often a call of files has failed, and how often one was out of memory.
@@ -66,6 +68,8 @@ pub struct SystemFiles<'a, R> {
 struct FileCounts {
     faults: u64,
     wants: u64,
+    /// Why the last one failed.
+    reason: Option<ErrorKind>,
 }
 
 impl<'a, R: rt::Files + AllocGlobal> SystemFiles<'a, R> {
@@ -80,7 +84,29 @@ impl<'a, R: rt::Files + AllocGlobal> SystemFiles<'a, R> {
             counts: FileCounts {
                 faults: 0,
                 wants: 0,
+                reason: None,
             },
+            failure: None,
+        }
+    }
+}
+
+impl<R> SystemFiles<'_, R> {
+    /// Takes out the file of which a call failed last, and why.
+    pub fn take_failure(&mut self) -> Option<FileFailure> {
+        self.failure.take()
+    }
+
+    /// Notes the file of which a call has just failed.
+    fn note_failure(&mut self, name: &Text, is_write: bool)
+        ensures { self.new.counts ≡ self.old.counts }
+    {
+        if let (Ok(name), Some(reason)) = (name.try_clone(), self.counts.reason) {
+            self.failure = Some(FileFailure {
+                name,
+                is_write,
+                reason,
+            });
         }
     }
 }
@@ -98,7 +124,9 @@ fn count_failure(counts: &mut FileCounts) -> FileFault
 fn count_fault(counts: &mut FileCounts, error: io::Error) -> FileFault
     ensures { IsCounted counts.old counts.new result }
 {
-    if error.kind() == ErrorKind::OutOfMemory {
+    let reason = error.kind();
+    counts.reason = Some(reason);
+    if reason == ErrorKind::OutOfMemory {
         counts.wants = counts.wants.saturating_add(1);
         return FileFault::WantOfMemory;
     }
@@ -142,12 +170,16 @@ fn write_over<R: rt::Files>(
     };
     match done {
         Ok(()) => Ok(()),
-        Err(_) => Err(count_failure(counts)),
+        Err(error) => {
+            counts.reason = Some(error.kind());
+            Err(count_failure(counts))
+        }
     }
 }
 
 /// What a file holds.
-enum Found {
+#[derive(Drop)]
+pub(crate) enum Found {
     Bytes(Vec<u8>),
     /// It is longer than the limit.
     TooLong(u64),
@@ -155,7 +187,11 @@ enum Found {
 
 /// The bytes of a file, of which no more are read than one beyond the limit: what is no plain file tells no length,
 /// and may never end.
-fn read_within<R: rt::Files + AllocGlobal>(rt: &R, path: &str, limit: u64) -> io::Result<Found>
+pub(crate) fn read_within<R: rt::Files + AllocGlobal>(
+    rt: &R,
+    path: &str,
+    limit: u64,
+) -> io::Result<Found>
     ensures { IfOk result (IsWithin limit) }
 {
     let file = File::open(rt, path)?;
@@ -188,7 +224,11 @@ impl<R: rt::Files + AllocGlobal> Files for SystemFiles<'_, R> {
                 Ok(Blob::from_vec(bytes))
             }
             Ok(Found::TooLong(len)) => Err(FileFault::TooLarge { len }),
-            Err(error) => Err(count_fault(&mut self.counts, error)),
+            Err(error) => {
+                let fault = count_fault(&mut self.counts, error);
+                self.note_failure(name, false);
+                Err(fault)
+            }
         }
     }
 
@@ -198,10 +238,18 @@ impl<R: rt::Files + AllocGlobal> Files for SystemFiles<'_, R> {
             match put_over(self.rt, path, bytes) {
                 Ok(()) => return Ok(()),
                 Err(error) if is_of_folder(&error) => {}
-                Err(error) => return Err(count_fault(&mut self.counts, error)),
+                Err(error) => {
+                    let fault = count_fault(&mut self.counts, error);
+                    self.note_failure(name, true);
+                    return Err(fault);
+                }
             }
         }
-        write_over(self.rt, path, bytes, &mut self.counts)
+        let written = write_over(self.rt, path, bytes, &mut self.counts);
+        if written.is_err() {
+            self.note_failure(name, true);
+        }
+        written
     }
 }
 

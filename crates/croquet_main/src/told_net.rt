@@ -2,6 +2,7 @@
 ghost use Rattle.std.specs.Prelude.{◌≡◌};
 
 use crate::served::Served;
+use hints::NetReason;
 use std::io::{Eprint, ErrorKind};
 use tea_base::Text;
 use tea_io::{Net, NetFault};
@@ -9,13 +10,20 @@ use ws_link::WsNet;
 
 /// Tells why it does not listen.
 pub trait Refused {
-    /// Why the last `listen` failed, where it did.
+    /// Why the last `listen` or `connect` failed, where it did.
     fn refusal(&self) -> Option<ErrorKind>;
+
+    /// Whether the handshake of the link that was given back last was not done.
+    fn is_unshaken(&self) -> bool;
 }
 
 impl<R> Refused for WsNet<R> {
     fn refusal(&self) -> Option<ErrorKind> {
         WsNet::refusal(self)
+    }
+
+    fn is_unshaken(&self) -> bool {
+        WsNet::is_unshaken(self)
     }
 }
 
@@ -34,6 +42,15 @@ impl<'a, R: Eprint + AllocGlobal, N: Net + Refused> ToldNet<'a, R, N> {
         ensures { result.net ≡ net }
     {
         ToldNet { rt, net, served }
+    }
+
+    /// Why the net or a link failed, where one did.
+    pub fn reason(&self) -> NetReason {
+        match self.net.refusal() {
+            Some(kind) => NetReason::System(kind),
+            None if self.net.is_unshaken() => NetReason::Handshake,
+            None => NetReason::Link,
+        }
     }
 }
 

@@ -6,8 +6,8 @@ use Rattle.wire_frames.specs.declared.frame.ClientFrame.{ClientFrame}
 use Rattle.wire_frames.specs.declared.frame.ClientFrame.TheVariants as client
 use Rattle.wire_frames.specs.Spelling.{client_spelling}
 use Rattle.view_shell.specs.declared.ending.ViewEnd.TheVariants as ending
-use Rattle.view_shell.specs.Phases.{Viewer, Phase, Task, Receiving, ToCatchUp, ToReach, ToSettle, Sending, Printing, Over, Leaves, Begins, Receives, TellsText, Aim, go_on, has_caught_up, after_frame, after_sync, quiet, finish, after_telling, after_rest, leave_session, receive, run, send_all, shown_text}
-use Rattle.view_shell.specs.ViewText.{numbers_line, settled_line, time_line}
+use Rattle.view_shell.specs.Phases.{Viewer, Phase, Task, Receiving, ToCatchUp, ToReach, ToSettle, Sending, Printing, Over, Leaves, Begins, Receives, TellsText, Aim, go_on, has_caught_up, after_frame, after_sync, quiet, finish, after_telling, after_rest, leave_session, receive, run, send_all, show_world, shown_text, world_text}
+use Rattle.view_shell.specs.ViewText.{numbers_line, settled_line, reached_time_line}
 use Rattle.std.proofs.lemmas.Bool.Decides.{nat_tests}
 use Rattle.tea_io.specs.Links.{most_quiets}
 use Rattle.wire_frames.specs.declared.start.Base.{Base}
@@ -31,7 +31,7 @@ use Rattle.replica_plain.specs.PlainReplica.{published_count}
 use Rattle.view_shell.proofs.Reaching.{caught_up, not_caught_up, not_reached, reached, settled, unsettled}
 use Rattle.live_view.specs.declared.input.Goal.{Goal}
 use Rattle.live_view.specs.declared.input.Goal.TheVariants as aim
-use Rattle.live_view.specs.Doing.{Comes, IsReadyAt, Leads, Tells, after, aim_of, came, phase_at}
+use Rattle.live_view.specs.Doing.{Comes, IsReadyAt, Leads, Tells, after, aim_of, came, phase_at, votes_at}
 
 -- a frame was sent
 pub after_send : (old new : LiveOutcome) (frame : ClientFrame) (t : Told) → new.frames ≡ old.frames ++ client_spelling frame ∷ [] → string_bytes new.text ≡ string_bytes old.text
@@ -71,6 +71,13 @@ pub leave_begins : (out : LiveOutcome) (v : Viewer) (next : Viewer → Told)
 unfolding leave_session
 leave_begins out v next = refl
 
+-- the view rests, and tells what came of that and its world
+pub show_comes : (done : Result ⊤ WantOfMemory) (old new : LiveOutcome) (v rested w : Viewer) (text : List ℕ) → rested ≡ after_rest v → text ≡ world_text rested → OnOk done (Comes old new (finish rested text) w None)
+    → OnOk done (Comes old new (show_world v) w None)
+unfolding show_world
+show_comes done old new v rested w text is told comes =
+    subst (λ (u : Viewer). OnOk done (Comes old new (finish u (world_text u)) w None)) is (subst (λ (t : List ℕ). OnOk done (Comes old new (finish rested t) w None)) told comes)
+
 pub unsent_leads : (done : Result ⊤ WantOfMemory) (old new : LiveOutcome) (v w w' : Viewer) (frames sent : List ClientFrame) (task : Task) → frames ≡ sent → w ≡ w'
     → OnOk done (Leads old new (send_all v sent task) (send_all w [] task)) → OnOk done (Leads old new (send_all v frames task) (send_all w' [] task))
 unsent_leads done old new v w w' frames sent task is same leads =
@@ -81,11 +88,11 @@ pub told_text : (done : Result ⊤ WantOfMemory) (old new : LiveOutcome) (v w : 
 told_text done old new v w text other is told = subst (λ (t : List ℕ). OnOk done (Comes old new (finish v t) w None)) is told
 
 -- what is heard for is so already, or it is not
-pub reach_comes : (old new : LiveOutcome) (v w : Viewer) (time now : ℕ) → now ≡ v.replica.world.time → time ≤ now → Comes old new (finish v (time_line now)) w None → Comes old new (receive v (ToReach time)) w None
+pub reach_comes : (old new : LiveOutcome) (v w : Viewer) (time now : ℕ) → now ≡ v.replica.world.time → time ≤ now → Comes old new (finish v (reached_time_line now)) w None → Comes old new (receive v (ToReach time)) w None
 reach_comes old new v w time now at late told =
-    comes_from old new (receive v (ToReach time)) (finish v (time_line now)) w None (reached v time (omega (arith, at, late)) ∙ ap (λ (t : ℕ). finish v (time_line t)) (sym at)) told
+    comes_from old new (receive v (ToReach time)) (finish v (reached_time_line now)) w None (reached v time (omega (arith, at, late)) ∙ ap (λ (t : ℕ). finish v (reached_time_line t)) (sym at)) told
 
-pub reach_told : (old new : LiveOutcome) (v w : Viewer) (time now : ℕ) (text : List ℕ) → now ≡ v.replica.world.time → time ≤ now → text ≡ time_line now → Comes old new (finish v text) w None → Comes old new (receive v (ToReach time)) w None
+pub reach_told : (old new : LiveOutcome) (v w : Viewer) (time now : ℕ) (text : List ℕ) → now ≡ v.replica.world.time → time ≤ now → text ≡ reached_time_line now → Comes old new (finish v text) w None → Comes old new (receive v (ToReach time)) w None
 reach_told old new v w time now text at late is told = reach_comes old new v w time now at late (subst (λ (t : List ℕ). Comes old new (finish v t) w None) is told)
 
 pub early_waits : (out : LiveOutcome) (v : Viewer) (time now : ℕ) → now ≡ v.replica.world.time → now < time → Comes out out (receive v (ToReach time)) v (Some (at.Hears (aim.Reach time)))
@@ -116,6 +123,40 @@ join_waits out v goal how is = subst (λ (g : Goal). Comes out out (receive v (a
 pub snap_waits : (out : LiveOutcome) (v : Viewer) (goal : Goal) → goal ≡ aim.Snap → Comes out out (receive v (aim_of goal)) v (Some (at.Hears goal))
 snap_waits out v goal is = subst (λ (g : Goal). Comes out out (receive v (aim_of g)) v (Some (at.Hears g))) (sym is) (waits_there out (receive v (aim_of aim.Snap)) v (at.Hears aim.Snap) (λ next. refl))
 
+pub see_waits : (out : LiveOutcome) (v : Viewer) (goal : Goal) (entry : ℕ) → goal ≡ aim.See entry → Comes out out (receive v (aim_of goal)) v (Some (at.Hears goal))
+see_waits out v goal entry is = subst (λ (g : Goal). Comes out out (receive v (aim_of g)) v (Some (at.Hears g))) (sym is) (waits_there out (receive v (aim_of (aim.See entry))) v (at.Hears (aim.See entry)) (λ next. refl))
+
+-- ---- votes that are to be published
+
+pub none_waits : (done : Result (Option Place) WantOfMemory) (votes : ℕ) → IfOk done (λ place. votes_at place ≡ 0) → IfOk done (λ place. votes_at place ≤ votes)
+none_waits (Ok place) votes none = omega (arith, none)
+none_waits (Err want) votes none = tt
+
+pub none_awaited : (done : Result (Option Place) WantOfMemory) → IfOk done (λ place. votes_at place ≤ 0) → IfOk done (λ place. votes_at place ≡ 0)
+none_awaited (Ok place) few = omega (arith, few)
+none_awaited (Err want) few = tt
+
+pub count_waits : (done : Result (Option Place) WantOfMemory) (now before votes : ℕ) → now ≡ before → IfOk done (λ place. votes_at place ≤ votes) → IfOk done (λ place. now + votes_at place ≤ before + votes)
+count_waits (Ok place) now before votes same few = omega (arith, same, few)
+count_waits (Err want) now before votes same few = tt
+
+pub count_on_from : (done : Result (Option Place) WantOfMemory) (now mid before votes : ℕ) → mid ≡ before → IfOk done (λ place. now + votes_at place ≤ mid + votes) → IfOk done (λ place. now + votes_at place ≤ before + votes)
+count_on_from (Ok place) now mid before votes same few = omega (arith, same, few)
+count_on_from (Err want) now mid before votes same few = tt
+
+pub count_after_vote : (done : Result (Option Place) WantOfMemory) (now mid before : ℕ) → mid ≡ before + 1 → IfOk done (λ place. now + votes_at place ≤ mid + 0) → IfOk done (λ place. now + votes_at place ≤ before + 1)
+count_after_vote (Ok place) now mid before one few = omega (arith, one, few)
+count_after_vote (Err want) now mid before one few = tt
+
+-- at a line that publishes so many events, and leaves no vote to be
+pub count_line : (done : Result (Option Place) WantOfMemory) (now before publishes : ℕ) → OnOk done (now ≡ before + publishes) → IfOk done (λ place. votes_at place ≡ 0) → IfOk done (λ place. now + votes_at place ≤ before + publishes)
+count_line (Ok place) now before publishes same none = omega (arith, same, none)
+count_line (Err want) now before publishes same none = tt
+
+pub count_none : (done : Result (Option Place) WantOfMemory) (now before publishes : ℕ) → OnOk done (now ≡ before) → IfOk done (λ place. votes_at place ≡ 0) → IfOk done (λ place. now + votes_at place ≤ before + publishes)
+count_none (Ok place) now before publishes same none = omega (arith, same, none)
+count_none (Err want) now before publishes same none = tt
+
 -- of the others
 pub goal_comes : (done : Result (Option Place) WantOfMemory) (old new : LiveOutcome) (v w : Viewer) (goal g : Goal) → goal ≡ g → IfOk done (λ place. Comes old new (receive v (aim_of g)) w place) → IfOk done (λ place. Comes old new (receive v (aim_of goal)) w place)
 goal_comes done old new v w goal g is told = subst (λ (x : Goal). IfOk done (λ place. Comes old new (receive v (aim_of x)) w place)) (sym is) told
@@ -140,7 +181,7 @@ begins_comes old new a v u w is leads same = record { comes = λ next. ap (λ (p
 
 -- ---- behind a frame
 
-frame_at : (v : Viewer) (goal g : Goal) (frame f : ServerFrame) (to : Phase) → goal ≡ g → frame ≡ f → after_frame v (aim_of g) f ≡ to → after_frame v (aim_of goal) frame ≡ to
+pub frame_at : (v : Viewer) (goal g : Goal) (frame f : ServerFrame) (to : Phase) → goal ≡ g → frame ≡ f → after_frame v (aim_of g) f ≡ to → after_frame v (aim_of goal) frame ≡ to
 frame_at v goal g frame f to same is at = ap (λ (x : Goal). after_frame v (aim_of x) frame) same ∙ ap (λ (x : ServerFrame). after_frame v (aim_of g) x) is ∙ at
 
 pub heard_at : (done : Result (Option Place) WantOfMemory) (old new : LiveOutcome) (v w : Viewer) (goal g : Goal) (frame f : ServerFrame) → goal ≡ g → frame ≡ f → after_frame v (aim_of g) f ≡ go_on v [] (Receives (aim_of g))

@@ -1,6 +1,7 @@
 -- What a step of a live view does to it.
 use Rattle.std.proofs.Common.{arith, ◌≡◌, ◌<◌, ℕ, Bool, true, false, List, [], ◌++◌, drop, Option, Some, None, string_bytes, refl, sym, ap, subst, ◌∙◌, append-nil}
 use Rattle.std.proofs.lemmas.Bool.Decides.{nat_tests}
+use Rattle.std.specs.Arc.{arc_value}
 use Rattle.std.specs.Prelude.{◌+◌, nat_le, nat_lt, ◌&&◌, Result, Ok, Err, OnOk}
 use Rattle.tea_io.specs.declared.link.Heard.{Heard}
 use Rattle.tea_io.specs.declared.link.Heard.TheVariants as heard
@@ -12,20 +13,21 @@ use Rattle.view_script.specs.PlainLine.{PlainLine, most_publishes, plain_lines, 
 use Rattle.view_script.specs.declared.line.ViewLine.{ViewLine}
 use Rattle.view_shell.specs.declared.ending.ViewEnd.{ViewEnd}
 use Rattle.view_shell.specs.declared.watcher.Watcher.{Watcher}
-use Rattle.model_solved.specs.Founding.{CheckedView}
+use Rattle.model_solved.specs.Founding.{CheckedView, checked_tree}
 use Rattle.replica.specs.View.{ReplicaView, founded_replica, worlds_of}
 use Rattle.view_bridge.specs.declared.topic.Topic.{Topic}
 use Rattle.view_shell.specs.Phases.{Viewer, Phase, Aim, Connecting, Sending, Receiving, Printing, Leaving, PrintingLast, Returning, Over}
 use Rattle.view_shell.specs.Viewers.{IsReady, KnowsItself, viewer}
 use Rattle.live_view.specs.declared.input.LiveInput.TheVariants as input
 use Rattle.live_view.specs.declared.input.Goal.{Goal}
+use Rattle.live_view.specs.declared.input.Goal.TheVariants as aim
 use Rattle.live_view.specs.declared.input.Place.{Place}
 use Rattle.live_view.specs.declared.input.Place.TheVariants as at
 use Rattle.live_view.specs.declared.machine.LiveView.{LiveView}
 use Rattle.live_view.specs.declared.outcome.LiveOutcome.{LiveOutcome}
 use Rattle.live_view.specs.declared.queue.Queue.{Queue}
-use Rattle.live_view.specs.Doing.{IsReadyAt, Tells, after, aim_of, phase_at}
-use Rattle.live_view.specs.Live.{LiveState, LiveTold, Told, arrives, awaited, goes_on, has_arrived, has_room, held_on, holds_on, is_held, is_over, join_behind, joined_as, line_again, lines_from, more_lines, rests, viewer_of, waits, wakes, wakes_by}
+use Rattle.live_view.specs.Doing.{IsReadyAt, Tells, after, aim_of, phase_at, votes_at, votes_for}
+use Rattle.live_view.specs.Live.{LiveState, LiveTold, Told, arrives, awaited, goes_on, has_arrived, has_room, held_on, holds_on, is_held, is_over, join_behind, joined_as, line_again, lines_from, more_lines, rests, viewer_of, votes_in, waits, wakes, wakes_by}
 use Rattle.live_view.specs.View.{IsLive, queue_left}
 
 -- a view that may hear its link is ready at each place
@@ -113,12 +115,28 @@ viewer_at (at.Unlinked how) v u is = cc
 viewer_at (at.Hears goal) v u is = cc
 viewer_at (at.Gone end) v u is = absurd cc
 
+-- the votes that are at work
+goal_votes : (goal : Goal) (v : Viewer) → votes_in (Receiving v (aim_of goal)) ≡ votes_for goal
+goal_votes (aim.Join how) v = refl
+goal_votes (aim.Reach time) v = refl
+goal_votes aim.Settle v = refl
+goal_votes aim.Snap v = refl
+goal_votes aim.CatchUp v = refl
+goal_votes (aim.See entry) v = refl
+
+pub votes_are : (place : Place) (v : Viewer) → votes_in (phase_at place v) ≡ votes_at (Some place)
+votes_are (at.Unlinked how) v = refl
+votes_are (at.Hears goal) v = goal_votes goal v
+votes_are (at.Gone end) v = refl
+
 -- whether there is room for lines that came
 pub has_room_is : (test : Bool) (place : Place) (address : List ℕ) (w : Watcher) (lines more : List PlainLine) (v : Viewer) → viewer_of (phase_at place (viewer address w lines)) ≡ Some v → w.published ≡ published_count w.replica.plain
-    → nat_le (w.published + publish_count lines + publish_count more) most_publishes ≡ test → has_room v more ≡ test
+    → nat_le (w.published + votes_at (Some place) + publish_count lines + publish_count more) most_publishes ≡ test → has_room (votes_in (phase_at place (viewer address w lines))) v more ≡ test
 has_room_is test place address w lines more v is knows fits =
-    ap (λ (u : Viewer). has_room u more) (sym (viewer_at place (viewer address w lines) v is))
-    ∙ ap (λ (n : ℕ). nat_le (n + publish_count lines + publish_count more) most_publishes) (sym knows) ∙ fits
+    let votes = votes_in (phase_at place (viewer address w lines)) in
+    ap (λ (u : Viewer). has_room votes u more) (sym (viewer_at place (viewer address w lines) v is))
+    ∙ ap (λ (n : ℕ). has_room n (viewer address w lines) more) (votes_are place (viewer address w lines))
+    ∙ ap (λ (n : ℕ). nat_le (n + votes_at (Some place) + publish_count lines + publish_count more) most_publishes) (sym knows) ∙ fits
 
 -- ---- a link that is gone
 
@@ -172,13 +190,18 @@ stepped t frames text phase closed closed' count count' holds holds' joined join
 
 -- ---- a view that was told nothing yet
 
-pub found_knows : (w : Watcher) (program : CheckedView) (id : List ℕ) → w.replica ≡ founded_replica program id w.view → w.published ≡ 0 → KnowsItself w
-found_knows w program id is none = record { view = sym (ap (λ (r : ReplicaView). r.plain.view) is); published = none ∙ sym (ap (λ (r : ReplicaView). published_count r.plain) is) }
+pub found_knows : (w : Watcher) (program : CheckedView) (id : List ℕ) → w.replica ≡ founded_replica program id w.view → w.published ≡ 0 → arc_value w.program ≡ program → w.id.0 ≡ id → KnowsItself w
+found_knows w program id is none of_program of_session = record {
+  view = sym (ap (λ (r : ReplicaView). r.plain.view) is);
+  published = none ∙ sym (ap (λ (r : ReplicaView). published_count r.plain) is);
+  program = of_program ∙ sym (ap (λ (r : ReplicaView). r.program) is);
+  session = of_session ∙ sym (ap (λ (r : ReplicaView). r.id) is);
+}
 
 abbrev first_at : List ℕ → ReplicaView → List Topic → List PlainLine → LiveState
 first_at address r topics lines =
     record {
-      phase = Connecting (record { worlds = worlds_of r; address = address; replica = r.plain; topics = topics; lines = lines; receives = 0; quiets = 0 }) Fresh;
+      phase = Connecting (record { worlds = worlds_of r; tree = checked_tree r.program; address = address; replica = r.plain; topics = topics; lines = lines; receives = 0; quiets = 0 }) Fresh;
       closed = false;
       count = 0;
       holds = 0;

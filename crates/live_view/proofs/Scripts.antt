@@ -10,10 +10,10 @@ use Rattle.replica_plain.specs.declared.how.How.TheVariants.{Fresh}
 use Rattle.replica_plain.specs.Calls.{unsent}
 use Rattle.replica_plain.specs.PlainReplica.{published_count}
 use Rattle.run_steps.specs.Steps.{Step, Prints, Connects, Returns, Hears, Sends}
-use Rattle.view_script.specs.PlainLine.{PlainLine, Publish, Watch, Wait, WaitFor, Settle, Snap, Cut, Quit, Mark, publish_count, most_publishes}
+use Rattle.view_script.specs.PlainLine.{PlainLine, Publish, Watch, Wait, WaitFor, Settle, Snap, Cut, Quit, Mark, Vote, Show, publish_count, most_publishes}
 use Rattle.model_value.specs.Payload.{payload_spelling}
 use Rattle.view_shell.specs.declared.ending.ViewEnd.TheVariants as ending
-use Rattle.view_shell.specs.Phases.{Viewer, Phase, Aim, Task, ToJoin, ToReach, ToSettle, ToCatchUp, ToSnap, Receives, Begins, TellsText, Leaves, Connecting, Sending, Receiving, Printing, Leaving, PrintingLast, Returning, Over, Hearing, Walks, after_giving, after_publish, begin_task, has_caught_up, leave_session, receive, run, send_all, settle_on, time_after, with_lines}
+use Rattle.view_shell.specs.Phases.{Viewer, Phase, Aim, Task, ToJoin, ToReach, ToSettle, ToCatchUp, ToSnap, ToSee, Receives, Begins, TellsText, Leaves, Connecting, Sending, Receiving, Printing, Leaving, PrintingLast, Returning, Over, Hearing, Walks, after_giving, after_publish, begin_task, has_caught_up, leave_session, receive, run, send_all, settle_on, show_world, time_after, vote_by, with_lines}
 use Rattle.view_shell.specs.Viewers.{first_phase, first_viewer}
 use Rattle.live_view.specs.declared.input.LiveInput.{LiveInput}
 use Rattle.live_view.specs.declared.input.LiveInput.TheVariants as input
@@ -43,6 +43,7 @@ receive_has rest v ToSettle is = settle_has rest v v.replica.outbox is
 receive_has rest v ToCatchUp is = if_has rest (has_caught_up v.replica) _ _ is tt
 receive_has rest v (ToJoin how) is = tt
 receive_has rest v ToSnap is = tt
+receive_has rest v (ToSee at) is = tt
 
 task_has : (rest : List PlainLine) (v : Viewer) (task : Task) → v.lines ≡ rest → HasLines rest (begin_task v task)
 task_has rest v (Receives aim) is = receive_has rest v aim is
@@ -58,6 +59,14 @@ leave_has : (rest : List PlainLine) (v : Viewer) → HasLines rest (leave_sessio
 unfolding leave_session
 leave_has rest v = tt
 
+vote_has : (rest : List PlainLine) (has : Bool) (v : Viewer) (at : ℕ) → v.lines ≡ rest → HasLines rest (vote_by has v at)
+vote_has rest true v at is = is
+vote_has rest false v at is = tt
+
+show_has : (rest : List PlainLine) (v : Viewer) → v.lines ≡ rest → HasLines rest (show_world v)
+unfolding show_world
+show_has rest v is = is
+
 run_has : (rest : List PlainLine) (v : Viewer) (line : PlainLine) → HasLines rest (run v (line ∷ rest))
 run_has rest v (Publish scope event value) =
     let w = after_publish (with_lines v rest) (payload_spelling (record { scope = scope; event = event; value = value })) in
@@ -70,6 +79,8 @@ run_has rest v Snap = refl
 run_has rest v Cut = tt
 run_has rest v Quit = leave_has rest (with_lines v rest)
 run_has rest v (Mark word) = refl
+run_has rest v (Vote at) = vote_has rest (nat_le at v.replica.seen) (with_lines v rest) at refl
+run_has rest v Show = show_has rest (with_lines v rest) refl
 
 -- ---- what is done once a line is told matters only for the lines that are left
 
@@ -120,6 +131,7 @@ receive_stills next v ToSettle = settle_stills next v v.replica.outbox
 receive_stills next v ToCatchUp = if_stills next (has_caught_up v.replica) _ _ refl refl
 receive_stills next v (ToJoin how) = refl
 receive_stills next v ToSnap = refl
+receive_stills next v (ToSee at) = refl
 
 task_stills : (next : Viewer → Told) (v : Viewer) (task : Task) → drive next (begin_task v task) ≡ still next (begin_task v task)
 task_stills next v (Receives aim) = receive_stills next v aim
@@ -235,7 +247,7 @@ count_both (line ∷ first) more = grind (arith, count_both first more)
 fits_room : (n : ℕ) → n ≤ most_publishes → nat_le n most_publishes ≡ true
 fits_room n few = grind (arith, nat_tests, few)
 
-few_with : (published queued first more all : ℕ) → published ≡ 0 → all ≡ first + more → queued + all ≤ most_publishes → published + queued + first ≤ most_publishes
+few_with : (published queued first more all : ℕ) → published ≡ 0 → all ≡ first + more → queued + all ≤ most_publishes → published + 0 + queued + first ≤ most_publishes
 few_with published queued first more all none both few = omega (arith, none, both, few)
 
 few_then : (lines first more script : List PlainLine) → first ++ more ≡ script → publish_count lines + publish_count script ≤ most_publishes

@@ -1,6 +1,6 @@
 -- What a part of a step does: what was told so far, and then what the definition makes of the rest, stays what it makes of all.
-use Rattle.std.specs.Prelude.{◌≡◌, ◌++◌, Option, Some, None, string_bytes}
-use Rattle.view_shell.specs.Phases.{Viewer, Phase, Aim, ToJoin, ToReach, ToSettle, ToCatchUp, ToSnap, Connecting, Receiving, Over}
+use Rattle.std.specs.Prelude.{◌≡◌, ◌++◌, ℕ, Option, Some, None, string_bytes}
+use Rattle.view_shell.specs.Phases.{Viewer, Phase, Aim, ToJoin, ToReach, ToSettle, ToCatchUp, ToSnap, ToSee, Connecting, Receiving, Over}
 use Rattle.view_shell.specs.declared.watcher.Watcher.{Watcher}
 use Rattle.view_shell.specs.Viewers.{IsReady, KnowsItself}
 use Rattle.live_view.specs.declared.input.Goal.{Goal}
@@ -28,6 +28,7 @@ aim_of (goal.Reach time) = ToReach time
 aim_of goal.Settle = ToSettle
 aim_of goal.CatchUp = ToCatchUp
 aim_of goal.Snap = ToSnap
+aim_of (goal.See at) = ToSee at
 
 abbrev pub phase_at : Place → Viewer → Phase
 phase_at (place.Unlinked how) v = Connecting v how
@@ -42,6 +43,15 @@ came next v (Some at) = waits (phase_at at v)
 -- from a phase to the end of a line, or to a place
 pub record Comes (old new : LiveOutcome) (from : Phase) (v : Viewer) (place : Option Place) : Type 0 where
   pub comes : (next : Viewer → Told) → after old (drive next from) ≡ after new (came next v place)
+
+-- so many votes are to be published once what a view hears its link for has come
+abbrev pub votes_for : Goal → ℕ
+votes_for (goal.See at) = 1
+votes_for other = 0
+
+abbrev pub votes_at : Option Place → ℕ
+votes_at (Some (place.Hears goal)) = votes_for goal
+votes_at other = 0
 
 -- a view that hears its link may do so, and one that wants a link knows itself
 abbrev pub IsReadyAt : Option Place → Watcher → Type 0

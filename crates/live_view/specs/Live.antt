@@ -14,9 +14,9 @@ use Rattle.wire_frames.specs.declared.frame.ServerFrame.TheVariants as server
 use Rattle.replica_plain.specs.declared.how.How.{How}
 use Rattle.replica_plain.specs.declared.how.How.TheVariants.{Resume}
 use Rattle.replica_plain.specs.PlainReplica.{published_count}
-use Rattle.view_script.specs.PlainLine.{PlainLine, Wait, Settle, Snap, publish_count, most_publishes}
+use Rattle.view_script.specs.PlainLine.{PlainLine, Wait, Settle, Snap, Vote, publish_count, most_publishes}
 use Rattle.view_shell.specs.declared.ending.ViewEnd.TheVariants as ending
-use Rattle.view_shell.specs.Phases.{Viewer, Phase, Aim, ToJoin, ToReach, ToSettle, ToCatchUp, ToSnap, Connecting, Sending, Receiving, Printing, Leaving, PrintingLast, Returning, Over, begin_task, enter_session, has_caught_up, heard_frame, heard_quiet, leave_session, quiet, reads, run, with_lines}
+use Rattle.view_shell.specs.Phases.{Viewer, Phase, Aim, ToJoin, ToReach, ToSettle, ToCatchUp, ToSnap, ToSee, Connecting, Sending, Receiving, Printing, Leaving, PrintingLast, Returning, Over, begin_task, enter_session, has_caught_up, heard_frame, heard_quiet, leave_session, quiet, reads, run, with_lines}
 use Rattle.view_shell.specs.ViewText.{numbers_line, view_line}
 use Rattle.live_view.specs.declared.input.LiveInput.{LiveInput}
 use Rattle.live_view.specs.declared.input.LiveInput.TheVariants as input
@@ -110,6 +110,7 @@ abbrev pub line_again : Aim → List PlainLine
 line_again (ToReach time) = Wait (min time (time_limit - 1)) ∷ []
 line_again ToSettle = Settle ∷ []
 line_again ToSnap = Snap ∷ []
+line_again (ToSee at) = Vote at ∷ []
 line_again aim = []
 
 abbrev pub held_on : Viewer → Aim → Phase
@@ -165,9 +166,14 @@ abbrev pub is_over : Phase → Bool
 is_over (Over end) = true
 is_over phase = false
 
--- with these lines no more events are published than a view may publish
-abbrev pub has_room : Viewer → List PlainLine → Bool
-has_room v more = nat_le (published_count v.replica + publish_count v.lines + publish_count more) most_publishes
+-- so many votes are at work
+abbrev pub votes_in : Phase → ℕ
+votes_in (Receiving v (ToSee at)) = 1
+votes_in phase = 0
+
+-- with these lines, and the votes that are at work, no more events are published than a view may publish
+abbrev pub has_room : ℕ → Viewer → List PlainLine → Bool
+has_room votes v more = nat_le (published_count v.replica + votes + publish_count v.lines + publish_count more) most_publishes
 
 -- the line of this number is none
 abbrev pub bad_line : ℕ → Phase → Told
@@ -181,7 +187,7 @@ if_room false number phase more = bad_line number phase
 abbrev pub line_at : ℕ → Option Viewer → Phase → LineRead → Told
 line_at number None phase read = waits phase
 line_at number (Some v) phase NoLine = bad_line number phase
-line_at number (Some v) phase (Lines more) = if_room (has_room v more) number phase more
+line_at number (Some v) phase (Lines more) = if_room (has_room (votes_in phase) v more) number phase more
 line_at number (Some v) phase (Holds holds) = waits phase
 
 -- A line that comes behind the end does nothing.

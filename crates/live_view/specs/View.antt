@@ -9,7 +9,7 @@ use Rattle.live_view.specs.declared.input.Place.TheVariants as at
 use Rattle.live_view.specs.declared.outcome.LiveOutcome.{LiveOutcome}
 use Rattle.live_view.specs.declared.machine.LiveView.{LiveView}
 use Rattle.live_view.specs.declared.queue.Queue.{Queue}
-use Rattle.live_view.specs.Doing.{IsReadyAt, phase_at}
+use Rattle.live_view.specs.Doing.{IsReadyAt, phase_at, votes_at}
 use Rattle.live_view.specs.Live.{LiveState, LiveTold, closes, counts}
 
 -- the lines that are left
@@ -31,18 +31,19 @@ live_state address view =
       lost = view.lost;
     }
 
--- the lines that are left are those of a script, and there is room for what they publish
+-- the lines that are left are those of a script, the queue knows how many of them publish, and there is room for that
 pub record HasLines (published : ℕ) (queue : Queue) : Type 0 where
   pub within : queue.begun ≤ length queue.lines.items
   pub fit : AllByRecursion LineFits (queue_left queue)
-  pub room : published + publish_count (queue_left queue) + queue.room ≡ most_publishes
+  pub counted : queue.publishes ≡ publish_count (queue_left queue)
+  pub room : published + publish_count (queue_left queue) ≤ most_publishes
 
 -- What is so of every live view: it knows itself, may hear its link where it does, does lines of a script alone, and publishes no more
--- events than a view may. One whose memory ran out wants a link, and has no lines.
+-- events than a view may, with the vote that is at work. One whose memory ran out wants a link, and has no lines.
 pub record IsLive (view : LiveView) : Type 0 where
   pub knows : KnowsItself view.watcher
   pub ready : IsReadyAt (Some view.place) view.watcher
-  pub lines : HasLines view.watcher.published view.queue
+  pub lines : HasLines (view.watcher.published + votes_at (Some view.place)) view.queue
   pub lost : view.lost ≡ true → view.place ≡ at.Unlinked Fresh
   pub empty : view.lost ≡ true → left view ≡ []
 

@@ -1,5 +1,5 @@
 //! What a step sends and prints.
-ghost use Rattle.std.specs.Prelude.{◌≡◌, ◌<◌, ℕ, List, [], Some, None, IfOk, OnOk};
+ghost use Rattle.std.specs.Prelude.{◌≡◌, ◌<◌, ◌≤◌, ℕ, List, [], Some, None, IfOk, OnOk};
 ghost use Rattle.wire_frames.specs.declared.frame.ClientFrame.{ClientFrame as Frame};
 ghost use Rattle.replica_plain.specs.Calls.{gives, takes_out, unsent};
 ghost use Rattle.replica.specs.View.{with_plain};
@@ -7,7 +7,7 @@ ghost use Rattle.view_script.specs.PlainLine.{PlainLine};
 ghost use Rattle.view_shell.specs.Phases.{Sending, Task, ToCatchUp, ToReach, ToSettle, Viewer, after_giving, finish, go_on, leave_session, receive, send_all};
 ghost use Rattle.view_shell.specs.Viewers.{HasHeard, IsReady, KnowsItself, viewer};
 ghost use Rattle.live_view.specs.Live.{Told, drive};
-ghost use Rattle.live_view.specs.Doing.{Comes, Leads, after, aim_of};
+ghost use Rattle.live_view.specs.Doing.{Comes, Leads, after, aim_of, votes_at, votes_for};
 
 use crate::facts::{is_settled, time_of};
 use crate::input::{Goal, Place};
@@ -103,6 +103,7 @@ fn reach(
     ensures kept { watcher.new ≡ record watcher.old { replica = watcher.new.replica } }
     ensures ready { OnOk result (IsReady watcher.new) }
     ensures knows { KnowsItself watcher.new }
+    ensures waits { IfOk result (λ place. votes_at place ≡ 0) }
     ensures told { (address : List ℕ) (lines : List PlainLine) → IfOk result (λ place. Comes out.old out.new (receive (viewer address watcher.old lines) (ToReach time)) (viewer address watcher.new lines) place) }
 {
     let now = time_of(&watcher.replica);
@@ -123,6 +124,7 @@ fn await_settled(
     ensures kept { watcher.new ≡ record watcher.old { replica = watcher.new.replica } }
     ensures ready { OnOk result (IsReady watcher.new) }
     ensures knows { KnowsItself watcher.new }
+    ensures waits { IfOk result (λ place. votes_at place ≡ 0) }
     ensures told { (address : List ℕ) (lines : List PlainLine) → IfOk result (λ place. Comes out.old out.new (receive (viewer address watcher.old lines) ToSettle) (viewer address watcher.new lines) place) }
 {
     if !is_settled(&watcher.replica) {
@@ -139,6 +141,7 @@ fn catch_up(watcher: &mut Watcher, out: &mut LiveOutcome) -> Result<Option<Place
     ensures kept { watcher.new ≡ record watcher.old { replica = watcher.new.replica } }
     ensures ready { OnOk result (IsReady watcher.new) }
     ensures knows { KnowsItself watcher.new }
+    ensures waits { IfOk result (λ place. votes_at place ≡ 0) }
     ensures told { (address : List ℕ) (lines : List PlainLine) → IfOk result (λ place. Comes out.old out.new (receive (viewer address watcher.old lines) ToCatchUp) (viewer address watcher.new lines) place) }
 {
     if !has_caught_up(&watcher.replica) {
@@ -158,6 +161,7 @@ pub fn await_goal(
     ensures kept { watcher.new ≡ record watcher.old { replica = watcher.new.replica } }
     ensures ready { OnOk result (IsReady watcher.new) }
     ensures knows { KnowsItself watcher.new }
+    ensures waits { IfOk result (λ place. votes_at place ≤ votes_for goal) }
     ensures told { (address : List ℕ) (lines : List PlainLine) → IfOk result (λ place. Comes out.old out.new (receive (viewer address watcher.old lines) (aim_of goal)) (viewer address watcher.new lines) place) }
 {
     match goal {
@@ -166,6 +170,7 @@ pub fn await_goal(
         Goal::Settle => await_settled(watcher, out),
         Goal::CatchUp => catch_up(watcher, out),
         Goal::Snap => Ok(Some(Place::Hears(goal))),
+        Goal::See(_) => Ok(Some(Place::Hears(goal))),
     }
 }
 

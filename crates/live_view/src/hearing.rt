@@ -1,21 +1,22 @@
 //! What a view does at what its link says.
-ghost use Rattle.std.specs.Prelude.{◌≡◌, ◌⊎◌, ℕ, List, [], None, Some, IfOk, OnOk};
+ghost use Rattle.std.specs.Prelude.{◌≡◌, ◌≤◌, ◌<◌, ◌+◌, ◌⊎◌, ℕ, nat_le, true, List, [], None, Some, IfOk, OnOk};
 ghost use Rattle.byte_fields.specs.Fields.{whole};
 ghost use Rattle.wire_frames.specs.Reading.{server_at};
-ghost use Rattle.view_script.specs.PlainLine.{PlainLine};
-ghost use Rattle.view_shell.specs.Phases.{Begins, Over, Phase, Receives, TellsText, Viewer, after_frame, after_sync, bad_base, go_on, heard_frame, heard_quiet, quiet, reads};
+ghost use Rattle.view_script.specs.PlainLine.{PlainLine, most_publishes};
+ghost use Rattle.view_shell.specs.Phases.{Begins, Over, Phase, Receives, TellsText, Viewer, after_entry, after_frame, after_sync, bad_base, give_vote, go_on, heard_frame, heard_quiet, quiet, reads};
 ghost use Rattle.view_shell.specs.Viewers.{HasHeard, IsReady, KnowsItself, viewer};
 ghost use Rattle.view_shell.specs.ViewText.{snapped_line, snap_refused_line};
-ghost use Rattle.live_view.specs.Doing.{Comes, IsReadyAt, aim_of, phase_at};
+ghost use Rattle.live_view.specs.Doing.{Comes, IsReadyAt, aim_of, phase_at, votes_at, votes_for};
 
 use crate::doing::{await_goal, send_unsent, stay_alive, tell};
+use crate::facts::seen_of;
 use crate::input::{Goal, Place};
 use crate::outcome::LiveOutcome;
-use crate::texts::{refused_text, rejoined_text, snapped_text};
+use crate::texts::{refused_text, rejoined_text, snapped_text, voted_text};
 use replica_plain::How;
 use tea_base::{Blob, WantOfMemory};
 use tea_io::MOST_QUIETS;
-use view_shell::{Stop, ViewEnd, Watcher, take};
+use view_shell::{Stop, ViewEnd, Watcher, take, vote};
 use wire_frames::ServerFrame;
 
 /// The view goes on to hear its link for the same.
@@ -27,7 +28,7 @@ fn hear_on(
     requires heard { HasHeard watcher.old }
     ensures ready { OnOk result (IsReady watcher.new) }
     ensures knows { KnowsItself watcher.new }
-    ensures count { OnOk result (watcher.new.published ≡ watcher.old.published) }
+    ensures count { IfOk result (λ place. watcher.new.published + votes_at place ≤ watcher.old.published + votes_for goal) }
     ensures told { (address : List ℕ) (lines : List PlainLine) → IfOk result (λ place. Comes out.old out.new
         (go_on (viewer address watcher.old lines) [] (Receives (aim_of goal))) (viewer address watcher.new lines) place) }
 {
@@ -44,7 +45,7 @@ fn snapped(
     requires heard { HasHeard watcher.old }
     ensures ready { OnOk result (IsReady watcher.new) }
     ensures knows { KnowsItself watcher.new }
-    ensures count { OnOk result (watcher.new.published ≡ watcher.old.published) }
+    ensures count { (votes : ℕ) → IfOk result (λ place. watcher.new.published + votes_at place ≤ watcher.old.published + votes) }
     ensures told { (address : List ℕ) (lines : List PlainLine) → IfOk result (λ place. Comes out.old out.new
         (go_on (viewer address watcher.old lines) [] (TellsText (snapped_line time))) (viewer address watcher.new lines) place) }
 {
@@ -64,7 +65,7 @@ fn refused(
     requires heard { HasHeard watcher.old }
     ensures ready { OnOk result (IsReady watcher.new) }
     ensures knows { KnowsItself watcher.new }
-    ensures count { OnOk result (watcher.new.published ≡ watcher.old.published) }
+    ensures count { (votes : ℕ) → IfOk result (λ place. watcher.new.published + votes_at place ≤ watcher.old.published + votes) }
     ensures told { (address : List ℕ) (lines : List PlainLine) → IfOk result (λ place. Comes out.old out.new
         (go_on (viewer address watcher.old lines) [] (TellsText (snap_refused_line code kept))) (viewer address watcher.new lines) place) }
 {
@@ -79,7 +80,7 @@ fn begun(watcher: &mut Watcher, out: &mut LiveOutcome) -> Result<Option<Place>, 
     requires heard { HasHeard watcher.old }
     ensures ready { OnOk result (IsReady watcher.new) }
     ensures knows { KnowsItself watcher.new }
-    ensures count { OnOk result (watcher.new.published ≡ watcher.old.published) }
+    ensures count { (votes : ℕ) → IfOk result (λ place. watcher.new.published + votes_at place ≤ watcher.old.published + votes) }
     ensures told { (address : List ℕ) (lines : List PlainLine) → IfOk result (λ place. Comes out.old out.new
         (go_on (viewer address watcher.old lines) [] Begins) (viewer address watcher.new lines) place) }
 {
@@ -97,7 +98,7 @@ fn rejoined(
     requires heard { HasHeard watcher.old }
     ensures ready { OnOk result (IsReady watcher.new) }
     ensures knows { KnowsItself watcher.new }
-    ensures count { OnOk result (watcher.new.published ≡ watcher.old.published) }
+    ensures count { (votes : ℕ) → IfOk result (λ place. watcher.new.published + votes_at place ≤ watcher.old.published + votes) }
     ensures told { (address : List ℕ) (lines : List PlainLine) → IfOk result (λ place. Comes out.old out.new
         (after_sync (viewer address watcher.old lines) How.Resume joined from) (viewer address watcher.new lines) place) }
 {
@@ -119,7 +120,7 @@ fn synced(
     requires heard { HasHeard watcher.old }
     ensures ready { OnOk result (IsReady watcher.new) }
     ensures knows { KnowsItself watcher.new }
-    ensures count { OnOk result (watcher.new.published ≡ watcher.old.published) }
+    ensures count { (votes : ℕ) → IfOk result (λ place. watcher.new.published + votes_at place ≤ watcher.old.published + votes) }
     ensures told { (address : List ℕ) (lines : List PlainLine) → IfOk result (λ place. Comes out.old out.new
         (after_sync (viewer address watcher.old lines) how joined from) (viewer address watcher.new lines) place) }
 {
@@ -130,6 +131,68 @@ fn synced(
     }
 }
 
+/// A vote was published: it is sent and told.
+fn give_vote(
+    watcher: &mut Watcher,
+    out: &mut LiveOutcome,
+    at: u32,
+) -> Result<Option<Place>, WantOfMemory>
+    requires heard { HasHeard watcher.old }
+    ensures ready { OnOk result (IsReady watcher.new) }
+    ensures knows { KnowsItself watcher.new }
+    ensures count { (votes : ℕ) → IfOk result (λ place. watcher.new.published + votes_at place ≤ watcher.old.published + votes) }
+    ensures told { (address : List ℕ) (lines : List PlainLine) → IfOk result (λ place. Comes out.old out.new
+        (give_vote (viewer address watcher.old lines) at) (viewer address watcher.new lines) place) }
+{
+    stay_alive(watcher, out)?;
+    send_unsent(watcher, out)?;
+    let text = voted_text(watcher.alloc, at, watcher.published)?;
+    tell(watcher, out, text.as_str())?;
+    Ok(None)
+}
+
+/// Votes on an entry that the view has now.
+fn put_vote(
+    watcher: &mut Watcher,
+    out: &mut LiveOutcome,
+    at: u32,
+) -> Result<Option<Place>, WantOfMemory>
+    requires heard { HasHeard watcher.old }
+    requires room { watcher.old.published < most_publishes }
+    ensures ready { OnOk result (IsReady watcher.new) }
+    ensures knows { KnowsItself watcher.new }
+    ensures count { IfOk result (λ place. watcher.new.published + votes_at place ≤ watcher.old.published + 1) }
+    ensures told { (address : List ℕ) (lines : List PlainLine) → IfOk result (λ place. Comes out.old out.new
+        (after_entry true (viewer address watcher.old lines) at) (viewer address watcher.new lines) place) }
+{
+    match vote(watcher, at) {
+        Ok(()) => {}
+        Err(_) => return Err(WantOfMemory),
+    }
+    give_vote(watcher, out, at)
+}
+
+/// A frame was taken by a view that hears its link for an entry. Directly after the entry it votes on it.
+fn seen_on(
+    watcher: &mut Watcher,
+    out: &mut LiveOutcome,
+    at: u32,
+) -> Result<Option<Place>, WantOfMemory>
+    requires heard { HasHeard watcher.old }
+    requires room { watcher.old.published < most_publishes }
+    ensures ready { OnOk result (IsReady watcher.new) }
+    ensures knows { KnowsItself watcher.new }
+    ensures count { IfOk result (λ place. watcher.new.published + votes_at place ≤ watcher.old.published + 1) }
+    ensures told { (address : List ℕ) (lines : List PlainLine) → IfOk result (λ place. Comes out.old out.new
+        (after_entry (nat_le at watcher.old.replica.plain.seen) (viewer address watcher.old lines) at) (viewer address watcher.new lines) place) }
+{
+    let seen = seen_of(&watcher.replica);
+    if at <= seen {
+        return put_vote(watcher, out, at);
+    }
+    hear_on(watcher, out, Goal::See(at))
+}
+
 /// A frame was taken.
 fn behind(
     watcher: &mut Watcher,
@@ -138,9 +201,10 @@ fn behind(
     frame: &ServerFrame,
 ) -> Result<Option<Place>, WantOfMemory>
     requires heard { HasHeard watcher.old }
+    requires room { watcher.old.published + votes_for goal ≤ most_publishes }
     ensures ready { OnOk result (IsReady watcher.new) }
     ensures knows { KnowsItself watcher.new }
-    ensures count { OnOk result (watcher.new.published ≡ watcher.old.published) }
+    ensures count { IfOk result (λ place. watcher.new.published + votes_at place ≤ watcher.old.published + votes_for goal) }
     ensures told { (address : List ℕ) (lines : List PlainLine) → IfOk result (λ place. Comes out.old out.new
         (after_frame (viewer address watcher.old lines) (aim_of goal) frame.now) (viewer address watcher.new lines) place) }
 {
@@ -166,12 +230,14 @@ fn behind(
         Goal::Reach(_) => hear_on(watcher, out, goal),
         Goal::Settle => hear_on(watcher, out, goal),
         Goal::CatchUp => hear_on(watcher, out, goal),
+        Goal::See(at) => seen_on(watcher, out, at),
     }
 }
 
 /// Where a view stands that ends so. Want of memory is no end.
 fn ended(end: ViewEnd) -> Result<Option<Place>, WantOfMemory>
     ensures at { IfOk result (λ place. place ≡ Some (Place.Gone end)) }
+    ensures waits { IfOk result (λ place. votes_at place ≡ 0) }
     ensures not { IfOk result (λ _. end ≡ ViewEnd.WantOfMemory → ⊥) }
 {
     match end {
@@ -188,6 +254,7 @@ fn ended(end: ViewEnd) -> Result<Option<Place>, WantOfMemory>
 /// Where a view stands behind a base that is none.
 fn without_base(goal: Goal) -> Place
     ensures at { (v : Viewer) (out : LiveOutcome) → Comes out out (bad_base v (aim_of goal)) v (Some result) }
+    ensures waits { votes_at (Some result) ≡ 0 }
     ensures gone { (w : Watcher) → KnowsItself w → IsReadyAt (Some result) w }
 {
     match goal {
@@ -198,6 +265,7 @@ fn without_base(goal: Goal) -> Place
         Goal::Settle => Place::Gone(ViewEnd::Peer),
         Goal::Snap => Place::Gone(ViewEnd::Peer),
         Goal::CatchUp => Place::Gone(ViewEnd::Peer),
+        Goal::See(_) => Place::Gone(ViewEnd::Peer),
     }
 }
 
@@ -209,9 +277,10 @@ pub fn hear_frame(
     bytes: &Blob,
 ) -> Result<Option<Place>, WantOfMemory>
     requires ready { IsReady watcher.old }
+    requires room { watcher.old.published + votes_for goal ≤ most_publishes }
     ensures ready { IfOk result (λ place. IsReadyAt place watcher.new) }
     ensures knows { KnowsItself watcher.new }
-    ensures count { OnOk result (watcher.new.published ≡ watcher.old.published) }
+    ensures count { IfOk result (λ place. watcher.new.published + votes_at place ≤ watcher.old.published + votes_for goal) }
     ensures told { (address : List ℕ) (lines : List PlainLine) → IfOk result (λ place. Comes out.old out.new
         (reads (heard_frame (viewer address watcher.old lines)) (aim_of goal) (whole server_at bytes.now)) (viewer address watcher.new lines) place) }
 {
@@ -233,7 +302,7 @@ pub fn hear_quiet(
     requires ready { IsReady watcher.old }
     ensures ready { IfOk result (λ place. IsReadyAt place watcher.new) }
     ensures knows { KnowsItself watcher.new }
-    ensures count { OnOk result (watcher.new.published ≡ watcher.old.published) }
+    ensures count { IfOk result (λ place. watcher.new.published + votes_at place ≤ watcher.old.published + votes_for goal) }
     ensures told { (address : List ℕ) (lines : List PlainLine) → IfOk result (λ place. Comes out.old out.new
         (quiet (heard_quiet (viewer address watcher.old lines)) (aim_of goal)) (viewer address watcher.new lines) place) }
 {

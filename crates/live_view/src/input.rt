@@ -30,6 +30,8 @@ pub enum Goal {
     Settle,
     /// The answer to its snapshot.
     Snap,
+    /// An entry, on which it votes.
+    See(u32),
     /// That few enough events are not acknowledged. So does a view that has no line at work.
     CatchUp,
 }

@@ -1,13 +1,13 @@
 //! A live view.
-ghost use Rattle.std.specs.Prelude.{◌≡◌, ◌<◌, ℕ, false, true, nat_lt, ◌++◌, List, None, Some, IfOk, IsTrue, OnErr, OnOk};
+ghost use Rattle.std.specs.Prelude.{◌≡◌, ◌<◌, ◌≤◌, ◌+◌, ℕ, false, true, nat_lt, ◌++◌, List, None, Some, IfOk, IsTrue, OnErr, OnOk};
 ghost use Rattle.std.specs.Arc.{arc_value};
 ghost use Rattle.model_solved.specs.Founding.{founding_of};
 ghost use Rattle.std.specs.List.{AllByRecursion};
-ghost use Rattle.view_script.specs.PlainLine.{LineFits, plain_lines};
+ghost use Rattle.view_script.specs.PlainLine.{LineFits, most_publishes, plain_lines, publish_count as publish_count_of};
 ghost use Rattle.view_shell.specs.Phases.{Viewer, enter_session};
 ghost use Rattle.view_shell.specs.Viewers.{IsReady, KnowsItself, viewer};
 ghost use Rattle.live_view.specs.declared.input.LiveInput.TheVariants as tells;
-ghost use Rattle.live_view.specs.Doing.{IsReadyAt, Tells, aim_of, came};
+ghost use Rattle.live_view.specs.Doing.{IsReadyAt, Tells, aim_of, came, votes_at as votes_of, votes_for};
 ghost use Rattle.live_view.specs.Live.{awaited, closes, counts, drives, goes_on, has_arrived, heard_by, heard_step, hears, held_on, holds_after, holds_by, holds_on, is_held, is_over, join_behind as behind, joined_as as entry_in, joined_in, line_again, line_at, line_step, lines_kept, link_step, live_step, one_fewer, one_more, or_joined as entry_or, phase_step, rests, revived, unlinked_by, viewer_of, waits, wakes, wanted};
 ghost use Rattle.live_view.specs.Lines.{Lines, read_line};
 ghost use Rattle.live_view.specs.Said.{AreFit, says};
@@ -50,6 +50,35 @@ fn join_behind(goal: Goal) -> How
         Goal::Settle => How::Resume,
         Goal::CatchUp => How::Resume,
         Goal::Snap => How::Resume,
+        Goal::See(_) => How::Resume,
+    }
+}
+
+/// The most events that a view publishes.
+const MOST_PUBLISHES: usize = 1_048_576;
+
+/// How many votes are at work in this place.
+fn votes_at(place: Place) -> u32
+    ensures { result ≡ votes_of (Some place) }
+{
+    match place {
+        Place::Unlinked(_) => 0,
+        Place::Hears(goal) => votes_for(goal),
+        Place::Gone(_) => 0,
+    }
+}
+
+/// How many votes are to be published once what a view hears its link for has come.
+fn votes_for(goal: Goal) -> u32
+    ensures { result ≡ votes_for goal }
+{
+    match goal {
+        Goal::Join(_) => 0,
+        Goal::Reach(_) => 0,
+        Goal::Settle => 0,
+        Goal::Snap => 0,
+        Goal::CatchUp => 0,
+        Goal::See(_) => 1,
     }
 }
 
@@ -80,12 +109,15 @@ impl LiveView {
         ensures live { IfOk result (λ live. IsLive live) }
         ensures first { (address : List ℕ) → IfOk result (λ live. live_state address live ≡ first_state (founding_of (arc_value program)) id.0 view address) }
     {
-        let replica = Replica::found(alloc, program, id, view)?;
+        let own = program.clone()?;
+        let replica = Replica::found(alloc, own, id, view)?;
         let topics = ViewTopics::new(alloc);
         let queue = Queue::new(alloc);
         Ok(LiveView {
             watcher: Watcher {
                 alloc,
+                program,
+                id,
                 view,
                 replica,
                 published: 0,
@@ -267,6 +299,7 @@ impl LiveView {
         requires live { IsLive self.old }
         requires ready { IsReady self.old.watcher }
         requires whole { self.old.lost ≡ false }
+        requires lines { HasLines (self.old.watcher.published + votes_for goal) self.old.queue }
         ensures live { OnOk result (IsLive self.new) }
         ensures knows { KnowsItself self.new.watcher }
         ensures kept { self.new ≡ record self.old { watcher = self.new.watcher; queue = self.new.queue; place = self.new.place; holds = self.new.holds; joined = self.new.joined } }
@@ -283,7 +316,7 @@ impl LiveView {
 
     /// The line that was at work is left before the others.
     fn put_back(&mut self, goal: Goal) -> Result<(), WantOfMemory>
-        requires lines { HasLines self.old.watcher.published self.old.queue }
+        requires lines { HasLines (self.old.watcher.published + votes_for goal) self.old.queue }
         ensures kept { self.new ≡ record self.old { queue = self.new.queue } }
         ensures lines { OnOk result (HasLines self.new.watcher.published self.new.queue) }
         ensures left { OnOk result (left self.new ≡ line_again (aim_of goal) ++ left self.old) }
@@ -292,11 +325,12 @@ impl LiveView {
             Goal::Join(_) => Ok(()),
             Goal::Reach(time) => {
                 let time = time.min(TIME_LIMIT - 1);
-                self.queue.put_first(ViewLine::Wait { time })
+                self.queue.put_first(ViewLine::Wait { time }, 0)
             }
-            Goal::Settle => self.queue.put_first(ViewLine::Settle),
+            Goal::Settle => self.queue.put_first(ViewLine::Settle, 0),
             Goal::CatchUp => Ok(()),
-            Goal::Snap => self.queue.put_first(ViewLine::Snap),
+            Goal::Snap => self.queue.put_first(ViewLine::Snap, 0),
+            Goal::See(at) => self.queue.put_first(ViewLine::Vote { at }, 1),
         }
     }
 
@@ -305,6 +339,7 @@ impl LiveView {
         requires live { IsLive self.old }
         requires whole { self.old.lost ≡ false }
         requires many { 0 < self.old.holds }
+        requires lines { HasLines (self.old.watcher.published + votes_for goal) self.old.queue }
         ensures live { OnOk result (IsLive self.new) }
         ensures kept { self.new ≡ record self.old { queue = self.new.queue; place = self.new.place; holds = self.new.holds } }
         ensures holds { OnOk result (self.new.holds ≡ one_fewer true self.old.holds) }
@@ -355,6 +390,7 @@ impl LiveView {
         requires live { IsLive self.old }
         requires ready { IsReady self.old.watcher }
         requires whole { self.old.lost ≡ false }
+        requires lines { HasLines (self.old.watcher.published + votes_for goal) self.old.queue }
         ensures live { OnOk result (IsLive self.new) }
         ensures knows { KnowsItself self.new.watcher }
         ensures kept { self.new ≡ record self.old { watcher = self.new.watcher; queue = self.new.queue; place = self.new.place; joined = self.new.joined } }
@@ -372,7 +408,7 @@ impl LiveView {
     fn go_to(&mut self, place: Option<Place>, out: &mut LiveOutcome) -> Result<(), WantOfMemory>
         requires knows { KnowsItself self.old.watcher }
         requires ready { IsReadyAt place self.old.watcher }
-        requires lines { HasLines self.old.watcher.published self.old.queue }
+        requires lines { HasLines (self.old.watcher.published + votes_of place) self.old.queue }
         requires whole { self.old.lost ≡ false }
         ensures live { OnOk result (IsLive self.new) }
         ensures knows { KnowsItself self.new.watcher }
@@ -416,6 +452,7 @@ impl LiveView {
                 Goal::Settle => false,
                 Goal::CatchUp => has_caught_up(&self.watcher.replica),
                 Goal::Snap => false,
+                Goal::See(_) => false,
             },
             Place::Gone(_) => false,
         }
@@ -514,6 +551,16 @@ impl LiveView {
         }
     }
 
+    /// How many events were published, or are to be by the vote that is at work and by the lines that are left.
+    fn taken(&self) -> usize
+        requires { IsLive self.now }
+        ensures count { result ≡ self.now.watcher.published + votes_of (Some self.now.place) + publish_count_of (left self.now) }
+        ensures few { result ≤ most_publishes }
+    {
+        let votes = votes_at(self.place);
+        (self.watcher.published + votes) as usize + self.queue.publishes()
+    }
+
     /// Lines are left behind the others, unless they publish one event too many.
     fn put_lines(&mut self, more: Vec<ViewLine>, out: &mut LiveOutcome) -> Result<(), WantOfMemory>
         requires live { IsLive self.old }
@@ -526,11 +573,12 @@ impl LiveView {
         ensures told { (address : List ℕ) (v : Viewer) → viewer_of (live_state address self.old).phase ≡ Some v → OnOk result (Tells out.old out.new (line_at self.old.count (Some v) (live_state address self.old).phase (Lines (plain_lines more.items))) (live_state address self.new).phase) }
     {
         let publishes = publish_count(&more);
-        let room = self.queue.room();
+        let taken = self.taken();
+        let room = MOST_PUBLISHES - taken;
         if publishes > room {
             return tell_bad_line(self.watcher.alloc, out, self.count);
         }
-        self.queue.put(more, publishes as u32)?;
+        self.queue.put(more, publishes)?;
         self.wake(out)
     }
 
@@ -581,7 +629,7 @@ impl LiveView {
     {
         // A view published no more events than a view may.
         tell_few(&self.watcher.replica);
-        self.queue.clear(self.watcher.published);
+        self.queue.clear();
         self.place = Place::Unlinked(How::Fresh);
         self.joined = None;
         self.lost = true;

@@ -1,22 +1,19 @@
 //! The lines that came.
-ghost use Rattle.std.specs.Prelude.{◌≡◌, ◌≤◌, ◌+◌, [], ◌∷◌, ◌++◌, drop, length, OnOk};
+ghost use Rattle.std.specs.Prelude.{◌≡◌, ◌≤◌, ◌+◌, ℕ, [], ◌∷◌, ◌++◌, drop, length, OnOk};
 ghost use Rattle.std.specs.List.{AllByRecursion};
 ghost use Rattle.view_script.specs.PlainLine.{LineFits, Settle, most_publishes, plain_line, plain_lines, publish_count as count_publishes};
 ghost use Rattle.live_view.specs.View.{HasLines, queue_left};
 
 use std::alloc::Global;
 use tea_base::{WantOfMemory, push};
-use view_script::ViewLine;
+use view_script::{ViewLine, publish_count};
 
-/// The most events that a view publishes.
-const MOST_PUBLISHES: u32 = 1_048_576;
-
-/// The lines that came: so many were begun, and the others are left. And how many events more lines may publish.
+/// The lines that came: so many were begun, and the others are left. And how many of those publish.
 #[derive(Drop)]
 pub struct Queue {
     lines: Vec<ViewLine>,
     begun: usize,
-    room: u32,
+    publishes: usize,
 }
 
 /// Puts lines behind others.
@@ -36,7 +33,7 @@ impl Queue {
         Queue {
             lines: Vec::new(alloc),
             begun: 0,
-            room: MOST_PUBLISHES,
+            publishes: 0,
         }
     }
 
@@ -48,52 +45,66 @@ impl Queue {
         &self.lines[self.begun..]
     }
 
-    /// How many events more lines may publish.
-    pub fn room(&self) -> usize
-        ensures { result ≡ self.now.room }
+    /// How many of the lines that are left publish.
+    pub fn publishes(&self) -> usize
+        ensures { result ≡ self.now.publishes }
     {
-        self.room as usize
+        self.publishes
+    }
+
+    /// How many of the next lines publish.
+    fn publishes_of(&self, count: usize) -> usize
+        requires { self.now.begun + count ≤ length self.now.lines.items }
+        ensures { result + count_publishes (plain_lines (drop (self.now.begun + count) self.now.lines.items)) ≡ count_publishes (queue_left self.now) }
+    {
+        publish_count(&self.lines[self.begun..self.begun + count])
     }
 
     /// So many of the lines that are left are begun.
     pub fn begin(&mut self, count: usize)
-        requires { self.old.begun + count ≤ length self.old.lines.items }
+        requires within { self.old.begun + count ≤ length self.old.lines.items }
+        requires counted { self.old.publishes ≡ count_publishes (queue_left self.old) }
         ensures left { queue_left self.new ≡ plain_lines (drop count (drop self.old.begun self.old.lines.items)) }
         ensures within { self.new.begun ≤ length self.new.lines.items }
-        ensures room { self.new.room ≡ self.old.room }
+        ensures counted { self.new.publishes ≡ count_publishes (queue_left self.new) }
     {
         let begun = self.begun + count;
         let len = self.lines.len();
         if begun < len {
+            let done = self.publishes_of(count);
+            self.publishes -= done;
             self.begun = begun;
             return;
         }
         self.lines.clear();
         self.begun = 0;
+        self.publishes = 0;
     }
 
     /// These lines are left behind the others; so many of them publish.
-    pub fn put(&mut self, more: Vec<ViewLine>, publishes: u32) -> Result<(), WantOfMemory>
+    pub fn put(&mut self, more: Vec<ViewLine>, publishes: usize) -> Result<(), WantOfMemory>
         requires within { self.old.begun ≤ length self.old.lines.items }
-        requires room { publishes ≤ self.old.room }
+        requires few { self.old.publishes + publishes ≤ most_publishes }
         ensures left { OnOk result (queue_left self.new ≡ queue_left self.old ++ plain_lines more.items) }
         ensures within { OnOk result (self.new.begun ≤ length self.new.lines.items) }
-        ensures room { OnOk result (self.new.room + publishes ≡ self.old.room) }
+        ensures counted { OnOk result (self.new.publishes ≡ self.old.publishes + publishes) }
     {
         let mut more = more;
         append(&mut self.lines, &mut more)?;
-        self.room -= publishes;
+        self.publishes += publishes;
         Ok(())
     }
 
-    /// This line is left before the others. It publishes nothing.
-    pub fn put_first(&mut self, line: ViewLine) -> Result<(), WantOfMemory>
+    /// This line is left before the others; so many events are published by it.
+    pub fn put_first(&mut self, line: ViewLine, publishes: usize) -> Result<(), WantOfMemory>
         requires within { self.old.begun ≤ length self.old.lines.items }
+        requires few { self.old.publishes + publishes ≤ most_publishes }
         ensures left { OnOk result (queue_left self.new ≡ plain_line line ∷ queue_left self.old) }
         ensures within { OnOk result (self.new.begun ≤ length self.new.lines.items) }
-        ensures room { OnOk result (self.new.room ≡ self.old.room) }
+        ensures counted { OnOk result (self.new.publishes ≡ self.old.publishes + publishes) }
     {
         self.lines.insert(self.begun, line)?;
+        self.publishes += publishes;
         Ok(())
     }
 
@@ -101,21 +112,21 @@ impl Queue {
     pub fn settle(&mut self) -> Result<(), WantOfMemory>
         ensures left { OnOk result (queue_left self.new ≡ Settle ∷ []) }
         ensures within { OnOk result (self.new.begun ≤ length self.new.lines.items) }
-        ensures room { OnOk result (self.new.room ≡ self.old.room) }
+        ensures counted { OnOk result (self.new.publishes ≡ 0) }
     {
         self.lines.clear();
         self.begun = 0;
+        self.publishes = 0;
         push(&mut self.lines, ViewLine::Settle)
     }
 
-    /// No line is left, where so many events were published. Takes no memory.
-    pub fn clear(&mut self, published: u32)
-        requires { published ≤ most_publishes }
+    /// No line is left. Takes no memory.
+    pub fn clear(&mut self)
         ensures left { queue_left self.new ≡ [] }
-        ensures lines { HasLines published self.new }
+        ensures lines { (published : ℕ) → published ≤ most_publishes → HasLines published self.new }
     {
         self.lines.clear();
         self.begun = 0;
-        self.room = MOST_PUBLISHES - published;
+        self.publishes = 0;
     }
 }

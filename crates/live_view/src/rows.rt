@@ -1,11 +1,11 @@
 //! What a view does at what its link says.
-ghost use Rattle.std.specs.Prelude.{◌≡◌, ℕ, List, Some, IfOk, OnOk};
+ghost use Rattle.std.specs.Prelude.{◌≡◌, ◌≤◌, ◌+◌, ℕ, List, Some, IfOk};
 ghost use Rattle.byte_fields.specs.Fields.{whole};
 ghost use Rattle.wire_frames.specs.Reading.{server_at};
-ghost use Rattle.view_script.specs.PlainLine.{PlainLine};
+ghost use Rattle.view_script.specs.PlainLine.{PlainLine, most_publishes};
 ghost use Rattle.view_shell.specs.Viewers.{IsReady, KnowsItself, viewer};
 ghost use Rattle.live_view.specs.Live.{hears, joined_as as entry_in, link_ends as ends_link, or_joined as entry_or, synced_by};
-ghost use Rattle.live_view.specs.Doing.{Comes, IsReadyAt, aim_of};
+ghost use Rattle.live_view.specs.Doing.{Comes, IsReadyAt, aim_of, votes_at, votes_for};
 
 use crate::hearing::{hear_frame, hear_quiet};
 use crate::input::{Goal, Place};
@@ -38,9 +38,10 @@ pub fn hear(
     heard: &Heard,
 ) -> Result<Option<Place>, WantOfMemory>
     requires ready { IsReady watcher.old }
+    requires room { watcher.old.published + votes_for goal ≤ most_publishes }
     ensures ready { IfOk result (λ place. IsReadyAt place watcher.new) }
     ensures knows { KnowsItself watcher.new }
-    ensures count { OnOk result (watcher.new.published ≡ watcher.old.published) }
+    ensures count { IfOk result (λ place. watcher.new.published + votes_at place ≤ watcher.old.published + votes_for goal) }
     ensures told { (address : List ℕ) (lines : List PlainLine) → IfOk result (λ place. Comes out.old out.new
         (hears (viewer address watcher.old lines) (aim_of goal) heard.now) (viewer address watcher.new lines) place) }
 {
@@ -95,6 +96,7 @@ pub fn joined_as(alloc: Global, goal: Goal, heard: &Heard) -> Result<Option<u32>
             Goal::Settle => Ok(None),
             Goal::CatchUp => Ok(None),
             Goal::Snap => Ok(None),
+            Goal::See(_) => Ok(None),
         },
         Heard::Quiet => Ok(None),
         Heard::End => Ok(None),

@@ -1,11 +1,11 @@
 //! The lines that are left.
-ghost use Rattle.std.specs.Prelude.{◌≡◌, ◌≤◌, ◌+◌, ℕ, List, drop, length, IfOk, OnOk};
+ghost use Rattle.std.specs.Prelude.{◌≡◌, ◌≤◌, ◌+◌, ℕ, List, drop, length, Some, IfOk, OnOk};
 ghost use Rattle.std.specs.List.{AllByRecursion};
 ghost use Rattle.view_script.specs.PlainLine.{LineFits, plain_lines, publish_count};
 ghost use Rattle.view_shell.specs.Phases.{Phase};
 ghost use Rattle.view_shell.specs.Viewers.{HasRoomFor, IsReady, KnowsItself, viewer};
 ghost use Rattle.live_view.specs.Live.{bad_line, lines_from, waits};
-ghost use Rattle.live_view.specs.Doing.{Tells, after, phase_at};
+ghost use Rattle.live_view.specs.Doing.{Tells, after, phase_at, votes_at};
 
 use crate::doing::leave;
 use crate::input::{Goal, Place};
@@ -45,7 +45,7 @@ pub fn do_lines(
     requires room { HasRoomFor watcher.old (plain_lines lines.now) }
     ensures ready { OnOk result (IsReady watcher.new) }
     ensures knows { KnowsItself watcher.new }
-    ensures count { IfOk result (λ stopped. watcher.new.published + publish_count (plain_lines (drop stopped.count lines.now)) ≡ watcher.old.published + publish_count (plain_lines lines.now)) }
+    ensures count { IfOk result (λ stopped. watcher.new.published + votes_at (Some stopped.place) + publish_count (plain_lines (drop stopped.count lines.now)) ≤ watcher.old.published + publish_count (plain_lines lines.now)) }
     ensures few { IfOk result (λ stopped. stopped.count ≤ length lines.now) }
     ensures told { (address : List ℕ) → IfOk result (λ stopped. after out.old (lines_from closed (plain_lines lines.now) (viewer address watcher.old (plain_lines lines.now)))
         ≡ after out.new (waits (phase_at stopped.place (viewer address watcher.new (plain_lines (drop stopped.count lines.now)))))) }

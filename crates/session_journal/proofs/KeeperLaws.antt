@@ -1,5 +1,5 @@
 -- What a call of the store leaves of what it keeps.
-use Rattle.std.proofs.Common.{◌≡◌, ℕ, ◌+◌, ◌-◌, ◌≤◌, Bool, true, false, List, [], ◌∷◌, ◌++◌, length, take, drop, Option, Some, None, Result, Ok, Err, OnOk, refl, sym, ap, subst, ◌∙◌, append_assoc, append-nil, arith}
+use Rattle.std.proofs.Common.{◌≡◌, ℕ, ◌+◌, ◌-◌, ◌≤◌, Bool, true, false, List, [], ◌∷◌, ◌++◌, length, take, drop, Option, Some, None, Result, Ok, Err, OnOk, OnErr, refl, sym, ap, subst, ◌∙◌, append_assoc, append-nil, arith}
 use Rattle.std.proofs.lemmas.List.{take_at, take-append-drop, length-append}
 use Rattle.tea_io.specs.Told.{with_more}
 use Rattle.tea_io.specs.Sink.{GrowsWithin}
@@ -44,12 +44,11 @@ within_then old then_ new piece more is grows =
 pub all_written : (old new : Option (List ℕ)) (piece : List ℕ) → new ≡ with_more old piece → GrowsWithin old new piece
 all_written old new piece is = ([], record { front = piece; whole = append-nil piece; written = is })
 
--- three whole pieces
-pub three_pieces : (old first second third : Option (List ℕ)) (a b c : List ℕ) → first ≡ with_more old a → second ≡ with_more first b → third ≡ with_more second c
-    → third ≡ with_more old (a ++ (b ++ c))
-three_pieces old first second third a b c is is_second is_third =
-    is_third ∙ ap (λ (bytes : Option (List ℕ)). with_more bytes c) (is_second ∙ ap (λ (bytes : Option (List ℕ)). with_more bytes b) is ∙ more_twice old a b)
-    ∙ more_twice old (a ++ b) c ∙ ap (λ (xs : List ℕ). with_more old xs) (append_assoc a b c)
+-- after two whole pieces, a first part of the last one where it fails
+pub last_part : {T E : Type 0} (result : Result T E) (old first second new : Option (List ℕ)) (a b c : List ℕ) → first ≡ with_more old a → second ≡ with_more first b → OnErr result (GrowsWithin second new c)
+    → OnErr result (GrowsWithin old new (a ++ (b ++ c)))
+last_part (Ok value) old first second new a b c is is_second part = tt
+last_part (Err fault) old first second new a b c is is_second part = within_then old first new a (b ++ c) is (within_then first second new b c is_second part)
 
 -- ---- one more record
 

@@ -20,6 +20,7 @@ use crate::change::LentChange;
 use crate::check::check_of;
 use crate::heads::{head_of, payload_of};
 use crate::reading::Read;
+use arrayvec::ArrayVec;
 use store_io::{Store, StoreFault};
 use tea_base::END_OF_TIME;
 
@@ -58,21 +59,88 @@ pub struct Unopened<S> {
     pub fault: StoreFault,
 }
 
-/// Appends three pieces, and makes all safe.
+/// The most bytes of the record of an entry or a horizon: of a head, of the payload of an Event, and of the check.
+const MOST_RECORD: usize = 4130;
+
+/// Three pieces as one.
+fn joined(head: &[u8], payload: &[u8], check: &[u8]) -> ArrayVec<u8, MOST_RECORD>
+    requires { length head.now + length payload.now + length check.now ≤ 4130 }
+    ensures { result.items ≡ head.now ++ (payload.now ++ check.now) }
+{
+    let mut record = ArrayVec::new();
+    let _ = record.try_extend_from_slice(head);
+    let _ = record.try_extend_from_slice(payload);
+    let _ = record.try_extend_from_slice(check);
+    record
+}
+
+/// Appends three pieces by one call.
+fn append_joined<S: Store>(
+    store: &mut S,
+    head: &[u8],
+    payload: &[u8],
+    check: &[u8],
+) -> Result<(), StoreFault>
+    requires { length head.now + length payload.now + length check.now ≤ 4130 }
+    ensures ok { OnOk result (S.bytes store.new ≡ with_more (S.bytes store.old) (head.now ++ (payload.now ++ check.now))) }
+    ensures part { OnErr result (GrowsWithin (S.bytes store.old) (S.bytes store.new) (head.now ++ (payload.now ++ check.now))) }
+    ensures safe { S.safe store.new ≡ S.safe store.old }
+    ensures cause { StoreCause (S.faults store.old) (S.faults store.new) result }
+{
+    store.append(joined(head, payload, check).as_slice())
+}
+
+/// Appends three pieces, one after the other.
+fn append_pieces<S: Store>(
+    store: &mut S,
+    head: &[u8],
+    payload: &[u8],
+    check: &[u8],
+) -> Result<(), StoreFault>
+    ensures ok { OnOk result (S.bytes store.new ≡ with_more (S.bytes store.old) (head.now ++ (payload.now ++ check.now))) }
+    ensures part { OnErr result (GrowsWithin (S.bytes store.old) (S.bytes store.new) (head.now ++ (payload.now ++ check.now))) }
+    ensures safe { S.safe store.new ≡ S.safe store.old }
+    ensures cause { StoreCause (S.faults store.old) (S.faults store.new) result }
+{
+    store.append(head)?;
+    store.append(payload)?;
+    store.append(check)
+}
+
+/// Appends a record, which is longer than that of an entry only where it has a snapshot. Takes no memory.
+fn append<S: Store>(
+    store: &mut S,
+    head: &[u8],
+    payload: &[u8],
+    check: &[u8],
+) -> Result<(), StoreFault>
+    requires { length head.now + length payload.now + length check.now < 2 ^ 64 }
+    ensures ok { OnOk result (S.bytes store.new ≡ with_more (S.bytes store.old) (head.now ++ (payload.now ++ check.now))) }
+    ensures part { OnErr result (GrowsWithin (S.bytes store.old) (S.bytes store.new) (head.now ++ (payload.now ++ check.now))) }
+    ensures safe { S.safe store.new ≡ S.safe store.old }
+    ensures cause { StoreCause (S.faults store.old) (S.faults store.new) result }
+{
+    if head.len() + payload.len() + check.len() <= MOST_RECORD {
+        append_joined(store, head, payload, check)
+    } else {
+        append_pieces(store, head, payload, check)
+    }
+}
+
+/// Appends a record, and makes all safe.
 fn write<S: Store>(
     store: &mut S,
     head: &[u8],
     payload: &[u8],
     check: &[u8],
 ) -> Result<(), StoreFault>
+    requires { length head.now + length payload.now + length check.now < 2 ^ 64 }
     ensures ok { OnOk result (IsWritten (S.bytes store.old) (S.bytes store.new) (S.safe store.new) (head.now ++ (payload.now ++ check.now))) }
     ensures part { OnErr result (GrowsWithin (S.bytes store.old) (S.bytes store.new) (head.now ++ (payload.now ++ check.now))) }
     ensures safe { OnErr result (S.safe store.new ≡ S.safe store.old) }
     ensures cause { StoreCause (S.faults store.old) (S.faults store.new) result }
 {
-    store.append(head)?;
-    store.append(payload)?;
-    store.append(check)?;
+    append(store, head, payload, check)?;
     store.sync()
 }
 

@@ -13,14 +13,19 @@ use Rattle.session_log.specs.LogState.{next_entry, with_next}
 use Rattle.session_log.specs.Legality.{may_follow}
 use Rattle.session_log.specs.Stored.{PlainStored, plain_of}
 use Rattle.session_log.proofs.LegalityLaws.{may_follow-Decides}
+use Rattle.session_journal.specs.declared.change.Change.{Change}
 use Rattle.session_journal.specs.declared.change.Change.TheVariants.{Came, Reached, Kept}
 use Rattle.session_journal.specs.declared.keeper.Journal.{Journal}
 use Rattle.session_journal.specs.Changes.{IsTypedChange}
 use Rattle.session_journal.specs.State.{after_change, has_room, may_add, may_come}
+use Rattle.session_journal.specs.Heads.{payload_of, record_len}
+use Rattle.session_journal.specs.Journal.{most_journal}
 use Rattle.session_journal.specs.Keeper.{IsKeptBy, lease, reached_to}
+use Rattle.session_journal.proofs.HeadLaws.{body_len}
 use Rattle.reflector_core.specs.PlainSession.{PlainSession, IsSoundSession}
 use Rattle.reflector_core.specs.Stored.{session_of}
 use Rattle.reflector_core.specs.Keeping.{with_entry, with_snapshot}
+use Rattle.session_keeper.specs.Keeping.{is_nearly_full}
 
 tested_lt : (a b : ℕ) → a < b → nat_lt a b ≡ true
 tested_lt a b lt = grind (arith, nat_tests)
@@ -89,3 +94,17 @@ reached_if_session false state time = refl
 pub reached_session : (state : PlainStored) (s : PlainSession) (time : ℕ) → session_of state ≡ s → session_of (reached_to time state) ≡ record { log = s.log; horizon = (reached_to time state).horizon; kept = s.kept }
 reached_session state s time same =
     reached_if_session (nat_le time state.horizon) state time ∙ ap (λ (t : PlainSession). record t { horizon = (reached_to time state).horizon }) same
+
+-- ---- a journal that is full
+
+nearly_full : (len : ℕ) (c : Change) → length (payload_of c) ≤ most_payload → most_journal < len + record_len c → is_nearly_full len ≡ true
+nearly_full len c short full = tested_lt most_journal (len + (26 + most_payload + 8)) (omega (arith, short, full, body_len c))
+
+pub full_for_entry : (len time view : ℕ) (recorded : What) → payload_len recorded ≤ most_payload → most_journal < len + record_len (Came time view recorded) → is_nearly_full len ≡ true
+full_for_entry len time view recorded short full = nearly_full len (Came time view recorded) short full
+
+pub full_for_tick : (len time : ℕ) → most_journal < len + record_len (Reached time) → is_nearly_full len ≡ true
+full_for_tick len time full = nearly_full len (Reached time) (omega arith) full
+
+pub full_still : {S : Type 0} (old new : Journal S) → new ≡ old → is_nearly_full old.len ≡ true → is_nearly_full new.len ≡ true
+full_still old new same full = subst (λ (journal : Journal _). is_nearly_full journal.len ≡ true) (sym same) full

@@ -1,8 +1,10 @@
 -- What the journal of a session says as its keeper.
-use Rattle.std.specs.Prelude.{◌≡◌, ◌⊎◌, ℕ, ◌+◌, Bool, true, List, Option, if◌then◌else◌}
+use Rattle.std.specs.Prelude.{◌≡◌, ◌⊎◌, ℕ, ◌+◌, nat_lt, Bool, true, ◌&&◌, List, Option, if◌then◌else◌}
+use Rattle.tea_base.specs.Limits.{most_payload}
 use Rattle.session_log.specs.Stored.{PlainStored}
 use Rattle.reflector_core.specs.PlainSession.{PlainSession}
 use Rattle.reflector_core.specs.Stored.{session_of}
+use Rattle.session_journal.specs.Journal.{most_journal}
 use Rattle.session_journal.specs.Keeper.{IsKeptBy}
 use Rattle.session_keeper.specs.declared.keeper.JournalKeeper.{JournalKeeper}
 
@@ -16,6 +18,14 @@ pub record IsJournalOf {S : Type 0} (told : S → Option (List ℕ)) (safe : S �
 abbrev pub IsShut : {S : Type 0} → JournalKeeper S → Type 0
 IsShut keeper = (keeper.journal.shut ≡ true) ⊎ (keeper.full ≡ true)
 
--- the store's faults, and one more where the journal was full
+-- the most bytes of the record of an entry or of a horizon: of a head, of the payload of an Event, and of the check
+abbrev pub most_record : ℕ
+most_record = 26 + most_payload + 8
+
+-- a longest record has no room in a journal of so many bytes
+abbrev pub is_nearly_full : ℕ → Bool
+is_nearly_full len = nat_lt most_journal (len + most_record)
+
+-- the store's faults, and one more where the journal was full. That counts only while it is nearly full.
 abbrev pub fault_count : {S : Type 0} → (S → ℕ) → JournalKeeper S → ℕ
-fault_count faults keeper = faults keeper.journal.store + (if keeper.full then 1 else 0)
+fault_count faults keeper = faults keeper.journal.store + (if keeper.full && is_nearly_full keeper.journal.len then 1 else 0)

@@ -1,4 +1,8 @@
 //! A journal that keeps a session.
+ghost use Rattle.std.specs.Prelude.{◌≡◌, true, false};
+ghost use Rattle.tea_io.specs.Told.{Rose};
+ghost use Rattle.session_keeper.specs.Keeping.{fault_count, is_nearly_full};
+
 use entry_fields::LentWhat;
 use reflector_core::{Keeper, Unkept};
 use session_journal::{Journal, KeepFault, LentChange};
@@ -13,6 +17,19 @@ pub struct JournalKeeper<S> {
     pub journal: Journal<S>,
     /// An entry or a horizon had no room in the journal. Nothing more is written then.
     pub full: bool,
+}
+
+impl<S: Store + Drop> JournalKeeper<S> {
+    /// Notes that a record has no room in the journal.
+    fn fill(&mut self) -> Unkept
+        requires unfilled { self.old.full ≡ false }
+        requires nearly { is_nearly_full self.old.journal.len ≡ true }
+        ensures full { self.new ≡ record self.old { full = true } }
+        ensures rose { Rose (fault_count S.faults self.old) (fault_count S.faults self.new) }
+    {
+        self.full = true;
+        Unkept
+    }
 }
 
 impl<S: Store + Drop> Keeper for JournalKeeper<S> {
@@ -30,10 +47,7 @@ impl<S: Store + Drop> Keeper for JournalKeeper<S> {
         }
         match self.journal.keep(LentChange::Came { time, view, what }) {
             Ok(()) => Ok(()),
-            Err(KeepFault::Full) => {
-                self.full = true;
-                Err(Unkept)
-            }
+            Err(KeepFault::Full) => Err(self.fill()),
             Err(KeepFault::Unkept) => Err(Unkept),
         }
     }
@@ -44,10 +58,7 @@ impl<S: Store + Drop> Keeper for JournalKeeper<S> {
         }
         match self.journal.reach(time) {
             Ok(()) => Ok(()),
-            Err(KeepFault::Full) => {
-                self.full = true;
-                Err(Unkept)
-            }
+            Err(KeepFault::Full) => Err(self.fill()),
             Err(KeepFault::Unkept) => Err(Unkept),
         }
     }

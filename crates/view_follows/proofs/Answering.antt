@@ -38,17 +38,17 @@ use Rattle.replica_plain.proofs.FrameSteps.{SameWorld, StandsAt, behind_frame, s
 use Rattle.replica_plain.proofs.SyncSteps.{sync_begins}
 use Rattle.replica_plain.proofs.Numbers.{BeginsEvents, SyncAnswers, sync_answers}
 use Rattle.run_steps.specs.Steps.{Step, Prints, Connects, Returns, Hears, Sends}
-use Rattle.view_script.specs.PlainLine.{PlainLine, Publish, Watch, Wait, WaitFor, Settle, Snap, Cut, Quit, Mark}
+use Rattle.view_script.specs.PlainLine.{PlainLine, Publish, Watch, Wait, WaitFor, Settle, Snap, Cut, Quit, Mark, Vote, Show}
 use Rattle.view_shell.specs.declared.ending.ViewEnd.{ViewEnd}
 use Rattle.view_shell.specs.declared.ending.ViewEnd.TheVariants as ending
-use Rattle.view_shell.specs.Phases.{Viewer, Phase, Aim, Task, ToJoin, ToReach, ToSettle, ToCatchUp, ToSnap, Receives, Begins, TellsText, Leaves, Connecting, Sending, Receiving, Printing, Leaving, PrintingLast, Returning, Over, Hearing, Moves, Walks, after_frame, after_giving, after_publish, alive, begin_task, enter_session, go_on, has_caught_up, heard_frame, heard_quiet, leave_session, most_receives, phase_behind_frame, reads, receive, run, send_all, settle_on, with_lines, with_taken, time_after}
+use Rattle.view_shell.specs.Phases.{Viewer, Phase, Aim, Task, ToJoin, ToReach, ToSettle, ToCatchUp, ToSnap, ToSee, Receives, Begins, TellsText, Leaves, Connecting, Sending, Receiving, Printing, Leaving, PrintingLast, Returning, Over, Hearing, Moves, Walks, after_frame, after_giving, after_publish, alive, begin_task, enter_session, go_on, has_caught_up, heard_frame, heard_quiet, leave_session, most_receives, phase_behind_frame, reads, receive, rested, run, send_all, settle_on, show_world, with_lines, with_taken, time_after, after_entry, after_vote, vote_by, vote_spelling}
 use Rattle.view_shell.proofs.Keeping.{taken_keeps}
 use Rattle.view_follows.specs.Answered.{AreAnswered, CountsEvents, IsAnswered, SyncsCountEvents, new_link}
 use Rattle.view_follows.specs.Links.{BeginsHonestly, LinkTalk}
 use Rattle.view_follows.specs.Sessions.{ComesFrom}
 use Rattle.view_follows.proofs.Heard.{all_last, begins_link, begins_served, comes_last, dones-append, first_sent, place_last, read_last, some_alike}
 use Rattle.view_follows.proofs.Numbers.{CountUp, IsAt, IsNoRefusal, answered_at, answers-append, counted_at, count_up-append, dones, dones_so, none_refused, numbers-append, numbers_in, sends_count_up, sends_length, sent_at}
-use Rattle.view_follows.proofs.Stands.{RealReplica, RealWorlds}
+use Rattle.view_follows.proofs.Stands.{RealReplica, RealWorlds, rest_stands}
 
 -- ---- the events of a view
 
@@ -207,6 +207,7 @@ module _ (m : RealWorlds) (log : List Entry) (view : ℕ) where
   StandsFor ToSettle own r link frames = Reads own r link frames
   StandsFor ToCatchUp own r link frames = Reads own r link frames
   StandsFor ToSnap own r link frames = Reads own r link frames
+  StandsFor (ToSee at) own r link frames = Reads own r link frames
 
   abbrev StandsTo : Task → RealWorlds → RealReplica → LinkTalk → List ClientFrame → Type 0
   StandsTo (Receives aim) own r link frames = StandsFor aim own r link frames
@@ -306,6 +307,7 @@ module _ (m : RealWorlds) (log : List Entry) (view : ℕ) where
   receive_stands v ToSettle link stands = settle_stands v v.replica.outbox link stands
   receive_stands v ToCatchUp link stands = if_phase (has_caught_up v.replica) _ _ link (reads_told v.worlds v.replica link stands) stands
   receive_stands v ToSnap link stands = stands
+  receive_stands v (ToSee at) link stands = stands
 
   begin_stands : (v : Viewer) (task : Task) (link : LinkTalk) → StandsTo task v.worlds v.replica link [] → StandsIn (begin_task v task) link
   begin_stands v (Receives aim) link stands = receive_stands v aim link stands
@@ -321,20 +323,50 @@ module _ (m : RealWorlds) (log : List Entry) (view : ℕ) where
   unfolding leave_session
   leave_stands v link = tt
 
-  run_stands : (v : Viewer) (lines : List PlainLine) (link : LinkTalk) → Reads v.worlds v.replica link [] → StandsIn (run v lines) link
-  run_stands v [] link reads = leave_stands v link
-  run_stands v (Publish scope event value ∷ rest) link reads =
+  vote_stands : (has : Bool) (v : Viewer) (at : ℕ) (link : LinkTalk) → Reads v.worlds v.replica link [] → StandsIn (vote_by has v at) link
+  vote_stands true v at link reads = reads_told v.worlds v.replica link reads
+  vote_stands false v at link reads = reads
+
+  reads_rested : AreWorlds m → IsLegal log → (own : RealWorlds) (r : RealReplica) (link : LinkTalk) → Reads own r link [] → Reads own (rested own r) link []
+  reads_rested laws legal own r link reads =
+      subst (λ (w : RealWorlds). Reads own (rested w r) link []) (sym reads.same)
+      (record {
+        same = reads.same;
+        its = (taken_keeps m r (Tick (m.time r.world))).view ∙ reads.its;
+        joined = reads.joined;
+        last = reads.last;
+        from = reads.from;
+        base = reads.base;
+        entry = reads.entry;
+        behind = reads.behind;
+        heard = reads.heard;
+        by = reads.by;
+        stands = rest_stands m log view laws legal _ r reads.stands;
+        none = reads.none;
+        start = reads.start;
+        has = same_given r (rested m r) reads.start (dones reads.behind) (numbers_on link []) (tick_same m r (m.time r.world)) reads.has;
+      })
+
+  show_stands : AreWorlds m → IsLegal log → (v : Viewer) (link : LinkTalk) → Reads v.worlds v.replica link [] → StandsIn (show_world v) link
+  unfolding show_world
+  show_stands laws legal v link reads = reads_told v.worlds (rested v.worlds v.replica) link (reads_rested laws legal v.worlds v.replica link reads)
+
+  run_stands : AreWorlds m → IsLegal log → (v : Viewer) (lines : List PlainLine) (link : LinkTalk) → Reads v.worlds v.replica link [] → StandsIn (run v lines) link
+  run_stands laws legal v [] link reads = leave_stands v link
+  run_stands laws legal v (Publish scope event value ∷ rest) link reads =
       let payload = payload_spelling (record { scope = scope; event = event; value = value }) in
       let w = after_publish (with_lines v rest) payload in
       send_stands (after_giving w) (unsent w.replica) (Receives ToCatchUp) link (reads_given v.worlds (publishes v.replica payload) link (reads_published v.worlds v.replica payload link reads))
-  run_stands v (Watch scope event handling ∷ rest) link reads = reads_told v.worlds v.replica link reads
-  run_stands v (Wait time ∷ rest) link reads = reach_stands (with_lines v rest) time link reads
-  run_stands v (WaitFor span ∷ rest) link reads = reach_stands (with_lines v rest) (time_after v.replica.world.time span) link reads
-  run_stands v (Settle ∷ rest) link reads = send_stands (after_giving (with_lines v rest)) (unsent v.replica) (Receives ToSettle) link (reads_given v.worlds v.replica link reads)
-  run_stands v (Snap ∷ rest) link reads = with_events v.worlds v.replica v.replica link [] _ (record { world = refl; seen = refl; broken = refl; synced = refl }) refl reads reads.has
-  run_stands v (Cut ∷ rest) link reads = reads_know v.worlds v.replica link reads
-  run_stands v (Quit ∷ rest) link reads = leave_stands (with_lines v rest) link
-  run_stands v (Mark word ∷ rest) link reads = reads_told v.worlds v.replica link reads
+  run_stands laws legal v (Watch scope event handling ∷ rest) link reads = reads_told v.worlds v.replica link reads
+  run_stands laws legal v (Wait time ∷ rest) link reads = reach_stands (with_lines v rest) time link reads
+  run_stands laws legal v (WaitFor span ∷ rest) link reads = reach_stands (with_lines v rest) (time_after v.replica.world.time span) link reads
+  run_stands laws legal v (Settle ∷ rest) link reads = send_stands (after_giving (with_lines v rest)) (unsent v.replica) (Receives ToSettle) link (reads_given v.worlds v.replica link reads)
+  run_stands laws legal v (Snap ∷ rest) link reads = with_events v.worlds v.replica v.replica link [] _ (record { world = refl; seen = refl; broken = refl; synced = refl }) refl reads reads.has
+  run_stands laws legal v (Cut ∷ rest) link reads = reads_know v.worlds v.replica link reads
+  run_stands laws legal v (Quit ∷ rest) link reads = leave_stands (with_lines v rest) link
+  run_stands laws legal v (Mark word ∷ rest) link reads = reads_told v.worlds v.replica link reads
+  run_stands laws legal v (Vote at ∷ rest) link reads = vote_stands (nat_le at v.replica.seen) (with_lines v rest) at link reads
+  run_stands laws legal v (Show ∷ rest) link reads = show_stands laws legal (with_lines v rest) link reads
 
   -- an ALIVE is sent before the other frames
   await_alive : (how : How) (own : RealWorlds) (r : RealReplica) (link : LinkTalk) (test : Bool) → Awaits how own r link [] → Awaits how own r link ((if test then client.Alive ∷ [] else []) ++ [])
@@ -367,12 +399,21 @@ module _ (m : RealWorlds) (log : List Entry) (view : ℕ) where
   IsNoJoin ToSettle = Unit {0}
   IsNoJoin ToCatchUp = Unit {0}
   IsNoJoin ToSnap = Unit {0}
+  IsNoJoin (ToSee at) = Unit {0}
+
+  entry_stands : (has : Bool) (v : Viewer) (at : ℕ) (link : LinkTalk) → Reads v.worlds v.replica link [] → StandsIn (after_entry has v at) link
+  entry_stands true v at link reads =
+      let payload = vote_spelling at v.replica.world in
+      let w = after_vote v at in
+      go_on_reads (after_giving w) (unsent w.replica) (TellsText _) link (λ more r. r) (reads_given v.worlds (publishes v.replica payload) link (reads_published v.worlds v.replica payload link reads))
+  entry_stands false v at link reads = go_on_reads v [] (Receives (ToSee at)) link (λ more r. r) reads
 
   after_frame_stands : (v : Viewer) (aim : Aim) (frame : ServerFrame) (link : LinkTalk) → IsNoJoin aim → Reads v.worlds v.replica link [] → StandsIn (after_frame v aim frame) link
   after_frame_stands v (ToJoin how) frame link is reads = absurd is
   after_frame_stands v (ToReach time) frame link is reads = go_on_reads v [] (Receives (ToReach time)) link (λ more r. r) reads
   after_frame_stands v ToSettle frame link is reads = go_on_reads v [] (Receives ToSettle) link (λ more r. r) reads
   after_frame_stands v ToCatchUp frame link is reads = go_on_reads v [] (Receives ToCatchUp) link (λ more r. r) reads
+  after_frame_stands v (ToSee at) frame link is reads = entry_stands (nat_le at v.replica.seen) v at link reads
   after_frame_stands v ToSnap (Snapped time) link is reads = go_on_reads v [] (TellsText _) link (λ more r. r) reads
   after_frame_stands v ToSnap (Refused about code kept more) link is reads = go_on_reads v [] (TellsText _) link (λ more r. r) reads
   after_frame_stands v ToSnap frame link is reads = go_on_reads v [] (Receives ToSnap) link (λ more r. r) reads
@@ -643,6 +684,7 @@ module _ (m : RealWorlds) (log : List Entry) (view : ℕ) where
     found_stands v ToSettle found link stands answered counts = reads_found v ToSettle found link tt stands answered
     found_stands v ToCatchUp found link stands answered counts = reads_found v ToCatchUp found link tt stands answered
     found_stands v ToSnap found link stands answered counts = reads_found v ToSnap found link tt stands answered
+    found_stands v (ToSee at) found link stands answered counts = reads_found v (ToSee at) found link tt stands answered
 
     -- ---- a step
 
@@ -652,6 +694,7 @@ module _ (m : RealWorlds) (log : List Entry) (view : ℕ) where
     go_on_stands v ToSettle link stands = go_on_reads v [] (Receives ToSettle) link (λ more r. r) stands
     go_on_stands v ToCatchUp link stands = go_on_reads v [] (Receives ToCatchUp) link (λ more r. r) stands
     go_on_stands v ToSnap link stands = go_on_reads v [] (Receives ToSnap) link (λ more r. r) stands
+    go_on_stands v (ToSee at) link stands = go_on_reads v [] (Receives (ToSee at)) link (λ more r. r) stands
 
     -- what this step adds to the link in use
     abbrev behind_step : LinkTalk → Step → LinkTalk
@@ -721,6 +764,7 @@ module _ (m : RealWorlds) (log : List Entry) (view : ℕ) where
     sends_for ToSettle own r link frame frames bytes is fits reads = sends_read own r link frame frames bytes is fits reads
     sends_for ToCatchUp own r link frame frames bytes is fits reads = sends_read own r link frame frames bytes is fits reads
     sends_for ToSnap own r link frame frames bytes is fits reads = sends_read own r link frame frames bytes is fits reads
+    sends_for (ToSee at) own r link frame frames bytes is fits reads = sends_read own r link frame frames bytes is fits reads
 
     sends_to : (task : Task) (own : RealWorlds) (r : RealReplica) (link : LinkTalk) (frame : ClientFrame) (frames : List ClientFrame) (bytes : List ℕ) → bytes ≡ client_spelling frame → IsClientFrame frame → StandsTo task own r link (frame ∷ frames)
         → StandsTo task own r (record link { sent = link.sent ++ bytes ∷ [] }) frames
@@ -752,7 +796,7 @@ module _ (m : RealWorlds) (log : List Entry) (view : ℕ) where
     move_stands (Sending v frame frames task) step next link stands answered counts moves = absurd moves
     move_stands (Receiving v aim) (Hears what) next link stands answered counts moves = hearing_stands v aim what next link stands answered counts moves
     move_stands (Receiving v aim) step next link stands answered counts moves = absurd moves
-    move_stands (Printing v text) (Prints piece) next link stands answered counts moves = at_next next (run v v.lines) link moves.1 (run_stands v v.lines link stands)
+    move_stands (Printing v text) (Prints piece) next link stands answered counts moves = at_next next (run v v.lines) link moves.1 (run_stands laws legal v v.lines link stands)
     move_stands (Printing v text) step next link stands answered counts moves = absurd moves
     move_stands (Leaving v text) (Prints piece) next link stands answered counts moves = at_next next _ link moves.1 tt
     move_stands (Leaving v text) step next link stands answered counts moves = absurd moves

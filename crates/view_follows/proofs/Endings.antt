@@ -20,10 +20,10 @@ use Rattle.replica_plain.specs.PlainReplica.{published_count}
 use Rattle.replica_plain.specs.Calls.{unsent}
 use Rattle.replica_plain.specs.Taking.{Taken, begins_with, begins_with_world, faults, take_done, take_sync, taken, takes}
 use Rattle.run_steps.specs.Steps.{Step, Prints, Connects, Returns, Hears, Sends}
-use Rattle.view_script.specs.PlainLine.{PlainLine, Publish, Watch, Wait, WaitFor, Settle, Snap, Cut, Quit, Mark}
+use Rattle.view_script.specs.PlainLine.{PlainLine, Publish, Watch, Wait, WaitFor, Settle, Snap, Cut, Quit, Mark, Vote, Show}
 use Rattle.view_shell.specs.declared.ending.ViewEnd.{ViewEnd}
 use Rattle.view_shell.specs.declared.ending.ViewEnd.TheVariants as ending
-use Rattle.view_shell.specs.Phases.{Viewer, Phase, Aim, Task, ToJoin, ToReach, ToSettle, ToCatchUp, ToSnap, Receives, Begins, TellsText, Leaves, Connecting, Sending, Receiving, Printing, Leaving, PrintingLast, Returning, Over, Hearing, Moves, Walks, after_frame, after_giving, after_publish, after_sync, alive, bad_base, begin_task, enter_session, go_on, has_caught_up, heard_frame, heard_quiet, leave_session, phase_behind_frame, reads, receive, run, send_all, settle_on, with_lines, with_taken, time_after}
+use Rattle.view_shell.specs.Phases.{Viewer, Phase, Aim, Task, ToJoin, ToReach, ToSettle, ToCatchUp, ToSnap, ToSee, Receives, Begins, TellsText, Leaves, Connecting, Sending, Receiving, Printing, Leaving, PrintingLast, Returning, Over, Hearing, Moves, Walks, after_frame, after_giving, after_publish, after_sync, alive, bad_base, begin_task, enter_session, go_on, has_caught_up, heard_frame, heard_quiet, leave_session, phase_behind_frame, reads, receive, run, send_all, settle_on, show_world, with_lines, with_taken, time_after, after_entry, after_vote, vote_by}
 use Rattle.view_follows.specs.Answered.{GoOn, RefuseNoOther, RefusesNoOther}
 use Rattle.view_follows.proofs.Stands.{RealReplica, RealWorlds}
 
@@ -101,6 +101,7 @@ module _ (P : ViewEnd → Type 0) (done : P ending.Done) (peer : P ending.Peer) 
   receive_keeps v ToSettle quiets is = settle_keeps v v.replica.outbox quiets is
   receive_keeps v ToCatchUp quiets is = either_keeps (has_caught_up v.replica) _ _ quiets (λ test. is) is
   receive_keeps v ToSnap quiets is = is
+  receive_keeps v (ToSee at) quiets is = is
 
   begin_keeps : (v : Viewer) (task : Task) (quiets : ℕ) → v.quiets ≡ quiets → Keeps (begin_task v task) quiets
   begin_keeps v (Receives aim) quiets is = receive_keeps v aim quiets is
@@ -116,6 +117,14 @@ module _ (P : ViewEnd → Type 0) (done : P ending.Done) (peer : P ending.Peer) 
   unfolding leave_session
   leave_keeps v quiets is = is
 
+  vote_keeps : (has : Bool) (v : Viewer) (at quiets : ℕ) → v.quiets ≡ quiets → Keeps (vote_by has v at) quiets
+  vote_keeps true v at quiets is = is
+  vote_keeps false v at quiets is = is
+
+  show_keeps : (v : Viewer) (quiets : ℕ) → v.quiets ≡ quiets → Keeps (show_world v) quiets
+  unfolding show_world
+  show_keeps v quiets is = is
+
   run_keeps : (v : Viewer) (lines : List PlainLine) (quiets : ℕ) → v.quiets ≡ quiets → Keeps (run v lines) quiets
   run_keeps v [] quiets is = leave_keeps v quiets is
   run_keeps v (Publish scope event value ∷ rest) quiets is =
@@ -129,6 +138,8 @@ module _ (P : ViewEnd → Type 0) (done : P ending.Done) (peer : P ending.Peer) 
   run_keeps v (Cut ∷ rest) quiets is = tt
   run_keeps v (Quit ∷ rest) quiets is = leave_keeps (with_lines v rest) quiets is
   run_keeps v (Mark word ∷ rest) quiets is = is
+  run_keeps v (Vote at ∷ rest) quiets is = vote_keeps (nat_le at v.replica.seen) (with_lines v rest) at quiets is
+  run_keeps v (Show ∷ rest) quiets is = show_keeps (with_lines v rest) quiets is
 
   go_on_keeps : (v : Viewer) (frames : List ClientFrame) (task : Task) (quiets : ℕ) → v.quiets ≡ quiets → Keeps (go_on v frames task) quiets
   go_on_keeps v frames task quiets is = send_keeps v (alive v ++ frames) task quiets is
@@ -138,6 +149,10 @@ module _ (P : ViewEnd → Type 0) (done : P ending.Done) (peer : P ending.Peer) 
   sync_keeps v Whole joined from quiets is = go_on_keeps v [] Begins quiets is
   sync_keeps v Resume joined from quiets is = go_on_keeps (after_giving v) (unsent v.replica) (TellsText _) quiets is
 
+  entry_keeps : (has : Bool) (v : Viewer) (at quiets : ℕ) → v.quiets ≡ quiets → Keeps (after_entry has v at) quiets
+  entry_keeps true v at quiets is = let w = after_vote v at in go_on_keeps (after_giving w) (unsent w.replica) (TellsText _) quiets is
+  entry_keeps false v at quiets is = go_on_keeps v [] (Receives (ToSee at)) quiets is
+
   frame_keeps : (v : Viewer) (aim : Aim) (frame : ServerFrame) (quiets : ℕ) → v.quiets ≡ quiets → Keeps (after_frame v aim frame) quiets
   frame_keeps v (ToJoin how) (Sync joined last from base) quiets is = sync_keeps v how joined from quiets is
   frame_keeps v (ToJoin how) frame quiets is = go_on_keeps v [] (Receives (ToJoin how)) quiets is
@@ -146,6 +161,7 @@ module _ (P : ViewEnd → Type 0) (done : P ending.Done) (peer : P ending.Peer) 
   frame_keeps v ToSnap frame quiets is = go_on_keeps v [] (Receives ToSnap) quiets is
   frame_keeps v (ToReach time) frame quiets is = go_on_keeps v [] (Receives (ToReach time)) quiets is
   frame_keeps v ToSettle frame quiets is = go_on_keeps v [] (Receives ToSettle) quiets is
+  frame_keeps v (ToSee at) frame quiets is = entry_keeps (nat_le at v.replica.seen) v at quiets is
   frame_keeps v ToCatchUp frame quiets is = go_on_keeps v [] (Receives ToCatchUp) quiets is
 
   base_keeps : (v : Viewer) (aim : Aim) (quiets : ℕ) → Keeps (bad_base v aim) quiets
@@ -156,6 +172,7 @@ module _ (P : ViewEnd → Type 0) (done : P ending.Done) (peer : P ending.Peer) 
   base_keeps v ToSettle quiets = peer
   base_keeps v ToCatchUp quiets = peer
   base_keeps v ToSnap quiets = peer
+  base_keeps v (ToSee at) quiets = peer
 
   -- this fault is no refusal, or may end a view
   abbrev MayRefuse : Option ReplicaFault → Type 0

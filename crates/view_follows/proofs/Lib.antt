@@ -3,6 +3,7 @@ pub mod Lists
 pub mod Offering
 pub mod Stands
 pub mod Walking
+pub mod Shown
 pub mod Meeting
 pub mod Openings
 pub mod Places

@@ -22,8 +22,9 @@ use Rattle.replica_plain.proofs.FrameSteps.{SameWorld, StandsAt, same_stands}
 use Rattle.replica_plain.proofs.WorldSteps.{advance_follows}
 use Rattle.view_shell.specs.declared.ending.ViewEnd.{ViewEnd}
 use Rattle.view_shell.specs.declared.ending.ViewEnd.TheVariants as ending
-use Rattle.view_shell.specs.Phases.{Phase, Aim, Task, ToJoin, ToReach, ToSettle, ToCatchUp, ToSnap, Receives, Begins, TellsText, Leaves, Connecting, Sending, Receiving, Printing, Leaving, PrintingLast, Returning, Over, rested}
+use Rattle.view_shell.specs.Phases.{Phase, Aim, Task, ToJoin, ToReach, ToSettle, ToCatchUp, ToSnap, ToSee, Receives, Begins, TellsText, Leaves, Connecting, Sending, Receiving, Printing, Leaving, PrintingLast, Returning, Over, rested}
 use Rattle.view_shell.specs.ViewText.{view_line}
+use Rattle.view_shell.proofs.Keeping.{taken_keeps}
 use Rattle.view_follows.specs.Links.{BeginsHonestly}
 
 abbrev pub RealWorlds : Type 0
@@ -87,6 +88,7 @@ module _ (m : RealWorlds) (log : List Entry) (view : ℕ) where
   StandsFor ToSettle own r heard = ReadsLog own r heard
   StandsFor ToCatchUp own r heard = ReadsLog own r heard
   StandsFor ToSnap own r heard = ReadsLog own r heard
+  StandsFor (ToSee at) own r heard = ReadsLog own r heard
 
   abbrev pub StandsTo : Task → RealWorlds → RealReplica → List (Option ServerFrame) → Type 0
   StandsTo (Receives aim) own r heard = StandsFor aim own r heard
@@ -191,6 +193,44 @@ module _ (m : RealWorlds) (log : List Entry) (view : ℕ) where
       let has = tick_replays laws legal r reads.stands.synced reads.stands.follows reads.its in
       subst (λ (w : RealWorlds). HasReplay m log view (takes_out (rested w r))) (sym reads.same)
       (same_replay (rested m r) (takes_out (rested m r)) (record { world = refl; seen = refl; broken = refl; synced = refl }) refl has)
+
+  -- so does its place in the log
+  tick_stands : AreWorlds m → IsLegal log → (place : Place) (r : RealReplica) → StandsAt m log place r → StandsAt m log place (taken m r (Tick (m.time r.world))).replica
+  tick_stands laws legal place r stands =
+      let own = stands.follows in
+      let t = m.time r.world in
+      let forward : nat_lt t t ≡ false = grind (arith, nat_tests) in
+      let stays : t ≤ t = omega arith in
+      let below = laws.valid_time r.world own.valid in
+      let timed = laws.advance_time r.world t own.valid stays in
+      rw (stands.synced, own.whole, forward) (record {
+        follows = record {
+          whole = refl;
+          valid = laws.advance_valid r.world t own.valid stays below;
+          follows = advance_follows m laws log r.world t legal below own.valid own.follows stays refl;
+          counted = rw timed own.counted;
+        };
+        placed = stands.placed;
+        ahead = rw timed stands.ahead;
+        synced = refl;
+      })
+
+  pub rest_stands : AreWorlds m → IsLegal log → (place : Place) (r : RealReplica) → StandsAt m log place r → StandsAt m log place (rested m r)
+  rest_stands = tick_stands
+
+  -- a tick of its own time leaves it where it stands
+  pub reads_rested : AreWorlds m → IsLegal log → (own : RealWorlds) (r : RealReplica) (heard : List (Option ServerFrame)) → ReadsLog m log view own r heard → ReadsLog m log view own (rested own r) heard
+  reads_rested laws legal own r heard reads =
+      subst (λ (w : RealWorlds). ReadsLog m log view own (rested w r) heard) (sym reads.same)
+      (record {
+        same = reads.same;
+        its = (taken_keeps m r (Tick (m.time r.world))).view ∙ reads.its;
+        place = reads.place;
+        frames = reads.frames;
+        told = reads.told;
+        stands = rest_stands laws legal reads.place r reads.stands;
+        streams = reads.streams;
+      })
 
 -- the last line tells a view, a world and how many entries were seen
 pub line_of : (m : RealWorlds) (r : RealReplica) (view seen : ℕ) (w : WorldRecord) → r.view ≡ view → r.seen ≡ seen → r.world ≡ w → view_line r ≡ view_line (record (new_replica m view) { world = w; seen = seen })

@@ -34,16 +34,16 @@ use Rattle.replica_plain.specs.Following.{FollowsLog, IsHonestBase, MayJoin}
 use Rattle.replica_plain.proofs.FrameSteps.{StandsAt, behind_frame}
 use Rattle.replica_plain.proofs.SyncSteps.{SyncBegins, sync_begins}
 use Rattle.run_steps.specs.Steps.{Step, Prints, Connects, Returns, Hears, Sends}
-use Rattle.view_script.specs.PlainLine.{PlainLine, Publish, Watch, Wait, WaitFor, Settle, Snap, Cut, Quit, Mark}
+use Rattle.view_script.specs.PlainLine.{PlainLine, Publish, Watch, Wait, WaitFor, Settle, Snap, Cut, Quit, Mark, Vote, Show}
 use Rattle.view_shell.specs.declared.ending.ViewEnd.{ViewEnd}
 use Rattle.view_shell.specs.declared.ending.ViewEnd.TheVariants as ending
-use Rattle.view_shell.specs.Phases.{Viewer, Phase, Aim, Task, ToJoin, ToReach, ToSettle, ToCatchUp, ToSnap, Receives, Begins, TellsText, Leaves, Connecting, Sending, Receiving, Printing, Leaving, PrintingLast, Returning, Over, Hearing, IsReadAsWorld, Moves, Walks, after_frame, after_giving, after_publish, alive, begin_task, enter_session, go_on, has_caught_up, heard_frame, heard_quiet, leave_session, most_receives, phase_behind_frame, quiet, reads, receive, run, send_all, settle_on, with_lines, with_taken, time_after}
+use Rattle.view_shell.specs.Phases.{Viewer, Phase, Aim, Task, ToJoin, ToReach, ToSettle, ToCatchUp, ToSnap, ToSee, Receives, Begins, TellsText, Leaves, Connecting, Sending, Receiving, Printing, Leaving, PrintingLast, Returning, Over, Hearing, IsReadAsWorld, Moves, Walks, after_frame, after_giving, after_publish, alive, begin_task, enter_session, go_on, has_caught_up, heard_frame, heard_quiet, leave_session, most_receives, phase_behind_frame, quiet, reads, receive, rested, run, send_all, settle_on, show_world, with_lines, with_taken, time_after, after_entry, after_vote, vote_by, vote_spelling}
 use Rattle.view_shell.proofs.Keeping.{taken_keeps}
 use Rattle.view_follows.specs.Links.{BeginsHonestly, IsServedBy, LinkTalk, heard_in, heard_then, links_in, sent_in}
 use Rattle.view_follows.specs.Offers.{IsOfFollower, OffersFollow}
 use Rattle.view_follows.proofs.Offering.{IsGoodFrame}
 use Rattle.view_follows.proofs.SnapSpellings.{same_bytes, same_time}
-use Rattle.view_follows.proofs.Stands.{AreOwnFrames, AwaitsSync, IsOwnFrame, KnowsLog, ReadsLog, RealReplica, RealWorlds, StandsFor, StandsIn, StandsTo, TellsReplay, knows_read, reads_given, reads_published, reads_told, rested_replays, own_behind, own_snap, own_unsent}
+use Rattle.view_follows.proofs.Stands.{AreOwnFrames, AwaitsSync, IsOwnFrame, KnowsLog, ReadsLog, RealReplica, RealWorlds, StandsFor, StandsIn, StandsTo, TellsReplay, knows_read, reads_given, reads_published, reads_rested, reads_told, rested_replays, own_behind, own_snap, own_unsent}
 
 -- ---- one of two phases
 
@@ -67,6 +67,7 @@ module _ (m : RealWorlds) (laws : AreWorlds m) (log : List Entry) (legal : IsLeg
   receive_stands v ToSettle heard stands = settle_stands v v.replica.outbox heard stands
   receive_stands v ToCatchUp heard stands = if_phase m log view (has_caught_up v.replica) _ _ heard (reads_told m log view v.worlds v.replica heard stands) stands
   receive_stands v ToSnap heard stands = stands
+  receive_stands v (ToSee at) heard stands = stands
 
   begin_stands : (v : Viewer) (task : Task) (heard : List (Option ServerFrame)) → StandsTo m log view task v.worlds v.replica heard → StandsIn m log view (begin_task v task) heard
   begin_stands v (Receives aim) heard stands = receive_stands v aim heard stands
@@ -81,6 +82,14 @@ module _ (m : RealWorlds) (laws : AreWorlds m) (log : List Entry) (legal : IsLeg
   leave_stands : (v : Viewer) (heard : List (Option ServerFrame)) → ReadsLog m log view v.worlds v.replica heard → StandsIn m log view (leave_session v) heard
   unfolding leave_session
   leave_stands v heard reads = rested_replays m log view laws legal v.worlds v.replica heard reads
+
+  vote_stands : (has : Bool) (v : Viewer) (at : ℕ) (heard : List (Option ServerFrame)) → ReadsLog m log view v.worlds v.replica heard → StandsIn m log view (vote_by has v at) heard
+  vote_stands true v at heard reads = reads_told m log view v.worlds v.replica heard reads
+  vote_stands false v at heard reads = reads
+
+  show_stands : (v : Viewer) (heard : List (Option ServerFrame)) → ReadsLog m log view v.worlds v.replica heard → StandsIn m log view (show_world v) heard
+  unfolding show_world
+  show_stands v heard reads = reads_told m log view v.worlds (rested v.worlds v.replica) heard (reads_rested m log view laws legal v.worlds v.replica heard reads)
 
   run_stands : (v : Viewer) (lines : List PlainLine) (heard : List (Option ServerFrame)) → ReadsLog m log view v.worlds v.replica heard → StandsIn m log view (run v lines) heard
   run_stands v [] heard reads = leave_stands v heard reads
@@ -98,6 +107,8 @@ module _ (m : RealWorlds) (laws : AreWorlds m) (log : List Entry) (legal : IsLeg
   run_stands v (Cut ∷ rest) heard reads = knows_read m log view v.worlds v.replica heard reads
   run_stands v (Quit ∷ rest) heard reads = leave_stands (with_lines v rest) heard reads
   run_stands v (Mark word ∷ rest) heard reads = reads_told m log view v.worlds v.replica heard reads
+  run_stands v (Vote at ∷ rest) heard reads = vote_stands (nat_le at v.replica.seen) (with_lines v rest) at heard reads
+  run_stands v (Show ∷ rest) heard reads = show_stands (with_lines v rest) heard reads
 
   go_on_stands : (v : Viewer) (frames : List ClientFrame) (task : Task) (heard : List (Option ServerFrame)) → StandsTo m log view task v.worlds v.replica heard → AreOwnFrames m log v.worlds v.replica frames → StandsIn m log view (go_on v frames task) heard
   go_on_stands v frames task heard stands own = send_stands v (alive v ++ frames) task heard stands (own_behind m log view v.worlds v.replica (v.receives == most_receives) frames own)
@@ -110,12 +121,22 @@ module _ (m : RealWorlds) (laws : AreWorlds m) (log : List Entry) (legal : IsLeg
   IsNoJoin ToSettle = Unit {0}
   IsNoJoin ToCatchUp = Unit {0}
   IsNoJoin ToSnap = Unit {0}
+  IsNoJoin (ToSee at) = Unit {0}
+
+  entry_stands : (has : Bool) (v : Viewer) (at : ℕ) (heard : List (Option ServerFrame)) → ReadsLog m log view v.worlds v.replica heard → StandsIn m log view (after_entry has v at) heard
+  entry_stands true v at heard reads =
+      let payload = vote_spelling at v.replica.world in
+      let w = after_vote v at in
+      go_on_stands (after_giving w) (unsent w.replica) (TellsText _) heard
+      (reads_given m log view v.worlds (publishes v.replica payload) heard (reads_published m log view v.worlds v.replica heard payload reads)) (own_unsent m log view v.worlds (after_giving w).replica w.replica)
+  entry_stands false v at heard reads = go_on_stands v [] (Receives (ToSee at)) heard reads tt
 
   after_frame_stands : (v : Viewer) (aim : Aim) (frame : ServerFrame) (heard : List (Option ServerFrame)) → IsNoJoin aim → ReadsLog m log view v.worlds v.replica heard → StandsIn m log view (after_frame v aim frame) heard
   after_frame_stands v (ToJoin how) frame heard is reads = absurd is
   after_frame_stands v (ToReach time) frame heard is reads = go_on_stands v [] (Receives (ToReach time)) heard reads tt
   after_frame_stands v ToSettle frame heard is reads = go_on_stands v [] (Receives ToSettle) heard reads tt
   after_frame_stands v ToCatchUp frame heard is reads = go_on_stands v [] (Receives ToCatchUp) heard reads tt
+  after_frame_stands v (ToSee at) frame heard is reads = entry_stands (nat_le at v.replica.seen) v at heard reads
   after_frame_stands v ToSnap (Snapped time) heard is reads = go_on_stands v [] (TellsText _) heard reads tt
   after_frame_stands v ToSnap (Refused about code kept more) heard is reads = go_on_stands v [] (TellsText _) heard reads tt
   after_frame_stands v ToSnap frame heard is reads = go_on_stands v [] (Receives ToSnap) heard reads tt
@@ -126,6 +147,7 @@ module _ (m : RealWorlds) (laws : AreWorlds m) (log : List Entry) (legal : IsLeg
   no_base_stands v ToSettle heard is = tt
   no_base_stands v ToCatchUp heard is = tt
   no_base_stands v ToSnap heard is = tt
+  no_base_stands v (ToSee at) heard is = tt
 
   behind_fault : (v : Viewer) (aim : Aim) (frame : ServerFrame) (found : Option ReplicaFault) (heard : List (Option ServerFrame)) → IsNoJoin aim → ReadsLog m log view v.worlds v.replica heard → StandsIn m log view (phase_behind_frame v aim frame found) heard
   behind_fault v aim frame None heard is reads = after_frame_stands v aim frame heard is reads
@@ -266,6 +288,7 @@ module _ (m : RealWorlds) (laws : AreWorlds m) (log : List Entry) (legal : IsLeg
   reads_stands v ToSettle (Some frame) heard read = reads_frame v ToSettle frame heard tt read
   reads_stands v ToCatchUp (Some frame) heard read = reads_frame v ToCatchUp frame heard tt read
   reads_stands v ToSnap (Some frame) heard read = reads_frame v ToSnap frame heard tt read
+  reads_stands v (ToSee at) (Some frame) heard read = reads_frame v (ToSee at) frame heard tt read
 
   quiet_stands : (v : Viewer) (aim : Aim) (heard : List (Option ServerFrame)) → StandsFor m log view aim v.worlds v.replica heard → StandsIn m log view (quiet v aim) heard
   quiet_stands v aim heard stands = if_phase m log view (v.quiets == most_quiets) (Over ending.Ended) _ heard tt (go_on_stands v [] (Receives aim) heard stands tt)
@@ -368,6 +391,20 @@ module _ (m : RealWorlds) (laws : AreWorlds m) (log : List Entry) (legal : IsLeg
   walk_tells from (step ∷ steps) line stands serves (next, moves, walks) =
       let links = links_behind step steps serves in
       walk_tells next steps line (move_stands from step next steps (PrintingLast line) tt stands links.0 moves walks) links.1 walks
+
+  over_prints : (end : ViewEnd) (steps : List Step) (v : Viewer) (text : List ℕ) → Walks (Over end) steps (Printing v text) → ⊥
+  over_prints end [] v text walks = absurd cc
+  over_prints end (step ∷ steps) v text (next, moves, walks) = absurd moves
+
+  -- a walk to the text of a line
+  pub walk_prints : (from : Phase) (steps : List Step) (v : Viewer) (text : List ℕ) → StandsIn m log view from (heard_in steps) → AllByRecursion (IsServedBy m log) (links_in steps) → Walks from steps (Printing v text)
+      → ReadsLog m log view v.worlds v.replica []
+  walk_prints from [] v text stands serves walks = subst (λ (p : Phase). StandsIn m log view p []) walks stands
+  walk_prints (PrintingLast line) (Prints piece ∷ steps) v text stands serves (next, moves, walks) = absurd (over_prints ending.Done steps v text (subst (λ (p : Phase). Walks p steps (Printing v text)) moves.1 walks))
+  walk_prints (PrintingLast line) (step ∷ steps) v text stands serves (next, moves, walks) = absurd moves
+  walk_prints from (step ∷ steps) v text stands serves (next, moves, walks) =
+      let links = links_behind step steps serves in
+      walk_prints next steps v text (move_stands from step next steps (Printing v text) tt stands links.0 moves walks) links.1 walks
 
   -- what was printed last
   pub record EndsWithReplay (steps : List Step) : Type 0 where

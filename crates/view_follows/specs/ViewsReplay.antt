@@ -7,14 +7,15 @@ use Rattle.tea_base.specs.declared.entry.Entry.{Entry}
 use Rattle.model_solved.specs.Founding.{Founding, IsFounding}
 use Rattle.world_plain.specs.Messages.{PlainOutgoing}
 use Rattle.world_plain.specs.World.{WorldRecord}
+use Rattle.world_lines.specs.WorldText.{full_text}
 use Rattle.world.specs.Worlds.{replay}
 use Rattle.replica_plain.specs.PlainReplica.{PlainReplica, new_replica}
 use Rattle.replica_plain.specs.Following.{FollowsLog}
 use Rattle.replica.specs.RealWorlds.{worlds}
 use Rattle.run_steps.specs.Steps.{Step, Prints}
-use Rattle.view_script.specs.PlainLine.{PlainLine}
+use Rattle.view_script.specs.PlainLine.{PlainLine, Show}
 use Rattle.view_shell.specs.declared.ending.ViewEnd.TheVariants as ending
-use Rattle.view_shell.specs.Phases.{Over, Phase, PrintingLast, Walks}
+use Rattle.view_shell.specs.Phases.{Over, Phase, Printing, PrintingLast, Viewer, Walks, after_rest, finish, run, with_lines}
 use Rattle.view_shell.specs.ViewText.{view_line}
 use Rattle.view_shell.specs.Viewers.{first_phase}
 use Rattle.view_follows.specs.Links.{IsServedBy, links_in}
@@ -63,6 +64,17 @@ ViewsReplay = (founding : Founding) (id : List ℕ) (view : ℕ) (address : List
 abbrev pub VisitsEndInReplay : Type 0
 VisitsEndInReplay = (founding : Founding) (id : List ℕ) (view : ℕ) (address : List ℕ) (lines : List PlainLine) (log : List Entry) (steps : List Step)
     → IsServedVisit founding id view address lines log steps (Over ending.Done) → EndsInReplay founding id view log steps
+
+-- A line `show` tells what came of the rest, and then a world in full: the replay of the log to the time that the view has.
+abbrev pub ShowsReplayOf : Founding → List ℕ → List Entry → Viewer → List PlainLine → Type 0
+ShowsReplayOf founding id log v rest =
+    let w = after_rest (with_lines v rest) in
+    run v (Show ∷ rest) ≡ finish w (full_text founding.tree (replay founding id log w.replica.world.time).world)
+
+-- each world that it shows is a replay, as a query of the recorded session prints it
+abbrev pub VisitsShowReplays : Type 0
+VisitsShowReplays = (founding : Founding) (id : List ℕ) (view : ℕ) (address : List ℕ) (lines : List PlainLine) (log : List Entry) (steps : List Step) (v : Viewer) (text : List ℕ) (rest : List PlainLine)
+    → IsServedVisit founding id view address lines log steps (Printing v text) → v.lines ≡ Show ∷ rest → ShowsReplayOf founding id log v rest
 
 -- each snapshot that it offers, in whatever phase it is, is of a replica that follows the log
 abbrev pub VisitsOfferFollowers : Type 0

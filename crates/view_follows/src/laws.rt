@@ -5,7 +5,7 @@ ghost use Rattle.view_follows.specs.Answered.{AnsweredVisitsHaveNoFault, VisitsE
 ghost use Rattle.view_follows.specs.BothEnds.{LinksMeet};
 ghost use Rattle.view_follows.specs.Journals.{AnswersTellOfRuns, JournalRunsFollow, JournalsLeave, KeptAnswersTellOfRuns, SafeBytesLeave};
 ghost use Rattle.view_follows.specs.SessionsReplay.{EndsViews, KeepHonest, OfViewRuns, ServesViews};
-ghost use Rattle.view_follows.specs.ViewsReplay.{ViewsReplay, VisitsEndInReplay, VisitsOfferFollowers};
+ghost use Rattle.view_follows.specs.ViewsReplay.{ViewsReplay, VisitsEndInReplay, VisitsOfferFollowers, VisitsShowReplays};
 
 use journal_store::safe_bytes_are_read;
 use replica::{worlds_replay, worlds_stand};
@@ -16,11 +16,12 @@ use tea_io::{Clock, Link, Net};
 /// A view whose links were served by one legal log, with honest bases, prints as its last line that of a replica that follows the log:
 /// its seq is the number of entries up to its time, and its digest that of the replay of the log to that time. So it is whatever its
 /// script did, and however often it was cut. One that is done printed that line last. Each snapshot that it
-/// offers is of a replica that follows the log.
+/// offers is of a replica that follows the log. Each world that it shows is the replay of the log to its time, in full.
 pub fn views_replay()
     ensures line { ViewsReplay }
     ensures done { VisitsEndInReplay }
     ensures offers { VisitsOfferFollowers }
+    ensures shows { VisitsShowReplays }
 {
     worlds_stand();
     worlds_replay();

@@ -10,7 +10,7 @@ use Rattle.std.proofs.lemmas.Bool.Decides.{nat_tests}
 use Rattle.std.proofs.lemmas.Fmt.{IsAscii-decimal}
 use Rattle.std.proofs.lemmas.Slice.Eq.{bytes_eq-Decides}
 use Rattle.std.proofs.lemmas.Str.{IsUtf8-from_ascii}
-use Rattle.text_lines.specs.Lines.{LineWord, is_empty, in_range, time_of_word}
+use Rattle.text_lines.specs.Lines.{LineWord, is_empty, in_range, number_of_word, time_of_word}
 use Rattle.view_script.specs.declared.words.Place.{Place}
 use Rattle.view_script.specs.declared.words.Place.TheVariants.{Outside}
 use Rattle.tea_base.specs.Limits.{time_limit}
@@ -38,9 +38,12 @@ spelled-IsUtf8 word e =
     subst IsUtf8 same (IsUtf8-from_ascii (decimal (digits_value 10 word)) (IsAscii-decimal (digits_value 10 word) (small_where (digits_value 10 word) parts.1)))
 
 -- what is not UTF-8 spells no number
+pub number-not_text : (low high : ℕ) (word : LineWord) → (IsUtf8 word → ⊥) → None ≡ number_of_word low high word
+number-not_text low high word never =
+    sym (none_where low high (digits_value 10 word) (bytes_eq (decimal (digits_value 10 word)) word && nat_lt (digits_value 10 word) (2 ^ 64)) (λ e. never (spelled-IsUtf8 word e)))
+
 pub time-not_text : (word : LineWord) → (IsUtf8 word → ⊥) → None ≡ time_of_word word
-time-not_text word never =
-    sym (none_where 0 (time_limit - 1) (digits_value 10 word) (bytes_eq (decimal (digits_value 10 word)) word && nat_lt (digits_value 10 word) (2 ^ 64)) (λ e. never (spelled-IsUtf8 word e)))
+time-not_text = number-not_text 0 (time_limit - 1)
 
 -- ---- parts of a line
 

@@ -1,5 +1,5 @@
 -- The lines of a script as plain data, and what each script keeps.
-use Rattle.std.specs.Prelude.{ℕ, ◌<◌, ◌≤◌, ◌+◌, nat_le, Bool, List, [], ◌∷◌, map, length}
+use Rattle.std.specs.Prelude.{ℕ, ◌<◌, ◌≤◌, ◌+◌, ◌^◌, nat_le, Bool, List, [], ◌∷◌, map, length}
 use Rattle.std.specs.List.{AllByRecursion}
 use Rattle.tea_base.specs.Limits.{time_limit, most_payload}
 use Rattle.model_value.specs.Plain.{PlainValue, InBounds}
@@ -24,6 +24,9 @@ pub data PlainLine : Type 0 where
   Quit : PlainLine
   -- a word
   Mark : List ℕ → PlainLine
+  -- the number of an entry
+  Vote : ℕ → PlainLine
+  Show : PlainLine
 
 -- a line in memory, with its value as a plain tree
 abbrev pub plain_line : ViewLine → PlainLine
@@ -36,6 +39,8 @@ plain_line line.Snap = Snap
 plain_line line.Cut = Cut
 plain_line line.Quit = Quit
 plain_line (line.Mark word) = Mark word
+plain_line (line.Vote at) = Vote at
+plain_line line.Show = Show
 
 abbrev pub plain_lines : List ViewLine → List PlainLine
 plain_lines = map plain_line
@@ -50,7 +55,7 @@ payload_length scope event value = length (payload_spelling (record { scope = sc
 abbrev pub payload_fits : List ℕ → List ℕ → PlainValue → Bool
 payload_fits scope event value = nat_le (payload_length scope event value) most_payload
 
--- an event's value is in bounds and its payload not too long, and a time is not too late, or a span too long
+-- an event's value is in bounds and its payload not too long, a time is not too late, or a span too long, and an entry's number has 32 bits
 abbrev pub LineFits : PlainLine → Type 0
 LineFits (Publish scope event value) = InBounds value × (payload_length scope event value ≤ most_payload)
 LineFits (Watch scope event handling) = Unit {0}
@@ -61,8 +66,10 @@ LineFits Snap = Unit {0}
 LineFits Cut = Unit {0}
 LineFits Quit = Unit {0}
 LineFits (Mark word) = Unit {0}
+LineFits (Vote at) = at < 2 ^ 32
+LineFits Show = Unit {0}
 
--- a line that publishes counts 1, and any other 0
+-- a line that publishes counts 1, and any other 0; a vote counts where it is missed too
 abbrev pub line_publishes : PlainLine → ℕ
 line_publishes (Publish scope event value) = 1
 line_publishes (Watch scope event handling) = 0
@@ -73,6 +80,8 @@ line_publishes Snap = 0
 line_publishes Cut = 0
 line_publishes Quit = 0
 line_publishes (Mark word) = 0
+line_publishes (Vote at) = 1
+line_publishes Show = 0
 
 -- how many lines publish
 abbrev pub publish_count : List PlainLine → ℕ

@@ -4,13 +4,13 @@ use Rattle.std.specs.Option.{option_map}
 use Rattle.std.specs.Str.{bytes_eq, chars, is_utf8}
 use Rattle.std.specs.Str.Lines.{lines}
 use Rattle.byte_fields.specs.Fields.{whole}
-use Rattle.text_lines.specs.Lines.{LineWord, is_skipped, time_of_word}
+use Rattle.text_lines.specs.Lines.{LineWord, is_skipped, number_of_word, time_of_word}
 use Rattle.model_tokens.specs.Reader.{literal_text_at}
 use Rattle.model_value.specs.Plain.{PlainValue}
 use Rattle.value_text.specs.Reading.{value_of_text}
 use Rattle.view_bridge.specs.declared.topic.Handling.{Handling}
 use Rattle.view_bridge.specs.declared.topic.Handling.TheVariants.{Queued, OncePerFrame}
-use Rattle.view_script.specs.PlainLine.{PlainLine, Publish, Watch, Wait, WaitFor, Settle, Snap, Cut, Quit, Mark, payload_fits, publish_count, most_publishes}
+use Rattle.view_script.specs.PlainLine.{PlainLine, Publish, Watch, Wait, WaitFor, Settle, Snap, Cut, Quit, Mark, Vote, Show, payload_fits, publish_count, most_publishes}
 use Rattle.view_script.specs.Words.{script_words_of}
 
 -- the text of a word that is one text literal: a quote, and what ends with the next one
@@ -66,6 +66,15 @@ abbrev pub mark_of : List LineWord → Option PlainLine
 mark_of (word ∷ []) = option_map Mark (text_of_word word)
 mark_of words = None
 
+-- the greatest number of an entry
+abbrev pub last_entry : ℕ
+last_entry = 4294967295
+
+-- `N`
+abbrev pub vote_of : List LineWord → Option PlainLine
+vote_of (word ∷ []) = option_map Vote (number_of_word 1 last_entry word)
+vote_of words = None
+
 -- a line without fields
 abbrev pub line_alone : PlainLine → List LineWord → Option PlainLine
 line_alone line [] = Some line
@@ -83,7 +92,9 @@ line_of (name ∷ fields) =
     else (if bytes_eq name (codes "cut") then line_alone Cut fields
     else (if bytes_eq name (codes "quit") then line_alone Quit fields
     else (if bytes_eq name (codes "mark") then mark_of fields
-    else None)))))))
+    else (if bytes_eq name (codes "vote") then vote_of fields
+    else (if bytes_eq name (codes "show") then line_alone Show fields
+    else None)))))))))
 
 -- these lines, and then those
 abbrev pub then_lines : List PlainLine → Option (List PlainLine) → Option (List PlainLine)

@@ -6,16 +6,16 @@ ghost use Rattle.model_tokens.specs.Reader.{literal_text_at};
 ghost use Rattle.model_value.specs.Plain.{InBounds};
 ghost use Rattle.model_value.specs.View.{plain};
 ghost use Rattle.tea_base.specs.Limits.{time_limit};
-ghost use Rattle.text_lines.specs.Lines.{time_of_word};
+ghost use Rattle.text_lines.specs.Lines.{number_of_word, time_of_word};
 ghost use Rattle.value_text.specs.Reading.{value_of_text};
-ghost use Rattle.view_script.specs.ViewScript.{literal_of, handling_of_word, text_of_word};
+ghost use Rattle.view_script.specs.ViewScript.{literal_of, handling_of_word, last_entry, text_of_word};
 
 use crate::fault::ScriptFault;
 use model_tokens::{TokenFault, read_literal};
 use model_value::{Value, ValueFault};
 use std::alloc::Global;
 use tea_base::{Text, TextFault};
-use text_lines::time_of_word;
+use text_lines::{number, time_of_word};
 use value_text::read_value;
 use view_bridge::Handling;
 
@@ -92,6 +92,19 @@ pub fn time_in(word: &[u8]) -> Option<u64>
 {
     match str::from_utf8(word) {
         Ok(word) => time_of_word(word),
+        Err(_) => None,
+    }
+}
+
+/// The greatest number of an entry.
+const LAST_ENTRY: u64 = 4_294_967_295;
+
+/// The number of an entry.
+pub fn entry_in(word: &[u8]) -> Option<u32>
+    ensures { result ≡ number_of_word 1 last_entry word.now }
+{
+    match str::from_utf8(word) {
+        Ok(word) => Some(number(word, 1, LAST_ENTRY)? as u32),
         Err(_) => None,
     }
 }

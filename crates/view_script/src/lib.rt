@@ -17,9 +17,11 @@
 //! | `cut` | cuts its connection, and joins again on another one |
 //! | `quit` | leaves |
 //! | `mark WORD` | prints the word, behind all that the lines before it print |
+//! | `show` | prints its world in full, as it is once nothing is due any more at its time |
+//! | `vote N` | hears its link until it has the entry N, from 1 to 4,294,967,295, and publishes the digest of its world directly after it |
 //!
 //! A scope and an event are text literals of the language, and a value is the text of a value in bounds. Numbers are
-//! decimal, without a sign or leading zeros. At most 1,048,576 lines publish.
+//! decimal, without a sign or leading zeros. At most 1,048,576 lines publish; a vote counts among them.
 #![tactic(auto)]
 
 mod fault;

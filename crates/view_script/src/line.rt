@@ -38,4 +38,10 @@ pub enum ViewLine {
     Mark {
         word: Text,
     },
+    /// It hears its link until it has this entry, from 1, and publishes the digest that its world has directly after it.
+    Vote {
+        at: u32,
+    },
+    /// It prints its world in full, as it is once nothing is due any more at its time.
+    Show,
 }

@@ -1,9 +1,9 @@
 //! From lines of text to lines of a script.
-ghost use Rattle.std.specs.Prelude.{◌≡◌, ℕ, List, ◌∷◌, None, Err, IfOk, OnOk};
+ghost use Rattle.std.specs.Prelude.{◌≡◌, if◌then◌else◌, ℕ, List, ◌∷◌, None, Err, IfOk, OnOk};
 ghost use Rattle.std.specs.List.{AllByRecursion};
 ghost use Rattle.std.specs.Str.Lines.{lines as lines_of_text};
 ghost use Rattle.byte_fields.specs.Fields.{Decodes};
-ghost use Rattle.view_script.specs.PlainLine.{plain_line, plain_lines, LineFits, IsViewScript, publish_count as count_publishes};
+ghost use Rattle.view_script.specs.PlainLine.{plain_line, plain_lines, LineFits, IsViewScript, line_publishes, publish_count as count_publishes};
 ghost use Rattle.view_script.specs.ViewScript.{line_of, lines_of, then_lines, if_few};
 ghost use Rattle.view_script.specs.Words.{script_words_of};
 
@@ -55,13 +55,20 @@ fn read_lines(alloc: Global, script: &str) -> Result<Vec<ViewLine>, ScriptFault>
     Ok(lines)
 }
 
+/// Whether a line publishes.
+fn publishes(line: &ViewLine) -> bool
+    ensures { line_publishes (plain_line line.now) ≡ if result then 1 else 0 }
+{
+    matches!(line, ViewLine::Publish { .. } | ViewLine::Vote { .. })
+}
+
 /// How many lines publish.
 pub fn publish_count(lines: &[ViewLine]) -> usize
     ensures { result ≡ count_publishes (plain_lines lines.now) }
 {
     let mut count = 0;
     for line in lines {
-        if let ViewLine::Publish { .. } = line {
+        if publishes(line) {
             count += 1;
         }
     }

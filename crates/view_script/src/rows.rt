@@ -5,10 +5,10 @@ ghost use Rattle.byte_fields.specs.Fields.{Decodes};
 ghost use Rattle.model_value.specs.Plain.{InBounds};
 ghost use Rattle.model_value.specs.View.{plain};
 ghost use Rattle.view_script.specs.PlainLine.{plain_line, LineFits, payload_fits as fits_payload};
-ghost use Rattle.view_script.specs.ViewScript.{publish_of, watch_of, behind_plus as plus_and, wait_of, line_alone, line_of, mark_of};
+ghost use Rattle.view_script.specs.ViewScript.{publish_of, watch_of, behind_plus as plus_and, wait_of, line_alone, line_of, mark_of, vote_of};
 
 use crate::fault::ScriptFault;
-use crate::fields::{handling_in, is_word, literal, time_in, word_text, word_value};
+use crate::fields::{entry_in, handling_in, is_word, literal, time_in, word_text, word_value};
 use crate::line::ViewLine;
 use model_value::{Value, payload};
 use std::alloc::Global;
@@ -112,6 +112,18 @@ fn mark(alloc: Global, fields: &[&[u8]]) -> Result<ViewLine, ScriptFault>
     Ok(ViewLine::Mark { word })
 }
 
+/// `N`
+fn vote(fields: &[&[u8]]) -> Result<ViewLine, ScriptFault>
+    ensures read { Decodes ScriptFault.Bad plain_line result (vote_of (map (λ word. word.now) fields.now)) }
+    ensures fits { IfOk result (λ line. LineFits (plain_line line)) }
+{
+    let [word] = fields else {
+        return Err(ScriptFault::Bad);
+    };
+    let at = entry_in(word).ok_or(ScriptFault::Bad)?;
+    Ok(ViewLine::Vote { at })
+}
+
 /// A line without fields.
 fn alone(line: ViewLine, fields: &[&[u8]]) -> Result<ViewLine, ScriptFault>
     requires { LineFits (plain_line line) }
@@ -149,6 +161,10 @@ pub fn line(alloc: Global, words: &[&[u8]]) -> Result<ViewLine, ScriptFault>
         alone(ViewLine::Quit, fields)
     } else if is_word(name, "mark") {
         mark(alloc, fields)
+    } else if is_word(name, "vote") {
+        vote(fields)
+    } else if is_word(name, "show") {
+        alone(ViewLine::Show, fields)
     } else {
         Err(ScriptFault::Bad)
     }

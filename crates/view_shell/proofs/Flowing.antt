@@ -6,11 +6,11 @@ use Rattle.run_steps.specs.Outside.{OutputTells, LinksTell, Well, Acts, PrintsTe
 use Rattle.view_script.specs.PlainLine.{PlainLine}
 use Rattle.view_shell.specs.declared.ending.ViewEnd.{ViewEnd}
 use Rattle.view_shell.specs.declared.lines.LineOutcome.{LineOutcome}
-use Rattle.view_shell.specs.Phases.{Viewer, Phase, finish, run, shown_text}
+use Rattle.view_shell.specs.Phases.{Viewer, Phase, after_rest, after_telling, finish, run, show_world, shown_text, world_text}
 use Rattle.view_shell.specs.Flows.{flow_of, flow_phase}
 use Rattle.view_shell.specs.ViewRun.{Doing, Goes, Stops, StopsPrinting}
 use Rattle.view_shell.proofs.Going.{Follows, goes_and_stops, goes_on}
-use Rattle.view_shell.proofs.Printings.{finish_stops, finished_goes}
+use Rattle.view_shell.proofs.Printings.{finish_stops, finished_goes, show_stops, showed_goes}
 
 -- a line leads from this phase to the next line, or stops
 abbrev pub Done : {S : Type 0} → Doing S → Phase → Viewer → List PlainLine → S → S → Result ⊤ ViewEnd → Type 0
@@ -30,6 +30,9 @@ flow_from does from start v lines old new done flow is same talk =
     subst (λ (f : Result LineOutcome ViewEnd). Flows does from v lines old new f) (sym is)
     (subst (λ (p : Phase). Flows does p v lines old new (flow_of done)) (sym same) (flow_by does start v lines old new done talk))
 
+pub done_from : {S : Type 0} (does : Doing S) (from start : Phase) (v : Viewer) (lines : List PlainLine) (old new : S) (done : Result ⊤ ViewEnd) → from ≡ start → Done does start v lines old new done → Done does from v lines old new done
+done_from does from start v lines old new done same talk = subst (λ (p : Phase). Done does p v lines old new done) (sym same) talk
+
 -- behind what was done before
 pub done_behind : {S : Type 0} (does : Doing S) (follows : Follows does) (from mid : Phase) (v : Viewer) (lines : List PlainLine) (old now new : S) (done : Result ⊤ ViewEnd) → Goes does from mid old now → Done does mid v lines now new done → Done does from v lines old new done
 done_behind does follows from mid v lines old now new (Ok it) first goes = goes_on does follows from mid (run v lines) old now new first goes
@@ -41,3 +44,11 @@ pub done_printing : {W L : Type 0} (out : OutputTells W) (links : LinksTell L) (
     → Done (Acts (window_tells out links)) (finish v text) v' v'.lines (window w l) (window w' l) done
 done_printing out links l w w' v v' text (Ok it) is prints never = finished_goes out links l w w' v v' text is prints
 done_printing out links l w w' v v' text (Err end) is prints stops = finish_stops out links l w w' v text end stops
+
+-- a world was shown, or not
+pub done_showing : {W L : Type 0} (out : OutputTells W) (links : LinksTell L) (l : L) (w w' : W) (v v' : Viewer) (done : Result ⊤ ViewEnd)
+    → OnOk done (v' ≡ after_telling (after_rest v)) → OnOk done (PrintsText out Well (shown_text (after_rest v) (world_text (after_rest v))) w w')
+    → IfErr done (λ end. StopsPrinting out end (shown_text (after_rest v) (world_text (after_rest v))) w w')
+    → Done (Acts (window_tells out links)) (show_world v) v' v'.lines (window w l) (window w' l) done
+done_showing out links l w w' v v' (Ok it) is prints never = showed_goes out links l w w' v v' is prints
+done_showing out links l w w' v v' (Err end) is prints stops = show_stops out links l w w' v end stops

@@ -10,8 +10,8 @@ use Rattle.wire_frames.specs.declared.frame.ServerFrame.{ServerFrame}
 use Rattle.wire_frames.specs.declared.frame.ServerFrame.TheVariants as server
 use Rattle.replica_plain.specs.declared.how.How.{How}
 use Rattle.replica_plain.specs.declared.how.How.TheVariants.{Fresh, Whole, Resume}
-use Rattle.replica_plain.specs.declared.fault.ReplicaFault.TheVariants as fault
 use Rattle.replica_plain.specs.Calls.{unsent}
+use Rattle.replica_plain.specs.PlainReplica.{published_count}
 use Rattle.run_steps.specs.Steps.{Hears}
 use Rattle.run_steps.specs.Outside.{LinksTell, Well, Failed, WantedMemory, HearsLink}
 use Rattle.view_shell.specs.declared.ending.ViewEnd.{ViewEnd}
@@ -20,11 +20,11 @@ use Rattle.view_shell.specs.declared.hearing.Stop.{Stop}
 use Rattle.view_shell.specs.declared.hearing.Stop.TheVariants as stop
 use Rattle.view_shell.specs.declared.hearing.SnapAnswer.{SnapAnswer}
 use Rattle.view_shell.specs.declared.hearing.Synced.{Synced}
-use Rattle.view_shell.specs.Phases.{Viewer, Phase, Aim, ToJoin, ToReach, ToSettle, ToCatchUp, ToSnap, Task, Begins, Receives, TellsText, Receiving, Over, Hearing, bad_base, after_giving, go_on, heard_frame, heard_quiet, quiet, reads, send_all, after_sync}
+use Rattle.view_shell.specs.Phases.{Viewer, Phase, Aim, ToJoin, ToReach, ToSettle, ToCatchUp, ToSnap, ToSee, Task, Begins, Receives, TellsText, Receiving, Over, Hearing, bad_base, after_giving, go_on, heard_frame, heard_quiet, quiet, reads, send_all, after_sync}
 use Rattle.view_shell.proofs.Going.{Follows, goes_and_stops, goes_on}
-use Rattle.view_shell.specs.ViewText.{rejoined_line}
+use Rattle.view_shell.specs.ViewText.{rejoined_line, voted_line}
 use Rattle.view_shell.specs.ViewRun.{Doing, Goes, Stops, LinkActs}
-use Rattle.view_shell.specs.Hearing.{GoesOnFor, HeardPhase, StopsHearing, answer_in, answer_line, answered_phase, joined_phase, sync_in, StopsAt}
+use Rattle.view_shell.specs.Hearing.{GoesOnFor, HeardPhase, StopsHearing, answer_in, answer_line, answered_phase, entry_phase, joined_phase, sync_in, voted_phase, StopsAt}
 
 -- ---- a frame is taken, or not
 
@@ -39,6 +39,7 @@ goes_on_for v ToCatchUp None goes = refl
 goes_on_for v ToCatchUp (Some frame) goes = refl
 goes_on_for v (ToJoin how) frame goes = absurd goes
 goes_on_for v ToSnap frame goes = absurd goes
+goes_on_for v (ToSee at) frame goes = absurd goes
 
 -- what is left to do behind an answer, or behind a frame that is none
 abbrev pub behind_answer : Option SnapAnswer → Task
@@ -161,6 +162,7 @@ bad_base_for v ToSettle goes = refl
 bad_base_for v ToCatchUp goes = refl
 bad_base_for v (ToJoin how) goes = absurd goes
 bad_base_for v ToSnap goes = absurd goes
+bad_base_for v (ToSee at) goes = absurd goes
 
 -- ---- a view that stays alive behind a frame
 
@@ -187,6 +189,14 @@ module _ {S : Type 0} (does : Doing S) (v : Viewer) (n : ℕ) (old new : S) wher
   sync_stops Fresh (Some found) end alive = alive v [] Begins refl
   sync_stops Whole (Some found) end alive = alive v [] Begins refl
   sync_stops Resume (Some found) end alive = alive (after_giving v) (unsent v.replica) (TellsText (rejoined_line found.joined found.from)) refl
+
+  pub entry_goes : (at : ℕ) (comes : Bool) → StaysAlive → Goes does (voted_phase v at comes) (entry_phase (record v { receives = n }) at comes) old new
+  entry_goes at true alive = alive (after_giving v) (unsent v.replica) (TellsText (voted_line at (published_count v.replica))) refl
+  entry_goes at false alive = alive v [] (Receives (ToSee at)) refl
+
+  pub entry_stops : (at : ℕ) (comes : Bool) (end : ViewEnd) → StopsAlive end → Stops does (voted_phase v at comes) end old new
+  entry_stops at true end alive = alive (after_giving v) (unsent v.replica) (TellsText (voted_line at (published_count v.replica))) refl
+  entry_stops at false end alive = alive v [] (Receives (ToSee at)) refl
 
 -- a run, and then why it stopped
 pub goes_and_hears : {S : Type 0} (does : Doing S) (follows : Follows does) (why : Stop) (from mid : Phase) (v : Viewer) (aim : Aim) (old now new : S) → Goes does from mid old now → StopsHearing does why mid v aim now new → StopsHearing does why from v aim old new

@@ -2,12 +2,16 @@ pub mod Texts
 pub mod Going
 pub mod Keeping
 pub mod Readiness
+pub mod OwnSnapshots
 pub mod Hearings
 pub mod Reaching
+pub mod Voting
+pub mod VoteEvents
 pub mod Printings
 pub mod Flowing
 pub mod Visits
 pub mod OneRun
+pub mod Agreeing
 pub mod Scripts
 pub mod LineTurns
 pub mod LinkTurns

@@ -7,7 +7,7 @@ use Rattle.replica_plain.specs.Calls.{takes_out}
 use Rattle.view_shell.specs.declared.ending.ViewEnd.{ViewEnd}
 use Rattle.view_shell.specs.declared.ending.ViewEnd.TheVariants as ending
 use Rattle.wire_frames.specs.declared.frame.ClientFrame.TheVariants as client
-use Rattle.view_shell.specs.Phases.{Viewer, Phase, Sending, Printing, PrintingLast, Over, Leaves, Moves, after_rest, after_telling, finish, leave_session, run, shown_text}
+use Rattle.view_shell.specs.Phases.{Viewer, Phase, Sending, Printing, PrintingLast, Over, Leaves, Moves, after_rest, after_telling, finish, leave_session, run, show_world, shown_text, world_text}
 use Rattle.view_shell.specs.ViewRun.{Goes, LinkActs, Stops, StopsPrinting}
 use Rattle.view_shell.proofs.Going.{all_acts_behind, goes_and_stops, goes_in_window, goes_on, wants}
 
@@ -89,6 +89,16 @@ module _ {W L : Type 0} (out : OutputTells W) (links : LinksTell L) (l : L) (w w
 
   pub finish_stops : (v : Viewer) (text : List ℕ) (end : ViewEnd) → StopsPrinting out end (shown_text v text) w w' → Stops (Acts (window_tells out links)) (finish v text) end (window w l) (window w' l)
   finish_stops v text end stops = print_stops (record v { replica = takes_out v.replica }) (shown_text v text) end stops
+
+  -- the view rests, and tells what came of that and its world
+  pub showed_goes : (v v' : Viewer) → v' ≡ after_telling (after_rest v) → PrintsText out Well (shown_text (after_rest v) (world_text (after_rest v))) w w'
+      → Goes (Acts (window_tells out links)) (show_world v) (run v' v'.lines) (window w l) (window w' l)
+  unfolding show_world
+  showed_goes v v' is prints = finished_goes (after_rest v) v' (world_text (after_rest v)) is prints
+
+  pub show_stops : (v : Viewer) (end : ViewEnd) → StopsPrinting out end (shown_text (after_rest v) (world_text (after_rest v))) w w' → Stops (Acts (window_tells out links)) (show_world v) end (window w l) (window w' l)
+  unfolding show_world
+  show_stops v end stops = finish_stops (after_rest v) (world_text (after_rest v)) end stops
 
 -- ---- what a link does, and then a text
 

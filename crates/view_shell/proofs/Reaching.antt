@@ -4,7 +4,7 @@ use Rattle.std.specs.Prelude.{nat_le}
 use Rattle.std.proofs.lemmas.Bool.Decides.{nat_tests}
 use Rattle.replica_plain.specs.PlainReplica.{published_count}
 use Rattle.view_shell.specs.declared.watcher.Watcher.{Watcher}
-use Rattle.view_shell.specs.ViewText.{time_line, settled_line}
+use Rattle.view_shell.specs.ViewText.{reached_time_line, settled_line}
 use Rattle.view_shell.specs.Phases.{Viewer, Phase, ToReach, ToSettle, ToCatchUp, Receiving, finish, has_caught_up, receive, settle_on}
 
 reach_if : (one other : Phase) (test : Bool) → test ≡ true → (if test then one else other) ≡ one
@@ -15,7 +15,7 @@ reach_not : (one other : Phase) (test : Bool) → test ≡ false → (if test th
 reach_not one other true is = absurd cc
 reach_not one other false is = refl
 
-pub reached : (v : Viewer) (time : ℕ) → time ≤ v.replica.world.time → receive v (ToReach time) ≡ finish v (time_line v.replica.world.time)
+pub reached : (v : Viewer) (time : ℕ) → time ≤ v.replica.world.time → receive v (ToReach time) ≡ finish v (reached_time_line v.replica.world.time)
 reached v time late = reach_if _ _ (nat_le time v.replica.world.time) (grind (arith, nat_tests, late))
 
 pub not_reached : (v : Viewer) (time : ℕ) → v.replica.world.time < time → receive v (ToReach time) ≡ Receiving v (ToReach time)

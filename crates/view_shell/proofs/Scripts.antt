@@ -23,7 +23,7 @@ module _ (lines : List ViewLine) (i : ℕ) (line : ViewLine) (within : i < lengt
   pub room_now : (w : Watcher) → HasRoomFor w (plain_lines (drop i lines)) → w.published + line_publishes (plain_line line) ≤ most_publishes
   room_now w room = let held = room_here w room in omega (arith, held)
 
-  pub room_on : (w w' : Watcher) → w'.published ≡ w.published + line_publishes (plain_line line) → HasRoomFor w (plain_lines (drop i lines)) → HasRoomFor w' (plain_lines rest)
+  pub room_on : (w w' : Watcher) → w'.published ≤ w.published + line_publishes (plain_line line) → HasRoomFor w (plain_lines (drop i lines)) → HasRoomFor w' (plain_lines rest)
   room_on w w' is room = let held = room_here w room in omega (arith, held, is)
 
 -- the plain lines behind some are those of the lines behind them

@@ -1,5 +1,5 @@
 -- What comes of hearing a link once.
-use Rattle.std.specs.Prelude.{◌≡◌, ◌⊎◌, ℕ, List, [], Option, Some, None}
+use Rattle.std.specs.Prelude.{◌≡◌, ◌⊎◌, ℕ, nat_le, Bool, true, false, List, [], Option, Some, None}
 use Rattle.wire_frames.specs.declared.frame.ServerFrame.{ServerFrame}
 use Rattle.replica_plain.specs.declared.fault.ReplicaFault.{ReplicaFault}
 use Rattle.replica_plain.specs.declared.fault.ReplicaFault.TheVariants as fault
@@ -10,11 +10,12 @@ use Rattle.wire_frames.specs.declared.frame.ServerFrame.TheVariants as server
 use Rattle.replica_plain.specs.declared.how.How.{How}
 use Rattle.replica_plain.specs.declared.how.How.TheVariants.{Fresh, Whole, Resume}
 use Rattle.replica_plain.specs.Calls.{unsent}
+use Rattle.replica_plain.specs.PlainReplica.{published_count}
 use Rattle.view_shell.specs.declared.hearing.SnapAnswer.{SnapAnswer}
 use Rattle.view_shell.specs.declared.hearing.SnapAnswer.TheVariants as answer
 use Rattle.view_shell.specs.declared.hearing.Synced.{Synced}
-use Rattle.view_shell.specs.ViewText.{snapped_line, snap_refused_line, rejoined_line}
-use Rattle.view_shell.specs.Phases.{Viewer, Phase, Aim, ToJoin, ToReach, ToSettle, ToCatchUp, ToSnap, TellsText, Printing, Receives, Receiving, Over, bad_base, finish, after_giving, go_on, send_all, after_frame}
+use Rattle.view_shell.specs.ViewText.{snapped_line, snap_refused_line, rejoined_line, voted_line}
+use Rattle.view_shell.specs.Phases.{Viewer, Phase, Aim, ToJoin, ToReach, ToSettle, ToCatchUp, ToSnap, ToSee, TellsText, Printing, Receives, Receiving, Over, bad_base, finish, after_giving, give_vote, go_on, send_all, after_frame}
 use Rattle.view_shell.specs.ViewRun.{Doing, Goes, Stops}
 
 -- the phase behind a frame that was taken, or behind a link that was quiet
@@ -79,6 +80,32 @@ synced_phase v Resume found = send_all (after_giving v) (unsent v.replica) (Tell
 abbrev pub joined_phase : Viewer → How → Option Synced → Phase
 joined_phase v how None = Receiving v (ToJoin how)
 joined_phase v how (Some found) = synced_phase v how found
+
+-- ---- votes
+
+-- the view has this entry, and the link was not quiet
+abbrev pub brings_entry : Option ServerFrame → ℕ → ℕ → Bool
+brings_entry None at seen = false
+brings_entry (Some frame) at seen = nat_le at seen
+
+-- the phase behind a frame that was heard for an entry, once the vote on it was published
+abbrev pub voted_phase : Viewer → ℕ → Bool → Phase
+voted_phase v at true = give_vote v at
+voted_phase v at false = go_on v [] (Receives (ToSee at))
+
+-- the vote is sent and told
+abbrev pub vote_told : Viewer → ℕ → Phase
+vote_told v at = send_all (after_giving v) (unsent v.replica) (TellsText (voted_line at (published_count v.replica)))
+
+-- the same once the view has said that it is alive where that was due
+abbrev pub entry_phase : Viewer → ℕ → Bool → Phase
+entry_phase v at true = vote_told v at
+entry_phase v at false = Receiving v (ToSee at)
+
+-- so many events were published by it
+abbrev pub vote_count : Bool → ℕ
+vote_count true = 1
+vote_count false = 0
 
 -- a frame was not taken, and this comes of it
 abbrev pub StopsAt : Stop → Phase → Viewer → Aim → Type 0

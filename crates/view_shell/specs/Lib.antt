@@ -5,3 +5,4 @@ pub mod Hearing
 pub mod Flows
 pub mod ViewRun
 pub mod OneRun
+pub mod Agreeing

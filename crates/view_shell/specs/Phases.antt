@@ -1,13 +1,18 @@
 -- The run of a view, phase by phase: where it stands, which step is due, and what the step makes of it.
-use Rattle.std.specs.Prelude.{◌≡◌, ℕ, ◌+◌, ◌-◌, ◌==◌, min, nat_le, Bool, ◌&&◌, if◌then◌else◌, sum_by, List, [], ◌∷◌, ◌++◌, length, Option, Some, None}
+use Rattle.std.specs.Prelude.{◌≡◌, ℕ, ◌+◌, ◌-◌, ◌==◌, min, nat_le, Bool, ◌&&◌, true, false, if◌then◌else◌, sum_by, List, [], ◌∷◌, ◌++◌, length, Option, Some, None}
 use Rattle.byte_fields.specs.Fields.{whole}
 use Rattle.tea_base.specs.Limits.{time_limit}
 use Rattle.tea_io.specs.declared.link.Heard.{Heard}
 use Rattle.tea_io.specs.declared.link.Heard.TheVariants as heard
 use Rattle.tea_io.specs.Links.{most_quiets}
+use Rattle.model_tree.specs.Tree.{ProgramTree}
 use Rattle.model_value.specs.Payload.{payload_spelling}
+use Rattle.sha2.specs.Sha256.{sha256}
+use Rattle.snapshot_codec.specs.Spelling.{world_spelling}
+use Rattle.vote_event.specs.VotePayload.{vote_payload}
 use Rattle.world_plain.specs.Messages.{PlainOutgoing}
 use Rattle.world_plain.specs.World.{WorldRecord}
+use Rattle.world_lines.specs.WorldText.{full_text}
 use Rattle.wire_frames.specs.Frames.{IsClientFrame}
 use Rattle.wire_frames.specs.Reading.{server_at}
 use Rattle.wire_frames.specs.Spelling.{client_spelling}
@@ -20,26 +25,27 @@ use Rattle.replica_plain.specs.declared.how.How.TheVariants.{Fresh, Whole, Resum
 use Rattle.replica_plain.specs.declared.fault.ReplicaFault.{ReplicaFault}
 use Rattle.replica_plain.specs.declared.fault.ReplicaFault.TheVariants as fault
 use Rattle.replica_plain.specs.Worlds.{Worlds}
-use Rattle.replica_plain.specs.PlainReplica.{PlainReplica}
+use Rattle.replica_plain.specs.PlainReplica.{PlainReplica, published_count}
 use Rattle.replica_plain.specs.Taking.{Taken, taken}
 use Rattle.replica_plain.specs.Calls.{joining, join_frame, publishes, unsent, gives, takes_out, snap_frame}
 use Rattle.view_bridge.specs.declared.topic.Topic.{Topic}
 use Rattle.view_bridge.specs.Topics.{subscribes, handled_events}
-use Rattle.view_script.specs.PlainLine.{PlainLine, Publish, Watch, Wait, WaitFor, Settle, Snap, Cut, Quit, Mark}
+use Rattle.view_script.specs.PlainLine.{PlainLine, Publish, Watch, Wait, WaitFor, Settle, Snap, Cut, Quit, Mark, Vote, Show}
 use Rattle.run_steps.specs.Steps.{Step, Prints, Connects, Returns, Hears, Sends}
 use Rattle.view_shell.specs.declared.ending.ViewEnd.{ViewEnd}
 use Rattle.view_shell.specs.declared.ending.ViewEnd.TheVariants as ending
-use Rattle.view_shell.specs.ViewText.{events_text, time_line, settled_line, snapped_line, snap_refused_line, rejoined_line, mark_line, view_line}
+use Rattle.view_shell.specs.ViewText.{events_text, reached_time_line, settled_line, snapped_line, snap_refused_line, rejoined_line, mark_line, voted_line, vote_missed_line, view_line}
 
 -- what becomes of a replica that takes a tick of its own time
 abbrev pub rested : Worlds WorldRecord PlainOutgoing → PlainReplica WorldRecord PlainOutgoing → PlainReplica WorldRecord PlainOutgoing
 rested m r = (taken m r (server.Tick (m.time r.world))).replica
 
--- A view while it runs. worlds: those of its session. address: where the session's reflector is. replica and topics: what it knows and
--- what it watches. lines: what is left of its script. receives: how often the link was heard since a frame was sent on it.
--- quiets: how often the link was quiet since it last said something else.
+-- A view while it runs. worlds: those of its session. tree: its program. address: where the session's reflector is. replica and topics:
+-- what it knows and what it watches. lines: what is left of its script. receives: how often the link was heard since a frame was sent on
+-- it. quiets: how often the link was quiet since it last said something else.
 pub record Viewer : Type 0 where
   pub worlds : Worlds WorldRecord PlainOutgoing
+  pub tree : ProgramTree
   pub address : List ℕ
   pub replica : PlainReplica WorldRecord PlainOutgoing
   pub topics : List Topic
@@ -74,6 +80,8 @@ pub data Aim : Type 0 where
   ToCatchUp : Aim
   -- the answer to its snapshot
   ToSnap : Aim
+  -- an entry, on which it votes
+  ToSee : ℕ → Aim
 
 -- what a view does once its frames are sent
 pub data Task : Type 0 where
@@ -123,7 +131,7 @@ settle_on v (payload ∷ rest) = Receiving v ToSettle
 
 -- the link is heard, unless what it is heard for is so already
 abbrev pub receive : Viewer → Aim → Phase
-receive v (ToReach time) = if nat_le time v.replica.world.time then finish v (time_line v.replica.world.time) else Receiving v (ToReach time)
+receive v (ToReach time) = if nat_le time v.replica.world.time then finish v (reached_time_line v.replica.world.time) else Receiving v (ToReach time)
 receive v ToSettle = settle_on v v.replica.outbox
 receive v ToCatchUp = if has_caught_up v.replica then finish v [] else Receiving v ToCatchUp
 receive v aim = Receiving v aim
@@ -135,6 +143,14 @@ after_rest v = record v { replica = rested v.worlds v.replica }
 -- the script is done: the view rests, tells what came of that, and leaves
 unfoldable pub leave_session : Viewer → Phase
 leave_session v = Leaving (after_telling (after_rest v)) (shown_text (after_rest v) [])
+
+-- its world in full, as a query of a recorded session tells it
+abbrev pub world_text : Viewer → List ℕ
+world_text v = full_text v.tree v.replica.world
+
+-- The view rests, so that its world is the replay of the log to its time. What came of that is told, and then that world.
+unfoldable pub show_world : Viewer → Phase
+show_world v = finish (after_rest v) (world_text (after_rest v))
 
 -- the events that were not given yet count as given: they are sent next
 abbrev pub after_giving : Viewer → Viewer
@@ -162,6 +178,14 @@ send_all v (frame ∷ frames) task = Sending v frame frames task
 abbrev pub time_after : ℕ → ℕ → ℕ
 time_after time span = min (time + span) (time_limit - 1)
 
+-- an entry that the view has is missed; else the view hears its link for it
+abbrev pub vote_by : Bool → Viewer → ℕ → Phase
+vote_by true v at = finish v (vote_missed_line v.replica.seen)
+vote_by false v at = Receiving v (ToSee at)
+
+abbrev pub vote_on : Viewer → ℕ → Phase
+vote_on v at = vote_by (nat_le at v.replica.seen) v at
+
 -- the first of these lines: a row for each kind
 abbrev pub run : Viewer → List PlainLine → Phase
 run v [] = leave_session v
@@ -176,6 +200,8 @@ run v (Snap ∷ rest) = Sending (with_lines v rest) (snap_frame v.worlds v.repli
 run v (Cut ∷ rest) = Returning (with_lines v rest) Resume
 run v (Quit ∷ rest) = leave_session (with_lines v rest)
 run v (Mark word ∷ rest) = finish (with_lines v rest) (mark_line word)
+run v (Vote at ∷ rest) = vote_on (with_lines v rest) at
+run v (Show ∷ rest) = show_world (with_lines v rest)
 
 -- ---- joining
 
@@ -200,11 +226,29 @@ after_sync v Fresh joined from = go_on v [] Begins
 after_sync v Whole joined from = go_on v [] Begins
 after_sync v Resume joined from = go_on (after_giving v) (unsent v.replica) (TellsText (rejoined_line joined from))
 
+-- the payload of a vote on this entry by a view that has this world
+abbrev pub vote_spelling : ℕ → WorldRecord → List ℕ
+vote_spelling at w = payload_spelling (vote_payload at (sha256 (world_spelling w)))
+
+-- the view votes on this entry: it publishes the digest that its world has now
+abbrev pub after_vote : Viewer → ℕ → Viewer
+after_vote v at = after_publish v (vote_spelling at v.replica.world)
+
+-- what was published is sent, and told as the vote on this entry
+abbrev pub give_vote : Viewer → ℕ → Phase
+give_vote v at = go_on (after_giving v) (unsent v.replica) (TellsText (voted_line at (published_count v.replica)))
+
+-- directly after the entry on which it votes it does so; till then it hears its link
+abbrev pub after_entry : Bool → Viewer → ℕ → Phase
+after_entry true v at = give_vote (after_vote v at) at
+after_entry false v at = go_on v [] (Receives (ToSee at))
+
 -- a frame was taken
 abbrev pub after_frame : Viewer → Aim → ServerFrame → Phase
 after_frame v (ToJoin how) (server.Sync joined last from base) = after_sync v how joined from
 after_frame v ToSnap (server.Snapped time) = go_on v [] (TellsText (snapped_line time))
 after_frame v ToSnap (server.Refused about code kept more) = go_on v [] (TellsText (snap_refused_line code kept))
+after_frame v (ToSee at) frame = after_entry (nat_le at v.replica.seen) v at
 after_frame v aim frame = go_on v [] (Receives aim)
 
 -- a base that is none: a view that joins for the first time asks for the whole log then

@@ -25,8 +25,8 @@ abbrev pub numbers_line : List ℕ → List ℕ → List ℕ
 numbers_line word numbers = spell_numbers word numbers ++ 10 ∷ []
 
 -- the time that was waited for
-abbrev pub time_line : ℕ → List ℕ
-time_line time = numbers_line (codes "time") (time ∷ [])
+abbrev pub reached_time_line : ℕ → List ℕ
+reached_time_line time = numbers_line (codes "time") (time ∷ [])
 
 -- all events are acknowledged, so many
 abbrev pub settled_line : ℕ → List ℕ
@@ -43,6 +43,14 @@ snap_refused_line code kept = numbers_line (codes "snap-refused") (code ∷ kept
 -- the view has joined again, by this entry, and goes on behind so many entries
 abbrev pub rejoined_line : ℕ → ℕ → List ℕ
 rejoined_line joined from = numbers_line (codes "rejoined") (joined ∷ from ∷ [])
+
+-- the view voted on this entry, by its event of this number
+abbrev pub voted_line : ℕ → ℕ → List ℕ
+voted_line at number = numbers_line (codes "voted") (at ∷ number ∷ [])
+
+-- it had so many entries, and so came too late to vote
+abbrev pub vote_missed_line : ℕ → List ℕ
+vote_missed_line seen = numbers_line (codes "vote-missed") (seen ∷ [])
 
 -- a word of the view's own
 abbrev pub mark_line : List ℕ → List ℕ

@@ -1,6 +1,7 @@
 -- What contracts see of a view while it runs.
 use Rattle.std.specs.Prelude.{◌≡◌, ◌≤◌, ◌<◌, ℕ, ◌+◌, drop, length, List, []}
-use Rattle.model_solved.specs.Founding.{Founding}
+use Rattle.std.specs.Arc.{arc_value}
+use Rattle.model_solved.specs.Founding.{Founding, checked_tree}
 use Rattle.replica_plain.specs.declared.how.How.TheVariants.{Fresh}
 use Rattle.replica_plain.specs.PlainReplica.{new_replica, published_count}
 use Rattle.replica.specs.RealWorlds.{worlds}
@@ -17,6 +18,7 @@ abbrev pub viewer : List ℕ → Watcher → List PlainLine → Viewer
 viewer address w lines =
     record {
       worlds = worlds_of w.replica;
+      tree = checked_tree w.replica.program;
       address = address;
       replica = w.replica.plain;
       topics = w.topics;
@@ -29,7 +31,7 @@ viewer address w lines =
 abbrev pub first_viewer : Founding → List ℕ → ℕ → List ℕ → List PlainLine → Viewer
 first_viewer founding id view address lines =
     let m = worlds founding id in
-    record { worlds = m; address = address; replica = new_replica m view; topics = []; lines = lines; receives = 0; quiets = 0 }
+    record { worlds = m; tree = founding.tree; address = address; replica = new_replica m view; topics = []; lines = lines; receives = 0; quiets = 0 }
 
 -- it connects, and joins for the first time
 abbrev pub first_phase : Founding → List ℕ → ℕ → List ℕ → List PlainLine → Phase
@@ -39,10 +41,12 @@ first_phase founding id view address lines = Connecting (first_viewer founding i
 abbrev pub HasRoomFor : Watcher → List PlainLine → Type 0
 HasRoomFor w lines = w.published + publish_count lines ≤ most_publishes
 
--- it knows its own number, and how many events it published
+-- it knows its own number, how many events it published, and of which program and which session its replica is
 pub record KnowsItself (w : Watcher) : Type 0 where
   pub view : w.view ≡ w.replica.plain.view
   pub published : w.published ≡ published_count w.replica.plain
+  pub program : arc_value w.program ≡ w.replica.program
+  pub session : w.id.0 ≡ w.replica.id
 
 -- it may hear its link: it is not due to say that it is alive, and the link was not quiet too often
 pub record IsReady (w : Watcher) : Type 0 where

@@ -1,18 +1,19 @@
 //! What a view hears its link for.
-ghost use Rattle.std.specs.Prelude.{◌≡◌, ℕ, List, [], ◌<◌, ◌+◌, None, Some, IfOk, OnOk, MatchResult};
+ghost use Rattle.std.specs.Prelude.{◌≡◌, ℕ, List, [], ◌<◌, ◌+◌, None, Some, IfErr, IfOk, OnOk, MatchResult};
 ghost use Rattle.byte_fields.specs.Fields.{whole};
 ghost use Rattle.wire_frames.specs.Reading.{server_at};
 ghost use Rattle.run_steps.specs.Outside.{links_tell};
 ghost use Rattle.replica.specs.View.{KeepsSession};
 ghost use Rattle.replica_plain.specs.declared.how.How.{How};
-ghost use Rattle.view_script.specs.PlainLine.{PlainLine};
-ghost use Rattle.view_shell.specs.Phases.{Aim, ToJoin, ToReach, ToSettle, ToCatchUp, ToSnap, Receiving, finish, has_caught_up, reads, receive, after_frame};
-ghost use Rattle.view_shell.specs.ViewText.{settled_line, time_line};
+ghost use Rattle.view_script.specs.PlainLine.{PlainLine, most_publishes};
+ghost use Rattle.view_shell.specs.Phases.{Aim, ToJoin, ToReach, ToSettle, ToCatchUp, ToSnap, ToSee, Receiving, after_entry, finish, has_caught_up, reads, receive, after_frame};
+ghost use Rattle.view_shell.specs.ViewText.{settled_line, reached_time_line};
 ghost use Rattle.view_shell.specs.Viewers.{HasHeard, IsReady, KnowsItself, viewer};
 ghost use Rattle.view_shell.specs.ViewRun.{Goes, GoesOrStops, LinkActs};
-ghost use Rattle.view_shell.specs.Hearing.{GoesOnFor, HeardPhase, StopsAt, StopsHearing, answer_in, answer_line, answered_phase, joined_phase, stop_for, sync_in, synced_phase};
+ghost use Rattle.view_shell.specs.Hearing.{GoesOnFor, HeardPhase, StopsAt, StopsHearing, answer_in, answer_line, answered_phase, brings_entry, entry_phase, joined_phase, stop_for, sync_in, synced_phase, vote_count, vote_told, voted_phase};
 
 use crate::ending::ViewEnd;
+use crate::publishing::vote;
 use crate::sending::stay_alive;
 use crate::watcher::Watcher;
 use replica::Replica;
@@ -138,7 +139,7 @@ pub fn reach<R: Wait, L: Link>(
     ensures kept { watcher.new ≡ record watcher.old { replica = watcher.new.replica; receives = watcher.new.receives; quiets = watcher.new.quiets } }
     ensures ready { OnOk result (IsReady watcher.new) }
     ensures talk { (address : List ℕ) (lines : List PlainLine) → GoesOrStops (LinkActs (links_tell L.coming L.heard L.sent L.counts))
-        (receive (viewer address watcher.old lines) (ToReach time)) (λ _. finish (viewer address watcher.new lines) (time_line watcher.new.replica.plain.world.time)) result link.old link.new }
+        (receive (viewer address watcher.old lines) (ToReach time)) (λ _. finish (viewer address watcher.new lines) (reached_time_line watcher.new.replica.plain.world.time)) result link.old link.new }
 {
     for _ in rt.forever() {
         if time <= watcher.replica.time() {
@@ -262,6 +263,101 @@ pub fn await_answer<R: Wait, L: Link>(
         match hear_answer(watcher, link) {
             Ok(Some(answer)) => return Ok(answer),
             Ok(None) => {}
+            Err(end) => return Err(end),
+        }
+    }
+    unreachable!()
+}
+
+/// Whether a frame was heard, and the replica has this entry.
+pub fn brings_entry(replica: &Replica, frame: &Option<ServerFrame>, at: u32) -> bool
+    ensures { result ≡ brings_entry frame.now at replica.now.plain.seen }
+{
+    match frame {
+        None => false,
+        Some(_) => at <= replica.seen(),
+    }
+}
+
+/// Votes on an entry that the view has now. One that it has not yet is left.
+fn vote_if(watcher: &mut Watcher, at: u32, comes: bool) -> Result<(), ViewEnd>
+    requires heard { HasHeard watcher.old }
+    requires room { watcher.old.published < most_publishes }
+    ensures kept { watcher.new ≡ record watcher.old { replica = watcher.new.replica; published = watcher.new.published } }
+    ensures count { OnOk result (watcher.new.published ≡ watcher.old.published + vote_count comes) }
+    ensures heard { HasHeard watcher.new }
+    ensures voted { (address : List ℕ) (lines : List PlainLine) → OnOk result
+        (after_entry comes (viewer address watcher.old lines) at ≡ voted_phase (viewer address watcher.new lines) at comes) }
+    ensures want { IfErr result (λ end. end ≡ ViewEnd.WantOfMemory) }
+{
+    if comes {
+        return vote(watcher, at);
+    }
+    Ok(())
+}
+
+/// Hears the link once, for an entry, and votes on it directly after it. The vote is not sent yet. Answers whether it did.
+fn hear_entry<L: Link>(watcher: &mut Watcher, link: &mut L, at: u32) -> Result<bool, ViewEnd>
+    requires ready { IsReady watcher.old }
+    requires room { watcher.old.published < most_publishes }
+    ensures kept { watcher.new ≡ record watcher.old { replica = watcher.new.replica; receives = watcher.new.receives; quiets = watcher.new.quiets; published = watcher.new.published } }
+    ensures heard { OnOk result (HasHeard watcher.new) }
+    ensures count { IfOk result (λ comes. watcher.new.published ≡ watcher.old.published + vote_count comes) }
+    ensures talk { (address : List ℕ) (lines : List PlainLine) → GoesOrStops (LinkActs (links_tell L.coming L.heard L.sent L.counts))
+        (Receiving (viewer address watcher.old lines) (ToSee at)) (λ comes. voted_phase (viewer address watcher.new lines) at comes) result link.old link.new }
+{
+    let comes = match hear(watcher, link) {
+        Ok(frame) => brings_entry(&watcher.replica, &frame, at),
+        Err(Stop::End(end)) => return Err(end),
+        Err(Stop::BadBase) => return Err(ViewEnd::Peer),
+    };
+    match vote_if(watcher, at, comes) {
+        Ok(()) => Ok(comes),
+        Err(end) => Err(end),
+    }
+}
+
+/// The same, and stays alive.
+fn take_entry<L: Link>(watcher: &mut Watcher, link: &mut L, at: u32) -> Result<bool, ViewEnd>
+    requires ready { IsReady watcher.old }
+    requires room { watcher.old.published < most_publishes }
+    ensures kept { watcher.new ≡ record watcher.old { replica = watcher.new.replica; receives = watcher.new.receives; quiets = watcher.new.quiets; published = watcher.new.published } }
+    ensures ready { OnOk result (IsReady watcher.new) }
+    ensures count { IfOk result (λ comes. watcher.new.published ≡ watcher.old.published + vote_count comes) }
+    ensures talk { (address : List ℕ) (lines : List PlainLine) → GoesOrStops (LinkActs (links_tell L.coming L.heard L.sent L.counts))
+        (Receiving (viewer address watcher.old lines) (ToSee at)) (λ comes. entry_phase (viewer address watcher.new lines) at comes) result link.old link.new }
+{
+    let comes = match hear_entry(watcher, link, at) {
+        Ok(comes) => comes,
+        Err(end) => return Err(end),
+    };
+    match stay_alive(watcher, link) {
+        Ok(()) => Ok(comes),
+        Err(end) => Err(end),
+    }
+}
+
+/// Hears the link until the view has an entry, and votes on it directly after it. The vote is not sent yet.
+pub fn await_entry<R: Wait, L: Link>(
+    rt: &R,
+    watcher: &mut Watcher,
+    link: &mut L,
+    at: u32,
+) -> Result<(), ViewEnd>
+    requires ready { IsReady watcher.old }
+    requires room { watcher.old.published < most_publishes }
+    ensures ready { OnOk result (IsReady watcher.new) }
+    ensures count { OnOk result (watcher.new.published ≡ watcher.old.published + 1) }
+    ensures talk { (address : List ℕ) (lines : List PlainLine) → GoesOrStops (LinkActs (links_tell L.coming L.heard L.sent L.counts))
+        (Receiving (viewer address watcher.old lines) (ToSee at)) (λ _. vote_told (viewer address watcher.new lines) at) result link.old link.new }
+{
+    for _ in rt.forever() {
+        match take_entry(watcher, link, at) {
+            Ok(comes) => {
+                if comes {
+                    return Ok(());
+                }
+            }
             Err(end) => return Err(end),
         }
     }

@@ -1,30 +1,27 @@
 //! The lines of a script, done one after the other on one link.
 ghost use Rattle.std.specs.Prelude.{◌≡◌, ◌≤◌, ◌<◌, ◌+◌, ℕ, List, [], ◌∷◌, IfOk, IfErr, OnOk, string_bytes};
 ghost use Rattle.run_steps.specs.Outside.{Acts, PrintsText, Well, links_tell, output_tells, window, window_tells};
-ghost use Rattle.model_value.specs.Payload.{payload_spelling};
-ghost use Rattle.model_value.specs.Plain.{InBounds};
-ghost use Rattle.model_value.specs.View.{plain};
-ghost use Rattle.replica_plain.specs.Calls.{publishes, snap_frame, takes_out, unsent};
+ghost use Rattle.replica_plain.specs.Calls.{snap_frame, takes_out, unsent};
 ghost use Rattle.replica.specs.View.{with_plain, worlds_of};
-ghost use Rattle.tea_base.specs.Limits.{most_payload};
 ghost use Rattle.view_bridge.specs.Topics.{subscribes};
-ghost use Rattle.view_script.specs.PlainLine.{LineFits, PlainLine, most_publishes, payload_length, plain_line, plain_lines, line_publishes};
+ghost use Rattle.view_script.specs.PlainLine.{LineFits, PlainLine, most_publishes, plain_line, plain_lines, line_publishes};
 ghost use Rattle.std.specs.List.{AllByRecursion};
-ghost use Rattle.view_shell.specs.Phases.{IsReadAsWorld, Over, Viewer, Receives, Sending, TellsText, ToReach, ToSettle, ToCatchUp, ToSnap, finish, after_giving, after_rest, leave_session, receive, rested, run, send_all, shown_text, time_after};
-ghost use Rattle.view_shell.specs.ViewText.{digested_view_line, mark_line as line_of_mark, numbers_line, view_line};
+ghost use Rattle.view_shell.specs.Phases.{IsReadAsWorld, Over, Viewer, Receives, Receiving, Sending, TellsText, ToReach, ToSettle, ToCatchUp, ToSnap, ToSee, finish, after_giving, after_rest, leave_session, receive, rested, run, send_all, shown_text, time_after, vote_on, world_text};
+ghost use Rattle.view_shell.specs.ViewText.{digested_view_line, mark_line as line_of_mark, numbers_line, view_line, vote_missed_line};
 ghost use Rattle.view_shell.specs.Viewers.{HasRoomBehind, HasRoomFor, IsReady, KnowsItself, viewer};
 ghost use Rattle.view_shell.specs.Flows.{departure_phase, flow_of, flow_phase};
 ghost use Rattle.view_shell.specs.ViewRun.{GoesOrStops, LinkActs, StopsPrinting};
-ghost use Rattle.view_shell.specs.Hearing.{answer_line, rejoined_text};
+ghost use Rattle.view_shell.specs.Hearing.{answer_line, rejoined_text, vote_told};
 
 use crate::ending::ViewEnd;
-use crate::hearing::{SnapAnswer, Synced, await_answer, catch_up, reach, settle};
+use crate::hearing::{SnapAnswer, Synced, await_answer, await_entry, catch_up, reach, settle};
+use crate::publishing::publish;
 use crate::sending::{send, send_unsent};
+use crate::showing::world_text;
 use crate::text::{events_text, mark_line, numbers_line};
 use crate::watcher::Watcher;
-use model_value::Value;
 use replica::{Replica, worlds_stand};
-use replica_plain::{How, PublishRefusal};
+use replica_plain::How;
 use run_steps::{CallFault, print_text};
 use snapshot_codec::digest;
 use std::sync::Wait;
@@ -274,36 +271,6 @@ fn snap<R: Wait, L: Link, W: Sink>(
     }
 }
 
-/// Publishes an event.
-pub fn publish(
-    watcher: &mut Watcher,
-    scope: &Text,
-    event: &Text,
-    value: &Value,
-) -> Result<(), ViewEnd>
-    requires ready { IsReady watcher.old }
-    requires bounds { InBounds (plain value.now) }
-    requires short { payload_length scope.now event.now (plain value.now) ≤ most_payload }
-    requires room { watcher.old.published < most_publishes }
-    ensures kept { watcher.new ≡ record watcher.old { replica = watcher.new.replica; published = watcher.new.published } }
-    ensures count { OnOk result (watcher.new.published ≡ watcher.old.published + 1) }
-    ensures ready { OnOk result (IsReady watcher.new) }
-    ensures knows { KnowsItself watcher.new }
-    ensures publishes { OnOk result (watcher.new.replica ≡ with_plain watcher.old.replica
-        (publishes watcher.old.replica.plain (payload_spelling (record { scope = scope.now; event = event.now; value = plain value.now })))) }
-    ensures want { IfErr result (λ end. end ≡ ViewEnd.WantOfMemory) }
-{
-    match watcher.replica.publish(scope, event, value) {
-        Ok(number) => {
-            watcher.published = number;
-            Ok(())
-        }
-        Err(PublishRefusal::WantOfMemory) => Err(ViewEnd::WantOfMemory),
-        // A script publishes no payload that is too long, and no event too many.
-        Err(PublishRefusal::TooLong { .. } | PublishRefusal::Full { .. }) => unreachable!(),
-    }
-}
-
 /// Hears the link where too many events are not acknowledged, and goes on.
 fn await_answers<R: Wait, L: Link, W: Sink>(
     rt: &R,
@@ -422,6 +389,86 @@ fn watch<W: Sink>(
     }
 }
 
+/// Tells that a vote came too late.
+fn miss_vote<W: Sink>(watcher: &mut Watcher, out: &mut W) -> Result<(), ViewEnd>
+    requires ready { IsReady watcher.old }
+    ensures kept { watcher.new ≡ record watcher.old { replica = watcher.new.replica } }
+    ensures ready { OnOk result (IsReady watcher.new) }
+    ensures ok { OnOk result (watcher.new.replica ≡ with_plain watcher.old.replica (takes_out watcher.old.replica.plain)) }
+    ensures printed { (address : List ℕ) (lines : List PlainLine) → OnOk result (PrintsText (output_tells W.written W.faults W.wants) Well (shown_text (viewer address watcher.old lines) (vote_missed_line watcher.old.replica.plain.seen)) out.old out.new) }
+    ensures err { (address : List ℕ) (lines : List PlainLine) → IfErr result (λ end. StopsPrinting (output_tells W.written W.faults W.wants) end (shown_text (viewer address watcher.old lines) (vote_missed_line watcher.old.replica.plain.seen)) out.old out.new) }
+{
+    let seen = watcher.replica.seen();
+    finish_with(watcher, out, "vote-missed", &[u64::from(seen)])
+}
+
+/// Sends a vote, and tells it.
+fn tell_vote<L: Link, W: Sink>(
+    watcher: &mut Watcher,
+    link: &mut L,
+    out: &mut W,
+    at: u32,
+) -> Result<(), ViewEnd>
+    requires ready { IsReady watcher.old }
+    ensures kept { watcher.new ≡ record watcher.old { replica = watcher.new.replica; receives = watcher.new.receives } }
+    ensures ready { OnOk result (IsReady watcher.new) }
+    ensures talk { (address : List ℕ) (lines : List PlainLine) → GoesOrStops (Acts (window_tells (output_tells W.written W.faults W.wants) (links_tell L.coming L.heard L.sent L.counts)))
+        (vote_told (viewer address watcher.old lines) at) (λ _. run (viewer address watcher.new lines) lines) result (window out.old link.old) (window out.new link.new) }
+{
+    match send_unsent(watcher, link) {
+        Ok(()) => {}
+        Err(end) => return Err(end),
+    }
+    let number = u64::from(watcher.published);
+    match finish_with(watcher, out, "voted", &[u64::from(at), number]) {
+        Ok(()) => Ok(()),
+        Err(end) => Err(end),
+    }
+}
+
+/// Hears the link until the view has an entry, and votes on it directly after it.
+fn await_vote<R: Wait, L: Link, W: Sink>(
+    rt: &R,
+    watcher: &mut Watcher,
+    link: &mut L,
+    out: &mut W,
+    at: u32,
+) -> Result<(), ViewEnd>
+    requires ready { IsReady watcher.old }
+    requires room { watcher.old.published < most_publishes }
+    ensures ready { OnOk result (IsReady watcher.new) }
+    ensures count { OnOk result (watcher.new.published ≡ watcher.old.published + 1) }
+    ensures talk { (address : List ℕ) (lines : List PlainLine) → GoesOrStops (Acts (window_tells (output_tells W.written W.faults W.wants) (links_tell L.coming L.heard L.sent L.counts)))
+        (Receiving (viewer address watcher.old lines) (ToSee at)) (λ _. run (viewer address watcher.new lines) lines) result (window out.old link.old) (window out.new link.new) }
+{
+    match await_entry(rt, watcher, link, at) {
+        Ok(()) => {}
+        Err(end) => return Err(end),
+    }
+    tell_vote(watcher, link, out, at)
+}
+
+/// Votes on an entry, unless the view has it already.
+fn vote_on<R: Wait, L: Link, W: Sink>(
+    rt: &R,
+    watcher: &mut Watcher,
+    link: &mut L,
+    out: &mut W,
+    at: u32,
+) -> Result<(), ViewEnd>
+    requires ready { IsReady watcher.old }
+    requires room { watcher.old.published < most_publishes }
+    ensures ready { OnOk result (IsReady watcher.new) }
+    ensures count { OnOk result (watcher.new.published ≤ watcher.old.published + 1) }
+    ensures talk { (address : List ℕ) (lines : List PlainLine) → GoesOrStops (Acts (window_tells (output_tells W.written W.faults W.wants) (links_tell L.coming L.heard L.sent L.counts)))
+        (vote_on (viewer address watcher.old lines) at) (λ _. run (viewer address watcher.new lines) lines) result (window out.old link.old) (window out.new link.new) }
+{
+    if at <= watcher.replica.seen() {
+        return miss_vote(watcher, out);
+    }
+    await_vote(rt, watcher, link, out, at)
+}
+
 // ---- leaving
 
 /// The last line, with the digest of the replica's snapshot.
@@ -488,6 +535,26 @@ fn rest_and_tell<W: Sink>(watcher: &mut Watcher, out: &mut W) -> Result<(), View
     }
 }
 
+/// Rests and tells what came of it, and then the world of the view.
+fn show<W: Sink>(watcher: &mut Watcher, out: &mut W) -> Result<(), ViewEnd>
+    requires ready { IsReady watcher.old }
+    ensures kept { watcher.new ≡ record watcher.old { replica = watcher.new.replica } }
+    ensures ready { OnOk result (IsReady watcher.new) }
+    ensures ok { OnOk result (watcher.new.replica ≡ with_plain watcher.old.replica (takes_out (rested (worlds_of watcher.old.replica) watcher.old.replica.plain))) }
+    ensures printed { (address : List ℕ) (lines : List PlainLine) → OnOk result (PrintsText (output_tells W.written W.faults W.wants) Well (shown_text (after_rest (viewer address watcher.old lines)) (world_text (after_rest (viewer address watcher.old lines)))) out.old out.new) }
+    ensures err { (address : List ℕ) (lines : List PlainLine) → IfErr result (λ end. StopsPrinting (output_tells W.written W.faults W.wants) end (shown_text (after_rest (viewer address watcher.old lines)) (world_text (after_rest (viewer address watcher.old lines)))) out.old out.new) }
+{
+    match rest(watcher) {
+        Ok(()) => {}
+        Err(end) => return Err(end),
+    }
+    let text = match world_text(watcher) {
+        Ok(text) => text,
+        Err(WantOfMemory) => return Err(ViewEnd::WantOfMemory),
+    };
+    finish(watcher, out, text.as_str())
+}
+
 /// Rests and tells what came of it, leaves the session, and tells the last line.
 fn leave<L: Link, W: Sink>(watcher: &mut Watcher, link: &mut L, out: &mut W) -> Result<(), ViewEnd>
     requires ready { IsReady watcher.old }
@@ -538,7 +605,7 @@ fn run_line<R: Wait, L: Link, W: Sink>(
     requires fits { LineFits (plain_line line.now) }
     requires room { watcher.old.published + line_publishes (plain_line line.now) ≤ most_publishes }
     ensures ready { OnOk result (IsReady watcher.new) }
-    ensures count { OnOk result (watcher.new.published ≡ watcher.old.published + line_publishes (plain_line line.now)) }
+    ensures count { OnOk result (watcher.new.published ≤ watcher.old.published + line_publishes (plain_line line.now)) }
     ensures talk { (address : List ℕ) (lines : List PlainLine) → GoesOrStops (Acts (window_tells (output_tells W.written W.faults W.wants) (links_tell L.coming L.heard L.sent L.counts)))
         (run (viewer address watcher.old (plain_line line.now ∷ lines)) (plain_line line.now ∷ lines)) (λ flow. flow_phase (viewer address watcher.new lines) lines flow) result (window out.old link.old) (window out.new link.new) }
 {
@@ -572,6 +639,8 @@ fn run_line<R: Wait, L: Link, W: Sink>(
             Err(end) => Err(end),
         },
         ViewLine::Mark { word } => flow_of(mark(watcher, out, word)),
+        ViewLine::Vote { at } => flow_of(vote_on(rt, watcher, link, out, *at)),
+        ViewLine::Show => flow_of(show(watcher, out)),
     }
 }
 

@@ -214,12 +214,17 @@ pub fn run_view<R: Wait, N: Net, W: Sink>(
     let Ok(program) = visit.program.clone() else {
         return ViewEnd::WantOfMemory;
     };
-    let replica = match Replica::found(alloc, program, visit.id, visit.view) {
+    let Ok(own) = visit.program.clone() else {
+        return ViewEnd::WantOfMemory;
+    };
+    let replica = match Replica::found(alloc, own, visit.id, visit.view) {
         Ok(replica) => replica,
         Err(WantOfMemory) => return ViewEnd::WantOfMemory,
     };
     let mut watcher = Watcher {
         alloc,
+        program,
+        id: visit.id,
         view: visit.view,
         replica,
         published: 0,

@@ -1,1 +1,2 @@
 pub mod WorldLines
+pub mod WorldText

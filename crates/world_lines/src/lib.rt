@@ -1,4 +1,7 @@
-//! The lines that tell what is in a world.
+//! The line of a world, and the lines that tell what is in it.
+//!
+//! The line of a world tells its time, how many objects, messages to come, subscriptions and faults it has, and the digest of its
+//! snapshot. A world in full is that line, and then these:
 //!
 //! | Line | For each |
 //! |---|---|
@@ -16,7 +19,9 @@ mod faults;
 mod lines;
 mod names;
 mod words;
+mod world_text;
 
 pub use faults::fault_word;
 pub use lines::world_lines;
 pub use words::{push_arguments, push_literal, push_method, push_number, push_word};
+pub use world_text::{full_text, line_of, world_line};

@@ -52,6 +52,11 @@ impl<R: Clock + RandomSource + Copy> WsLink<R> {
         self.counters
     }
 
+    /// Whether its handshake was not done.
+    pub(crate) fn is_unshaken(&self) -> bool {
+        self.stage.is_unshaken()
+    }
+
     /// Closes in good manners: sends Close, stops sending, and reads on to the peer's end, for a second since that time at the most.
     pub(crate) fn close(self, since: Option<Instant>) {
         self.stage.close(since);

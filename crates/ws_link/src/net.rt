@@ -33,8 +33,10 @@ pub struct WsNet<R> {
     alloc: Global,
     rt: R,
     listening: Option<(TcpListener, News)>,
-    /// Why the last `listen` failed.
+    /// Why the last `listen` or `connect` failed.
     refusal: Option<ErrorKind>,
+    /// Whether the handshake of the link that was given back last was not done.
+    is_unshaken: bool,
     faults: u64,
     lent: usize,
     sums: Counters,
@@ -54,6 +56,7 @@ impl<R> WsNet<R> {
             rt,
             listening: None,
             refusal: None,
+            is_unshaken: false,
             faults: 0,
             lent: 0,
             sums: Counters::new(),
@@ -68,11 +71,16 @@ impl<R> WsNet<R> {
         self.faults
     }
 
-    /// Why the last `listen` failed, where it did.
+    /// Why the last `listen` or `connect` failed, where it did.
     pub fn refusal(&self) -> Option<ErrorKind>
         ensures { result ≡ self.now.refusal }
     {
         self.refusal
+    }
+
+    /// Whether the handshake of the link that was given back last was not done.
+    pub fn is_unshaken(&self) -> bool {
+        self.is_unshaken
     }
 
     /// Counts a call that failed.
@@ -173,14 +181,29 @@ where
     Ok(Stage::Accepting(handshake))
 }
 
-/// A link to an address, whose handshake is to come.
-fn connected<R>(alloc: Global, rt: R, address: &Text) -> Result<Stage<R>, NetFault>
+/// A connection to an address.
+fn stream_to<R>(rt: &R, address: &Text) -> Result<TcpStream, ErrorKind>
+where
+    R: Sockets<Listener = TcpListener, Stream = TcpStream>,
+{
+    let Some(at) = socket_address(address.as_str()) else {
+        return Err(ErrorKind::InvalidInput);
+    };
+    TcpStream::connect_timeout(rt, &at, Duration::from_millis(CONNECT_TIME)).map_err(
+        |error| error.kind(),
+    )
+}
+
+/// A link over a connection to an address, whose handshake is to come.
+fn connected<R>(
+    alloc: Global,
+    rt: R,
+    address: &Text,
+    stream: TcpStream,
+) -> Result<Stage<R>, NetFault>
 where
     R: Sockets<Listener = TcpListener, Stream = TcpStream> + Clock + RandomSource + Copy,
 {
-    let Some(at) = socket_address(address.as_str()) else {
-        return Err(NetFault::Failed);
-    };
     let Ok(uri) = format!(in alloc; "ws://{}/", address.as_str()) else {
         return Err(NetFault::WantOfMemory);
     };
@@ -191,10 +214,6 @@ where
     // The URI of an address is valid, so that only memory can be missing.
     let Ok(request) = client::request_of(alloc, uri.as_str()) else {
         return Err(NetFault::WantOfMemory);
-    };
-    let Ok(stream) = TcpStream::connect_timeout(&rt, &at, Duration::from_millis(CONNECT_TIME))
-    else {
-        return Err(NetFault::Failed);
     };
     let keys = Keys::Client(RandomKeys::new(rt));
     let watch = Watch::new(alloc, &rt, &stream, None)?;
@@ -245,13 +264,23 @@ where
     }
 
     fn connect(&mut self, address: &Text) -> Result<WsLink<R>, NetFault> {
-        let made = connected(self.alloc, self.rt, address);
-        self.lend(made)
+        match stream_to(&self.rt, address) {
+            Ok(stream) => {
+                self.refusal = None;
+                let made = connected(self.alloc, self.rt, address, stream);
+                self.lend(made)
+            }
+            Err(kind) => {
+                self.refusal = Some(kind);
+                Err(self.fail())
+            }
+        }
     }
 
     fn back(&mut self, conn: WsLink<R>) {
         self.lent -= 1;
         self.sums.add(conn.counters());
+        self.is_unshaken = conn.is_unshaken();
         if self.closing.is_none() {
             self.closing = Instant::now(&self.rt).ok();
         }

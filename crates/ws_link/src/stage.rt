@@ -265,6 +265,14 @@ fn put<R: Clock + RandomSource + Copy>(
 }
 
 impl<R: Clock + RandomSource + Copy> Stage<R> {
+    /// Whether its handshake was not done.
+    pub fn is_unshaken(&self) -> bool {
+        match self {
+            Stage::Accepting(_) | Stage::Connecting(_) | Stage::Over(None, _) => true,
+            Stage::Open(_) | Stage::Over(Some(_), _) => false,
+        }
+    }
+
     /// Goes on with a handshake, as far as the peer's bytes reach.
     fn shake_hands(self, alloc: Global) -> Stage<R> {
         match self {

@@ -36,6 +36,9 @@ returns-in-Gives-clause-turns g t c =
 pub returns-in-Visits-clause-turns : goal.returns-in-Visits-clause-turns
 returns-in-Visits-clause-turns g t c = rw c.in-Visits.is (record { steps = []; comes = refl; acts = refl })
 
+pub returns-in-Lives-clause-turns : goal.returns-in-Lives-clause-turns
+returns-in-Lives-clause-turns g t c = rw c.in-Lives.is (record { steps = []; comes = refl; acts = refl })
+
 pub returns-in-Reflects-clause-turns : goal.returns-in-Reflects-clause-turns
 returns-in-Reflects-clause-turns g t c = rw c.in-Reflects.is (record { steps = []; comes = refl; acts = refl })
 

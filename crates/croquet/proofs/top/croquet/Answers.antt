@@ -1,18 +1,19 @@
 use Rattle.std.proofs.Common.{inl, inr, refl}
 use Rattle.command_words.specs.CommandWords.{command_of}
 use Rattle.commands.specs.Verdict.{Comes}
-use Rattle.commands.specs.Work.{plain_keeping, plain_reflection, visit_of}
+use Rattle.commands.specs.Work.{plain_keeping, plain_live, plain_reflection, visit_of}
 use Rattle.commands.proofs.NetLaws.{never_on_net}
 use Rattle.croquet.proofs.Completeness.{is_complete}
 use Rattle.croquet.proofs.DrillRuns.{ran_drilling}
 use Rattle.croquet.proofs.KeptRuns.{ran_kept, ran_unkept}
+use Rattle.croquet.proofs.LiveRuns.{ran_living}
 use Rattle.croquet.proofs.ReflectorRuns.{ran_reflecting}
 use Rattle.croquet.proofs.VisitRuns.{ran_beside, ran_visiting}
 use Rattle.croquet.proofs.top.croquet.Goals as goal
 
 pub returns-in-Over-clause-ran : goal.returns-in-Over-clause-ran
 returns-in-Over-clause-ran g c =
-    inl (inl (ran_beside _ _ _ _ c.args.net (Comes (command_of c.args.words.now)) c.args.files.now c.begin.new.files c.args.out.now c.begin.new.out c.in-Over.status c.in-Over.ensures.turns), refl)
+    inl (inl (ran_beside _ _ _ _ c.args.net (Comes (command_of c.args.words.now)) c.args.files.now c.begin.new.files c.args.out.now c.begin.new.out c.in-Over.status c.in-Over.ensures.turns), refl, refl)
 
 pub returns-in-Visits-clause-ran : goal.returns-in-Visits-clause-ran
 returns-in-Visits-clause-ran g c =
@@ -20,13 +21,23 @@ returns-in-Visits-clause-ran g c =
       inl (ran_visiting _ _ _ _ (Comes (command_of c.args.words.now)) (visit_of c.in-Visits.request) c.args.files.now c.begin.new.files c.args.out.now c.begin.new.out c.run_visit-status.new.out c.args.net c.run_visit-status.new.net
           c.run_visit-status.result c.in-Visits.ensures.turns c.run_visit-status.ensures),
       refl,
+      refl,
     )
+
+pub returns-in-Lives-clause-ran : goal.returns-in-Lives-clause-ran
+returns-in-Lives-clause-ran g c =
+    inr (inr (
+      ran_living _ _ _ _ _ (Comes (command_of c.args.words.now)) (plain_live c.in-Lives.start) c.args.feed.now c.run_live_view-status.new.feed c.args.files.now c.begin.new.files c.args.out.now c.begin.new.out c.run_live_view-status.new.out
+          c.args.net c.run_live_view-status.new.net c.run_live_view-status.result c.in-Lives.ensures.turns c.run_live_view-status.ensures,
+      refl,
+    ))
 
 pub returns-in-Reflects-clause-ran : goal.returns-in-Reflects-clause-ran
 returns-in-Reflects-clause-ran g c =
     inl (
       inr (inl (ran_reflecting _ _ _ _ _ (Comes (command_of c.args.words.now)) (plain_reflection c.in-Reflects.reflection) c.reflect-net.result.1 c.args.files.now c.begin.new.files c.tell_reflected-status.new.files c.args.out.now c.begin.new.out c.tell_reflected-status.new.out
           c.args.net c.reflect-net.result.0 c.tell_reflected-status.result c.in-Reflects.ensures.turns c.reflect-net.ensures c.tell_reflected-status.ensures)),
+      refl,
       refl,
     )
 
@@ -36,42 +47,56 @@ returns-in-Drills-clause-ran g c =
       inr (inr (ran_drilling _ _ _ _ _ (Comes (command_of c.args.words.now)) c.in-Drills.request c.drill-answer.result c.args.files.now c.begin.new.files c.tell_drilled-status.new.files c.args.out.now c.begin.new.out c.tell_drilled-status.new.out
           c.args.net c.tell_drilled-status.result c.in-Drills.ensures.turns c.drill-answer.ensures c.tell_drilled-status.ensures)),
       refl,
+      refl,
     )
 
 pub returns-in-Ok-clause-ran : goal.returns-in-Ok-clause-ran
 returns-in-Ok-clause-ran g c =
-    inr (ran_kept _ _ _ _ c.args.net _ _ (Comes (command_of c.args.words.now)) (plain_keeping c.in-Keeps.keeping) (plain_keeping c.in-Ok.keeping) c.in-Ok.opening c.args.files.now c.begin.new.files c.prepare.new.files c.serve_kept.new.files
-    c.args.out.now c.begin.new.out c.prepare.new.out c.serve_kept.new.out c.serve_kept.result.0 c.args.stores.now c.prepare.new.stores c.serve_kept.new.stores c.serve_kept.result.1
-    c.in-Keeps.ensures.turns c.in-Ok.ensures.prepares c.serve_kept.ensures)
+    inr (inl (
+      ran_kept _ _ _ _ c.args.net _ _ (Comes (command_of c.args.words.now)) (plain_keeping c.in-Keeps.keeping) (plain_keeping c.in-Ok.keeping) c.in-Ok.opening c.args.files.now c.begin.new.files c.prepare.new.files c.serve_kept.new.files
+          c.args.out.now c.begin.new.out c.prepare.new.out c.serve_kept.new.out c.serve_kept.result.0 c.args.stores.now c.prepare.new.stores c.serve_kept.new.stores c.serve_kept.result.1
+          c.in-Keeps.ensures.turns c.in-Ok.ensures.prepares c.serve_kept.ensures,
+      refl,
+    ))
 
 pub returns-in-Err-clause-ran : goal.returns-in-Err-clause-ran
 returns-in-Err-clause-ran g c =
-    inr (ran_unkept _ _ _ _ c.args.net _ _ (Comes (command_of c.args.words.now)) (plain_keeping c.in-Keeps.keeping) c.args.files.now c.begin.new.files c.prepare.new.files c.args.out.now c.begin.new.out c.prepare.new.out
-    c.args.stores.now c.prepare.new.stores c.in-Err.status c.in-Keeps.ensures.turns c.in-Err.ensures.prepares)
+    inr (inl (
+      ran_unkept _ _ _ _ c.args.net _ _ (Comes (command_of c.args.words.now)) (plain_keeping c.in-Keeps.keeping) c.args.files.now c.begin.new.files c.prepare.new.files c.args.out.now c.begin.new.out c.prepare.new.out
+          c.args.stores.now c.prepare.new.stores c.in-Err.status c.in-Keeps.ensures.turns c.in-Err.ensures.prepares,
+      refl,
+    ))
 
 -- each run is complete
 pub returns-in-Over-clause-complete : goal.returns-in-Over-clause-complete
-returns-in-Over-clause-complete g c = is_complete _ _ _ _ _ c.one_verdict.ensures c.ends_are_caused.ensures.peer c.ends_are_caused.ensures.ended c.ends_are_caused.ensures.refused _ (command_of c.args.words.now) _ _ _ _ c.in-Over.status (returns-in-Over-clause-ran g c)
+returns-in-Over-clause-complete g c = is_complete _ _ _ _ _ _ c.one_verdict.ensures c.ends_are_caused.ensures.peer c.ends_are_caused.ensures.ended c.ends_are_caused.ensures.refused _ (command_of c.args.words.now) _ _ _ _ _ _ c.in-Over.status (returns-in-Over-clause-ran g c)
 
 pub returns-in-Visits-clause-complete : goal.returns-in-Visits-clause-complete
-returns-in-Visits-clause-complete g c = is_complete _ _ _ _ _ c.one_verdict.ensures c.ends_are_caused.ensures.peer c.ends_are_caused.ensures.ended c.ends_are_caused.ensures.refused _ (command_of c.args.words.now) _ _ _ _ c.run_visit-status.result (returns-in-Visits-clause-ran g c)
+returns-in-Visits-clause-complete g c = is_complete _ _ _ _ _ _ c.one_verdict.ensures c.ends_are_caused.ensures.peer c.ends_are_caused.ensures.ended c.ends_are_caused.ensures.refused _ (command_of c.args.words.now) _ _ _ _ _ _ c.run_visit-status.result (returns-in-Visits-clause-ran g c)
+
+pub returns-in-Lives-clause-complete : goal.returns-in-Lives-clause-complete
+returns-in-Lives-clause-complete g c =
+    is_complete _ _ _ _ _ _ c.one_verdict.ensures c.ends_are_caused.ensures.peer c.ends_are_caused.ensures.ended c.ends_are_caused.ensures.refused _ (command_of c.args.words.now) _ _ _ _ _ _ c.run_live_view-status.result (returns-in-Lives-clause-ran g c)
 
 pub returns-in-Reflects-clause-complete : goal.returns-in-Reflects-clause-complete
 returns-in-Reflects-clause-complete g c =
-    is_complete _ _ _ _ _ c.one_verdict.ensures c.ends_are_caused.ensures.peer c.ends_are_caused.ensures.ended c.ends_are_caused.ensures.refused _ (command_of c.args.words.now) _ _ _ _ c.tell_reflected-status.result (returns-in-Reflects-clause-ran g c)
+    is_complete _ _ _ _ _ _ c.one_verdict.ensures c.ends_are_caused.ensures.peer c.ends_are_caused.ensures.ended c.ends_are_caused.ensures.refused _ (command_of c.args.words.now) _ _ _ _ _ _ c.tell_reflected-status.result (returns-in-Reflects-clause-ran g c)
 
 pub returns-in-Drills-clause-complete : goal.returns-in-Drills-clause-complete
-returns-in-Drills-clause-complete g c = is_complete _ _ _ _ _ c.one_verdict.ensures c.ends_are_caused.ensures.peer c.ends_are_caused.ensures.ended c.ends_are_caused.ensures.refused _ (command_of c.args.words.now) _ _ _ _ c.tell_drilled-status.result (returns-in-Drills-clause-ran g c)
+returns-in-Drills-clause-complete g c = is_complete _ _ _ _ _ _ c.one_verdict.ensures c.ends_are_caused.ensures.peer c.ends_are_caused.ensures.ended c.ends_are_caused.ensures.refused _ (command_of c.args.words.now) _ _ _ _ _ _ c.tell_drilled-status.result (returns-in-Drills-clause-ran g c)
 
 pub returns-in-Ok-clause-complete : goal.returns-in-Ok-clause-complete
-returns-in-Ok-clause-complete g c = is_complete _ _ _ _ _ c.one_verdict.ensures c.ends_are_caused.ensures.peer c.ends_are_caused.ensures.ended c.ends_are_caused.ensures.refused _ (command_of c.args.words.now) _ _ _ _ c.serve_kept.result.1 (returns-in-Ok-clause-ran g c)
+returns-in-Ok-clause-complete g c = is_complete _ _ _ _ _ _ c.one_verdict.ensures c.ends_are_caused.ensures.peer c.ends_are_caused.ensures.ended c.ends_are_caused.ensures.refused _ (command_of c.args.words.now) _ _ _ _ _ _ c.serve_kept.result.1 (returns-in-Ok-clause-ran g c)
 
 pub returns-in-Err-clause-complete : goal.returns-in-Err-clause-complete
-returns-in-Err-clause-complete g c = is_complete _ _ _ _ _ c.one_verdict.ensures c.ends_are_caused.ensures.peer c.ends_are_caused.ensures.ended c.ends_are_caused.ensures.refused _ (command_of c.args.words.now) _ _ _ _ c.in-Err.status (returns-in-Err-clause-ran g c)
+returns-in-Err-clause-complete g c = is_complete _ _ _ _ _ _ c.one_verdict.ensures c.ends_are_caused.ensures.peer c.ends_are_caused.ensures.ended c.ends_are_caused.ensures.refused _ (command_of c.args.words.now) _ _ _ _ _ _ c.in-Err.status (returns-in-Err-clause-ran g c)
 
 -- a command that goes on with a net is `join` or `reflect`
 pub returns-in-Visits-clause-net : goal.returns-in-Visits-clause-net
 returns-in-Visits-clause-net g c = λ other. absurd (never_on_net (command_of c.args.words.now) other _ c.in-Visits.ensures.turns.comes tt)
+
+pub returns-in-Lives-clause-net : goal.returns-in-Lives-clause-net
+returns-in-Lives-clause-net g c = λ other. absurd (never_on_net (command_of c.args.words.now) other _ c.in-Lives.ensures.turns.comes tt)
 
 pub returns-in-Reflects-clause-net : goal.returns-in-Reflects-clause-net
 returns-in-Reflects-clause-net g c = λ other. absurd (never_on_net (command_of c.args.words.now) other _ c.in-Reflects.ensures.turns.comes tt)

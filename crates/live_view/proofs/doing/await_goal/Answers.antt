@@ -1,6 +1,8 @@
 use Rattle.view_shell.specs.Viewers.{viewer}
 use Rattle.live_view.specs.declared.input.Goal.TheVariants as aim
 use Rattle.live_view.proofs.Leading.{goal_comes, join_waits, snap_waits}
+use Rattle.live_view.specs.Doing.{votes_for}
+use Rattle.live_view.proofs.Leading.{none_waits, see_waits}
 use Rattle.live_view.proofs.doing.await_goal.Goals as goal
 
 pub returns-in-Reach-clause-told : goal.returns-in-Reach-clause-told
@@ -20,3 +22,15 @@ returns-in-Join-clause-told c address lines = join_waits c.args.out.now (viewer 
 
 pub returns-in-Snap-clause-told : goal.returns-in-Snap-clause-told
 returns-in-Snap-clause-told c address lines = snap_waits c.args.out.now (viewer address c.args.watcher.now lines) c.args.goal c.in-Snap.is
+
+pub returns-in-See-clause-told : goal.returns-in-See-clause-told
+returns-in-See-clause-told c address lines = see_waits c.args.out.now (viewer address c.args.watcher.now lines) c.args.goal c.in-See.field-0 c.in-See.is
+
+pub returns-in-Reach-clause-waits : goal.returns-in-Reach-clause-waits
+returns-in-Reach-clause-waits c = none_waits c.reach.result (votes_for c.args.goal) c.reach.ensures.waits
+
+pub returns-in-Settle-clause-waits : goal.returns-in-Settle-clause-waits
+returns-in-Settle-clause-waits c = none_waits c.await_settled.result (votes_for c.args.goal) c.await_settled.ensures.waits
+
+pub returns-in-CatchUp-clause-waits : goal.returns-in-CatchUp-clause-waits
+returns-in-CatchUp-clause-waits c = none_waits c.catch_up.result (votes_for c.args.goal) c.catch_up.ensures.waits

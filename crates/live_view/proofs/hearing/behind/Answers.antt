@@ -4,6 +4,12 @@ use Rattle.view_shell.specs.Viewers.{viewer}
 use Rattle.view_shell.specs.ViewText.{snapped_line, snap_refused_line}
 use Rattle.live_view.specs.declared.input.Goal.TheVariants as aim
 use Rattle.live_view.proofs.Leading.{heard_at, heard_on, heard_sync, heard_told}
+use Rattle.std.proofs.Common.{◌≡◌, ◌+◌, ◌≤◌, arith, ap, subst, sym}
+use Rattle.std.specs.Prelude.{IfOk, nat_le}
+use Rattle.view_shell.specs.Phases.{after_entry, after_frame}
+use Rattle.live_view.specs.declared.input.Goal.{Goal}
+use Rattle.live_view.specs.Doing.{aim_of, votes_at, votes_for}
+use Rattle.live_view.proofs.Leading.{comes_at, frame_at}
 use Rattle.live_view.proofs.hearing.behind.Goals as goal
 
 pub returns-in-Sync-clause-told : goal.returns-in-Sync-clause-told
@@ -73,3 +79,28 @@ returns-in-Settle-clause-told c address lines =
 pub returns-in-CatchUp-clause-told : goal.returns-in-CatchUp-clause-told
 returns-in-CatchUp-clause-told c address lines =
     heard_on c.hear_on-in-CatchUp.result c.args.out.now c.hear_on-in-CatchUp.new.out (viewer address c.args.watcher.now lines) (viewer address c.hear_on-in-CatchUp.new.watcher lines) c.args.goal aim.CatchUp c.args.frame.now c.args.frame.now c.in-CatchUp.is refl refl (c.hear_on-in-CatchUp.ensures.told address lines)
+
+pub returns-in-See-clause-told : goal.returns-in-See-clause-told
+returns-in-See-clause-told c address lines =
+    let v = viewer address c.args.watcher.now lines in
+    comes_at c.seen_on.result c.args.out.now c.seen_on.new.out (after_frame v (aim_of c.args.goal) c.args.frame.now) (after_entry (nat_le c.in-See.at v.replica.seen) v c.in-See.at) (viewer address c.seen_on.new.watcher lines)
+    (frame_at v c.args.goal (aim.See c.in-See.at) c.args.frame.now c.args.frame.now _ c.in-See.is refl refl) (c.seen_on.ensures.told address lines)
+
+pub seen_on-requires-clause-room : goal.seen_on-requires-clause-room
+seen_on-requires-clause-room c =
+    let one : votes_for c.args.goal ≡ 1 = ap votes_for c.in-See.is in
+    let room = c.requires.room in
+    omega (arith, one, room)
+
+pub returns-in-See-clause-count : goal.returns-in-See-clause-count
+returns-in-See-clause-count c =
+    subst (λ (g : Goal). IfOk c.seen_on.result (λ place. c.seen_on.new.watcher.published + votes_at place ≤ c.args.watcher.now.published + votes_for g)) (sym c.in-See.is) c.seen_on.ensures.count
+
+pub returns-in-Sync-clause-count : goal.returns-in-Sync-clause-count
+returns-in-Sync-clause-count c = c.synced.ensures.count (votes_for c.args.goal)
+
+pub returns-in-Snapped-frame-clause-count : goal.returns-in-Snapped-frame-clause-count
+returns-in-Snapped-frame-clause-count c = c.snapped.ensures.count (votes_for c.args.goal)
+
+pub returns-in-Refused-frame-clause-count : goal.returns-in-Refused-frame-clause-count
+returns-in-Refused-frame-clause-count c = c.refused.ensures.count (votes_for c.args.goal)

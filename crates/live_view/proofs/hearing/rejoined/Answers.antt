@@ -6,6 +6,8 @@ use Rattle.view_shell.specs.ViewText.{rejoined_line}
 use Rattle.view_shell.proofs.Readiness.{viewer_sent}
 use Rattle.live_view.specs.Doing.{Leads}
 use Rattle.live_view.proofs.Leading.{leads_on, text_comes}
+use Rattle.view_shell.specs.declared.watcher.Watcher.{Watcher}
+use Rattle.std.proofs.Common.{◌≡◌, ap, arith}
 use Rattle.live_view.proofs.hearing.rejoined.Goals as goal
 
 pub returns-clause-told : goal.returns-clause-told
@@ -22,3 +24,9 @@ returns-clause-told c address lines =
     (leads_on c.args.out.now c.stay_alive.new.out c.send_unsent.new.out (go_on (after_giving v) (unsent v.replica) task) (send_all (after_giving m) (unsent m.replica) task) (finish s text) alive
     (c.in_ok-send_unsent.ensures.talk address lines task))
     (c.as_str.ensures.value ∙ c.in_ok-text.ensures) (c.in_ok-tell.ensures.told address lines)
+
+pub returns-clause-count : goal.returns-clause-count
+returns-clause-count c votes =
+    let same : c.tell.new.watcher.published ≡ c.args.watcher.now.published =
+    ap (λ (w : Watcher). w.published) c.tell.ensures.kept ∙ ap (λ (w : Watcher). w.published) c.send_unsent.ensures.kept ∙ ap (λ (w : Watcher). w.published) c.stay_alive.ensures.kept in
+    omega (arith, same)

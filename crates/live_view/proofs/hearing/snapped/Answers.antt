@@ -5,6 +5,8 @@ use Rattle.view_shell.specs.ViewText.{snapped_line}
 use Rattle.view_shell.proofs.Readiness.{viewer_sent}
 use Rattle.live_view.specs.Doing.{Leads}
 use Rattle.live_view.proofs.Leading.{text_comes}
+use Rattle.view_shell.specs.declared.watcher.Watcher.{Watcher}
+use Rattle.std.proofs.Common.{◌≡◌, ap, arith}
 use Rattle.live_view.proofs.hearing.snapped.Goals as goal
 
 pub returns-clause-told : goal.returns-clause-told
@@ -16,3 +18,8 @@ returns-clause-told c address lines =
     (subst (λ (u : Viewer). Leads c.args.out.now c.stay_alive.new.out (go_on v [] (TellsText text)) (finish u text)) (viewer_sent address lines c.args.watcher.now c.stay_alive.new.watcher c.stay_alive.ensures.kept)
     (c.in_ok-stay_alive.ensures.talk v [] (TellsText text) refl))
     (c.as_str.ensures.value ∙ c.in_ok-text.ensures) (c.in_ok-tell.ensures.told address lines)
+
+pub returns-clause-count : goal.returns-clause-count
+returns-clause-count c votes =
+    let same : c.tell.new.watcher.published ≡ c.args.watcher.now.published = ap (λ (w : Watcher). w.published) c.tell.ensures.kept ∙ ap (λ (w : Watcher). w.published) c.stay_alive.ensures.kept in
+    omega (arith, same)

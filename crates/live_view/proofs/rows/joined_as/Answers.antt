@@ -34,3 +34,6 @@ returns-in-Failed c = sym (ap (joined_as (aim_of c.args.goal)) c.in-Failed.is)
 
 pub returns-in-WantOfMemory : goal.returns-in-WantOfMemory
 returns-in-WantOfMemory c = sym (ap (joined_as (aim_of c.args.goal)) c.in-WantOfMemory.is)
+
+pub returns-in-See : goal.returns-in-See
+returns-in-See c = sym (ap (joined_as (aim_of c.args.goal)) c.in-Frame.is ∙ ap (λ (g : Goal). joined_as (aim_of g) (heard.Frame c.in-Frame.bytes)) c.in-See.is)

@@ -1,4 +1,4 @@
-use Rattle.std.proofs.Common.{◌≡◌, ℕ, ◌+◌, List, drop}
+use Rattle.std.proofs.Common.{◌≡◌, ℕ, ◌+◌, ◌≤◌, List, drop}
 use Rattle.std.specs.List.{AllByRecursion}
 use Rattle.view_script.specs.PlainLine.{LineFits, plain_lines, publish_count}
 use Rattle.view_shell.specs.Viewers.{HasRoomFor, IsReady, viewer}
@@ -12,7 +12,7 @@ invariant-loop-index l = record {
   ready : IsReady l.watcher;
   fit : AllByRecursion LineFits (plain_lines (drop l.index l.lines));
   room : HasRoomFor l.watcher (plain_lines (drop l.index l.lines));
-  count : l.watcher.published + publish_count (plain_lines (drop l.index l.lines)) ≡ l.fn.watcher.published + publish_count (plain_lines l.lines);
+  count : l.watcher.published + publish_count (plain_lines (drop l.index l.lines)) ≤ l.fn.watcher.published + publish_count (plain_lines l.lines);
   told : (address : List ℕ) → after l.fn.out (lines_from l.closed (plain_lines l.lines) (viewer address l.fn.watcher (plain_lines l.lines)))
       ≡ after l.out (lines_from l.closed (plain_lines (drop l.index l.lines)) (viewer address l.watcher (plain_lines (drop l.index l.lines))));
 }

@@ -1,35 +1,10 @@
-use Rattle.std.proofs.Common.{◌++◌, ◌∙◌, List, ℕ, Option}
+use Rattle.std.proofs.Common.{◌++◌, ◌∙◌}
 use Rattle.tea_io.proofs.Writing.{on_err}
-use Rattle.session_journal.proofs.KeeperLaws.{within_first, within_then, all_written, three_pieces}
+use Rattle.session_journal.proofs.KeeperLaws.{all_written}
 use Rattle.session_journal.proofs.keeper.write.Goals as goal
-
-pub returns-in_err-append-clause-part : goal.returns-in_err-append-clause-part
-returns-in_err-append-clause-part g c =
-    on_err c.from_residual.result
-    (within_first (g.S.Store.bytes c.args.store.now) (g.S.Store.bytes c.append.new.self) c.args.head.now (c.args.payload.now ++ c.args.check.now) c.in_err-append.ensures.part)
-
-pub returns-in_err-append-2-clause-part : goal.returns-in_err-append-2-clause-part
-returns-in_err-append-2-clause-part g c =
-    let first : Option (List ℕ) = g.S.Store.bytes c.append.new.self in
-    let second : Option (List ℕ) = g.S.Store.bytes c.append-2.new.self in
-    on_err c.from_residual-in_err-append-2.result
-    (within_then (g.S.Store.bytes c.args.store.now) first second c.args.head.now (c.args.payload.now ++ c.args.check.now) c.in_ok-append.ensures.ok
-    (within_first first second c.args.payload.now c.args.check.now c.in_err-append-2.ensures.part))
-
-pub returns-in_err-append-3-clause-part : goal.returns-in_err-append-3-clause-part
-returns-in_err-append-3-clause-part g c =
-    let first : Option (List ℕ) = g.S.Store.bytes c.append.new.self in
-    let second : Option (List ℕ) = g.S.Store.bytes c.append-2.new.self in
-    let third : Option (List ℕ) = g.S.Store.bytes c.append-3.new.self in
-    on_err c.from_residual-in_err-append-3.result
-    (within_then (g.S.Store.bytes c.args.store.now) first third c.args.head.now (c.args.payload.now ++ c.args.check.now) c.in_ok-append.ensures.ok
-    (within_then first second third c.args.payload.now c.args.check.now c.in_ok-append-2.ensures.ok c.in_err-append-3.ensures.part))
 
 pub returns-clause-part : goal.returns-clause-part
 returns-clause-part g c =
-    let old : Option (List ℕ) = g.S.Store.bytes c.args.store.now in
     on_err c.sync.result
-    (all_written old (g.S.Store.bytes c.sync.new.self) (c.args.head.now ++ (c.args.payload.now ++ c.args.check.now))
-    (c.sync.ensures.bytes
-    ∙ three_pieces old (g.S.Store.bytes c.append.new.self) (g.S.Store.bytes c.append-2.new.self) (g.S.Store.bytes c.append-3.new.self) c.args.head.now c.args.payload.now c.args.check.now
-    c.in_ok-append.ensures.ok c.in_ok-append-2.ensures.ok c.in_ok-append-3.ensures.ok))
+    (all_written (g.S.Store.bytes c.args.store.now) (g.S.Store.bytes c.sync.new.self) (c.args.head.now ++ (c.args.payload.now ++ c.args.check.now))
+    (c.sync.ensures.bytes ∙ c.in_ok-append.ensures.ok))

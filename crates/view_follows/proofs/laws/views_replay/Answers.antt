@@ -1,4 +1,4 @@
-use Rattle.std.proofs.Common.{◌≡◌, ℕ, List, refl, sym, ap, ◌∙◌}
+use Rattle.std.proofs.Common.{◌≡◌, ℕ, List, [], refl, sym, ap, ◌∙◌}
 use Rattle.tea_base.specs.declared.entry.Entry.{Entry}
 use Rattle.tea_base.specs.Readings.{count_until}
 use Rattle.model_solved.specs.Founding.{Founding}
@@ -7,10 +7,12 @@ use Rattle.replica.specs.RealWorlds.{worlds}
 use Rattle.replica_plain.specs.Worlds.{replay_world}
 use Rattle.replica_plain.specs.PlainReplica.{new_replica}
 use Rattle.replica_plain.proofs.SyncSteps.{first_world_follows}
+use Rattle.view_shell.specs.Phases.{Printing}
 use Rattle.view_shell.specs.Viewers.{first_phase}
 use Rattle.view_follows.specs.ViewsReplay.{IsReplayLine, TellsReplayOf}
-use Rattle.view_follows.proofs.Stands.{TellsReplay, line_of}
-use Rattle.view_follows.proofs.Walking.{walk_ends, walk_offers, walk_tells}
+use Rattle.view_follows.proofs.Shown.{shows_replay, walk_keeps}
+use Rattle.view_follows.proofs.Stands.{TellsReplay, line_of, rested_replays}
+use Rattle.view_follows.proofs.Walking.{walk_ends, walk_offers, walk_prints, walk_tells}
 use Rattle.view_follows.proofs.laws.views_replay.Goals as goal
 
 tells_replay : (founding : Founding) (id : List ℕ) (view : ℕ) (log : List Entry) (line : List ℕ) → ((t : ℕ) → (replay founding id log t).world ≡ replay_world (worlds founding id) log t) → TellsReplay (worlds founding id) log view line → TellsReplayOf founding id view log line
@@ -53,4 +55,12 @@ returns c = record {
       let laws = c.worlds_stand.ensures founding id visit.program in
       walk_offers m laws log visit.legal view (first_phase founding id view address lines) steps last
       (record { same = refl; its = refl; follows = first_world_follows m log (new_replica m view) laws visit.legal refl refl refl }) visit.serves visit.walks;
+  shows = λ founding id view address lines log steps v text rest visit is.
+      let m = worlds founding id in
+      let laws = c.worlds_stand.ensures founding id visit.program in
+      let reads = walk_prints m laws log visit.legal view (first_phase founding id view address lines) steps v text
+      (record { same = refl; its = refl; follows = first_world_follows m log (new_replica m view) laws visit.legal refl refl refl }) visit.serves visit.walks in
+      let has = rested_replays m log view laws visit.legal v.worlds v.replica [] reads in
+      shows_replay founding id log v rest (walk_keeps founding.tree (first_phase founding id view address lines) (Printing v text) steps refl visit.walks)
+      (has.replayed ∙ sym (c.worlds_replay.ensures.replays founding id log _));
 }

@@ -1,5 +1,5 @@
 use Rattle.std.proofs.Common.{◌≤◌, ◌<◌, refl, arith}
-use Rattle.view_shell.specs.ViewText.{time_line}
+use Rattle.view_shell.specs.ViewText.{reached_time_line}
 use Rattle.view_shell.specs.Phases.{ToReach, Receiving, finish, receive}
 use Rattle.view_shell.specs.Viewers.{viewer}
 use Rattle.view_shell.proofs.Going.{goes_and_stops, goes_nowhere, goes_on, goes_to, link_acts_behind}
@@ -13,7 +13,7 @@ pub returns-then-time-clause-talk : goal.returns-then-time-clause-talk
 returns-then-time-clause-talk g c address lines =
     let v = viewer address c.loop.watcher lines in
     let late : c.args.time ≤ v.replica.world.time = omega (arith, c.if-time.true, c.time.ensures.time) in
-    goes_to _ (receive (viewer address c.args.watcher.now lines) (ToReach c.args.time)) (receive v (ToReach c.args.time)) (finish v (time_line v.replica.world.time)) c.args.link.now c.loop.link
+    goes_to _ (receive (viewer address c.args.watcher.now lines) (ToReach c.args.time)) (receive v (ToReach c.args.time)) (finish v (reached_time_line v.replica.world.time)) c.args.link.now c.loop.link
     (reached v c.args.time late) (c.loop.invariant.talk address lines)
 
 pub loop-preserved : goal.loop-preserved

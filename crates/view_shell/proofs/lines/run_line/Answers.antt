@@ -8,12 +8,16 @@ use Rattle.view_bridge.specs.Topics.{subscribes}
 use Rattle.view_script.specs.PlainLine.{plain_line}
 use Rattle.view_script.specs.declared.line.ViewLine.{ViewLine}
 use Rattle.view_shell.specs.declared.ending.ViewEnd.TheVariants as ending
-use Rattle.view_shell.specs.Phases.{Viewer, Over, Receives, Sending, ToReach, ToSettle, ToCatchUp, ToSnap, time_after, finish, after_giving, leave_session, after_publish, receive, run, send_all}
+use Rattle.view_shell.specs.Phases.{Viewer, Over, Receives, Sending, ToReach, ToSettle, ToCatchUp, ToSnap, finish, after_giving, leave_session, after_publish, receive, run, send_all, show_world, vote_on}
 use Rattle.view_shell.specs.ViewText.{mark_line}
 use Rattle.view_shell.specs.Viewers.{viewer}
-use Rattle.view_shell.proofs.Flowing.{done_behind, done_printing, flow_from}
+use Rattle.view_shell.proofs.Flowing.{done_behind, done_printing, done_showing, flow_from}
 use Rattle.view_shell.proofs.Going.{all_acts_behind, goes_from, goes_in_window, stops_from, stops_in_window, wants}
-use Rattle.view_shell.proofs.Readiness.{viewer_finished, viewer_published, viewer_watched}
+use Rattle.view_shell.proofs.Readiness.{viewer_finished, viewer_published, viewer_shown, viewer_watched}
+use Rattle.std.proofs.Common.{◌+◌, ◌≤◌, subst}
+use Rattle.std.specs.Prelude.{OnOk}
+use Rattle.view_script.specs.PlainLine.{line_publishes}
+use Rattle.view_shell.proofs.Voting.{flow_well}
 use Rattle.view_shell.proofs.lines.run_line.Goals as goal
 
 pub returns-in-Ok-clause-talk : goal.returns-in-Ok-clause-talk
@@ -85,6 +89,28 @@ returns-in-Mark-clause-talk g c address lines =
     (done_printing out links c.args.link.now c.args.out.now c.mark.new.out v u (mark_line c.in-Mark.word) c.mark.result
     (viewer_finished address lines old c.mark.new.watcher c.mark.result c.mark.ensures.kept c.mark.ensures.ok) (c.mark.ensures.printed address lines) (c.mark.ensures.err address lines))
 
+pub returns-in-Show-clause-talk : goal.returns-in-Show-clause-talk
+returns-in-Show-clause-talk g c address lines =
+    let out = output_tells g.W.Sink.written g.W.Sink.faults g.W.Sink.wants in
+    let links = links_tell g.L.Link.coming g.L.Link.heard g.L.Link.sent g.L.Link.counts in
+    let old = c.args.watcher.now in
+    let first = run (viewer address old (plain_line c.args.line.now ∷ lines)) (plain_line c.args.line.now ∷ lines) in
+    let v = viewer address old lines in
+    let u = viewer address c.show.new.watcher lines in
+    flow_from (Acts (window_tells out links)) first (show_world v) u lines (window c.args.out.now c.args.link.now) (window c.show.new.out c.args.link.now)
+    c.show.result c.flow_of-in-Show.result c.flow_of-in-Show.ensures (ap (λ (l : ViewLine). run (viewer address old (plain_line l ∷ lines)) (plain_line l ∷ lines)) c.in-Show.is)
+    (done_showing out links c.args.link.now c.args.out.now c.show.new.out v u c.show.result
+    (viewer_shown address lines old c.show.new.watcher c.show.result c.show.ensures.kept c.show.ensures.ok) (c.show.ensures.printed address lines) (c.show.ensures.err address lines))
+
+pub returns-in-Vote-clause-talk : goal.returns-in-Vote-clause-talk
+returns-in-Vote-clause-talk g c address lines =
+    let out = output_tells g.W.Sink.written g.W.Sink.faults g.W.Sink.wants in
+    let links = links_tell g.L.Link.coming g.L.Link.heard g.L.Link.sent g.L.Link.counts in
+    let old = c.args.watcher.now in
+    let first = run (viewer address old (plain_line c.args.line.now ∷ lines)) (plain_line c.args.line.now ∷ lines) in
+    flow_from (Acts (window_tells out links)) first (vote_on (viewer address old lines) c.in-Vote.at) (viewer address c.vote_on.new.watcher lines) lines (window c.args.out.now c.args.link.now) (window c.vote_on.new.out c.vote_on.new.link)
+    c.vote_on.result c.flow_of-in-Vote.result c.flow_of-in-Vote.ensures (ap (λ (l : ViewLine). run (viewer address old (plain_line l ∷ lines)) (plain_line l ∷ lines)) c.in-Vote.is) (c.vote_on.ensures.talk address lines)
+
 pub returns-in-Ok-send_unsent-clause-talk : goal.returns-in-Ok-send_unsent-clause-talk
 returns-in-Ok-send_unsent-clause-talk g c address lines =
     let out = output_tells g.W.Sink.written g.W.Sink.faults g.W.Sink.wants in
@@ -134,3 +160,8 @@ returns-in-Err-leave-clause-talk g c address lines =
     let old = c.args.watcher.now in
     let first = run (viewer address old (plain_line c.args.line.now ∷ lines)) (plain_line c.args.line.now ∷ lines) in
     stops_from (Acts (window_tells out links)) first (leave_session (viewer address old lines)) c.in-Err-leave.end (window c.args.out.now c.args.link.now) (window c.leave.new.out c.leave.new.link) (ap (λ (l : ViewLine). run (viewer address old (plain_line l ∷ lines)) (plain_line l ∷ lines)) c.in-Quit.is) (c.in-Err-leave.ensures.talk address lines)
+
+pub returns-in-Vote-clause-count : goal.returns-in-Vote-clause-count
+returns-in-Vote-clause-count g c =
+    subst (λ (l : ViewLine). OnOk c.flow_of-in-Vote.result (c.vote_on.new.watcher.published ≤ c.args.watcher.now.published + line_publishes (plain_line l))) (sym c.in-Vote.is)
+    (flow_well (c.vote_on.new.watcher.published ≤ c.args.watcher.now.published + 1) c.vote_on.result c.flow_of-in-Vote.result c.flow_of-in-Vote.ensures c.vote_on.ensures.count)

@@ -19,6 +19,16 @@ returns-in_default g c =
     let old = booth c.args.out.now c.args.net.now None in
     record { ran = over_without_link out net links start ending.WantOfMemory old c.args.out.now c.args.net.now (wants (booth_tells out net links) start ending.WantOfMemory old refl) }
 
+pub returns-in_default-clone : goal.returns-in_default-clone
+returns-in_default-clone g c =
+    let out = output_tells g.W.Sink.written g.W.Sink.faults g.W.Sink.wants in
+    let net = net_tells g.N.Net.coming g.N.Net.over g.N.Net.asked g.N.Net.faults g.N.Net.lent g.N.Net.link_counts in
+    let links = links_tell g.N.Conn.Link.coming g.N.Conn.Link.heard g.N.Conn.Link.sent g.N.Conn.Link.counts in
+    let visit = c.args.visit.now in
+    let start = first_phase (founding_of (arc_value visit.program)) visit.id.0 visit.view visit.address (plain_lines visit.script) in
+    let old = booth c.args.out.now c.args.net.now None in
+    record { ran = over_without_link out net links start ending.WantOfMemory old c.args.out.now c.args.net.now (wants (booth_tells out net links) start ending.WantOfMemory old refl) }
+
 pub returns-in-Err : goal.returns-in-Err
 returns-in-Err g c =
     let out = output_tells g.W.Sink.written g.W.Sink.faults g.W.Sink.wants in

@@ -1,4 +1,5 @@
-use Rattle.std.proofs.Common.{arith, List, length, drop, sym, ap, subst, ◌∙◌}
+use Rattle.live_view.specs.Doing.{votes_at}
+use Rattle.std.proofs.Common.{◌+◌, Some, arith, List, length, drop, sym, ap, subst, ◌∙◌}
 use Rattle.std.specs.List.{AllByRecursion}
 use Rattle.std.proofs.lemmas.List.{length-drop}
 use Rattle.view_script.specs.PlainLine.{LineFits, plain_lines, publish_count}
@@ -16,8 +17,11 @@ do_lines-requires-clause-room c =
     let has = c.requires.lines.room in
     omega (arith, before, has)
 
-pub begin-requires : goal.begin-requires
-begin-requires c =
+pub begin-requires-clause-counted : goal.begin-requires-clause-counted
+begin-requires-clause-counted c = c.requires.lines.counted
+
+pub begin-requires-clause-within : goal.begin-requires-clause-within
+begin-requires-clause-within c =
     let size = ap length c.left.ensures ∙ length-drop c.args.self.now.queue.begun c.args.self.now.queue.lines.items in
     let within = c.requires.lines.within in
     let few = c.in_ok-stopped.ensures.few in
@@ -29,8 +33,8 @@ returns-clause-live c =
     record {
       knows = c.do_lines.ensures.knows;
       ready = ready_at c.in_ok-stopped.stopped.place c.do_lines.new.watcher c.in_ok-stopped.ensures.ready;
-      lines = lines_behind c.args.self.now.watcher.published c.do_lines.new.watcher.published c.in_ok-stopped.stopped.count c.args.self.now.queue c.begin.new.self c.left.result.now c.left.ensures c.requires.lines begun
-          c.begin.ensures.within c.begin.ensures.room c.in_ok-stopped.ensures.count;
+      lines = lines_behind c.args.self.now.watcher.published (c.do_lines.new.watcher.published + votes_at (Some c.in_ok-stopped.stopped.place)) c.in_ok-stopped.stopped.count c.args.self.now.queue c.begin.new.self c.left.result.now c.left.ensures c.requires.lines begun
+          c.begin.ensures.within c.begin.ensures.counted c.in_ok-stopped.ensures.count;
       lost = never_lost c.args.self.now.lost c.requires.whole;
       empty = never_lost c.args.self.now.lost c.requires.whole;
     }

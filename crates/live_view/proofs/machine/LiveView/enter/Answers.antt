@@ -1,4 +1,4 @@
-use Rattle.std.proofs.Common.{◌≡◌, false, refl, sym, ap, subst, ◌∙◌}
+use Rattle.std.proofs.Common.{◌≡◌, arith, false, refl, sym, ap, subst, ◌∙◌}
 use Rattle.view_shell.specs.Phases.{Viewer, enter_session}
 use Rattle.view_shell.specs.Viewers.{KnowsItself, viewer}
 use Rattle.live_view.specs.declared.machine.LiveView.{LiveView}
@@ -18,7 +18,7 @@ pub returns-clause-live : goal.returns-clause-live
 returns-clause-live c = record {
   knows = c.join.ensures.knows;
   ready = c.in_ok-join.ensures.ready;
-  lines = lines_for c.revive.new.self.watcher.published c.join.new.watcher.published c.revive.new.self.queue c.in_ok-join.ensures.count c.in_ok-revive.ensures.lines;
+  lines = let same = c.in_ok-join.ensures.count in lines_for c.revive.new.self.watcher.published _ c.revive.new.self.queue (omega (arith, same)) c.in_ok-revive.ensures.lines;
   lost = never_lost false refl;
   empty = never_lost false refl;
 }

@@ -1,8 +1,8 @@
-use Rattle.std.proofs.Common.{ap, ◌∙◌}
+use Rattle.std.proofs.Common.{◌+◌, ap, ◌∙◌}
 use Rattle.view_shell.specs.Viewers.{viewer}
-use Rattle.live_view.specs.Doing.{after, aim_of, phase_at}
+use Rattle.live_view.specs.Doing.{after, aim_of, phase_at, votes_at}
 use Rattle.live_view.specs.Live.{heard_by, heard_step, holds_on, is_held, joined_in, one_fewer, waits}
-use Rattle.live_view.specs.View.{left, live_state}
+use Rattle.live_view.specs.View.{HasLines, left, live_state}
 use Rattle.live_view.specs.declared.input.LiveInput.TheVariants as tells
 use Rattle.live_view.specs.declared.input.Place.{Place}
 use Rattle.live_view.specs.Doing.{IsReadyAt}
@@ -42,6 +42,10 @@ returns-in-Gone-clause-told c address =
 
 pub hear_link-requires-clause-ready : goal.hear_link-requires-clause-ready
 hear_link-requires-clause-ready c = subst (λ (p : Place). IsReadyAt (Some p) c.args.self.now.watcher) c.in-Hears.is c.requires.live.ready
+
+pub hear_link-requires-clause-lines : goal.hear_link-requires-clause-lines
+hear_link-requires-clause-lines c =
+    subst (λ (p : Place). HasLines (c.args.self.now.watcher.published + votes_at (Some p)) c.args.self.now.queue) c.in-Hears.is c.requires.live.lines
 
 pub returns-in-Hears-clause-joined : goal.returns-in-Hears-clause-joined
 returns-in-Hears-clause-joined c address =

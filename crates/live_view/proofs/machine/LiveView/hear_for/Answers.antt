@@ -1,7 +1,7 @@
-use Rattle.std.proofs.Common.{ℕ, Option, sym, ap, ◌∙◌}
+use Rattle.std.proofs.Common.{ℕ, ◌+◌, Option, arith, sym, ap, ◌∙◌}
 use Rattle.view_shell.specs.Viewers.{viewer}
 use Rattle.live_view.specs.declared.machine.LiveView.{LiveView}
-use Rattle.live_view.specs.Doing.{aim_of, came}
+use Rattle.live_view.specs.Doing.{aim_of, came, votes_at, votes_for}
 use Rattle.live_view.specs.Live.{drives, goes_on, hears, or_joined}
 use Rattle.live_view.specs.View.{left, live_state}
 use Rattle.live_view.proofs.Leading.{tells_then}
@@ -9,7 +9,11 @@ use Rattle.live_view.proofs.Queues.{lines_for, well}
 use Rattle.live_view.proofs.machine.LiveView.hear_for.Goals as goal
 
 pub go_to-requires-clause-lines : goal.go_to-requires-clause-lines
-go_to-requires-clause-lines c = lines_for c.args.self.now.watcher.published c.hear.new.watcher.published c.args.self.now.queue c.in_ok-place.ensures.count c.requires.live.lines
+go_to-requires-clause-lines c =
+    lines_for (c.args.self.now.watcher.published + votes_for c.args.goal) (c.hear.new.watcher.published + votes_at c.in_ok-place.place) c.args.self.now.queue c.in_ok-place.ensures.count c.requires.lines
+
+pub hear-requires-clause-room : goal.hear-requires-clause-room
+hear-requires-clause-room c = let has = c.requires.lines.room in omega (arith, has)
 
 pub returns-clause-told : goal.returns-clause-told
 returns-clause-told c address =

@@ -8,5 +8,5 @@ returns-clause-left c = one_left_if c.push.result c.push.new.items.items c.clear
 pub returns-clause-within : goal.returns-clause-within
 returns-clause-within c = well c.push.result (omega arith)
 
-pub returns-clause-room : goal.returns-clause-room
-returns-clause-room c = well c.push.result refl
+pub returns-clause-counted : goal.returns-clause-counted
+returns-clause-counted c = well c.push.result refl

@@ -1,5 +1,6 @@
-use Rattle.session_journal.specs.Keeper.{reached_to}
-use Rattle.session_keeper.proofs.KeepingLaws.{lease_has_room, reached_far, reached_session}
+use Rattle.std.proofs.Common.{Err, ap}
+use Rattle.session_journal.specs.Keeper.{lease, reached_to}
+use Rattle.session_keeper.proofs.KeepingLaws.{full_for_tick, full_still, lease_has_room, reached_far, reached_session}
 use Rattle.session_keeper.proofs.keeper.JournalKeeperKeeper.keep_tick.Goals as goal
 
 pub returns-in-Ok-clause-kept : goal.returns-in-Ok-clause-kept
@@ -15,3 +16,8 @@ returns-in-Ok-clause-kept g c = λ held is sound room.
       reaches = far.0;
       within = far.1;
     }
+
+pub fill-requires-clause-nearly : goal.fill-requires-clause-nearly
+fill-requires-clause-nearly g c =
+    let full = c.in-Err-Full.ensures.full (ap (λ f. Err f) c.in-Err-Full.field-0-is) in
+    full_still _ _ full.1 (full_for_tick c.args.self.now.journal.len (lease c.args.time) full.0)

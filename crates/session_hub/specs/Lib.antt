@@ -1,0 +1,3 @@
+pub mod PlainHub
+pub mod Isolation
+pub mod Held

@@ -1,0 +1,15 @@
+use Rattle.std.proofs.Common.{◌≡◌, ℕ, List}
+use Rattle.run_steps.specs.Outside.{links_tell}
+use Rattle.view_script.specs.PlainLine.{PlainLine}
+use Rattle.view_shell.specs.Phases.{Receiving, ToSee}
+use Rattle.view_shell.specs.Viewers.{IsReady, viewer}
+use Rattle.view_shell.specs.ViewRun.{Goes, LinkActs}
+use Rattle.view_shell.proofs.hearing.await_entry.Given as goal
+
+-- what was heard so far leads from where it began to where it is, and nothing was published
+abbrev pub invariant-loop : goal.invariant-loop
+invariant-loop g l = record {
+  published : l.watcher.published ≡ l.fn.watcher.published;
+  ready : IsReady l.watcher;
+  talk : (address : List ℕ) (lines : List PlainLine) → Goes (LinkActs (links_tell g.L.Link.coming g.L.Link.heard g.L.Link.sent g.L.Link.counts)) (Receiving (viewer address l.fn.watcher lines) (ToSee l.at)) (Receiving (viewer address l.watcher lines) (ToSee l.at)) l.fn.link l.link;
+}
